@@ -1,0 +1,91 @@
+-- Laws of the definitions that callers cite, so that no caller opens them. Assumes nothing.
+use Prim.Native.Nat.{ℕ, zero, suc, _+_, _≤_, _<_}
+use mathlib.Core.Path.{_≡_, refl, sym, ap, _∙_}
+use mathlib.Core.Bool.{Bool, true, false, not, _||_}
+use mathlib.Core.List.{List, [], _∷_, _++_, map}
+use native.Mathlib.Numerals.{add-one}
+use native.Mathlib.Omega.{arith}
+use borrow.Author.Tests.{lt-ltb, le-ltb, le-leb, lt-leb, eq-eqb, ne-eqb}
+use lib.Dec.{leb, ltb, eqb}
+use lib.ListN.{length, take, drop, getD, replicate, length-append, length-replicate, length-map}
+use lib.Seq.{slice, slice-cons, slice-empty, take-append-le, length-take-le}
+use Rattle.routine.specs.Range.{inRange}
+use Rattle.routine.specs.Refusals.{command-count, device-not-below, setting-out-of-range, tag-above-1, refusalOf, refuse_when_, _andThen_}
+use Rattle.routine.specs.Routine.{maxCommands, highestTag, zeroCommand, commandsOf, commandCheck, commandsCheck, routineCheck}
+use Rattle.routine.specs.declared.Command.{Command}
+use Rattle.routine.specs.declared.Refusal.{Refusal}
+use Rattle.routine.specs.declared.Routine.{Routine}
+use Rattle.routine.specs.declared.Verdict.{Verdict}
+use Rattle.routine.specs.declared.Verdict.the-variants.{Accepted, Refused}
+
+-- an array that a struct holds stands in what is known of it at `map` of the identity
+pub length-mapped : (X Y : Type 0) (f : X → Y) (l : List X) (n : ℕ) → length (map f l) ≡ n → length l ≡ n
+length-mapped X Y f l n p = sym (length-map l f) ∙ p
+
+-- ---- the commands of a routine
+
+-- there are as many as its count says
+pub length-commandsOf : (r : Routine) → length (commandsOf r) ≡ r .count
+unfolding commandsOf
+length-commandsOf r =
+    length-take-le (r .count) (r .commands ++ replicate (r .count) zeroCommand)
+    (omega (arith, length-append (r .commands) (replicate (r .count) zeroCommand), length-replicate (r .count) zeroCommand))
+
+-- and they are the first ones it holds, where it can hold them
+pub commandsOf-held : (r : Routine) → r .count ≤ length (r .commands) → commandsOf r ≡ take (r .count) (r .commands)
+unfolding commandsOf
+commandsOf-held r h = take-append-le (r .count) (r .commands) (replicate (r .count) zeroCommand) h
+
+-- ---- the check of a command, by its tests
+
+module _ (limit i : ℕ) (c : Command) where
+  pub command-device : limit ≤ c .device → commandCheck limit i c ≡ Refused (refusalOf (device-not-below i))
+  unfolding commandCheck
+  command-device h = simp (le-leb limit (c .device) h)
+
+  pub command-setting : c .device < limit → inRange (c .setting) ≡ false → commandCheck limit i c ≡ Refused (refusalOf (setting-out-of-range i))
+  unfolding commandCheck
+  command-setting h e = simp (lt-leb limit (c .device) h, e)
+
+  pub command-tag : c .device < limit → inRange (c .setting) ≡ true → highestTag < c .tag → commandCheck limit i c ≡ Refused (refusalOf (tag-above-1 i))
+  unfolding commandCheck
+  command-tag h e t = simp (lt-leb limit (c .device) h, e, lt-ltb highestTag (c .tag) t)
+
+  pub command-fine : c .device < limit → inRange (c .setting) ≡ true → c .tag ≤ highestTag → commandCheck limit i c ≡ Accepted
+  unfolding commandCheck
+  command-fine h e t = simp (lt-leb limit (c .device) h, e, le-ltb highestTag (c .tag) t)
+
+-- ---- the check of a routine
+
+pub check-counted : (limit : ℕ) (cs : List Command) → 0 < length cs → length cs ≤ maxCommands → routineCheck limit cs ≡ commandsCheck limit 0 cs
+unfolding routineCheck
+check-counted limit cs h k = simp (ne-eqb (length cs) 0 (λ e. omega arith), le-ltb maxCommands (length cs) k)
+
+pub check-empty : (limit : ℕ) (cs : List Command) → length cs ≡ 0 → routineCheck limit cs ≡ Refused (refusalOf command-count)
+unfolding routineCheck
+check-empty limit cs h = simp (eq-eqb (length cs) 0 h)
+
+pub check-long : (limit : ℕ) (cs : List Command) → maxCommands < length cs → routineCheck limit cs ≡ Refused (refusalOf command-count)
+unfolding routineCheck
+check-long limit cs h = simp (ne-eqb (length cs) 0 (λ e. omega arith), lt-ltb maxCommands (length cs) h)
+
+-- a routine that its struct holds
+pub check-held : (limit : ℕ) (r : Routine) → length (r .commands) ≡ maxCommands → 0 < r .count → r .count ≤ maxCommands → routineCheck limit (commandsOf r) ≡ commandsCheck limit 0 (take (r .count) (r .commands))
+check-held limit r l h k =
+    let e = length-commandsOf r in
+    check-counted limit (commandsOf r) (omega arith) (omega arith) ∙ ap (λ (cs : List Command). commandsCheck limit 0 cs) (commandsOf-held r (omega arith))
+
+-- ---- the commands in turn: what is left from index i
+
+module _ (limit : ℕ) (cs : List Command) (i n : ℕ) (h : i < n) (k : n ≤ length cs) where
+  pub commands-more : commandCheck limit i (getD cs i zeroCommand) ≡ Accepted → commandsCheck limit i (slice i n cs) ≡ commandsCheck limit (i + 1) (slice (i + 1) n cs)
+  unfolding commandsCheck
+  commands-more e = rw (slice-cons i n cs zeroCommand h k, e, add-one i)
+
+  pub commands-refused : (r : Refusal) → commandCheck limit i (getD cs i zeroCommand) ≡ Refused r → commandsCheck limit i (slice i n cs) ≡ Refused r
+  unfolding commandsCheck
+  commands-refused r e = rw (slice-cons i n cs zeroCommand h k, e)
+
+pub commands-end : (limit : ℕ) (cs : List Command) (i n : ℕ) → i ≤ n → n ≤ i → commandsCheck limit i (slice i n cs) ≡ Accepted
+unfolding commandsCheck
+commands-end limit cs i n h k = let e : i ≡ n = omega arith in rw (e, slice-empty n cs)

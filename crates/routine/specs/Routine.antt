@@ -1,0 +1,47 @@
+-- Document 01, "Things and ranges": a routine is 1 to 8 commands, each with a device, a tag and a setting; and what turns one down.
+-- Assumes nothing.
+use mathlib.Core.Bool.{Bool, not, _||_}
+use mathlib.Core.List.{List, [], _∷_, _++_}
+use Prim.Native.Nat.{ℕ, suc}
+use lib.Dec.{leb, ltb, eqb}
+use lib.IntN.{pos}
+use lib.ListN.{length, take, replicate}
+use Rattle.routine.specs.Range.{inRange}
+use Rattle.routine.specs.Refusals.{command-count, device-not-below, setting-out-of-range, tag-above-1, refuse_when_, _andThen_}
+use Rattle.routine.specs.declared.Command.{Command}
+use Rattle.routine.specs.declared.Routine.{Routine}
+use Rattle.routine.specs.declared.Verdict.{Verdict}
+use Rattle.routine.specs.declared.Verdict.the-variants.{Accepted}
+
+abbrev pub maxCommands : ℕ
+maxCommands = 8
+
+abbrev pub highestTag : ℕ
+highestTag = 1
+
+-- What an array holds past its end.
+abbrev pub zeroCommand : Command
+zeroCommand = record { device = 0; tag = 0; setting = pos 0 }
+
+-- The commands of a routine, in turn: as many as its count says. Those past the eighth, which a `Routine` has no place for, are taken as
+-- zero commands; no rule looks at them, since such a routine is turned down for its count.
+unfoldable pub commandsOf : Routine → List Command
+commandsOf r = take (r .count) (r .commands ++ replicate (r .count) zeroCommand)
+
+-- A command, the one at index i of its routine, against a device limit: 5, 6, 7.
+unfoldable pub commandCheck : ℕ → ℕ → Command → Verdict
+commandCheck limit i c =
+    refuse (device-not-below i) when leb limit (c .device)
+    andThen refuse (setting-out-of-range i) when not (inRange (c .setting))
+    andThen refuse (tag-above-1 i) when ltb highestTag (c .tag)
+
+-- Commands in turn, the first of them at index i.
+unfoldable pub commandsCheck : ℕ → ℕ → List Command → Verdict
+commandsCheck limit i [] = Accepted
+commandsCheck limit i (c ∷ cs) = commandCheck limit i c andThen commandsCheck limit (suc i) cs
+
+-- A routine against a device limit, N in the hub and 32 in a book: 4; then the commands in turn, each 5, 6, 7.
+unfoldable pub routineCheck : ℕ → List Command → Verdict
+routineCheck limit cs =
+    refuse command-count when (eqb (length cs) 0 || ltb maxCommands (length cs))
+    andThen commandsCheck limit 0 cs

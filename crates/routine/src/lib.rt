@@ -1,0 +1,87 @@
+// Commands, routines, and what turns a call down: document 01, "Things and ranges" and "When a call is turned down".
+ghost use mathlib.Core.Path.{_≡_};
+ghost use Rattle.routine.specs.Range.{inRange};
+ghost use Rattle.routine.specs.Routine.{commandsOf, commandCheck, routineCheck};
+
+// A routine has at most this many commands.
+pub const MAX_COMMANDS: usize = 8;
+
+// Settings and tags.
+pub const LOWEST_SETTING: i16 = -1000;
+pub const HIGHEST_SETTING: i16 = 1000;
+pub const HIGHEST_TAG: u8 = 1;
+
+// The numbers of the table that a routine's check gives.
+pub const COMMAND_COUNT: u8 = 4;
+pub const DEVICE: u8 = 5;
+pub const SETTING: u8 = 6;
+pub const TAG: u8 = 7;
+
+pub struct Command {
+    pub device: u8,
+    pub tag: u8,
+    pub setting: i16,
+}
+
+// The first `count` of the commands; a count above MAX_COMMANDS is a routine that is turned down.
+pub struct Routine {
+    pub commands: [Command; MAX_COMMANDS],
+    pub count: usize,
+}
+
+// What a refusal returns: its number in the table, some with an index.
+pub enum Refusal {
+    Number(u8),
+    Indexed(u8, usize),
+}
+
+pub enum Verdict {
+    Accepted,
+    Refused(Refusal),
+}
+
+pub fn in_range(setting: i16) -> bool
+    ensures { λ r. ⌜ r ≡ inRange setting ⌝ }
+{
+    LOWEST_SETTING <= setting && setting <= HIGHEST_SETTING
+}
+
+// A command against a device limit: 5, 6, 7, with the command's index.
+pub fn check_command(command: Command, limit: u8, index: usize) -> Verdict
+    ensures { λ r. ⌜ r ≡ commandCheck limit index command ⌝ }
+{
+    if limit <= command.device {
+        return Verdict::Refused(Refusal::Indexed(DEVICE, index));
+    }
+    let setting = command.setting;
+    if !in_range(setting) {
+        return Verdict::Refused(Refusal::Indexed(SETTING, index));
+    }
+    if HIGHEST_TAG < command.tag {
+        return Verdict::Refused(Refusal::Indexed(TAG, index));
+    }
+    Verdict::Accepted
+}
+
+// A routine against a device limit (N in the hub, 32 in a book): 4, then the commands in turn.
+pub fn check(routine: Routine, limit: u8) -> Verdict
+    ensures { λ r. ⌜ r ≡ routineCheck limit (commandsOf routine) ⌝ }
+{
+    let count = routine.count;
+    if count == 0 {
+        return Verdict::Refused(Refusal::Number(COMMAND_COUNT));
+    }
+    if MAX_COMMANDS < count {
+        return Verdict::Refused(Refusal::Number(COMMAND_COUNT));
+    }
+    let mut i = 0;
+    while i < count {
+        let command = routine.commands[i];
+        let verdict = check_command(command, limit, i);
+        let Verdict::Accepted = verdict else {
+            return verdict;
+        };
+        i += 1;
+    }
+    Verdict::Accepted
+}
