@@ -1,22 +1,73 @@
 -- Laws of the definitions that callers cite, so that no caller opens them. Assumes nothing.
 use Prim.Native.Nat.{ℕ, zero, suc, _+_, _≤_, _<_}
 use mathlib.Core.Path.{_≡_, refl, sym, ap, _∙_}
-use mathlib.Core.Bool.{Bool, true, false, not, _||_}
+use mathlib.Core.Bool.{Bool, true, false, not, _&&_, _||_}
+use mathlib.Core.Logic.{_⊎_, inl, inr}
 use mathlib.Core.List.{List, [], _∷_, _++_, map}
 use native.Mathlib.Numerals.{add-one}
 use native.Mathlib.Omega.{arith}
 use borrow.Author.Tests.{lt-ltb, le-ltb, le-leb, lt-leb, eq-eqb, ne-eqb}
 use lib.Dec.{leb, ltb, eqb}
+use lib.IntN.{pos, negsuc}
 use lib.ListN.{length, take, drop, getD, replicate, length-append, length-replicate, length-map}
 use lib.Seq.{slice, slice-cons, slice-empty, take-append-le, length-take-le}
 use Rattle.routine.specs.Range.{inRange}
-use Rattle.routine.specs.Refusals.{command-count, device-not-below, setting-out-of-range, tag-above-1, refusalOf, refuse_when_, _andThen_}
+use Rattle.routine.specs.Refusals.{Cause, command-count, device-not-below, setting-out-of-range, tag-above-1, refusalOf, refuse_when_, _andThen_}
 use Rattle.routine.specs.Routine.{maxCommands, highestTag, zeroCommand, commandsOf, commandCheck, commandsCheck, routineCheck}
 use Rattle.routine.specs.declared.Command.{Command}
 use Rattle.routine.specs.declared.Refusal.{Refusal}
 use Rattle.routine.specs.declared.Routine.{Routine}
 use Rattle.routine.specs.declared.Verdict.{Verdict}
 use Rattle.routine.specs.declared.Verdict.the-variants.{Accepted, Refused}
+
+-- ---- verdicts and tests
+
+-- both of two verdicts in turn accept
+pub both-accept : (v w : Verdict) → v andThen w ≡ Accepted → (v ≡ Accepted) × (w ≡ Accepted)
+both-accept Accepted w e = (refl, e)
+both-accept (Refused r) w e = let z : _≡_ {A = ℕ} 0 1 = cc in absurd (omega arith)
+
+pub accept-both : (v w : Verdict) → v ≡ Accepted → w ≡ Accepted → v andThen w ≡ Accepted
+accept-both v w e f = rw (e, f)
+
+-- a test that accepts was not met
+pub not-refused : (cause : Cause) (t : Bool) → refuse cause when t ≡ Accepted → t ≡ false
+not-refused cause true e = let z : _≡_ {A = ℕ} 0 1 = cc in absurd (omega arith)
+not-refused cause false e = refl
+
+-- to prove a thing of a test, prove it of each outcome
+pub byTest {ℓ} : (P : Bool → Type ℓ) (t : Bool) → (t ≡ true → P true) → (t ≡ false → P false) → P t
+byTest P true yes′ no′ = yes′ refl
+byTest P false yes′ no′ = no′ refl
+
+pub or-true : (s t : Bool) → s || t ≡ true → (s ≡ true) ⊎ (t ≡ true)
+or-true true t e = inl refl
+or-true false t e = inr e
+
+pub or-false : (s t : Bool) → s || t ≡ false → (s ≡ false) × (t ≡ false)
+or-false true t e = let z : _≡_ {A = ℕ} 0 1 = cc in absurd (omega arith)
+or-false false t e = (refl, e)
+
+pub and-true : (s t : Bool) → s && t ≡ true → (s ≡ true) × (t ≡ true)
+and-true true t e = (refl, e)
+and-true false t e = let z : _≡_ {A = ℕ} 0 1 = cc in absurd (omega arith)
+
+pub and-false : (s t : Bool) → s && t ≡ false → (s ≡ false) ⊎ (t ≡ false)
+and-false true t e = inr e
+and-false false t e = inl refl
+
+-- ---- settings
+
+-- a setting is in range if it is at most 1,000 away from 0
+pub in-range-pos : (n : ℕ) → inRange (pos n) ≡ leb n 1000
+unfolding inRange
+in-range-pos n = refl
+
+pub in-range-negsuc : (n : ℕ) → inRange (negsuc n) ≡ leb n 999
+unfolding inRange
+in-range-negsuc n = byTest (λ (t : Bool). t && true ≡ t) (leb n 999) (λ _. refl) (λ _. refl)
+
+-- ---- arrays
 
 -- an array that a struct holds stands in what is known of it at `map` of the identity
 pub length-mapped : (X Y : Type 0) (f : X → Y) (l : List X) (n : ℕ) → length (map f l) ≡ n → length l ≡ n

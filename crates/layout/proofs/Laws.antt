@@ -1,0 +1,131 @@
+-- Laws of the layout's definitions that the theorems and the code's proofs cite. Assumes nothing.
+use Prim.Native.Nat.{ℕ, zero, suc, _+_, _-_, _*_, _/_, _%_, _≤_, _<_}
+use mathlib.Core.Path.{_≡_, refl, sym, ap, subst, _∙_}
+use mathlib.Core.Bool.{Bool, true, false, not, _&&_, _||_}
+use mathlib.Core.List.{List, [], _∷_, _++_, append-assoc, append-nil}
+use native.Mathlib.Omega.{arith}
+use borrow.Author.Tests.{lt-ltb, le-ltb, le-leb, lt-leb, eq-eqb, ne-eqb, ltb-true, ltb-false, leb-true, leb-false, eqb-true, eqb-false, not-true, not-false}
+use lib.Dec.{leb, ltb, eqb}
+use lib.IntN.{ℤ, pos, negsuc, _-ℤ_}
+use lib.ListN.{length, take, drop, getD, replicate, length-append, length-replicate}
+use lib.Seq.{getD-append-add, take-append-seam, length-take-le}
+use Rattle.routine.specs.Choice.{if_then_else_}
+use Rattle.routine.specs.Range.{inRange}
+use Rattle.routine.specs.Refusals.{book-cut-short, book-misplaced, book-length, refusalOf, refuse_when_, _andThen_}
+use Rattle.routine.specs.Routine.{maxCommands, zeroCommand, commandsOf, commandsCheck}
+use Rattle.routine.specs.declared.Command.{Command}
+use Rattle.routine.specs.declared.Routine.{Routine}
+use Rattle.routine.specs.declared.Verdict.{Verdict}
+use Rattle.routine.specs.declared.Verdict.the-variants.{Accepted, Refused}
+use Rattle.routine.proofs.Laws.{byTest, and-true, both-accept, not-refused, or-false, commandsOf-held}
+use Rattle.layout.specs.Numbers.{twoBytes, fourBytes, byteAt, twoAt, fourAt, bitsOf, settingOf}
+use Rattle.layout.specs.Layout.{countSize, pairSize, commandSize, maxRoutines, bookDevices, pairsEnd, commandBytes, commandsBytes, lengthIn, pairsBytes, bodyBytes, bookBytes, countOf, offsetAt, lengthAt, commandAt, commandsAt}
+use Rattle.layout.specs.Reading.{headCheck, lengthFits, placedCheck, placedChecks, bookCheck, routineOf}
+
+-- ---- lengths that fit: 4 to 32 in fours
+
+pub record InFours (n : ℕ) : Type 0 where
+  pub commands : ℕ
+  pub some : 1 ≤ commands
+  pub few : commands ≤ maxCommands
+  pub size : n ≡ commandSize * commands
+
+pub fits-in-fours : (n : ℕ) → lengthFits n ≡ true → InFours n
+unfolding lengthFits
+fits-in-fours n e =
+    let a = and-true (leb 4 n && leb n 32) (eqb (n % 4) 0) e in
+    let b = and-true (leb 4 n) (leb n 32) (a .0) in
+    let l = leb-true 4 n (b .0) in
+    let u = leb-true n 32 (b .1) in
+    let m = eqb-true (n % 4) 0 (a .1) in
+    record { commands = n / 4; some = omega arith; few = omega arith; size = omega arith }
+
+pub in-fours-fits : (n : ℕ) → InFours n → lengthFits n ≡ true
+unfolding lengthFits
+in-fours-fits n h =
+    let s = h .some in let f = h .few in let e = h .size in
+    simp (le-leb 4 n (omega arith), le-leb n 32 (omega arith), eq-eqb (n % 4) 0 (omega arith))
+
+-- ---- how long the parts are
+
+pub length-twoBytes : (n : ℕ) → length (twoBytes n) ≡ 2
+unfolding twoBytes
+length-twoBytes n = refl
+
+pub length-fourBytes : (n : ℕ) → length (fourBytes n) ≡ 4
+unfolding fourBytes
+length-fourBytes n = refl
+
+pub length-commandBytes : (c : Command) → length (commandBytes c) ≡ 4
+unfolding commandBytes twoBytes
+length-commandBytes c = refl
+
+pub length-commandsBytes : (cs : List Command) → length (commandsBytes cs) ≡ 4 * length cs
+length-commandsBytes [] = refl
+length-commandsBytes (c ∷ cs) = omega (arith, length-append (commandBytes c) (commandsBytes cs), length-commandBytes c, length-commandsBytes cs)
+
+pub length-pairsBytes : (at : ℕ) (rs : List (List Command)) → length (pairsBytes at rs) ≡ 8 * length rs
+length-pairsBytes at [] = refl
+length-pairsBytes at (r ∷ rs) =
+    let p = pairsBytes (at + lengthIn r) rs in
+    omega (arith, length-append (fourBytes at) (fourBytes (lengthIn r) ++ p), length-append (fourBytes (lengthIn r)) p, length-fourBytes at, length-fourBytes (lengthIn r), length-pairsBytes (at + lengthIn r) rs)
+
+pub length-commandsAt : (b : List ℕ) (at n : ℕ) → length (commandsAt b at n) ≡ n
+length-commandsAt b at zero = refl
+length-commandsAt b at (suc n) = ap suc (length-commandsAt b (at + 4) n)
+
+-- ---- a routine as the code holds it
+
+pub routineOf-commands : (cs : List Command) → length cs ≤ maxCommands → commandsOf (routineOf cs) ≡ cs
+unfolding routineOf
+routineOf-commands cs h =
+    let zs = replicate (maxCommands - length cs) zeroCommand in
+    commandsOf-held (routineOf cs) (omega (arith, length-append cs zs)) ∙ take-append-seam cs zs
+
+pub routineOf-count : (cs : List Command) → routineOf cs .count ≡ length cs
+unfolding routineOf
+routineOf-count cs = refl
+
+pub routineOf-length : (cs : List Command) → length cs ≤ maxCommands → length (routineOf cs .commands) ≡ maxCommands
+unfolding routineOf
+routineOf-length cs h = omega (arith, length-append cs (replicate (maxCommands - length cs) zeroCommand), length-replicate (maxCommands - length cs) zeroCommand)
+
+-- ---- a routine of a book, by its tests
+
+module _ (b : List ℕ) (i at : ℕ) where
+  pub placed-length : lengthFits (lengthAt b i) ≡ false → placedCheck b i at ≡ Refused (refusalOf (book-length i))
+  unfolding placedCheck
+  placed-length e = simp e
+
+  pub placed-offset : lengthFits (lengthAt b i) ≡ true → (offsetAt b i ≡ at → ⊥) → placedCheck b i at ≡ Refused (refusalOf book-misplaced)
+  unfolding placedCheck
+  placed-offset e o = simp (e, ne-eqb (offsetAt b i) at o)
+
+  pub placed-end : lengthFits (lengthAt b i) ≡ true → offsetAt b i ≡ at → length b < at + lengthAt b i → placedCheck b i at ≡ Refused (refusalOf book-misplaced)
+  unfolding placedCheck
+  placed-end e o l = simp (e, eq-eqb (offsetAt b i) at o, lt-ltb (length b) (at + lengthAt b i) l)
+
+  pub placed-commands : lengthFits (lengthAt b i) ≡ true → offsetAt b i ≡ at → at + lengthAt b i ≤ length b →
+      placedCheck b i at ≡ commandsCheck bookDevices 0 (commandsAt b at (lengthAt b i / commandSize))
+  unfolding placedCheck
+  placed-commands e o l = simp (e, eq-eqb (offsetAt b i) at o, le-ltb (length b) (at + lengthAt b i) l)
+
+-- what is known of a routine that its check accepts
+pub record Placed (b : List ℕ) (i at : ℕ) : Type 0 where
+  pub fits : lengthFits (lengthAt b i) ≡ true
+  pub offset : offsetAt b i ≡ at
+  pub inside : at + lengthAt b i ≤ length b
+  pub fine : commandsCheck bookDevices 0 (commandsAt b at (lengthAt b i / commandSize)) ≡ Accepted
+
+pub placed : (b : List ℕ) (i at : ℕ) → placedCheck b i at ≡ Accepted → Placed b i at
+unfolding placedCheck
+placed b i at e =
+    let x = both-accept _ _ e in
+    let y = both-accept _ _ (x .1) in
+    let o = or-false _ _ (not-refused _ _ (y .0)) in
+    record {
+      fits = not-false _ (not-refused _ _ (x .0));
+      offset = eqb-true (offsetAt b i) at (not-false _ (o .0));
+      inside = ltb-false (length b) (at + lengthAt b i) (o .1);
+      fine = y .1;
+    }

@@ -1,0 +1,119 @@
+-- What is claimed of the definitions, beside the contracts of crate `book`. The three theorems are proved in proofs/Theorems.antt.
+-- Assumes nothing.
+use mathlib.Core.Path.{_≡_}
+use mathlib.Core.Logic.{_⊎_, _↔_, _≢_}
+use mathlib.Core.List.{List, [], _∷_, _++_}
+use Prim.Native.Nat.{ℕ, zero, suc, _+_, _*_, _<_, _≤_}
+use lib.ListN.{length, take}
+use Rattle.routine.specs.Refusals.{Cause, device-not-below, setting-out-of-range, tag-above-1, book-cut-short, book-misplaced, book-length, refusalOf}
+use Rattle.routine.specs.Routine.{maxCommands, commandsOf}
+use Rattle.routine.specs.declared.Command.{Command}
+use Rattle.routine.specs.declared.Refusal.{Refusal}
+use Rattle.routine.specs.declared.Verdict.the-variants.{Accepted, Refused}
+use Rattle.layout.specs.Numbers.{byteAt, twoAt}
+use Rattle.layout.specs.Layout.{countSize, commandSize, maxRoutines, bookDevices, pairsEnd, countOf, offsetAt, lengthAt}
+use Rattle.layout.specs.Reading.{bookCheck, nextOf}
+use Rattle.layout.specs.Writing.{writtenOf, bufferAfter}
+use Rattle.layout.specs.declared.Item.the-variants.{Handed, End}
+use Rattle.layout.specs.declared.Written.the-variants.{Length}
+
+-- ---- what is read
+
+-- From a position the steps of reading hand out these routines, one a step, and then the end.
+pub data Hands (b : List ℕ) : ℕ → List (List Command) → Type 0 where
+  ends : {at : ℕ} → nextOf b at .item ≡ End → Hands b at []
+  hands : {at : ℕ} {r : List Command} {rs : List (List Command)} →
+      nextOf b at .item ≡ Handed → commandsOf (nextOf b at .routine) ≡ r → Hands b (nextOf b at .position) rs → Hands b at (r ∷ rs)
+
+-- A list of bytes: no number above 255.
+abbrev pub Bytes : List ℕ → Type 0
+Bytes b = (i : ℕ) → byteAt b i < 256
+
+-- (a) Whatever list of routines is written, reading what was written gives the same routines.
+abbrev pub WriteThenRead : Type 0
+WriteThenRead =
+    (rs : List (List Command)) (buffer : List ℕ) (n : ℕ) → writtenOf rs (length buffer) ≡ Length n →
+    Hands (take n (bufferAfter rs buffer)) 0 rs
+
+-- (b) An accepted book is read to its end; and whatever was read of a book, written into any buffer that has the room, gives the same bytes.
+abbrev pub ReadThenWrite : Type 0
+ReadThenWrite =
+    (b : List ℕ) → Bytes b →
+    (bookCheck b ≡ Accepted → (rs : List (List Command)) × Hands b 0 rs)
+    × ((rs : List (List Command)) → Hands b 0 rs → (buffer : List ℕ) → length b ≤ length buffer →
+      (writtenOf rs (length buffer) ≡ Length (length b)) × (take (length b) (bufferAfter rs buffer) ≡ b))
+
+-- ---- when a book is turned down
+
+-- The tests of a book: of its head, of the length and the place of routine i, of the three parts of command j of routine i, and of its end.
+pub data Test : Type 0 where
+  head : Test
+  routine-length : ℕ → Test
+  routine-place : ℕ → Test
+  command-device : ℕ → ℕ → Test
+  command-setting : ℕ → ℕ → Test
+  command-tag : ℕ → ℕ → Test
+  left-over : Test
+
+-- The order in which document 01 makes them. Those of k commands from the j-th on:
+unfoldable pub commandTests : ℕ → ℕ → ℕ → List Test
+commandTests i j zero = []
+commandTests i j (suc k) = command-device i j ∷ command-setting i j ∷ command-tag i j ∷ commandTests i (suc j) k
+
+-- those of n routines from the i-th on:
+unfoldable pub routineTests : ℕ → ℕ → List Test
+routineTests i zero = []
+routineTests i (suc n) = routine-length i ∷ routine-place i ∷ (commandTests i 0 maxCommands ++ routineTests (suc i) n)
+
+-- and all:
+unfoldable pub tests : List Test
+tests = head ∷ (routineTests 0 maxRoutines ++ (left-over ∷ []))
+
+-- The cause for which a test turns a book down.
+abbrev pub causeOf : Test → Cause
+causeOf head = book-cut-short
+causeOf (routine-length i) = book-length i
+causeOf (routine-place i) = book-misplaced
+causeOf (command-device i j) = device-not-below j
+causeOf (command-setting i j) = setting-out-of-range j
+causeOf (command-tag i j) = tag-above-1 j
+causeOf left-over = book-misplaced
+
+-- Where the layout puts routine i: where the pairs end, and then where the routine before ends.
+unfoldable pub place : List ℕ → ℕ → ℕ
+place b zero = pairsEnd (countOf b)
+place b (suc i) = place b i + lengthAt b i
+
+-- Book b breaks a test: said of its bytes, each test by itself. A routine is there if its index is below the count, and a command if
+-- it begins before its routine's length is over. The 16 bits of a setting above 1,000 or below −1,000 are 1,001 to 64,535.
+abbrev pub Breaks : List ℕ → Test → Type 0
+Breaks b head = (length b < countSize) ⊎ ((maxRoutines < countOf b) ⊎ (length b < pairsEnd (countOf b)))
+Breaks b (routine-length i) = (i < countOf b) × ((k : ℕ) → 1 ≤ k → k ≤ maxCommands → lengthAt b i ≢ commandSize * k)
+Breaks b (routine-place i) = (i < countOf b) × ((offsetAt b i ≢ place b i) ⊎ (length b < place b i + lengthAt b i))
+Breaks b (command-device i j) = (i < countOf b) × (commandSize * j < lengthAt b i) × (bookDevices ≤ byteAt b (place b i + commandSize * j))
+Breaks b (command-setting i j) =
+    (i < countOf b) × (commandSize * j < lengthAt b i)
+    × (1000 < twoAt b (place b i + commandSize * j + 2)) × (twoAt b (place b i + commandSize * j + 2) < 64536)
+Breaks b (command-tag i j) = (i < countOf b) × (commandSize * j < lengthAt b i) × (1 < byteAt b (place b i + commandSize * j + 1))
+Breaks b left-over = place b (countOf b) < length b
+
+-- None of these tests is broken.
+abbrev pub Passes : List ℕ → List Test → Type 0
+Passes b [] = Unit {0}
+Passes b (t ∷ ts) = ¬ (Breaks b t) × Passes b ts
+
+-- Book b breaks t and no test before it.
+pub record First (b : List ℕ) (t : Test) : Type 0 where
+  pub before : List Test
+  pub after : List Test
+  pub order : tests ≡ before ++ (t ∷ after)
+  pub breaks : Breaks b t
+  pub earlier : Passes b before
+
+-- (c) Each refusal is given exactly under its cause: the answer is a refusal r exactly if the first test that the book breaks turns down with
+-- r; and a book is accepted exactly if it breaks none.
+abbrev pub ExactRefusals : Type 0
+ExactRefusals =
+    (b : List ℕ) → Bytes b →
+    ((r : Refusal) → (bookCheck b ≡ Refused r) ↔ ((t : Test) × First b t × (refusalOf (causeOf t) ≡ r)))
+    × ((bookCheck b ≡ Accepted) ↔ Passes b tests)

@@ -1,0 +1,58 @@
+-- Worked books, by computation. The first two are document 01's ★ examples. Assumes nothing.
+use mathlib.Core.Path.{_≡_, refl}
+use mathlib.Core.List.{List, [], _∷_, _++_}
+use Prim.Native.Nat.{ℕ}
+use lib.IntN.{ℤ, pos, negsuc}
+use lib.ListN.{take}
+use Rattle.routine.specs.Range.{inRange}
+use Rattle.routine.specs.Refusals.{refusalOf}
+use Rattle.routine.specs.Routine.{commandCheck, commandsCheck, routineCheck}
+use Rattle.routine.specs.declared.Command.{Command}
+use Rattle.routine.specs.declared.Refusal.the-variants.{Number, Indexed}
+use Rattle.routine.specs.declared.Verdict.{Verdict}
+use Rattle.routine.specs.declared.Verdict.the-variants.{Accepted, Refused}
+use Rattle.layout.specs.Numbers.{twoBytes, fourBytes, twoAt, fourAt, bitsOf, settingOf}
+use Rattle.layout.specs.Layout.{commandBytes, bookBytes, countOf, offsetAt, lengthAt, commandAt, commandsAt}
+use Rattle.layout.specs.Reading.{headCheck, lengthFits, placedCheck, placedChecks, bookCheck, pairNext, nextOf, routineOf}
+use Rattle.layout.specs.Writing.{routinesCheck, writeCheck, writtenOf, bufferAfter}
+use Rattle.layout.specs.declared.Item.the-variants.{Handed, End}
+use Rattle.layout.specs.declared.Written.the-variants.{Length, Refused as NotWritten}
+
+-- All that a computation opens.
+abbrev calc : Unit {0}
+unfolding inRange refusalOf commandCheck commandsCheck routineCheck twoBytes fourBytes twoAt fourAt bitsOf settingOf commandBytes bookBytes countOf offsetAt lengthAt commandAt headCheck lengthFits placedCheck placedChecks bookCheck pairNext nextOf routineOf routinesCheck writeCheck writtenOf bufferAfter
+calc = tt
+
+abbrev command : ℕ → ℕ → ℤ → Command
+command d t s = record { device = d; tag = t; setting = s }
+
+-- ★ Book `00 00` is empty and accepted; `00` is refused (18).
+pub empty : (bookCheck (0 ∷ 0 ∷ []) ≡ Accepted) × (bookCheck (0 ∷ []) ≡ Refused (Number 18))
+unfolding calc
+empty = (refl, refl)
+
+-- Two routines, of two commands and one: device 0 to 50 and lamp 31, best-effort, to −1,000; device 0 to 70.
+abbrev two : List (List Command)
+two = (command 0 0 (pos 50) ∷ command 31 1 (negsuc 999) ∷ []) ∷ (command 0 0 (pos 70) ∷ []) ∷ []
+
+-- Count 2; the pairs 18, 8 and 26, 4; the commands.
+abbrev bytes : List ℕ
+bytes = 2 ∷ 0 ∷ 18 ∷ 0 ∷ 0 ∷ 0 ∷ 8 ∷ 0 ∷ 0 ∷ 0 ∷ 26 ∷ 0 ∷ 0 ∷ 0 ∷ 4 ∷ 0 ∷ 0 ∷ 0 ∷ 0 ∷ 0 ∷ 50 ∷ 0 ∷ 31 ∷ 1 ∷ 24 ∷ 252 ∷ 0 ∷ 0 ∷ 70 ∷ 0 ∷ []
+
+pub written : (bookBytes two ≡ bytes) × (writtenOf two 30 ≡ Length 30) × (writtenOf two 29 ≡ NotWritten (Number 21))
+unfolding calc
+written = (refl, refl, refl)
+
+-- Each routine in turn, then the end.
+pub read : (bookCheck bytes ≡ Accepted) × (nextOf bytes 0 .item ≡ Handed) × (nextOf bytes 0 .position ≡ 10)
+    × (nextOf bytes 10 .routine .commands ≡ routineOf (command 0 0 (pos 70) ∷ []) .commands) × (nextOf bytes 18 .item ≡ End)
+unfolding calc
+read = (refl, refl, refl, refl, refl)
+
+-- Cut short, with a byte left over, with a device that no book has, with a setting of 1,001 (its low byte at 20 is 233, its high byte 3).
+pub turned-down : (bookCheck (take 17 bytes) ≡ Refused (Number 18)) × (bookCheck (take 29 bytes) ≡ Refused (Number 19))
+    × (bookCheck (bytes ++ (0 ∷ [])) ≡ Refused (Number 19))
+    × (bookCheck (take 22 bytes ++ (32 ∷ 1 ∷ 24 ∷ 252 ∷ 0 ∷ 0 ∷ 70 ∷ 0 ∷ [])) ≡ Refused (Indexed 5 1))
+    × (bookCheck (take 20 bytes ++ (233 ∷ 3 ∷ 31 ∷ 1 ∷ 24 ∷ 252 ∷ 0 ∷ 0 ∷ 70 ∷ 0 ∷ [])) ≡ Refused (Indexed 6 0))
+unfolding calc
+turned-down = (refl, refl, refl, refl, refl)

@@ -1,0 +1,6 @@
+pub mod Numbers
+pub mod Layout
+pub mod Reading
+pub mod Writing
+pub mod Claims
+pub mod Examples

@@ -1,0 +1,72 @@
+-- Reading a book: document 01, "The routine book" and "When a call is turned down" ("Book reading: 18; then by routine 20, 19, then its
+-- commands; bytes left over last"). Assumes nothing.
+use mathlib.Core.Bool.{Bool, not, _&&_, _||_}
+use mathlib.Core.List.{List, [], _∷_, _++_}
+use Prim.Native.Nat.{ℕ, zero, suc, _+_, _-_, _*_, _/_, _%_}
+use lib.Dec.{leb, ltb, eqb}
+use lib.ListN.{length, replicate}
+use Rattle.routine.specs.Choice.{if_then_else_}
+use Rattle.routine.specs.Refusals.{book-cut-short, book-misplaced, book-length, refuse_when_, _andThen_}
+use Rattle.routine.specs.Routine.{maxCommands, zeroCommand, commandsCheck}
+use Rattle.routine.specs.declared.Command.{Command}
+use Rattle.routine.specs.declared.Routine.{Routine}
+use Rattle.routine.specs.declared.Verdict.{Verdict}
+use Rattle.routine.specs.declared.Verdict.the-variants.{Accepted, Refused}
+use Rattle.layout.specs.Numbers.{fourAt}
+use Rattle.layout.specs.Layout.{countSize, pairSize, commandSize, maxRoutines, bookDevices, pairsEnd, countOf, offsetAt, lengthAt, commandsAt}
+use Rattle.layout.specs.declared.Item.{Item}
+use Rattle.layout.specs.declared.Item.the-variants.{Handed, End, Refused as RefusedBook}
+use Rattle.layout.specs.declared.Next.{Next}
+
+-- ---- the check of the whole book
+
+-- 18: "book ends inside count or pairs, or count above 64".
+unfoldable pub headCheck : List ℕ → Verdict
+headCheck b = refuse book-cut-short when (ltb (length b) countSize || ltb maxRoutines (countOf b) || ltb (length b) (pairsEnd (countOf b)))
+
+-- "length not 4 to 32 in fours", the other way round.
+unfoldable pub lengthFits : ℕ → Bool
+lengthFits n = leb commandSize n && leb n (commandSize * maxCommands) && eqb (n % commandSize) 0
+
+-- Routine i, which the layout puts at a place: 20, 19, then its commands.
+unfoldable pub placedCheck : List ℕ → ℕ → ℕ → Verdict
+placedCheck b i at =
+    refuse (book-length i) when not (lengthFits (lengthAt b i))
+    andThen refuse book-misplaced when (not (eqb (offsetAt b i) at) || ltb (length b) (at + lengthAt b i))
+    andThen commandsCheck bookDevices 0 (commandsAt b at (lengthAt b i / commandSize))
+
+-- The n routines from the i-th on, which begin at a place, each next where the one before ends; then bytes left over.
+unfoldable pub placedChecks : List ℕ → ℕ → ℕ → ℕ → Verdict
+placedChecks b i zero at = refuse book-misplaced when ltb at (length b)
+placedChecks b i (suc n) at = placedCheck b i at andThen placedChecks b (suc i) n (at + lengthAt b i)
+
+unfoldable pub bookCheck : List ℕ → Verdict
+bookCheck b = headCheck b andThen placedChecks b 0 (countOf b) (pairsEnd (countOf b))
+
+-- ---- routine by routine
+
+-- A routine as the code holds it: zero commands behind its own.
+unfoldable pub routineOf : List Command → Routine
+routineOf cs = record { commands = cs ++ replicate (maxCommands - length cs) zeroCommand; count = length cs }
+
+-- What stands beside an item that hands out no routine.
+abbrev pub noRoutine : Routine
+noRoutine = routineOf []
+
+-- A position is the place of a pair. If it is one of the book's, its routine is handed out, and the position moves to the next; else this is the
+-- end. (Where the whole book was accepted, the last two tests hold of each of its pairs.)
+unfoldable pub pairNext : List ℕ → ℕ → Next
+pairNext b at =
+    let from = fourAt b at in
+    let size = fourAt b (at + 4) in
+    if ltb at (pairsEnd (countOf b)) && eqb (at % pairSize) countSize && lengthFits size && leb (from + size) (length b)
+    then record { item = Handed; routine = routineOf (commandsAt b from (size / commandSize)); position = at + pairSize }
+    else record { item = End; routine = noRoutine; position = at }
+
+abbrev pub startWith : Verdict → List ℕ → Next
+startWith Accepted b = pairNext b countSize
+startWith (Refused r) b = record { item = RefusedBook r; routine = noRoutine; position = 0 }
+
+-- A step of reading, from position 0 on: there the whole book is checked first; a book that is turned down stays at 0.
+unfoldable pub nextOf : List ℕ → ℕ → Next
+nextOf b at = if eqb at 0 then startWith (bookCheck b) b else pairNext b at
