@@ -3,6 +3,7 @@ use Prim.Native.Nat.{ℕ, zero, suc, _+_, _-_, _*_, _/_, _%_, _≤_, _<_}
 use mathlib.Core.Path.{_≡_, refl, sym, ap, subst, _∙_}
 use mathlib.Core.Bool.{Bool, true, false, not, _&&_, _||_}
 use mathlib.Core.List.{List, [], _∷_, _++_, append-assoc, append-nil}
+use native.Mathlib.Numerals.{add-one}
 use native.Mathlib.Omega.{arith}
 use borrow.Author.Tests.{lt-ltb, le-ltb, le-leb, lt-leb, eq-eqb, ne-eqb, ltb-true, ltb-false, leb-true, leb-false, eqb-true, eqb-false, not-true, not-false}
 use lib.Dec.{leb, ltb, eqb}
@@ -14,13 +15,15 @@ use Rattle.routine.specs.Range.{inRange}
 use Rattle.routine.specs.Refusals.{book-cut-short, book-misplaced, book-length, refusalOf, refuse_when_, _andThen_}
 use Rattle.routine.specs.Routine.{maxCommands, zeroCommand, commandsOf, commandsCheck}
 use Rattle.routine.specs.declared.Command.{Command}
+use Rattle.routine.specs.declared.Refusal.{Refusal}
 use Rattle.routine.specs.declared.Routine.{Routine}
 use Rattle.routine.specs.declared.Verdict.{Verdict}
 use Rattle.routine.specs.declared.Verdict.the-variants.{Accepted, Refused}
 use Rattle.routine.proofs.Laws.{byTest, and-true, both-accept, not-refused, or-false, commandsOf-held}
 use Rattle.layout.specs.Numbers.{twoBytes, fourBytes, byteAt, twoAt, fourAt, bitsOf, settingOf}
 use Rattle.layout.specs.Layout.{countSize, pairSize, commandSize, maxRoutines, bookDevices, pairsEnd, commandBytes, commandsBytes, lengthIn, pairsBytes, bodyBytes, bookBytes, countOf, offsetAt, lengthAt, commandAt, commandsAt}
-use Rattle.layout.specs.Reading.{headCheck, lengthFits, placedCheck, placedChecks, bookCheck, routineOf}
+use Rattle.layout.specs.Reading.{headCheck, lengthFits, placedCheck, placedChecks, bookCheck, routineOf, noRoutine, pairNext}
+use Rattle.layout.specs.declared.Item.the-variants.{Handed, End}
 
 -- ---- lengths that fit: 4 to 32 in fours
 
@@ -129,3 +132,89 @@ placed b i at e =
       inside = ltb-false (length b) (at + lengthAt b i) (o .1);
       fine = y .1;
     }
+
+-- ---- the routines of a book in turn: what is left from the i-th on
+
+module _ (b : List ℕ) (i n at : ℕ) (h : i < n) where
+  pub checks-more : placedCheck b i at ≡ Accepted → placedChecks b i (n - i) at ≡ placedChecks b (i + 1) (n - (i + 1)) (at + lengthAt b i)
+  unfolding placedChecks
+  checks-more e =
+      let k : n - i ≡ suc (n - (i + 1)) = omega arith in
+      rw (k, e) (ap (λ (j : ℕ). placedChecks b j (n - (i + 1)) (at + lengthAt b i)) (sym (add-one i)))
+
+  pub checks-refused : (r : Refusal) → placedCheck b i at ≡ Refused r → placedChecks b i (n - i) at ≡ Refused r
+  unfolding placedChecks
+  checks-refused r e =
+      let k : n - i ≡ suc (n - (i + 1)) = omega arith in
+      rw (k, e)
+
+pub checks-left-over : (b : List ℕ) (i at : ℕ) → at < length b → placedChecks b i 0 at ≡ Refused (refusalOf book-misplaced)
+unfolding placedChecks
+checks-left-over b i at h = simp (lt-ltb at (length b) h)
+
+pub checks-end : (b : List ℕ) (i at : ℕ) → length b ≤ at → placedChecks b i 0 at ≡ Accepted
+unfolding placedChecks
+checks-end b i at h = simp (le-ltb at (length b) h)
+
+-- ---- the head of a book, by its tests
+
+module _ (b : List ℕ) where
+  pub head-count : length b < countSize → headCheck b ≡ Refused (refusalOf book-cut-short)
+  unfolding headCheck
+  head-count h = simp (lt-ltb (length b) countSize h)
+
+  pub head-many : countSize ≤ length b → maxRoutines < countOf b → headCheck b ≡ Refused (refusalOf book-cut-short)
+  unfolding headCheck
+  head-many h k = simp (le-ltb (length b) countSize h, lt-ltb maxRoutines (countOf b) k)
+
+  pub head-pairs : countSize ≤ length b → countOf b ≤ maxRoutines → length b < pairsEnd (countOf b) → headCheck b ≡ Refused (refusalOf book-cut-short)
+  unfolding headCheck
+  head-pairs h k l = simp (le-ltb (length b) countSize h, le-ltb maxRoutines (countOf b) k, lt-ltb (length b) (pairsEnd (countOf b)) l)
+
+  pub head-fine : countSize ≤ length b → countOf b ≤ maxRoutines → pairsEnd (countOf b) ≤ length b → headCheck b ≡ Accepted
+  unfolding headCheck
+  head-fine h k l = simp (le-ltb (length b) countSize h, le-ltb maxRoutines (countOf b) k, le-ltb (length b) (pairsEnd (countOf b)) l)
+
+  pub book-refused : (r : Refusal) → headCheck b ≡ Refused r → bookCheck b ≡ Refused r
+  unfolding bookCheck
+  book-refused r e = rw e
+
+  pub book-placed : headCheck b ≡ Accepted → bookCheck b ≡ placedChecks b 0 (countOf b) (pairsEnd (countOf b))
+  unfolding bookCheck
+  book-placed e = rw e
+
+-- ---- a step of reading, by its tests
+
+-- the four tests of the pair at a position
+pub record PairFits (b : List ℕ) (at : ℕ) : Type 0 where
+  pub before : at < pairsEnd (countOf b)
+  pub whole : at % pairSize ≡ countSize
+  pub fits : lengthFits (fourAt b (at + 4)) ≡ true
+  pub inside : fourAt b at + fourAt b (at + 4) ≤ length b
+
+module _ (b : List ℕ) (at : ℕ) where
+  pub pair-handed : PairFits b at →
+      pairNext b at ≡ record { item = Handed; routine = routineOf (commandsAt b (fourAt b at) (fourAt b (at + 4) / commandSize)); position = at + pairSize }
+  unfolding pairNext
+  pair-handed h =
+      simp (lt-ltb at (pairsEnd (countOf b)) (h .before), eq-eqb (at % pairSize) countSize (h .whole), h .fits, le-leb (fourAt b at + fourAt b (at + 4)) (length b) (h .inside))
+
+  -- the tests in turn: the first that fails ends the book
+  pub pair-past : pairsEnd (countOf b) ≤ at → pairNext b at ≡ record { item = End; routine = noRoutine; position = at }
+  unfolding pairNext
+  pair-past h = simp (le-ltb at (pairsEnd (countOf b)) h)
+
+  pub pair-between : at < pairsEnd (countOf b) → (at % pairSize ≡ countSize → ⊥) → pairNext b at ≡ record { item = End; routine = noRoutine; position = at }
+  unfolding pairNext
+  pair-between h k = simp (lt-ltb at (pairsEnd (countOf b)) h, ne-eqb (at % pairSize) countSize k)
+
+  pub pair-length : at < pairsEnd (countOf b) → at % pairSize ≡ countSize → lengthFits (fourAt b (at + 4)) ≡ false →
+      pairNext b at ≡ record { item = End; routine = noRoutine; position = at }
+  unfolding pairNext
+  pair-length h k e = simp (lt-ltb at (pairsEnd (countOf b)) h, eq-eqb (at % pairSize) countSize k, e)
+
+  pub pair-outside : at < pairsEnd (countOf b) → at % pairSize ≡ countSize → lengthFits (fourAt b (at + 4)) ≡ true →
+      length b < fourAt b at + fourAt b (at + 4) → pairNext b at ≡ record { item = End; routine = noRoutine; position = at }
+  unfolding pairNext
+  pair-outside h k e l =
+      simp (lt-ltb at (pairsEnd (countOf b)) h, eq-eqb (at % pairSize) countSize k, e, lt-leb (fourAt b at + fourAt b (at + 4)) (length b) l)

@@ -1,0 +1,58 @@
+use borrow.Author.Needs.{needs}
+use Rattle.book.proofs.next.Statement.{statement}
+use Rattle.book.proofs.next.Tie as tie
+use Rattle.book.proofs.next.Reads as reads
+use Rattle.book.proofs.next.Lts as lts
+use Rattle.book.proofs.check.Reads as check-reads
+use Rattle.book.proofs.reading.next_pair.Reads as next-pair-reads
+use Rattle.book.proofs.reading.no_routine.Reads as no-routine-reads
+
+-- src/lib.rt:33:9
+next-pair-requires : tie.Need-next-pair-requires
+next-pair-requires c κs = search needs
+
+-- src/lib.rt:33:9
+returns : tie.Need-returns
+returns c = ?
+
+-- src/lib.rt:35:9
+check-requires : tie.Need-check-requires
+check-requires c κs = search needs
+
+-- src/lib.rt:37:30
+enum-told : tie.Need-enum-told
+enum-told c = search needs
+
+-- src/lib.rt:37:30
+next-pair-requires-2 : tie.Need-next-pair-requires-2
+next-pair-requires-2 c κs = search needs
+
+-- src/lib.rt:38:26
+enum-known-verdict : tie.Need-enum-known-verdict
+enum-known-verdict c = search needs
+
+-- src/lib.rt:39:17
+no-routine-requires : tie.Need-no-routine-requires
+no-routine-requires c κs = search needs
+
+-- src/lib.rt:29:1
+returns-2 : tie.Need-returns-2
+returns-2 c = ?
+
+-- src/lib.rt:29:1
+returns-3 : tie.Need-returns-3
+returns-3 c = ?
+
+pub next-spec : {M : Type 1} → statement M
+next-spec =
+    tie.close
+    (tie.spec
+    next-pair-requires
+    returns
+    check-requires
+    enum-told
+    next-pair-requires-2
+    enum-known-verdict
+    no-routine-requires
+    returns-2
+    returns-3)

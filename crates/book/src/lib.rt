@@ -1,0 +1,47 @@
+// The routine book: read and written, as crate `layout` defines it. Document 01, "The routine book".
+mod bytes;
+mod reading;
+
+use layout::{COUNT_SIZE, CUT_SHORT, Item, MAX_ROUTINES, Next, PAIR_SIZE};
+use routine::{Refusal, Verdict};
+
+ghost use mathlib.Core.Path.{_≡_};
+ghost use Rattle.layout.specs.Reading.{bookCheck, nextOf};
+
+// The whole book: 18; then by routine 20, 19, then its commands; bytes left over last.
+pub fn check(book: &[u8]) -> Verdict
+    ensures { λ r. ⌜ r ≡ bookCheck (now (book .entry)) ⌝ }
+{
+    if book.len() < COUNT_SIZE {
+        return Verdict::Refused(Refusal::Number(CUT_SHORT));
+    }
+    let count = bytes::two_at(book, 0);
+    if MAX_ROUTINES < count {
+        return Verdict::Refused(Refusal::Number(CUT_SHORT));
+    }
+    if book.len() < COUNT_SIZE + PAIR_SIZE * count {
+        return Verdict::Refused(Refusal::Number(CUT_SHORT));
+    }
+    reading::check_all(book, count)
+}
+
+// A step of reading, from position 0 on: there the whole book is checked first. Then routine by routine, then the end.
+pub fn next(book: &[u8], position: usize) -> Next
+    ensures { λ r. ⌜ r ≡ nextOf (now (book .entry)) position ⌝ }
+{
+    if position != 0 {
+        return reading::next_pair(book, position);
+    }
+    let verdict = check(book);
+    match verdict {
+        Verdict::Accepted => reading::next_pair(book, COUNT_SIZE),
+        Verdict::Refused(refusal) => {
+            let none = reading::no_routine();
+            Next {
+                item: Item::Refused(refusal),
+                routine: none,
+                position: 0,
+            }
+        }
+    }
+}

@@ -1,0 +1,160 @@
+// The parts of reading a book.
+use crate::bytes::{byte_at, four_at, setting_of, two_at};
+use layout::{BOOK_DEVICES, COMMAND_SIZE, COUNT_SIZE, Item, LENGTH, MISPLACED, Next, PAIR_SIZE};
+use routine::{Command, MAX_COMMANDS, Refusal, Routine, Verdict};
+
+ghost use mathlib.Core.Path.{_≡_};
+ghost use mathlib.Core.List.{[]};
+ghost use Prim.Native.Nat.{_+_, _*_, _<_, _≤_, _^_};
+ghost use lib.ListN.{length};
+ghost use Rattle.routine.specs.Routine.{maxCommands};
+ghost use Rattle.layout.specs.Layout.{commandSize, maxRoutines, pairsEnd, commandAt, commandsAt};
+ghost use Rattle.layout.specs.Reading.{lengthFits, placedCheck, placedChecks, pairNext, routineOf, noRoutine};
+ghost use Rattle.book.specs.Held.{withCommand, endAt};
+
+// The command whose first byte is at a place.
+pub fn command_at(book: &[u8], at: usize) -> Command
+    requires { ⌜ at + 3 < 2 ^ 64 ⌝ }
+    ensures { λ r. ⌜ r ≡ commandAt (now (book .entry)) at ⌝ }
+{
+    let setting = setting_of(byte_at(book, at + 2), byte_at(book, at + 3));
+    Command {
+        device: byte_at(book, at),
+        tag: byte_at(book, at + 1),
+        setting,
+    }
+}
+
+pub fn no_routine() -> Routine
+    ensures { λ r. ⌜ r ≡ noRoutine ⌝ }
+{
+    let none = Command {
+        device: 0,
+        tag: 0,
+        setting: 0,
+    };
+    let commands = [none; MAX_COMMANDS];
+    Routine { commands, count: 0 }
+}
+
+// A routine with one command more.
+pub fn with_command(routine: Routine, command: Command) -> Routine
+    requires { ⌜ routine .count < maxCommands ⌝ }
+    ensures { λ r. ⌜ r ≡ withCommand routine command ⌝ }
+{
+    let mut longer = routine;
+    let at = longer.count;
+    longer.commands[at] = command;
+    longer.count = at + 1;
+    longer
+}
+
+// The routine of so many commands from a place on.
+pub fn routine_at(book: &[u8], at: usize, count: usize) -> Routine
+    requires { ⌜ (count ≤ maxCommands) × (at + commandSize * maxCommands < 2 ^ 64) ⌝ }
+    ensures { λ r. ⌜ r ≡ routineOf (commandsAt (now (book .entry)) at count) ⌝ }
+{
+    let mut routine = no_routine();
+    let mut i = 0;
+    while i < count {
+        let command = command_at(book, at + COMMAND_SIZE * i);
+        routine = with_command(routine, command);
+        i += 1;
+    }
+    routine
+}
+
+// 4 to 32 in fours.
+pub fn length_fits(length: usize) -> bool
+    ensures { λ r. ⌜ r ≡ lengthFits length ⌝ }
+{
+    if length < COMMAND_SIZE {
+        return false;
+    }
+    if COMMAND_SIZE * MAX_COMMANDS < length {
+        return false;
+    }
+    length % COMMAND_SIZE == 0
+}
+
+// Routine i, which the layout puts at a place: 20, 19, then its commands. No sum of an offset and a length is made.
+pub fn check_placed(book: &[u8], i: usize, at: usize) -> Verdict
+    requires { ⌜ (i < maxRoutines) × (at ≤ length (now book)) ⌝ }
+    ensures { λ r. ⌜ r ≡ placedCheck (now (book .entry)) i at ⌝ }
+{
+    let pair = COUNT_SIZE + PAIR_SIZE * i;
+    let size = four_at(book, pair + 4);
+    if !length_fits(size) {
+        return Verdict::Refused(Refusal::Indexed(LENGTH, i));
+    }
+    if four_at(book, pair) != at {
+        return Verdict::Refused(Refusal::Number(MISPLACED));
+    }
+    if book.len() - at < size {
+        return Verdict::Refused(Refusal::Number(MISPLACED));
+    }
+    let routine = routine_at(book, at, size / COMMAND_SIZE);
+    routine::check(routine, BOOK_DEVICES)
+}
+
+// All routines of a book, each next where the one before ends; then bytes left over.
+pub fn check_all(book: &[u8], count: usize) -> Verdict
+    requires { ⌜ (count ≤ maxRoutines) × (pairsEnd count ≤ length (now book)) ⌝ }
+    ensures { λ r. ⌜ r ≡ placedChecks (now (book .entry)) 0 count (pairsEnd count) ⌝ }
+{
+    let mut at = COUNT_SIZE + PAIR_SIZE * count;
+    let mut i = 0;
+    while i < count {
+        let verdict = check_placed(book, i, at);
+        let Verdict::Accepted = verdict else {
+            return verdict;
+        };
+        at += four_at(book, COUNT_SIZE + PAIR_SIZE * i + 4);
+        i += 1;
+    }
+    if at < book.len() {
+        return Verdict::Refused(Refusal::Number(MISPLACED));
+    }
+    Verdict::Accepted
+}
+
+fn ended(position: usize) -> Next
+    ensures { λ r. ⌜ r ≡ endAt position ⌝ }
+{
+    let none = no_routine();
+    Next {
+        item: Item::End,
+        routine: none,
+        position,
+    }
+}
+
+// The routine of the pair at a position, or the end.
+pub fn next_pair(book: &[u8], position: usize) -> Next
+    ensures { λ r. ⌜ r ≡ pairNext (now (book .entry)) position ⌝ }
+{
+    let pairs_end = COUNT_SIZE + PAIR_SIZE * two_at(book, 0);
+    if pairs_end <= position {
+        return ended(position);
+    }
+    if position % PAIR_SIZE != COUNT_SIZE {
+        return ended(position);
+    }
+    let from = four_at(book, position);
+    let size = four_at(book, position + 4);
+    if !length_fits(size) {
+        return ended(position);
+    }
+    if book.len() < from {
+        return ended(position);
+    }
+    if book.len() - from < size {
+        return ended(position);
+    }
+    let routine = routine_at(book, from, size / COMMAND_SIZE);
+    Next {
+        item: Item::Handed,
+        routine,
+        position: position + PAIR_SIZE,
+    }
+}
