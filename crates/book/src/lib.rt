@@ -1,6 +1,7 @@
 // The routine book: read and written, as crate `layout` defines it. Document 01, "The routine book".
 mod bytes;
 mod reading;
+mod writing;
 
 use layout::{COUNT_SIZE, CUT_SHORT, Item, MAX_ROUTINES, Next, PAIR_SIZE};
 use routine::{Refusal, Verdict};

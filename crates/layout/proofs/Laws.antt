@@ -22,8 +22,8 @@ use Rattle.routine.specs.declared.Verdict.the-variants.{Accepted, Refused}
 use Rattle.routine.proofs.Laws.{byTest, and-true, both-accept, not-refused, or-false, commandsOf-held}
 use Rattle.layout.specs.Numbers.{twoBytes, fourBytes, byteAt, twoAt, fourAt, bitsOf, settingOf}
 use Rattle.layout.specs.Layout.{countSize, pairSize, commandSize, maxRoutines, bookDevices, pairsEnd, commandBytes, commandsBytes, lengthIn, pairsBytes, bodyBytes, bookBytes, countOf, offsetAt, lengthAt, commandAt, commandsAt}
-use Rattle.layout.specs.Reading.{headCheck, lengthFits, placedCheck, placedChecks, bookCheck, routineOf, noRoutine, pairNext}
-use Rattle.layout.specs.declared.Item.the-variants.{Handed, End}
+use Rattle.layout.specs.Reading.{headCheck, lengthFits, placedCheck, placedChecks, bookCheck, routineOf, noRoutine, pairNext, nextOf}
+use Rattle.layout.specs.declared.Item.the-variants.{Handed, End, Refused as RefusedBook}
 
 -- ---- lengths that fit: 4 to 32 in fours
 
@@ -218,3 +218,16 @@ module _ (b : List ℕ) (at : ℕ) where
   unfolding pairNext
   pair-outside h k e l =
       simp (lt-ltb at (pairsEnd (countOf b)) h, eq-eqb (at % pairSize) countSize k, e, lt-leb (fourAt b at + fourAt b (at + 4)) (length b) l)
+
+module _ (b : List ℕ) where
+  pub next-later : (at : ℕ) → (at ≡ 0 → ⊥) → nextOf b at ≡ pairNext b at
+  unfolding nextOf
+  next-later at h = simp (ne-eqb at 0 h)
+
+  pub next-first : bookCheck b ≡ Accepted → nextOf b 0 ≡ pairNext b countSize
+  unfolding nextOf
+  next-first e = rw e
+
+  pub next-refused : (r : Refusal) → bookCheck b ≡ Refused r → nextOf b 0 ≡ record { item = RefusedBook r; routine = noRoutine; position = 0 }
+  unfolding nextOf
+  next-refused r e = rw e

@@ -1,3 +1,11 @@
+-- `book::check` meets its contract: each way out is one of the laws of the book's head. Assumes nothing.
+use Prim.Native.Nat.{ℕ}
+use mathlib.Core.Path.{_≡_, sym, ap, _∙_}
+use native.Mathlib.Omega.{arith}
+use Rattle.routine.specs.Refusals.{refusalOf}
+use Rattle.layout.specs.Layout.{pairsEnd, countOf}
+use Rattle.layout.specs.Reading.{placedChecks}
+use Rattle.layout.proofs.Laws.{head-count, head-many, head-pairs, head-fine, book-refused, book-placed}
 use borrow.Author.Needs.{needs}
 use Rattle.book.proofs.check.Statement.{statement}
 use Rattle.book.proofs.check.Tie as tie
@@ -6,9 +14,15 @@ use Rattle.book.proofs.check.Lts as lts
 use Rattle.book.proofs.bytes.two_at.Reads as two-at-reads
 use Rattle.book.proofs.reading.check_all.Reads as check-all-reads
 
+-- the count that the head gives
+count : (c : tie.After-two-at) → c .two-at .result ≡ countOf (c .before .before .before .args .book .now)
+unfolding countOf
+count c = c .two-at .ensures .0
+
 -- src/lib.rt:16:9
 returns : tie.Need-returns
-returns c = ?
+unfolding refusalOf
+returns c = sym (book-refused _ _ (head-count _ (c .if1 .taken)))
 
 -- src/lib.rt:18:9
 two-at-requires : tie.Need-two-at-requires
@@ -16,7 +30,8 @@ two-at-requires c κs = search needs
 
 -- src/lib.rt:20:9
 returns-2 : tie.Need-returns-2
-returns-2 c = ?
+unfolding refusalOf
+returns-2 c = let e = count (c .before) in sym (book-refused _ _ (head-many _ (c .before .before .if1 .left) (omega arith)))
 
 -- src/lib.rt:22:34
 mul-if3 : tie.Need-mul-if3
@@ -28,7 +43,8 @@ add-if3 c = search needs
 
 -- src/lib.rt:23:9
 returns-3 : tie.Need-returns-3
-returns-3 c = ?
+unfolding refusalOf
+returns-3 c = let e = count (c .before .before) in sym (book-refused _ _ (head-pairs _ (c .before .before .before .if1 .left) (omega arith) (omega arith)))
 
 -- src/lib.rt:25:5
 check-all-requires : tie.Need-check-all-requires
@@ -36,7 +52,11 @@ check-all-requires c κs = search needs
 
 -- src/lib.rt:12:1
 returns-4 : tie.Need-returns-4
-returns-4 c = ?
+returns-4 c =     let x = c .before .before .before in
+    let e = count x in
+    c .check-all .ensures
+    ∙ ap (λ (n : ℕ). placedChecks (x .before .before .before .args .book .now) 0 n (pairsEnd n)) e
+    ∙ sym (book-placed _ (head-fine _ (x .before .if1 .left) (omega arith) (omega arith)))
 
 pub check-spec : {M : Type 1} → statement M
 check-spec =

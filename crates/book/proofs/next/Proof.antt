@@ -1,3 +1,9 @@
+-- `book::next` meets its contract. Assumes nothing.
+use Rattle.routine.specs.declared.Routine.{Routine}
+use Rattle.layout.specs.declared.Item.the-variants.{Refused as RefusedBook}
+use mathlib.Core.Path.{_≡_, sym, ap, _∙_}
+use Rattle.layout.specs.Reading.{nextOf}
+use Rattle.layout.proofs.Laws.{next-first, next-later, next-refused}
 use borrow.Author.Needs.{needs}
 use Rattle.book.proofs.next.Statement.{statement}
 use Rattle.book.proofs.next.Tie as tie
@@ -13,7 +19,7 @@ next-pair-requires c κs = search needs
 
 -- src/lib.rt:33:9
 returns : tie.Need-returns
-returns c = ?
+returns c = c .next-pair .ensures ∙ sym (next-later _ _ (c .before .if1 .taken))
 
 -- src/lib.rt:35:9
 check-requires : tie.Need-check-requires
@@ -37,11 +43,19 @@ no-routine-requires c κs = search needs
 
 -- src/lib.rt:29:1
 returns-2 : tie.Need-returns-2
-returns-2 c = ?
+returns-2 c =     let x = c .before .before .before in
+    let a = x .before .before .before .args in
+    c .next-pair2 .ensures
+    ∙ sym (next-first _ (sym (x .check .ensures) ∙ c .before .enum-told .given .1))
+    ∙ ap (nextOf (a .book .now)) (sym (x .before .if1 .left))
 
 -- src/lib.rt:29:1
 returns-3 : tie.Need-returns-3
-returns-3 c = ?
+returns-3 c =     let x = c .before .before .before .before in
+    let a = x .before .before .before .args in
+    ap (λ (q : Routine). record { item = RefusedBook (c .before .before .verdict .given .0 .0); routine = q; position = 0 }) (c .no-routine .ensures)
+    ∙ sym (next-refused _ _ (sym (x .check .ensures) ∙ c .before .before .verdict .given .1))
+    ∙ ap (nextOf (a .book .now)) (sym (x .before .if1 .left))
 
 pub next-spec : {M : Type 1} → statement M
 next-spec =

@@ -1,3 +1,14 @@
+-- `book::reading::check_all` meets its contract. The loop's invariant: the check of the routines from the i-th on, at their place, is the check
+-- of all of them; and that place is in the book. Assumes nothing.
+use borrow.Author.Needs.{needs}
+use Prim.Native.Nat.{ℕ, _+_, _-_, _≤_}
+use mathlib.Core.Path.{_≡_, sym, ap, _∙_}
+use native.Mathlib.Omega.{arith}
+use lib.ListN.{length}
+use Rattle.routine.specs.Refusals.{refusalOf}
+use Rattle.layout.specs.Layout.{pairsEnd, lengthAt}
+use Rattle.layout.specs.Reading.{placedChecks}
+use Rattle.layout.proofs.Laws.{placed, checks-more, checks-refused, checks-left-over, checks-end}
 use Rattle.book.proofs.reading.check_all.Statement.{statement}
 use Rattle.book.proofs.reading.check_all.Tie as tie
 use Rattle.book.proofs.reading.check_all.Reads as reads
@@ -6,77 +17,114 @@ use Rattle.book.proofs.bytes.four_at.Reads as four-at-reads
 use Rattle.book.proofs.reading.check_placed.Reads as check-placed-reads
 
 abbrev Inv-loop : tie.InvT-loop
-Inv-loop book count at₀ i₀ at i = ?
+Inv-loop book count at₀ i₀ at i = (i ≤ count) × (at ≤ length book) × (placedChecks book i (count - i) at ≡ placedChecks book 0 count (pairsEnd count))
 
 abbrev μ-loop : tie.MeasureT-loop
-μ-loop book count at₀ i₀ at i = ?
+μ-loop book count at₀ i₀ at i = count - i
 
 -- src/reading.rt:99:31
 mul-at : tie.Need-mul-at Inv-loop μ-loop
-mul-at c = ?
+mul-at c = search needs
 
 -- src/reading.rt:99:18
 add-at : tie.Need-add-at Inv-loop μ-loop
-add-at c = ?
+add-at c = search needs
+
+-- an accepted routine ends in the book
+moves : (c : tie.After-enum-told Inv-loop μ-loop) →
+    let l = c .before .before .before .before in
+    l .loop .at + lengthAt (l .before .before .args .book .now) (l .loop .i) ≤ length (l .before .before .args .book .now)
+moves c = placed _ _ _ (sym (c .before .before .check-placed .ensures) ∙ c .enum-told .given .1) .inside
+
+-- the length that its pair gives
+size : (c : tie.After-four-at Inv-loop μ-loop) →
+    let l = c .before .before .before .before .before in
+    c .four-at .result ≡ lengthAt (l .before .before .args .book .now) (l .loop .i)
+unfolding lengthAt
+size c = c .four-at .ensures .0
+
+-- all routines are behind the loop
+all : (c : tie.After-loop Inv-loop μ-loop) →
+    let a = c .before .before .before .args in
+    placedChecks (a .book .now) (c .before .loop .i) 0 (c .before .loop .at) ≡ placedChecks (a .book .now) 0 (a .count) (pairsEnd (a .count))
+all c =
+    let a = c .before .before .before .args in
+    let n : 0 ≡ a .count - c .before .loop .i = omega arith in
+    ap (λ (k : ℕ). placedChecks (a .book .now) (c .before .loop .i) k (c .before .loop .at)) n ∙ c .before .loop .inv .2
 
 -- src/reading.rt:101:5
 loop-holds : tie.Need-loop-holds Inv-loop μ-loop
-loop-holds c = ?
+loop-holds c = (search needs, c .before .pre .1, ap (λ (k : ℕ). placedChecks (c .before .args .book .now) 0 k (pairsEnd (c .before .args .count))) (omega arith))
 
 -- src/reading.rt:102:13
 check-placed-requires : tie.Need-check-placed-requires Inv-loop μ-loop
-check-placed-requires c κs = ?
+check-placed-requires c κs = search needs
 
 enum-told : tie.Need-enum-told Inv-loop μ-loop
-enum-told c = ?
+enum-told c = search needs
 
 -- src/reading.rt:104:13
 enum-told-2 : tie.Need-enum-told-2 Inv-loop μ-loop
-enum-told-2 c = ?
+enum-told-2 c = search needs
 
 -- src/reading.rt:104:13
 returns : tie.Need-returns Inv-loop μ-loop
-returns c = ?
+returns c =     let x = c .before .before in
+    let l = x .before .before in
+    c .enum-told2 .given .1
+    ∙ sym (checks-refused _ _ _ _ (x .before .loop-test .taken) _ (sym (x .check-placed .ensures) ∙ c .enum-told2 .given .1))
+    ∙ l .loop .inv .2
 
 -- src/reading.rt:106:42
 mul-four-at : tie.Need-mul-four-at Inv-loop μ-loop
-mul-four-at c = ?
+mul-four-at c = search needs
 
 -- src/reading.rt:106:29
 add-four-at : tie.Need-add-four-at Inv-loop μ-loop
-add-four-at c = ?
+add-four-at c = search needs
 
 -- src/reading.rt:106:29
 add-four-at-2 : tie.Need-add-four-at-2 Inv-loop μ-loop
-add-four-at-2 c = ?
+add-four-at-2 c = search needs
 
 -- src/reading.rt:106:15
 four-at-requires : tie.Need-four-at-requires Inv-loop μ-loop
-four-at-requires c κs = ?
+four-at-requires c κs = search needs
 
 -- src/reading.rt:106:9
 add-at-2 : tie.Need-add-at-2 Inv-loop μ-loop
-add-at-2 c = ?
+add-at-2 c =     let h = moves (c .before) in
+    let e = size c in
+    omega arith
 
 -- src/reading.rt:107:9
 add-i : tie.Need-add-i Inv-loop μ-loop
-add-i c = ?
+add-i c = search needs
 
 -- src/reading.rt:101:5
 loop-less : tie.Need-loop-less Inv-loop μ-loop
-loop-less c = ?
+loop-less c = search needs
 
 -- src/reading.rt:101:5
 loop-again : tie.Need-loop-again Inv-loop μ-loop
-loop-again c = ?
+loop-again c =     let x = c .before .before .before in
+    let l = x .before .before in
+    let a = l .before .before .args in
+    let h = moves (c .before) in
+    let e = size c in
+    (omega arith, omega arith,
+    ap (λ (k : ℕ). placedChecks (a .book .now) (l .loop .i + 1) (a .count - (l .loop .i + 1)) (l .loop .at + k)) e
+    ∙ sym (checks-more _ _ _ _ (x .before .loop-test .taken) (sym (x .check-placed .ensures) ∙ c .before .enum-told .given .1))
+    ∙ l .loop .inv .2)
 
 -- src/reading.rt:110:9
 returns-2 : tie.Need-returns-2 Inv-loop μ-loop
-returns-2 c = ?
+unfolding refusalOf
+returns-2 c = sym (checks-left-over _ _ _ (c .if1 .taken)) ∙ all (c .before)
 
 -- src/reading.rt:95:1
 returns-3 : tie.Need-returns-3 Inv-loop μ-loop
-returns-3 c = ?
+returns-3 c = sym (checks-end _ _ _ (c .if1 .left)) ∙ all (c .before)
 
 pub check-all-spec : {M : Type 1} → statement M
 check-all-spec =

@@ -1,3 +1,15 @@
+use Prim.Native.Nat.{ℕ, _/_}
+use mathlib.Core.Bool.{true}
+use mathlib.Core.Path.{_≡_, sym, ap, _∙_}
+use native.Mathlib.Omega.{arith}
+use borrow.Author.Tests.{not-true, not-false}
+use Rattle.routine.specs.Refusals.{refusalOf}
+use Rattle.routine.specs.Routine.{commandsOf, routineCheck}
+use Rattle.routine.specs.declared.Routine.{Routine}
+use Rattle.routine.proofs.Laws.{check-counted}
+use Rattle.layout.specs.Layout.{commandSize, bookDevices, offsetAt, lengthAt, commandsAt}
+use Rattle.layout.specs.Reading.{lengthFits, routineOf}
+use Rattle.layout.proofs.Laws.{fits-in-fours, placed-length, placed-offset, placed-end, placed-commands, length-commandsAt, routineOf-commands}
 use borrow.Author.Needs.{needs}
 use Rattle.book.proofs.reading.check_placed.Statement.{statement}
 use Rattle.book.proofs.reading.check_placed.Tie as tie
@@ -28,9 +40,27 @@ four-at-requires c κs = search needs
 length-fits-requires : tie.Need-length-fits-requires
 length-fits-requires c κs = search needs
 
+-- the length that the pair gives, and whether it fits
+size : (c : tie.After-length-fits) → c .before .four-at .result ≡ lengthAt (c .before .before .before .args .book .now) (c .before .before .before .args .i)
+unfolding lengthAt
+size c = c .before .four-at .ensures .0
+
+fits : (c : tie.After-length-fits) → lengthFits (lengthAt (c .before .before .before .args .book .now) (c .before .before .before .args .i)) ≡ c .length-fits .result
+fits c = ap lengthFits (sym (size c)) ∙ sym (c .length-fits .ensures)
+
+good : (c : tie.Else1) → lengthFits (lengthAt (c .before .before .before .before .args .book .now) (c .before .before .before .before .args .i)) ≡ true
+good c = fits (c .before) ∙ not-false _ (c .if1 .left)
+
+-- the offset that the pair gives
+offset : (c : tie.After-four-at2) →
+    c .four-at2 .result ≡ offsetAt (c .before .before .before .before .before .args .book .now) (c .before .before .before .before .before .args .i)
+unfolding offsetAt
+offset c = c .four-at2 .ensures .0
+
 -- src/reading.rt:82:9
 returns : tie.Need-returns
-returns c = ?
+unfolding refusalOf
+returns c = sym (placed-length _ _ _ (fits (c .before) ∙ not-true _ (c .if1 .taken)))
 
 -- src/reading.rt:84:8
 four-at-requires-2 : tie.Need-four-at-requires-2
@@ -38,7 +68,8 @@ four-at-requires-2 c κs = search needs
 
 -- src/reading.rt:85:9
 returns-2 : tie.Need-returns-2
-returns-2 c = ?
+unfolding refusalOf
+returns-2 c = sym (placed-offset _ _ _ (good (c .before .before)) (λ e. c .if2 .taken (offset (c .before) ∙ e)))
 
 -- src/reading.rt:87:8
 sub-if3 : tie.Need-sub-if3
@@ -46,11 +77,18 @@ sub-if3 c = search needs
 
 -- src/reading.rt:88:9
 returns-3 : tie.Need-returns-3
-returns-3 c = ?
+unfolding refusalOf
+returns-3 c =     let x = c .before .before .before in
+    let e = size (x .before) in
+    let o = sym (offset (c .before .before)) ∙ c .before .if2 .left in
+    sym (placed-end _ _ _ (good x) o (omega arith))
 
 -- src/reading.rt:90:9
 routine-at-requires : tie.Need-routine-at-requires
-routine-at-requires c κs = ?
+routine-at-requires c κs =     let x = c .before .before .before in
+    let f = fits-in-fours _ (good x) in
+    let e = size (x .before) in
+    (omega arith, omega arith)
 
 -- src/reading.rt:91:5
 check-requires : tie.Need-check-requires
@@ -58,7 +96,21 @@ check-requires c κs = search needs
 
 -- src/reading.rt:75:1
 returns-4 : tie.Need-returns-4
-returns-4 c = ?
+returns-4 c =     let y = c .before .before in
+    let x = y .before .before .before in
+    let a = x .before .before .before .before .args in
+    let e = size (x .before) in
+    let f = fits-in-fours _ (good x) in
+    let o = sym (offset (y .before .before)) ∙ y .before .if2 .left in
+    let n : x .before .before .four-at .result / 4 ≡ lengthAt (a .book .now) (a .i) / commandSize = ap (λ (k : ℕ). k / 4) e in
+    let cs = commandsAt (a .book .now) (a .at) (lengthAt (a .book .now) (a .i) / commandSize) in
+    let l = length-commandsAt (a .book .now) (a .at) (lengthAt (a .book .now) (a .i) / commandSize) in
+    let r : c .before .routine-at .result ≡ routineOf cs = c .before .routine-at .ensures ∙ ap (λ (k : ℕ). routineOf (commandsAt (a .book .now) (a .at) k)) n in
+    c .check .ensures
+    ∙ ap (λ (q : Routine). routineCheck bookDevices (commandsOf q)) r
+    ∙ ap (routineCheck bookDevices) (routineOf-commands cs (omega arith))
+    ∙ check-counted bookDevices cs (omega arith) (omega arith)
+    ∙ sym (placed-commands _ _ _ (good x) o (omega arith))
 
 pub check-placed-spec : {M : Type 1} → statement M
 check-placed-spec =

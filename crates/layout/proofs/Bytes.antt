@@ -1,0 +1,168 @@
+-- Numbers, settings and commands as bytes and back, for theorems (a) and (b). `drop p b` is what book b holds from place p on.
+-- Assumes nothing.
+use Prim.Native.Nat.{ℕ, zero, suc, _+_, _-_, _*_, _/_, _%_, _≤_, _<_}
+use mathlib.Core.Path.{_≡_, refl, sym, ap, ap₂, _∙_}
+use mathlib.Core.Bool.{Bool, true, not}
+use mathlib.Core.List.{List, [], _∷_, _++_, append-assoc}
+use native.Mathlib.Numerals.{add-one}
+use native.Mathlib.Omega.{arith}
+use borrow.Author.Tests.{lt-ltb, le-ltb, leb-true, not-false}
+use lib.Dec.{leb, ltb}
+use lib.IntN.{ℤ, pos, negsuc, _-ℤ_}
+use lib.ListN.{length, drop}
+use lib.Seq.{drop-at, drop-drop, drop-cons, getD-drop}
+use Rattle.routine.specs.Choice.{if_then_else_}
+use Rattle.routine.specs.Range.{inRange}
+use Rattle.routine.specs.Refusals.{device-not-below, setting-out-of-range, refuse_when_}
+use Rattle.routine.specs.Routine.{commandCheck, commandsCheck}
+use Rattle.routine.specs.declared.Command.{Command}
+use Rattle.routine.specs.declared.Verdict.the-variants.{Accepted}
+use Rattle.routine.proofs.Laws.{byTest, both-accept, not-refused, in-range-pos, in-range-negsuc}
+use Rattle.layout.specs.Numbers.{twoBytes, fourBytes, byteAt, twoAt, fourAt, bitsOf, settingOf}
+use Rattle.layout.specs.Layout.{commandBytes, commandsBytes, commandAt, commandsAt}
+use Rattle.layout.specs.Claims.{Bytes}
+use Rattle.layout.proofs.Laws.{length-twoBytes, length-commandBytes}
+
+-- ---- settings and their 16 bits
+
+-- a setting in range is read from its bits
+pub setting-read : (z : ℤ) → inRange z ≡ true → settingOf (bitsOf z) ≡ z
+unfolding settingOf bitsOf
+setting-read (pos n) e = let l : n ≤ 1000 = leb-true n 1000 (sym (in-range-pos n) ∙ e) in simp (lt-ltb n 32768 (omega arith))
+setting-read (negsuc n) e =
+    let l : n ≤ 999 = leb-true n 999 (sym (in-range-negsuc n) ∙ e) in
+    simp (le-ltb (65535 - n) 32768 (omega arith), lt-ltb (65535 - n) 65536 (omega arith)) (ap negsuc (omega arith))
+
+-- bits are those of the setting that they are read as
+pub setting-written : (n : ℕ) → n < 65536 → bitsOf (settingOf n) ≡ n
+unfolding settingOf bitsOf
+setting-written n h =
+    byTest (λ (t : Bool). bitsOf (if t then pos n else pos n -ℤ pos 65536) ≡ n) (ltb n 32768)
+    (λ _. refl) (λ _. simp (lt-ltb n 65536 h) (omega arith))
+
+-- ---- reading at a place what stands there
+
+-- bytes stand at a place: what stands behind them,
+pub behind : (b xs rest : List ℕ) (p n : ℕ) → drop p b ≡ xs ++ rest → length xs ≡ n → drop (p + n) b ≡ rest
+behind b xs rest p n e l = sym (drop-drop n p b) ∙ ap (λ (ys : List ℕ). drop n ys) e ∙ drop-at xs rest n l
+
+-- each of them,
+byte-read : (b xs : List ℕ) (p k : ℕ) → drop p b ≡ xs → byteAt b (p + k) ≡ byteAt xs k
+byte-read b xs p k e = sym (getD-drop p b k 0) ∙ ap (λ (ys : List ℕ). byteAt ys k) e
+
+-- and the first of them
+first-read : (b xs : List ℕ) (p : ℕ) → drop p b ≡ xs → byteAt b p ≡ byteAt xs 0
+first-read b xs p e = let h : p ≡ p + 0 = omega arith in ap (byteAt b) h ∙ byte-read b xs p 0 e
+
+-- two bytes are read as their number
+pub two-read : (b rest : List ℕ) (p n : ℕ) → drop p b ≡ twoBytes n ++ rest → twoAt b p ≡ n
+unfolding twoBytes twoAt
+two-read b rest p n e =
+    let x : byteAt b p ≡ n % 256 = first-read b _ p e in
+    let y : byteAt b (p + 1) ≡ n / 256 = byte-read b _ p 1 e in
+    omega arith
+
+-- the low byte of a number
+low-byte : (x y : ℕ) → x < 256 → (x + 256 * y) % 256 ≡ x
+low-byte x y h = omega arith
+
+-- four bytes are two and two
+four-twos : (n : ℕ) (rest : List ℕ) → fourBytes n ++ rest ≡ twoBytes (n % 65536) ++ (twoBytes (n / 65536) ++ rest)
+unfolding twoBytes fourBytes
+four-twos n rest =
+    let x : n % 256 ≡ n % 65536 % 256 = omega arith in
+    let w : n / 256 ≡ n % 65536 / 256 + 256 * (n / 65536) = omega arith in
+    let y = ap (λ (k : ℕ). k % 256) w ∙ low-byte (n % 65536 / 256) (n / 65536) (omega arith) in
+    let z : n / 16777216 ≡ n / 65536 / 256 = omega arith in
+    cc
+
+-- so they are read as their number
+pub four-read : (b rest : List ℕ) (p n : ℕ) → drop p b ≡ fourBytes n ++ rest → fourAt b p ≡ n
+unfolding fourAt
+four-read b rest p n e =
+    let f = e ∙ four-twos n rest in
+    let x = two-read b _ p (n % 65536) f in
+    let y = two-read b rest (p + 2) (n / 65536) (behind b (twoBytes (n % 65536)) _ p 2 f (length-twoBytes (n % 65536))) in
+    omega arith
+
+-- a command is read as it was
+command-read : (b rest : List ℕ) (p : ℕ) (c : Command) → inRange (c .setting) ≡ true → drop p b ≡ commandBytes c ++ rest → commandAt b p ≡ c
+unfolding commandAt commandBytes
+command-read b rest p c h e =
+    let x = first-read b _ p e in
+    let y = byte-read b _ p 1 e in
+    let z = ap settingOf (two-read b rest (p + 2) (bitsOf (c .setting)) (behind b (c .device ∷ c .tag ∷ []) _ p 2 e refl)) ∙ setting-read (c .setting) h in
+    λ i. record { device = x i; tag = y i; setting = z i }
+
+-- the setting of an accepted command is in range
+in-range : (limit k : ℕ) (c : Command) → commandCheck limit k c ≡ Accepted → inRange (c .setting) ≡ true
+unfolding commandCheck
+in-range limit k c e =
+    let x = both-accept (refuse (device-not-below k) when leb limit (c .device)) _ e in
+    let y = both-accept (refuse (setting-out-of-range k) when not (inRange (c .setting))) _ (x .1) in
+    not-false _ (not-refused (setting-out-of-range k) _ (y .0))
+
+-- accepted commands in a row are read as they were
+pub commands-read : (limit k : ℕ) (b rest : List ℕ) (p : ℕ) (cs : List Command) → commandsCheck limit k cs ≡ Accepted →
+    drop p b ≡ commandsBytes cs ++ rest → commandsAt b p (length cs) ≡ cs
+unfolding commandsCheck
+commands-read limit k b rest p [] h e = refl
+commands-read limit k b rest p (c ∷ cs) h e =
+    let a = both-accept _ _ h in
+    let f = e ∙ append-assoc (commandBytes c) (commandsBytes cs) rest in
+    ap₂ _∷_ (command-read b _ p c (in-range limit k c (a .0)) f)
+    (commands-read limit (suc k) b rest (p + 4) cs (a .1) (behind b (commandBytes c) _ p 4 f (length-commandBytes c)))
+
+-- ---- what was read at a place, written again, is what stands there
+
+module _ (b : List ℕ) (bytes : Bytes b) where
+  -- a number of two bytes has 16 bits
+  two-bound : (p : ℕ) → twoAt b p < 65536
+  unfolding twoAt
+  two-bound p = omega (arith, bytes p, bytes (p + 1))
+
+  -- so for a byte, a number of two bytes, of four, a command and commands in a row
+  byte-written : (p : ℕ) → p < length b → drop p b ≡ byteAt b p ∷ drop (p + 1) b
+  byte-written p h = rw (add-one, drop-cons b p 0)
+
+  pub two-written : (p : ℕ) → p + 2 ≤ length b → drop p b ≡ twoBytes (twoAt b p) ++ drop (p + 2) b
+  unfolding twoAt twoBytes
+  two-written p h =
+      let u = byte-written p (omega arith) in
+      let v = byte-written (p + 1) (omega arith) in
+      let n = byteAt b p + 256 * byteAt b (p + 1) in
+      let x : n % 256 ≡ byteAt b p = omega (arith, bytes p) in
+      let y : n / 256 ≡ byteAt b (p + 1) = omega (arith, bytes p) in
+      let k : p + 1 + 1 ≡ p + 2 = omega arith in
+      cc
+
+  pub four-written : (p : ℕ) → p + 4 ≤ length b → drop p b ≡ fourBytes (fourAt b p) ++ drop (p + 4) b
+  unfolding fourAt
+  four-written p h =
+      let u = two-written p (omega arith) in
+      let v = two-written (p + 2) (omega arith) in
+      let n = twoAt b p + 65536 * twoAt b (p + 2) in
+      let x : n % 65536 ≡ twoAt b p = omega (arith, two-bound p) in
+      let y : n / 65536 ≡ twoAt b (p + 2) = omega (arith, two-bound p) in
+      let k : p + 2 + 2 ≡ p + 4 = omega arith in
+      cc (four-twos n (drop (p + 4) b))
+
+  command-written : (p : ℕ) → p + 4 ≤ length b → drop p b ≡ commandBytes (commandAt b p) ++ drop (p + 4) b
+  unfolding commandAt commandBytes
+  command-written p h =
+      let u = byte-written p (omega arith) in
+      let v = byte-written (p + 1) (omega arith) in
+      let w = two-written (p + 2) (omega arith) in
+      let x = setting-written (twoAt b (p + 2)) (two-bound (p + 2)) in
+      let k : p + 1 + 1 ≡ p + 2 = omega arith in
+      let l : p + 2 + 2 ≡ p + 4 = omega arith in
+      cc
+
+  pub commands-written : (p n : ℕ) → p + 4 * n ≤ length b → drop p b ≡ commandsBytes (commandsAt b p n) ++ drop (p + 4 * n) b
+  commands-written p zero h = let k : p ≡ p + 0 = omega arith in ap (λ (q : ℕ). drop q b) k
+  commands-written p (suc n) h =
+      let x = commandBytes (commandAt b p) in
+      let u = command-written p (omega arith) in
+      let v = commands-written (p + 4) n (omega arith) in
+      let k : p + 4 + 4 * n ≡ p + 4 * suc n = omega arith in
+      cc (append-assoc x (commandsBytes (commandsAt b (p + 4) n)) (drop (p + 4 * suc n) b))

@@ -1,0 +1,16 @@
+-- The theorems of the routine book, by name. What each says stands in specs/Claims.antt. Assumes nothing.
+use Rattle.layout.specs.Claims.{WriteThenRead, ReadThenWrite, ExactRefusals}
+use Rattle.layout.proofs.RoundTrip as RoundTrip
+use Rattle.layout.proofs.Exact as Exact
+
+-- (a) What is written is read as the same routines.
+pub write-then-read : WriteThenRead
+write-then-read = RoundTrip.write-then-read
+
+-- (b) What is read of an accepted book, written again, is the same bytes.
+pub read-then-write : ReadThenWrite
+read-then-write = RoundTrip.read-then-write
+
+-- (c) Each refusal is given exactly under its cause.
+pub exact-refusals : ExactRefusals
+exact-refusals = Exact.exact-refusals
