@@ -9,13 +9,14 @@ use native.Mathlib.Omega.{arith}
 use borrow.Author.Tests.{lt-ltb, le-ltb, ltb-true}
 use lib.Dec.{leb, ltb, eqb}
 use lib.IntN.{ℤ, pos, negsuc, _-ℤ_}
+use lib.Signed.{ltZ, mag}
 use lib.ListN.{length, take, drop, getD, set, replicate, length-append, length-replicate}
 use lib.Seq.{set-at, drop-cons}
 use Rattle.routine.specs.Choice.{if_then_else_}
 use Rattle.routine.specs.Routine.{maxCommands, zeroCommand}
 use Rattle.routine.specs.declared.Command.{Command}
 use Rattle.routine.specs.declared.Routine.{Routine}
-use Rattle.layout.specs.Numbers.{settingOf}
+use Rattle.layout.specs.Numbers.{bitsOf, settingOf}
 use Rattle.layout.specs.Layout.{commandAt, commandsAt}
 use Rattle.layout.specs.Reading.{routineOf}
 use Rattle.layout.proofs.Laws.{length-commandsAt}
@@ -35,6 +36,25 @@ setting-low n h = simp (lt-ltb n 32768 h)
 pub setting-high : (n : ℕ) → 32768 ≤ n → n < 65536 → settingOf n ≡ negsuc (65535 - n)
 unfolding settingOf
 setting-high n l h = simp (le-ltb n 32768 l, lt-ltb n 65536 h) (ap negsuc (omega arith))
+
+-- −1 − z of a negative z, and the bits of each sign
+pub flipped : (z : ℤ) → ltZ z (pos 0) ≡ true → negsuc 0 -ℤ z ≡ pos (mag z)
+flipped (pos n) e = let h : n < 0 = ltb-true n 0 e in absurd (omega arith)
+flipped (negsuc n) e = simp (le-ltb (suc n) 1 (omega arith)) (ap pos (omega arith))
+
+pub bits-negative : (z : ℤ) → ltZ z (pos 0) ≡ true → 65535 - mag z ≡ bitsOf z
+unfolding bitsOf
+bits-negative (pos n) e = let h : n < 0 = ltb-true n 0 e in absurd (omega arith)
+bits-negative (negsuc n) e = refl
+
+pub not-negative : (z : ℤ) → ltZ z (pos 0) ≡ false → z ≡ pos (mag z)
+not-negative (pos n) e = refl
+not-negative (negsuc n) e = let k : _≡_ {A = ℕ} 0 1 = cc in absurd (omega arith)
+
+pub bits-not-negative : (z : ℤ) → ltZ z (pos 0) ≡ false → mag z ≡ bitsOf z
+unfolding bitsOf
+bits-not-negative (pos n) e = refl
+bits-not-negative (negsuc n) e = let k : _≡_ {A = ℕ} 0 1 = cc in absurd (omega arith)
 
 -- ---- a routine that is put together
 

@@ -1,14 +1,10 @@
--- How the code holds a routine while it is put together, and what it answers at the end of a book. Assumes nothing.
-use mathlib.Core.Path.{_≡_}
+-- How the code holds a routine while it is put together, what it answers at the end of a book, and what it counts. Assumes nothing.
 use mathlib.Core.List.{List, [], _∷_}
 use Prim.Native.Nat.{ℕ, _+_}
 use lib.ListN.{length, set}
 use Rattle.routine.specs.declared.Command.{Command}
 use Rattle.routine.specs.declared.Routine.{Routine}
-use Rattle.routine.specs.declared.Verdict.{Verdict}
-use Rattle.routine.specs.declared.Verdict.the-variants.{Accepted}
 use Rattle.layout.specs.Reading.{noRoutine}
-use Rattle.layout.specs.Writing.{routinesCheck}
 use Rattle.layout.specs.declared.Item.the-variants.{End}
 use Rattle.layout.specs.declared.Next.{Next}
 
@@ -24,8 +20,3 @@ endAt at = record { item = End; routine = noRoutine; position = at }
 abbrev pub commandsIn : List (List Command) → ℕ
 commandsIn [] = 0
 commandsIn (r ∷ rs) = length r + commandsIn rs
-
--- What the first pass over lent routines finds out: the verdict on them and, if that is to accept, how many commands they have.
-pub record Measured (rs : List (List Command)) (verdict : Verdict) (commands : ℕ) : Type 0 where
-  pub checked : verdict ≡ routinesCheck rs
-  pub counted : verdict ≡ Accepted → commands ≡ commandsIn rs

@@ -1,3 +1,7 @@
+use native.Mathlib.Numerals.{add-one, add-two, add-three}
+use native.Mathlib.Omega.{arith}
+use lib.ListN.{length-set}
+use Rattle.layout.specs.Numbers.{fourBytes}
 use borrow.Author.Needs.{needs}
 use Rattle.book.proofs.bytes.put_four.Statement.{statement}
 use Rattle.book.proofs.bytes.put_four.Tie as tie
@@ -22,7 +26,7 @@ add-out c = search needs
 
 -- src/bytes.rt:74:5
 slice-write-out-2 : tie.Need-slice-write-out-2
-slice-write-out-2 c = ?
+slice-write-out-2 c = simp length-set (omega arith)
 
 -- src/bytes.rt:75:19
 cast-out-3 : tie.Need-cast-out-3
@@ -34,7 +38,7 @@ add-out-2 c = search needs
 
 -- src/bytes.rt:75:5
 slice-write-out-3 : tie.Need-slice-write-out-3
-slice-write-out-3 c = ?
+slice-write-out-3 c = simp length-set (omega arith)
 
 -- src/bytes.rt:76:19
 cast-out-4 : tie.Need-cast-out-4
@@ -46,15 +50,16 @@ add-out-3 c = search needs
 
 -- src/bytes.rt:76:5
 slice-write-out-4 : tie.Need-slice-write-out-4
-slice-write-out-4 c = ?
+slice-write-out-4 c = simp length-set (omega arith)
 
 -- src/bytes.rt:69:1
 same-length : tie.Need-same-length
-same-length c = search needs
+same-length c = simp length-set
 
 -- src/bytes.rt:69:1
 returns : tie.Need-returns
-returns c = ?
+unfolding fourBytes
+returns c = rw (add-one, add-two, add-three)
 
 pub put-four-spec : {M : Type 1} → statement M
 put-four-spec =

@@ -1,3 +1,7 @@
+use native.Mathlib.Numerals.{add-one}
+use native.Mathlib.Omega.{arith}
+use lib.ListN.{length-set}
+use Rattle.layout.specs.Numbers.{twoBytes}
 use borrow.Author.Needs.{needs}
 use Rattle.book.proofs.bytes.put_two.Statement.{statement}
 use Rattle.book.proofs.bytes.put_two.Tie as tie
@@ -22,7 +26,7 @@ add-out c = search needs
 
 -- src/bytes.rt:66:5
 slice-write-out-2 : tie.Need-slice-write-out-2
-slice-write-out-2 c = ?
+slice-write-out-2 c = simp length-set (omega arith)
 
 -- src/bytes.rt:61:1
 same-length : tie.Need-same-length
@@ -30,7 +34,8 @@ same-length c = search needs
 
 -- src/bytes.rt:61:1
 returns : tie.Need-returns
-returns c = ?
+unfolding twoBytes
+returns c = rw add-one
 
 pub put-two-spec : {M : Type 1} → statement M
 put-two-spec =
