@@ -5,16 +5,19 @@ use mathlib.Core.List.{List, [], _∷_, _++_, append-assoc}
 use native.Mathlib.Nat.{zero-add, suc-add, add-suc, add-zero}
 use native.Mathlib.Numerals.{add-one}
 use native.Mathlib.Omega.{arith}
+use borrow.Author.Tests.{lt-ltb, le-ltb}
 use lib.IntN.{ℤ, pos}
 use lib.ListN.{length, take, drop, getD, set, length-append, length-take, length-drop, drop-of-length-le}
-use lib.Seq.{sets, slice, slice-cons, slice-empty, drop-cons, drop-drop, take-all, take-nil, drop-nil, take-suc, getD-drop}
+use lib.Seq.{sets, sets-eq, slice, slice-cons, slice-empty, drop-cons, drop-drop, take-all, take-nil, drop-nil, take-suc, getD-drop}
+use Rattle.routine.specs.Refusals.{no-room, refusalOf}
 use Rattle.routine.specs.Routine.{zeroCommand, routineCheck}
 use Rattle.routine.specs.declared.Command.{Command}
 use Rattle.routine.specs.declared.Refusal.{Refusal}
 use Rattle.routine.specs.declared.Verdict.the-variants.{Accepted, Refused}
-use Rattle.layout.specs.Layout.{bookDevices, pairsEnd, commandBytes, commandsBytes, pairsBytes, bodyBytes, bookBytes}
+use Rattle.layout.specs.Layout.{maxRoutines, bookDevices, pairsEnd, commandBytes, commandsBytes, pairsBytes, bodyBytes, bookBytes}
 use Rattle.layout.specs.Numbers.{twoBytes, fourBytes}
-use Rattle.layout.specs.Writing.{rowOf, routinesOf, routinesCheck}
+use Rattle.layout.specs.Writing.{rowOf, routinesOf, routinesCheck, writeCheck, writtenOf, bufferAfter}
+use Rattle.layout.specs.declared.Written.the-variants.{Length, Refused as NotWritten}
 use Rattle.layout.proofs.Laws.{length-twoBytes, length-fourBytes, length-commandBytes, length-commandsBytes, length-pairsBytes}
 use Rattle.book.specs.Held.{commandsIn}
 
@@ -118,6 +121,11 @@ pub commands-within : (ns : List ℕ) (row : List Command) → commandsIn (routi
 commands-within [] row = omega arith
 commands-within (n ∷ ns) row = let h = commands-within ns (drop n row) in omega (arith, length-take n row, length-drop n row)
 
+-- nor more than 255 for each, since a count is a byte
+pub commands-few : (ns : List ℕ) (row : List Command) → ((i : ℕ) → getD ns i 0 < 256) → commandsIn (routinesOf ns row) ≤ 255 * length ns
+commands-few [] row h = omega arith
+commands-few (n ∷ ns) row h = let k = commands-few ns (drop n row) (λ i. h (suc i)) in omega (arith, length-take n row, h 0)
+
 -- how long the book is
 pub length-book : (ns : List ℕ) (row : List Command) →
     length (bookBytes (routinesOf ns row)) ≡ pairsEnd (length ns) + 4 * commandsIn (routinesOf ns row)
@@ -161,3 +169,54 @@ commands-put out row p i n h k =
 
 pub commands-put-end : (out : List ℕ) (row : List Command) (p i n : ℕ) → i ≤ n → n ≤ i → sets out p (commandsBytes (slice i n row)) ≡ out
 commands-put-end out row p i n h k = let e : i ≡ n = omega arith in rw (e, slice-empty n row)
+
+-- the three parts of a book, one after another
+pub book-put : (ns out : List ℕ) (row : List Command) →
+    let rs = routinesOf ns row in
+    sets (sets (sets out 0 (twoBytes (length ns))) 2 (pairsBytes (pairsEnd (length ns)) rs)) (pairsEnd (length ns)) (commandsBytes (take (commandsIn rs) row))
+    ≡ sets out 0 (bookBytes rs)
+unfolding bookBytes
+book-put ns out row =
+    let rs = routinesOf ns row in
+    let n = length-routinesOf ns row in
+    let count = twoBytes (length ns) in
+    let pairs = pairsBytes (pairsEnd (length ns)) rs in
+    let l = length-pairsBytes (pairsEnd (length ns)) rs in
+    let p : pairsEnd (length ns) ≡ 2 + length pairs = omega arith in
+    let two : 2 ≡ 0 + length count = omega (arith, length-twoBytes (length ns)) in
+    ap₂ (λ (k : ℕ) (b : List ℕ). sets (sets (sets out 0 count) 2 pairs) k b) p (body-is ns row)
+    ∙ sym (sets-append pairs (bodyBytes rs) (sets out 0 count) 2)
+    ∙ ap (λ (k : ℕ). sets (sets out 0 count) k (pairs ++ bodyBytes rs)) two
+    ∙ sym (sets-append count (pairs ++ bodyBytes rs) out 0)
+    ∙ ap (λ (k : ℕ). sets out 0 (twoBytes k ++ (pairsBytes (pairsEnd k) rs ++ bodyBytes rs))) (sym n)
+
+-- ---- what is answered and what is left in the buffer
+
+module _ (rs : List (List Command)) (room : ℕ) where
+  pub write-refused : (x : Refusal) → routinesCheck rs ≡ Refused x → writeCheck rs room ≡ Refused x
+  unfolding writeCheck
+  write-refused x e = rw e
+
+  pub write-many : routinesCheck rs ≡ Accepted → maxRoutines < length rs → writeCheck rs room ≡ Refused (refusalOf no-room)
+  unfolding writeCheck
+  write-many e h = simp (e, lt-ltb maxRoutines (length rs) h)
+
+  pub write-short : routinesCheck rs ≡ Accepted → length rs ≤ maxRoutines → room < length (bookBytes rs) → writeCheck rs room ≡ Refused (refusalOf no-room)
+  unfolding writeCheck
+  write-short e h k = simp (e, le-ltb maxRoutines (length rs) h, lt-ltb room (length (bookBytes rs)) k)
+
+  pub write-fits : routinesCheck rs ≡ Accepted → length rs ≤ maxRoutines → length (bookBytes rs) ≤ room → writeCheck rs room ≡ Accepted
+  unfolding writeCheck
+  write-fits e h k = simp (e, le-ltb maxRoutines (length rs) h, le-ltb room (length (bookBytes rs)) k)
+
+module _ (rs : List (List Command)) (out : List ℕ) where
+  pub turned-down : (x : Refusal) → writeCheck rs (length out) ≡ Refused x → (NotWritten x ≡ writtenOf rs (length out)) × (out ≡ bufferAfter rs out)
+  unfolding writtenOf bufferAfter
+  turned-down x e = (rw e, rw e)
+
+  pub written : writeCheck rs (length out) ≡ Accepted → length (bookBytes rs) ≤ length out → (n : ℕ) (o : List ℕ) → n ≡ length (bookBytes rs) → o ≡ sets out 0 (bookBytes rs) →
+      (Length n ≡ writtenOf rs (length out)) × (o ≡ bufferAfter rs out)
+  unfolding writtenOf bufferAfter
+  written e h n o m w =
+      let z : 0 + length (bookBytes rs) ≡ length (bookBytes rs) = omega arith in
+      (rw e (ap Length m), rw e (w ∙ sets-eq (bookBytes rs) out 0 (omega arith) ∙ ap (λ (k : ℕ). bookBytes rs ++ drop k out) z))

@@ -62,14 +62,11 @@ pub fn write(counts: &[u8], devices: &[u8], tags: &[u8], settings: &[i16], out: 
     if MAX_ROUTINES < counts.len() {
         return Written::Refused(Refusal::Number(NO_ROOM));
     }
-    let pairs_end = COUNT_SIZE + PAIR_SIZE * counts.len();
     let commands = writing::count_commands(counts, devices, tags, settings);
-    let size = pairs_end + COMMAND_SIZE * commands;
+    let size = COUNT_SIZE + PAIR_SIZE * counts.len() + COMMAND_SIZE * commands;
     if out.len() < size {
         return Written::Refused(Refusal::Number(NO_ROOM));
     }
-    bytes::put_two(out, 0, counts.len() as u16);
-    writing::put_pairs(counts, devices, tags, settings, out);
-    writing::put_commands(devices, tags, settings, commands, pairs_end, out);
+    writing::put_book(counts, devices, tags, settings, commands, out);
     Written::Length(size)
 }

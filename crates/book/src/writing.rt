@@ -9,7 +9,7 @@ ghost use Prim.Native.Nat.{_+_, _*_, _<_, _≤_, min};
 ghost use lib.ListN.{length, take, drop, getD};
 ghost use lib.Seq.{sets};
 ghost use Rattle.routine.specs.Routine.{maxCommands, zeroCommand, routineCheck};
-ghost use Rattle.layout.specs.Layout.{countSize, commandSize, maxRoutines, bookDevices, pairsEnd, commandBytes, commandsBytes, pairsBytes};
+ghost use Rattle.layout.specs.Layout.{countSize, commandSize, maxRoutines, bookDevices, pairsEnd, commandBytes, commandsBytes, pairsBytes, bookBytes};
 ghost use Rattle.layout.specs.Reading.{routineOf};
 ghost use Rattle.layout.specs.Writing.{rowOf, routinesOf, routinesCheck};
 ghost use Rattle.book.specs.Held.{commandsIn};
@@ -21,7 +21,7 @@ fn less_of(a: usize, b: usize) -> usize
 }
 
 // How many commands the row has: a command is there if all its parts are.
-pub fn row_length(devices: &[u8], tags: &[u8], settings: &[i16]) -> usize
+fn row_length(devices: &[u8], tags: &[u8], settings: &[i16]) -> usize
     ensures { λ r. ⌜ r ≡ length (rowOf (now (devices .entry)) (now (tags .entry)) (now (settings .entry))) ⌝ }
 {
     less_of(less_of(devices.len(), tags.len()), settings.len())
@@ -101,7 +101,7 @@ pub fn count_commands(counts: &[u8], devices: &[u8], tags: &[u8], settings: &[i1
 }
 
 // The pairs, behind the count.
-pub fn put_pairs(counts: &[u8], devices: &[u8], tags: &[u8], settings: &[i16], out: &mut [u8])
+fn put_pairs(counts: &[u8], devices: &[u8], tags: &[u8], settings: &[i16], out: &mut [u8])
     requires { ⌜ (length (now counts) ≤ maxRoutines) × (pairsEnd (length (now counts)) ≤ length (now out)) ⌝ }
     ensures { λ _. ⌜ now (out .exit) ≡ sets (now (out .entry)) countSize (pairsBytes (pairsEnd (length (now (counts .entry)))) (routinesOf (now (counts .entry)) (rowOf (now (devices .entry)) (now (tags .entry)) (now (settings .entry))))) ⌝ }
 {
@@ -131,7 +131,7 @@ fn put_command(out: &mut [u8], at: usize, command: Command)
 }
 
 // The first commands of the row, from a place on.
-pub fn put_commands(devices: &[u8], tags: &[u8], settings: &[i16], count: usize, from: usize, out: &mut [u8])
+fn put_commands(devices: &[u8], tags: &[u8], settings: &[i16], count: usize, from: usize, out: &mut [u8])
     requires { ⌜ (count ≤ length (rowOf (now devices) (now tags) (now settings))) × (from + commandSize * count ≤ length (now out)) ⌝ }
     ensures { λ _. ⌜ now (out .exit) ≡ sets (now (out .entry)) from (commandsBytes (take count (rowOf (now (devices .entry)) (now (tags .entry)) (now (settings .entry))))) ⌝ }
 {
@@ -141,4 +141,14 @@ pub fn put_commands(devices: &[u8], tags: &[u8], settings: &[i16], count: usize,
         put_command(out, from + COMMAND_SIZE * i, command);
         i += 1;
     }
+}
+
+// The whole book: count, pairs, commands.
+pub fn put_book(counts: &[u8], devices: &[u8], tags: &[u8], settings: &[i16], commands: usize, out: &mut [u8])
+    requires { ⌜ (length (now counts) ≤ maxRoutines) × (commands ≡ commandsIn (routinesOf (now counts) (rowOf (now devices) (now tags) (now settings)))) × (length (bookBytes (routinesOf (now counts) (rowOf (now devices) (now tags) (now settings)))) ≤ length (now out)) ⌝ }
+    ensures { λ _. ⌜ now (out .exit) ≡ sets (now (out .entry)) 0 (bookBytes (routinesOf (now (counts .entry)) (rowOf (now (devices .entry)) (now (tags .entry)) (now (settings .entry))))) ⌝ }
+{
+    put_two(out, 0, counts.len() as u16);
+    put_pairs(counts, devices, tags, settings, out);
+    put_commands(devices, tags, settings, commands, COUNT_SIZE + PAIR_SIZE * counts.len(), out);
 }
