@@ -1,23 +1,22 @@
 // The parts of reading a book.
-use crate::bytes::{byte_at, four_at, setting_of, two_at};
+use crate::bytes::{byte_at, four_at, two_at};
 use layout::{BOOK_DEVICES, COMMAND_SIZE, COUNT_SIZE, Item, LENGTH, MISPLACED, Next, PAIR_SIZE};
 use routine::{Command, MAX_COMMANDS, Refusal, Routine, Verdict};
 
 ghost use mathlib.Core.Path.{_≡_};
-ghost use mathlib.Core.List.{[]};
 ghost use Prim.Native.Nat.{_+_, _*_, _<_, _≤_, _^_};
 ghost use lib.ListN.{length};
-ghost use Rattle.routine.specs.Routine.{maxCommands};
+ghost use Rattle.routine.specs.Routine.{maxCommands, routineOf};
 ghost use Rattle.layout.specs.Layout.{commandSize, maxRoutines, pairsEnd, commandAt, commandsAt};
-ghost use Rattle.layout.specs.Reading.{lengthFits, placedCheck, placedChecks, pairNext, routineOf, noRoutine};
-ghost use Rattle.book.specs.Held.{withCommand, endAt};
+ghost use Rattle.layout.specs.Reading.{lengthFits, placedCheck, placedChecks, pairNext};
+ghost use Rattle.book.specs.End.{endAt};
 
 // The command whose first byte is at a place.
 pub fn command_at(book: &[u8], at: usize) -> Command
     requires { ⌜ at + 3 < 2 ^ 64 ⌝ }
     ensures { λ r. ⌜ r ≡ commandAt (now (book .entry)) at ⌝ }
 {
-    let setting = setting_of(byte_at(book, at + 2), byte_at(book, at + 3));
+    let setting = layout::setting_of(byte_at(book, at + 2), byte_at(book, at + 3));
     Command {
         device: byte_at(book, at),
         tag: byte_at(book, at + 1),
@@ -25,40 +24,16 @@ pub fn command_at(book: &[u8], at: usize) -> Command
     }
 }
 
-pub fn no_routine() -> Routine
-    ensures { λ r. ⌜ r ≡ noRoutine ⌝ }
-{
-    let none = Command {
-        device: 0,
-        tag: 0,
-        setting: 0,
-    };
-    let commands = [none; MAX_COMMANDS];
-    Routine { commands, count: 0 }
-}
-
-// A routine with one command more.
-pub fn with_command(routine: Routine, command: Command) -> Routine
-    requires { ⌜ routine .count < maxCommands ⌝ }
-    ensures { λ r. ⌜ r ≡ withCommand routine command ⌝ }
-{
-    let mut longer = routine;
-    let at = longer.count;
-    longer.commands[at] = command;
-    longer.count = at + 1;
-    longer
-}
-
 // The routine of so many commands from a place on.
 pub fn routine_at(book: &[u8], at: usize, count: usize) -> Routine
     requires { ⌜ (count ≤ maxCommands) × (at + commandSize * maxCommands < 2 ^ 64) ⌝ }
     ensures { λ r. ⌜ r ≡ routineOf (commandsAt (now (book .entry)) at count) ⌝ }
 {
-    let mut routine = no_routine();
+    let mut routine = routine::empty();
     let mut i = 0;
     while i < count {
         let command = command_at(book, at + COMMAND_SIZE * i);
-        routine = with_command(routine, command);
+        routine = routine::with_command(routine, command);
         i += 1;
     }
     routine
@@ -121,7 +96,7 @@ pub fn check_all(book: &[u8], count: usize) -> Verdict
 fn ended(position: usize) -> Next
     ensures { λ r. ⌜ r ≡ endAt position ⌝ }
 {
-    let none = no_routine();
+    let none = routine::empty();
     Next {
         item: Item::End,
         routine: none,

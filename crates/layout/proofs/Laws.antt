@@ -3,26 +3,28 @@ use Prim.Native.Nat.{ℕ, zero, suc, _+_, _-_, _*_, _/_, _%_, _≤_, _<_}
 use mathlib.Core.Path.{_≡_, refl, sym, ap, subst, _∙_}
 use mathlib.Core.Bool.{Bool, true, false, not, _&&_, _||_}
 use mathlib.Core.List.{List, [], _∷_, _++_, append-assoc, append-nil}
+use native.Mathlib.Nat.{zero-add}
 use native.Mathlib.Numerals.{add-one}
 use native.Mathlib.Omega.{arith}
 use borrow.Author.Tests.{lt-ltb, le-ltb, le-leb, lt-leb, eq-eqb, ne-eqb, ltb-true, ltb-false, leb-true, leb-false, eqb-true, eqb-false, not-true, not-false}
 use lib.Dec.{leb, ltb, eqb}
 use lib.IntN.{ℤ, pos, negsuc, _-ℤ_}
+use lib.Signed.{ltZ, mag}
 use lib.ListN.{length, take, drop, getD, replicate, length-append, length-replicate}
 use lib.Seq.{getD-append-add, take-append-seam, length-take-le}
 use Rattle.routine.specs.Choice.{if_then_else_}
 use Rattle.routine.specs.Range.{inRange}
 use Rattle.routine.specs.Refusals.{book-cut-short, book-misplaced, book-length, refusalOf, refuse_when_, _andThen_}
-use Rattle.routine.specs.Routine.{maxCommands, zeroCommand, commandsOf, commandsCheck}
+use Rattle.routine.specs.Routine.{maxCommands, routineOf, noRoutine, commandsCheck}
 use Rattle.routine.specs.declared.Command.{Command}
 use Rattle.routine.specs.declared.Refusal.{Refusal}
 use Rattle.routine.specs.declared.Routine.{Routine}
 use Rattle.routine.specs.declared.Verdict.{Verdict}
 use Rattle.routine.specs.declared.Verdict.the-variants.{Accepted, Refused}
-use Rattle.routine.proofs.Laws.{byTest, and-true, both-accept, not-refused, or-false, commandsOf-held}
+use Rattle.routine.proofs.Laws.{and-true, both-accept, not-refused, or-false}
 use Rattle.layout.specs.Numbers.{twoBytes, fourBytes, byteAt, twoAt, fourAt, bitsOf, settingOf}
 use Rattle.layout.specs.Layout.{countSize, pairSize, commandSize, maxRoutines, bookDevices, pairsEnd, commandBytes, commandsBytes, lengthIn, pairsBytes, bodyBytes, bookBytes, countOf, offsetAt, lengthAt, commandAt, commandsAt}
-use Rattle.layout.specs.Reading.{headCheck, lengthFits, placedCheck, placedChecks, bookCheck, routineOf, noRoutine, pairNext, nextOf}
+use Rattle.layout.specs.Reading.{headCheck, lengthFits, placedCheck, placedChecks, bookCheck, pairNext, nextOf}
 use Rattle.layout.specs.declared.Item.the-variants.{Handed, End, Refused as RefusedBook}
 
 -- ---- lengths that fit: 4 to 32 in fours
@@ -48,6 +50,40 @@ unfolding lengthFits
 in-fours-fits n h =
     let s = h .some in let f = h .few in let e = h .size in
     simp (le-leb 4 n (omega arith), le-leb n 32 (omega arith), eq-eqb (n % 4) 0 (omega arith))
+
+-- ---- settings as 16 bits
+
+-- −1 − n
+pub minus-one-less : (n : ℕ) → negsuc 0 -ℤ pos n ≡ negsuc n
+minus-one-less zero = refl
+minus-one-less (suc n) = ap (λ (k : ℕ). negsuc (suc k)) (zero-add n)
+
+pub setting-low : (n : ℕ) → n < 32768 → settingOf n ≡ pos n
+unfolding settingOf
+setting-low n h = simp (lt-ltb n 32768 h)
+
+pub setting-high : (n : ℕ) → 32768 ≤ n → n < 65536 → settingOf n ≡ negsuc (65535 - n)
+unfolding settingOf
+setting-high n l h = simp (le-ltb n 32768 l, lt-ltb n 65536 h) (ap negsuc (omega arith))
+
+-- −1 − z of a negative z, and the bits of each sign
+pub flipped : (z : ℤ) → ltZ z (pos 0) ≡ true → negsuc 0 -ℤ z ≡ pos (mag z)
+flipped (pos n) e = let h : n < 0 = ltb-true n 0 e in absurd (omega arith)
+flipped (negsuc n) e = simp (le-ltb (suc n) 1 (omega arith)) (ap pos (omega arith))
+
+pub bits-negative : (z : ℤ) → ltZ z (pos 0) ≡ true → 65535 - mag z ≡ bitsOf z
+unfolding bitsOf
+bits-negative (pos n) e = let h : n < 0 = ltb-true n 0 e in absurd (omega arith)
+bits-negative (negsuc n) e = refl
+
+pub not-negative : (z : ℤ) → ltZ z (pos 0) ≡ false → z ≡ pos (mag z)
+not-negative (pos n) e = refl
+not-negative (negsuc n) e = let k : _≡_ {A = ℕ} 0 1 = cc in absurd (omega arith)
+
+pub bits-not-negative : (z : ℤ) → ltZ z (pos 0) ≡ false → mag z ≡ bitsOf z
+unfolding bitsOf
+bits-not-negative (pos n) e = refl
+bits-not-negative (negsuc n) e = let k : _≡_ {A = ℕ} 0 1 = cc in absurd (omega arith)
 
 -- ---- how long the parts are
 
@@ -76,22 +112,6 @@ length-pairsBytes at (r ∷ rs) =
 pub length-commandsAt : (b : List ℕ) (at n : ℕ) → length (commandsAt b at n) ≡ n
 length-commandsAt b at zero = refl
 length-commandsAt b at (suc n) = ap suc (length-commandsAt b (at + 4) n)
-
--- ---- a routine as the code holds it
-
-pub routineOf-commands : (cs : List Command) → length cs ≤ maxCommands → commandsOf (routineOf cs) ≡ cs
-unfolding routineOf
-routineOf-commands cs h =
-    let zs = replicate (maxCommands - length cs) zeroCommand in
-    commandsOf-held (routineOf cs) (omega (arith, length-append cs zs)) ∙ take-append-seam cs zs
-
-pub routineOf-count : (cs : List Command) → routineOf cs .count ≡ length cs
-unfolding routineOf
-routineOf-count cs = refl
-
-pub routineOf-length : (cs : List Command) → length cs ≤ maxCommands → length (routineOf cs .commands) ≡ maxCommands
-unfolding routineOf
-routineOf-length cs h = omega (arith, length-append cs (replicate (maxCommands - length cs) zeroCommand), length-replicate (maxCommands - length cs) zeroCommand)
 
 -- ---- a routine of a book, by its tests
 

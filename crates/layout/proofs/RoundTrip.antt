@@ -10,22 +10,22 @@ use lib.Dec.{ltb, eqb}
 use lib.ListN.{length, take, drop, length-append, length-drop, drop-of-length-le}
 use lib.Seq.{take-append-seam}
 use Rattle.routine.specs.Refusals.{command-count, book-cut-short, book-misplaced, no-room, refuse_when_}
-use Rattle.routine.specs.Routine.{maxCommands, commandsOf, commandsCheck, routineCheck}
+use Rattle.routine.specs.Routine.{maxCommands, commandsOf, routineOf, commandsCheck, routineCheck}
 use Rattle.routine.specs.declared.Command.{Command}
 use Rattle.routine.specs.declared.Refusal.{Refusal}
 use Rattle.routine.specs.declared.Verdict.{Verdict}
 use Rattle.routine.specs.declared.Verdict.the-variants.{Accepted, Refused}
-use Rattle.routine.proofs.Laws.{both-accept, accept-both, not-refused, or-false, check-counted}
+use Rattle.routine.proofs.Laws.{both-accept, accept-both, not-refused, or-false, check-counted, routineOf-commands}
 use Rattle.layout.specs.Numbers.{twoBytes, fourBytes}
 use Rattle.layout.specs.Layout.{maxRoutines, bookDevices, pairsEnd, commandsBytes, lengthIn, pairsBytes, bodyBytes, bookBytes}
 use Rattle.layout.specs.Layout.{countOf, pairPlace, offsetAt, lengthAt, commandsAt}
-use Rattle.layout.specs.Reading.{headCheck, lengthFits, placedCheck, placedChecks, bookCheck, routineOf, pairNext, startWith, nextOf}
+use Rattle.layout.specs.Reading.{headCheck, lengthFits, placedCheck, placedChecks, bookCheck, pairNext, startWith, nextOf}
 use Rattle.layout.specs.Writing.{routinesCheck, writeCheck, writtenWith, writtenOf, bufferAfter}
 use Rattle.layout.specs.Claims.{Hands, ends, hands, Bytes, WriteThenRead, ReadThenWrite}
 use Rattle.layout.specs.declared.Item.the-variants.{Handed, End, Refused as RefusedBook}
 use Rattle.layout.specs.declared.Next.{Next}
 use Rattle.layout.specs.declared.Written.the-variants.{Length}
-use Rattle.layout.proofs.Laws.{InFours, fits-in-fours, in-fours-fits, routineOf-commands, placed-commands, Placed, placed}
+use Rattle.layout.proofs.Laws.{InFours, fits-in-fours, in-fours-fits, placed-commands, Placed, placed}
 use Rattle.layout.proofs.Laws.{length-fourBytes, length-commandsBytes, length-pairsBytes, length-commandsAt}
 use Rattle.layout.proofs.Bytes.{behind, two-read, four-read, commands-read, two-written, four-written, commands-written}
 

@@ -6,14 +6,14 @@ use lib.IntN.{ℤ, pos, negsuc}
 use lib.ListN.{take}
 use Rattle.routine.specs.Range.{inRange}
 use Rattle.routine.specs.Refusals.{refusalOf}
-use Rattle.routine.specs.Routine.{commandCheck, commandsCheck, routineCheck}
+use Rattle.routine.specs.Routine.{routineOf, commandCheck, commandsCheck, routineCheck}
 use Rattle.routine.specs.declared.Command.{Command}
 use Rattle.routine.specs.declared.Refusal.the-variants.{Number, Indexed}
 use Rattle.routine.specs.declared.Verdict.{Verdict}
 use Rattle.routine.specs.declared.Verdict.the-variants.{Accepted, Refused}
 use Rattle.layout.specs.Numbers.{twoBytes, fourBytes, twoAt, fourAt, bitsOf, settingOf}
 use Rattle.layout.specs.Layout.{commandBytes, bookBytes, countOf, offsetAt, lengthAt, commandAt, commandsAt}
-use Rattle.layout.specs.Reading.{headCheck, lengthFits, placedCheck, placedChecks, bookCheck, pairNext, nextOf, routineOf}
+use Rattle.layout.specs.Reading.{headCheck, lengthFits, placedCheck, placedChecks, bookCheck, pairNext, nextOf}
 use Rattle.layout.specs.Writing.{routinesCheck, writeCheck, writtenOf, bufferAfter}
 use Rattle.layout.specs.declared.Item.the-variants.{Handed, End}
 use Rattle.layout.specs.declared.Written.the-variants.{Length, Refused as NotWritten}

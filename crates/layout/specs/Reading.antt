@@ -1,15 +1,13 @@
 -- Reading a book: document 01, "The routine book" and "When a call is turned down" ("Book reading: 18; then by routine 20, 19, then its
 -- commands; bytes left over last"). Assumes nothing.
 use mathlib.Core.Bool.{Bool, not, _&&_, _||_}
-use mathlib.Core.List.{List, [], _∷_, _++_}
-use Prim.Native.Nat.{ℕ, zero, suc, _+_, _-_, _*_, _/_, _%_}
+use mathlib.Core.List.{List}
+use Prim.Native.Nat.{ℕ, zero, suc, _+_, _*_, _/_, _%_}
 use lib.Dec.{leb, ltb, eqb}
-use lib.ListN.{length, replicate}
+use lib.ListN.{length}
 use Rattle.routine.specs.Choice.{if_then_else_}
 use Rattle.routine.specs.Refusals.{book-cut-short, book-misplaced, book-length, refuse_when_, _andThen_}
-use Rattle.routine.specs.Routine.{maxCommands, zeroCommand, commandsCheck}
-use Rattle.routine.specs.declared.Command.{Command}
-use Rattle.routine.specs.declared.Routine.{Routine}
+use Rattle.routine.specs.Routine.{maxCommands, routineOf, noRoutine, commandsCheck}
 use Rattle.routine.specs.declared.Verdict.{Verdict}
 use Rattle.routine.specs.declared.Verdict.the-variants.{Accepted, Refused}
 use Rattle.layout.specs.Numbers.{fourAt}
@@ -44,14 +42,6 @@ unfoldable pub bookCheck : List ℕ → Verdict
 bookCheck b = headCheck b andThen placedChecks b 0 (countOf b) (pairsEnd (countOf b))
 
 -- ---- routine by routine
-
--- A routine as the code holds it: zero commands behind its own.
-unfoldable pub routineOf : List Command → Routine
-routineOf cs = record { commands = cs ++ replicate (maxCommands - length cs) zeroCommand; count = length cs }
-
--- What stands beside an item that hands out no routine.
-abbrev pub noRoutine : Routine
-noRoutine = routineOf []
 
 -- A position is the place of a pair. If it is one of the book's, its routine is handed out, and the position moves to the next; else this is the
 -- end. (Where the whole book was accepted, the last two tests hold of each of its pairs.)

@@ -1,6 +1,10 @@
-// The routine book of document 01 as definitions, and the theorems about them: specs/ and proofs/. Here stand only the types of the
-// answers and the layout's numbers, which the code of crate `book` shares.
+// The routine book of document 01 as definitions, and the theorems about them: specs/ and proofs/. Here stand what
+// the code of reading and writing shares: the types of the answers, the layout's numbers, and settings as 16 bits.
 use routine::{Refusal, Routine};
+
+ghost use mathlib.Core.Path.{_≡_};
+ghost use Prim.Native.Nat.{_+_, _*_};
+ghost use Rattle.layout.specs.Numbers.{bitsOf, settingOf};
 
 // Sizes in bytes: the count, a pair of offset and length, a command.
 pub const COUNT_SIZE: usize = 2;
@@ -36,4 +40,27 @@ pub struct Next {
 pub enum Written {
     Length(usize),
     Refused(Refusal),
+}
+
+// The setting of 16 bits, two's complement: unsigned up to the cast, then one subtraction.
+pub fn setting_of(low: u8, high: u8) -> i16
+    ensures { λ r. ⌜ r ≡ settingOf (low + 256 * high) ⌝ }
+{
+    let bits = low as u16 + 256 * (high as u16);
+    if bits < 32768 {
+        bits as i16
+    } else {
+        -1 - ((65535 - bits) as i16)
+    }
+}
+
+// The 16 bits of a setting.
+pub fn bits_of(setting: i16) -> u16
+    ensures { λ r. ⌜ r ≡ bitsOf setting ⌝ }
+{
+    if setting < 0 {
+        65535 - ((-1 - setting) as u16)
+    } else {
+        setting as u16
+    }
 }

@@ -1,19 +1,20 @@
 -- Laws of the definitions that callers cite, so that no caller opens them. Assumes nothing.
-use Prim.Native.Nat.{ℕ, zero, suc, _+_, _≤_, _<_}
+use Prim.Native.Nat.{ℕ, zero, suc, _+_, _-_, _≤_, _<_, _^_}
 use mathlib.Core.Path.{_≡_, refl, sym, ap, _∙_}
 use mathlib.Core.Bool.{Bool, true, false, not, _&&_, _||_}
 use mathlib.Core.Logic.{_⊎_, inl, inr}
-use mathlib.Core.List.{List, [], _∷_, _++_, map}
+use mathlib.Core.List.{List, [], _∷_, _++_, map, append-assoc}
 use native.Mathlib.Numerals.{add-one}
 use native.Mathlib.Omega.{arith}
 use borrow.Author.Tests.{lt-ltb, le-ltb, le-leb, lt-leb, eq-eqb, ne-eqb}
 use lib.Dec.{leb, ltb, eqb}
 use lib.IntN.{pos, negsuc}
-use lib.ListN.{length, take, drop, getD, replicate, length-append, length-replicate, length-map}
-use lib.Seq.{slice, slice-cons, slice-empty, take-append-le, length-take-le}
+use lib.ListN.{length, take, drop, getD, set, replicate, length-append, length-replicate, length-map}
+use lib.Seq.{set-at, take-append-seam, slice, slice-cons, slice-empty, take-append-le, length-take-le}
+use Rattle.routine.specs.Choice.{if_then_else_}
 use Rattle.routine.specs.Range.{inRange}
 use Rattle.routine.specs.Refusals.{Cause, command-count, device-not-below, setting-out-of-range, tag-above-1, refusalOf, refuse_when_, _andThen_}
-use Rattle.routine.specs.Routine.{maxCommands, highestTag, zeroCommand, commandsOf, commandCheck, commandsCheck, routineCheck}
+use Rattle.routine.specs.Routine.{maxCommands, highestTag, zeroCommand, commandsOf, routineOf, withCommand, commandCheck, commandsCheck, routineCheck}
 use Rattle.routine.specs.declared.Command.{Command}
 use Rattle.routine.specs.declared.Refusal.{Refusal}
 use Rattle.routine.specs.declared.Routine.{Routine}
@@ -86,6 +87,39 @@ length-commandsOf r =
 pub commandsOf-held : (r : Routine) → r .count ≤ length (r .commands) → commandsOf r ≡ take (r .count) (r .commands)
 unfolding commandsOf
 commandsOf-held r h = take-append-le (r .count) (r .commands) (replicate (r .count) zeroCommand) h
+
+-- ---- a routine as it is held
+
+pub routineOf-commands : (cs : List Command) → length cs ≤ maxCommands → commandsOf (routineOf cs) ≡ cs
+unfolding routineOf
+routineOf-commands cs h =
+    let zs = replicate (maxCommands - length cs) zeroCommand in
+    commandsOf-held (routineOf cs) (omega (arith, length-append cs zs)) ∙ take-append-seam cs zs
+
+pub routineOf-count : (cs : List Command) → routineOf cs .count ≡ length cs
+unfolding routineOf
+routineOf-count cs = refl
+
+pub routineOf-length : (cs : List Command) → length cs ≤ maxCommands → length (routineOf cs .commands) ≡ maxCommands
+unfolding routineOf
+routineOf-length cs h = omega (arith, length-append cs (replicate (maxCommands - length cs) zeroCommand), length-replicate (maxCommands - length cs) zeroCommand)
+
+-- one command more
+pub with-more : (cs : List Command) (c : Command) → length cs < maxCommands → withCommand (routineOf cs) c ≡ routineOf (cs ++ (c ∷ []))
+unfolding withCommand routineOf
+with-more cs c h = λ i. record { commands = commands i; count = counts i }
+  where
+    counts : (if ltb (length cs) (2 ^ 64 - 1) then length cs + 1 else length cs) ≡ length (cs ++ (c ∷ []))
+    counts = rw (lt-ltb (length cs) (2 ^ 64 - 1) (omega arith)) (sym (length-append cs (c ∷ [])))
+    rest : ℕ → List Command
+    rest n = replicate n zeroCommand
+    left : maxCommands - length cs ≡ suc (maxCommands - length (cs ++ (c ∷ [])))
+    left = omega (arith, length-append cs (c ∷ []))
+    commands : set (cs ++ rest (maxCommands - length cs)) (length cs) c ≡ (cs ++ (c ∷ [])) ++ rest (maxCommands - length (cs ++ (c ∷ [])))
+    commands =
+        ap (λ (n : ℕ). set (cs ++ rest n) (length cs) c) left
+        ∙ set-at cs zeroCommand (rest (maxCommands - length (cs ++ (c ∷ [])))) c (length cs) refl
+        ∙ sym (append-assoc cs (c ∷ []) (rest (maxCommands - length (cs ++ (c ∷ [])))))
 
 -- ---- the check of a command, by its tests
 

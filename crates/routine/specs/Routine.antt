@@ -2,10 +2,11 @@
 -- Assumes nothing.
 use mathlib.Core.Bool.{Bool, not, _||_}
 use mathlib.Core.List.{List, [], _∷_, _++_}
-use Prim.Native.Nat.{ℕ, suc}
+use Prim.Native.Nat.{ℕ, suc, _+_, _-_, _^_}
 use lib.Dec.{leb, ltb, eqb}
 use lib.IntN.{pos}
-use lib.ListN.{length, take, replicate}
+use lib.ListN.{length, take, set, replicate}
+use Rattle.routine.specs.Choice.{if_then_else_}
 use Rattle.routine.specs.Range.{inRange}
 use Rattle.routine.specs.Refusals.{command-count, device-not-below, setting-out-of-range, tag-above-1, refuse_when_, _andThen_}
 use Rattle.routine.specs.declared.Command.{Command}
@@ -27,6 +28,17 @@ zeroCommand = record { device = 0; tag = 0; setting = pos 0 }
 -- zero commands; no rule looks at them, since such a routine is turned down for its count.
 unfoldable pub commandsOf : Routine → List Command
 commandsOf r = take (r .count) (r .commands ++ replicate (r .count) zeroCommand)
+
+-- These commands as a `Routine` holds them: zero commands behind them.
+unfoldable pub routineOf : List Command → Routine
+routineOf cs = record { commands = cs ++ replicate (maxCommands - length cs) zeroCommand; count = length cs }
+
+abbrev pub noRoutine : Routine
+noRoutine = routineOf []
+
+-- A routine with one command more. Past the eighth it is counted and not held; a count that no number holds one more of stays.
+unfoldable pub withCommand : Routine → Command → Routine
+withCommand r c = record { commands = set (r .commands) (r .count) c; count = if ltb (r .count) (2 ^ 64 - 1) then r .count + 1 else r .count }
 
 -- A command, the one at index i of its routine, against a device limit: 5, 6, 7.
 unfoldable pub commandCheck : ℕ → ℕ → Command → Verdict

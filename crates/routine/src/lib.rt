@@ -1,7 +1,7 @@
 // Commands, routines, and what turns a call down: document 01, "Things and ranges" and "When a call is turned down".
 ghost use mathlib.Core.Path.{_≡_};
 ghost use Rattle.routine.specs.Range.{inRange};
-ghost use Rattle.routine.specs.Routine.{commandsOf, commandCheck, routineCheck};
+ghost use Rattle.routine.specs.Routine.{commandsOf, noRoutine, withCommand, commandCheck, routineCheck};
 
 // A routine has at most this many commands.
 pub const MAX_COMMANDS: usize = 8;
@@ -38,6 +38,36 @@ pub enum Refusal {
 pub enum Verdict {
     Accepted,
     Refused(Refusal),
+}
+
+// A routine of no commands.
+pub fn empty() -> Routine
+    ensures { λ r. ⌜ r ≡ noRoutine ⌝ }
+{
+    let none = Command {
+        device: 0,
+        tag: 0,
+        setting: 0,
+    };
+    let commands = [none; MAX_COMMANDS];
+    Routine { commands, count: 0 }
+}
+
+// A routine with one command more; past the eighth it is counted and not held.
+pub fn with_command(routine: Routine, command: Command) -> Routine
+    ensures { λ r. ⌜ r ≡ withCommand routine command ⌝ }
+{
+    let mut longer = routine;
+    let at = longer.count;
+    if at < MAX_COMMANDS {
+        longer.commands[at] = command;
+        longer.count = at + 1;
+        return longer;
+    }
+    if at < usize::MAX {
+        longer.count = at + 1;
+    }
+    longer
 }
 
 pub fn in_range(setting: i16) -> bool

@@ -9,48 +9,36 @@ use Rattle.layout.proofs.Laws.{head-count, head-many, head-pairs, head-fine, bo
 use borrow.Author.Needs.{needs}
 use Rattle.book.proofs.check.Statement.{statement}
 use Rattle.book.proofs.check.Tie as tie
-use Rattle.book.proofs.check.Reads as reads
-use Rattle.book.proofs.check.Lts as lts
-use Rattle.book.proofs.bytes.two_at.Reads as two-at-reads
-use Rattle.book.proofs.reading.check_all.Reads as check-all-reads
 
 -- the count that the head gives
 count : (c : tie.After-two-at) → c .two-at .result ≡ countOf (c .before .before .before .args .book .now)
 unfolding countOf
 count c = c .two-at .ensures .0
 
--- src/lib.rt:16:9
 returns : tie.Need-returns
 unfolding refusalOf
 returns c = sym (book-refused _ _ (head-count _ (c .if1 .taken)))
 
--- src/lib.rt:18:9
 two-at-requires : tie.Need-two-at-requires
 two-at-requires c κs = search needs
 
--- src/lib.rt:20:9
 returns-2 : tie.Need-returns-2
 unfolding refusalOf
 returns-2 c = let e = count (c .before) in sym (book-refused _ _ (head-many _ (c .before .before .if1 .left) (omega arith)))
 
--- src/lib.rt:22:34
 mul-if3 : tie.Need-mul-if3
 mul-if3 c = search needs
 
--- src/lib.rt:22:21
 add-if3 : tie.Need-add-if3
 add-if3 c = search needs
 
--- src/lib.rt:23:9
 returns-3 : tie.Need-returns-3
 unfolding refusalOf
 returns-3 c = let e = count (c .before .before) in sym (book-refused _ _ (head-pairs _ (c .before .before .before .if1 .left) (omega arith) (omega arith)))
 
--- src/lib.rt:25:5
 check-all-requires : tie.Need-check-all-requires
 check-all-requires c κs = search needs
 
--- src/lib.rt:12:1
 returns-4 : tie.Need-returns-4
 returns-4 c =     let x = c .before .before .before in
     let e = count x in

@@ -7,41 +7,28 @@ use Rattle.layout.proofs.Laws.{next-first, next-later, next-refused}
 use borrow.Author.Needs.{needs}
 use Rattle.book.proofs.next.Statement.{statement}
 use Rattle.book.proofs.next.Tie as tie
-use Rattle.book.proofs.next.Reads as reads
-use Rattle.book.proofs.next.Lts as lts
-use Rattle.book.proofs.check.Reads as check-reads
-use Rattle.book.proofs.reading.next_pair.Reads as next-pair-reads
-use Rattle.book.proofs.reading.no_routine.Reads as no-routine-reads
 
--- src/lib.rt:33:9
 next-pair-requires : tie.Need-next-pair-requires
 next-pair-requires c κs = search needs
 
--- src/lib.rt:33:9
 returns : tie.Need-returns
 returns c = c .next-pair .ensures ∙ sym (next-later _ _ (c .before .if1 .taken))
 
--- src/lib.rt:35:9
 check-requires : tie.Need-check-requires
 check-requires c κs = search needs
 
--- src/lib.rt:37:30
 enum-told : tie.Need-enum-told
 enum-told c = search needs
 
--- src/lib.rt:37:30
 next-pair-requires-2 : tie.Need-next-pair-requires-2
 next-pair-requires-2 c κs = search needs
 
--- src/lib.rt:38:26
 enum-known-verdict : tie.Need-enum-known-verdict
 enum-known-verdict c = search needs
 
--- src/lib.rt:39:17
-no-routine-requires : tie.Need-no-routine-requires
-no-routine-requires c κs = search needs
+empty-requires : tie.Need-empty-requires
+empty-requires c κs = search needs
 
--- src/lib.rt:29:1
 returns-2 : tie.Need-returns-2
 returns-2 c =     let x = c .before .before .before in
     let a = x .before .before .before .args in
@@ -49,11 +36,10 @@ returns-2 c =     let x = c .before .before .before in
     ∙ sym (next-first _ (sym (x .check .ensures) ∙ c .before .enum-told .given .1))
     ∙ ap (nextOf (a .book .now)) (sym (x .before .if1 .left))
 
--- src/lib.rt:29:1
 returns-3 : tie.Need-returns-3
 returns-3 c =     let x = c .before .before .before .before in
     let a = x .before .before .before .args in
-    ap (λ (q : Routine). record { item = RefusedBook (c .before .before .verdict .given .0 .0); routine = q; position = 0 }) (c .no-routine .ensures)
+    ap (λ (q : Routine). record { item = RefusedBook (c .before .before .verdict .given .0 .0); routine = q; position = 0 }) (c .empty .ensures)
     ∙ sym (next-refused _ _ (sym (x .check .ensures) ∙ c .before .before .verdict .given .1))
     ∙ ap (nextOf (a .book .now)) (sym (x .before .if1 .left))
 
@@ -67,6 +53,6 @@ next-spec =
     enum-told
     next-pair-requires-2
     enum-known-verdict
-    no-routine-requires
+    empty-requires
     returns-2
     returns-3)

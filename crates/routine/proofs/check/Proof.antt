@@ -11,9 +11,6 @@ use Rattle.routine.specs.Routine.{commandsOf, commandsCheck, routineChec
 use Rattle.routine.proofs.Laws.{length-commandsOf, length-mapped, check-empty, check-long, check-held, commands-more, commands-refused, commands-end}
 use Rattle.routine.proofs.check.Statement.{statement}
 use Rattle.routine.proofs.check.Tie as tie
-use Rattle.routine.proofs.check.Reads as reads
-use Rattle.routine.proofs.check.Lts as lts
-use Rattle.routine.proofs.check_command.Reads as check-command-reads
 
 abbrev Inv-loop : tie.InvT-loop
 Inv-loop limit routine count i₀ i = (i ≤ count) × (commandsCheck limit i (slice i count (routine .commands)) ≡ commandsCheck limit 0 (take count (routine .commands)))
@@ -29,40 +26,32 @@ long c = search (needs, length-mapped)
 whole : (c : tie.Else2 Inv-loop μ-loop) → routineCheck (c .before .before .args .limit) (commandsOf (c .before .before .args .t1)) ≡ commandsCheck (c .before .before .args .limit) 0 (take (c .before .before .args .t1 .count) (c .before .before .args .t1 .commands))
 whole c = check-held _ _ (long c) (omega arith) (c .if2 .left)
 
--- src/lib.rt:72:9
 returns : tie.Need-returns Inv-loop μ-loop
 unfolding refusalOf
 returns c = sym (check-empty _ _ (length-commandsOf (c .before .args .t1) ∙ c .if1 .taken))
 
--- src/lib.rt:75:9
 returns-2 : tie.Need-returns-2 Inv-loop μ-loop
 unfolding refusalOf
 returns-2 c = sym (check-long _ _ (rw (length-commandsOf (c .before .before .args .t1)) (c .if2 .taken)))
 
--- src/lib.rt:78:5
 loop-holds : tie.Need-loop-holds Inv-loop μ-loop
 loop-holds c = (search needs, refl)
 
--- src/lib.rt:79:23
 mul-command : tie.Need-mul-command Inv-loop μ-loop
 mul-command c = search needs
 
--- src/lib.rt:79:23
 element-copy-out-command : tie.Need-element-copy-out-command Inv-loop μ-loop
 element-copy-out-command c = search needs
 
--- src/lib.rt:80:13
 check-command-requires : tie.Need-check-command-requires Inv-loop μ-loop
 check-command-requires c κs = search needs
 
 enum-told : tie.Need-enum-told Inv-loop μ-loop
 enum-told c = search needs
 
--- src/lib.rt:82:13
 enum-told-2 : tie.Need-enum-told-2 Inv-loop μ-loop
 enum-told-2 c = search needs
 
--- src/lib.rt:82:13
 returns-3 : tie.Need-returns-3 Inv-loop μ-loop
 returns-3 c =
     let l = c .before .before .before .before in
@@ -72,22 +61,18 @@ returns-3 c =
     ∙ l .before .loop .inv .1
     ∙ sym (whole (l .before .before))
 
--- src/lib.rt:84:9
 add-i : tie.Need-add-i Inv-loop μ-loop
 add-i c = search needs
 
--- src/lib.rt:78:5
 loop-less : tie.Need-loop-less Inv-loop μ-loop
 loop-less c = search needs
 
--- src/lib.rt:78:5
 loop-again : tie.Need-loop-again Inv-loop μ-loop
 loop-again c =
     let l = c .before .before .before .before in
     let n = long (l .before .before) in
     (search needs, sym (commands-more _ _ _ _ (l .loop-test .taken) (omega arith) (sym (c .before .before .check-command .ensures) ∙ c .enum-told .given .1)) ∙ l .before .loop .inv .1)
 
--- src/lib.rt:67:1
 returns-4 : tie.Need-returns-4 Inv-loop μ-loop
 unfolding refusalOf
 returns-4 c = sym (whole (c .before .before) ∙ sym (c .before .loop .inv .1) ∙ commands-end _ _ _ _ (c .before .loop .inv .0) (c .loop-test .left))

@@ -9,9 +9,6 @@ use Rattle.routine.specs.Refusals.{refusalOf}
 use Rattle.routine.proofs.Laws.{command-device, command-setting, command-tag, command-fine}
 use Rattle.routine.proofs.check_command.Statement.{statement}
 use Rattle.routine.proofs.check_command.Tie as tie
-use Rattle.routine.proofs.check_command.Reads as reads
-use Rattle.routine.proofs.check_command.Lts as lts
-use Rattle.routine.proofs.in_range.Reads as in-range-reads
 
 -- what the range test says of the command's setting
 told : (c : tie.After-in-range) → inRange (c .before .before .before .before .args .command .setting) ≡ c .in-range .result
@@ -20,26 +17,21 @@ told c =
     let e : toZ w16 (ofZ w16 z) ≡ z = search needs in
     ap inRange (sym e) ∙ sym (c .in-range .ensures)
 
--- src/lib.rt:54:9
 returns : tie.Need-returns
 unfolding refusalOf
 returns c = sym (command-device _ _ _ (c .if1 .taken))
 
--- src/lib.rt:57:9
 in-range-requires : tie.Need-in-range-requires
 in-range-requires c κs = search needs
 
--- src/lib.rt:58:9
 returns-2 : tie.Need-returns-2
 unfolding refusalOf
 returns-2 c = sym (command-setting _ _ _ (c .before .before .before .if1 .left) (told (c .before) ∙ not-true _ (c .if2 .taken)))
 
--- src/lib.rt:61:9
 returns-3 : tie.Need-returns-3
 unfolding refusalOf
 returns-3 c = sym (command-tag _ _ _ (c .before .before .before .before .before .if1 .left) (told (c .before .before .before) ∙ not-false _ (c .before .before .if2 .left)) (c .if3 .taken))
 
--- src/lib.rt:50:1
 returns-4 : tie.Need-returns-4
 returns-4 c = sym (command-fine _ _ _ (c .before .before .before .before .before .if1 .left) (told (c .before .before .before) ∙ not-false _ (c .before .before .if2 .left)) (c .if3 .left))
 

@@ -7,15 +7,11 @@ use mir.Facts.{toZ-ofZ}
 use Rattle.routine.specs.Range.{inRange, lowestSetting}
 use Rattle.routine.proofs.in_range.Statement.{statement}
 use Rattle.routine.proofs.in_range.Tie as tie
-use Rattle.routine.proofs.in_range.Reads as reads
-use Rattle.routine.proofs.in_range.Lts as lts
 
--- src/lib.rt:43:1
 returns : tie.Need-returns
 unfolding inRange
 returns c = let t = rw (toZ-ofZ (c .before .fits .setting)) at (c .if1 .taken) in rw (toZ-ofZ (c .before .fits .setting), t)
 
--- src/lib.rt:43:1
 returns-2 : tie.Need-returns-2
 unfolding inRange
 returns-2 c = let t = rw (toZ-ofZ (c .before .fits .setting)) at (c .if1 .left) in rw (toZ-ofZ (c .before .fits .setting), t)

@@ -3,31 +3,22 @@ use Rattle.layout.specs.Numbers.{fourAt}
 use borrow.Author.Needs.{needs}
 use Rattle.book.proofs.bytes.four_at.Statement.{statement}
 use Rattle.book.proofs.bytes.four_at.Tie as tie
-use Rattle.book.proofs.bytes.four_at.Reads as reads
-use Rattle.book.proofs.bytes.four_at.Lts as lts
-use Rattle.book.proofs.bytes.two_at.Reads as two-at-reads
 
--- src/bytes.rt:32:5
 two-at-requires : tie.Need-two-at-requires
 two-at-requires c κs = search needs
 
--- src/bytes.rt:32:39
 add-two-at : tie.Need-add-two-at
 add-two-at c = search needs
 
--- src/bytes.rt:32:29
 two-at-requires-2 : tie.Need-two-at-requires-2
 two-at-requires-2 c κs = search needs
 
--- src/bytes.rt:32:21
 mul-result : tie.Need-mul-result
 mul-result c = search needs
 
--- src/bytes.rt:32:5
 add-result : tie.Need-add-result
 add-result c = search needs
 
--- src/bytes.rt:28:1
 returns : tie.Need-returns
 unfolding fourAt
 returns c =     let e = c .before .two-at .ensures .0 in

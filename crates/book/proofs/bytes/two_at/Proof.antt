@@ -4,40 +4,28 @@ use Rattle.layout.specs.Numbers.{twoAt}
 use borrow.Author.Needs.{needs}
 use Rattle.book.proofs.bytes.two_at.Statement.{statement}
 use Rattle.book.proofs.bytes.two_at.Tie as tie
-use Rattle.book.proofs.bytes.two_at.Reads as reads
-use Rattle.book.proofs.bytes.two_at.Lts as lts
-use Rattle.book.proofs.bytes.byte_at.Reads as byte-at-reads
-use Rattle.book.proofs.bytes.wide.Reads as wide-reads
 
--- src/bytes.rt:24:10
 byte-at-requires : tie.Need-byte-at-requires
 byte-at-requires c κs = search needs
 
--- src/bytes.rt:24:5
 wide-requires : tie.Need-wide-requires
 wide-requires c κs = search needs
 
--- src/bytes.rt:24:50
 add-byte-at : tie.Need-add-byte-at
 add-byte-at c = search needs
 
--- src/bytes.rt:24:39
 byte-at-requires-2 : tie.Need-byte-at-requires-2
 byte-at-requires-2 c κs = search needs
 
--- src/bytes.rt:24:34
 wide-requires-2 : tie.Need-wide-requires-2
 wide-requires-2 c κs = search needs
 
--- src/bytes.rt:24:28
 mul-result : tie.Need-mul-result
 mul-result c = search needs
 
--- src/bytes.rt:24:5
 add-result : tie.Need-add-result
 add-result c = search needs
 
--- src/bytes.rt:20:1
 returns : tie.Need-returns
 unfolding twoAt
 returns c =     let x = c .before .before .before in

@@ -11,10 +11,6 @@ use Rattle.layout.specs.Reading.{placedChecks}
 use Rattle.layout.proofs.Laws.{placed, checks-more, checks-refused, checks-left-over, checks-end}
 use Rattle.book.proofs.reading.check_all.Statement.{statement}
 use Rattle.book.proofs.reading.check_all.Tie as tie
-use Rattle.book.proofs.reading.check_all.Reads as reads
-use Rattle.book.proofs.reading.check_all.Lts as lts
-use Rattle.book.proofs.bytes.four_at.Reads as four-at-reads
-use Rattle.book.proofs.reading.check_placed.Reads as check-placed-reads
 
 abbrev Inv-loop : tie.InvT-loop
 Inv-loop book count at₀ i₀ at i = (i ≤ count) × (at ≤ length book) × (placedChecks book i (count - i) at ≡ placedChecks book 0 count (pairsEnd count))
@@ -22,11 +18,9 @@ Inv-loop book count at₀ i₀ at i = (i ≤ count) × (at ≤ length book) × (
 abbrev μ-loop : tie.MeasureT-loop
 μ-loop book count at₀ i₀ at i = count - i
 
--- src/reading.rt:99:31
 mul-at : tie.Need-mul-at Inv-loop μ-loop
 mul-at c = search needs
 
--- src/reading.rt:99:18
 add-at : tie.Need-add-at Inv-loop μ-loop
 add-at c = search needs
 
@@ -52,22 +46,18 @@ all c =
     let n : 0 ≡ a .count - c .before .loop .i = omega arith in
     ap (λ (k : ℕ). placedChecks (a .book .now) (c .before .loop .i) k (c .before .loop .at)) n ∙ c .before .loop .inv .2
 
--- src/reading.rt:101:5
 loop-holds : tie.Need-loop-holds Inv-loop μ-loop
 loop-holds c = (search needs, c .before .pre .1, ap (λ (k : ℕ). placedChecks (c .before .args .book .now) 0 k (pairsEnd (c .before .args .count))) (omega arith))
 
--- src/reading.rt:102:13
 check-placed-requires : tie.Need-check-placed-requires Inv-loop μ-loop
 check-placed-requires c κs = search needs
 
 enum-told : tie.Need-enum-told Inv-loop μ-loop
 enum-told c = search needs
 
--- src/reading.rt:104:13
 enum-told-2 : tie.Need-enum-told-2 Inv-loop μ-loop
 enum-told-2 c = search needs
 
--- src/reading.rt:104:13
 returns : tie.Need-returns Inv-loop μ-loop
 returns c =     let x = c .before .before in
     let l = x .before .before in
@@ -75,37 +65,29 @@ returns c =     let x = c .before .before in
     ∙ sym (checks-refused _ _ _ _ (x .before .loop-test .taken) _ (sym (x .check-placed .ensures) ∙ c .enum-told2 .given .1))
     ∙ l .loop .inv .2
 
--- src/reading.rt:106:42
 mul-four-at : tie.Need-mul-four-at Inv-loop μ-loop
 mul-four-at c = search needs
 
--- src/reading.rt:106:29
 add-four-at : tie.Need-add-four-at Inv-loop μ-loop
 add-four-at c = search needs
 
--- src/reading.rt:106:29
 add-four-at-2 : tie.Need-add-four-at-2 Inv-loop μ-loop
 add-four-at-2 c = search needs
 
--- src/reading.rt:106:15
 four-at-requires : tie.Need-four-at-requires Inv-loop μ-loop
 four-at-requires c κs = search needs
 
--- src/reading.rt:106:9
 add-at-2 : tie.Need-add-at-2 Inv-loop μ-loop
 add-at-2 c =     let h = moves (c .before) in
     let e = size c in
     omega arith
 
--- src/reading.rt:107:9
 add-i : tie.Need-add-i Inv-loop μ-loop
 add-i c = search needs
 
--- src/reading.rt:101:5
 loop-less : tie.Need-loop-less Inv-loop μ-loop
 loop-less c = search needs
 
--- src/reading.rt:101:5
 loop-again : tie.Need-loop-again Inv-loop μ-loop
 loop-again c =     let x = c .before .before .before in
     let l = x .before .before in
@@ -117,12 +99,10 @@ loop-again c =     let x = c .before .before .before in
     ∙ sym (checks-more _ _ _ _ (x .before .loop-test .taken) (sym (x .check-placed .ensures) ∙ c .before .enum-told .given .1))
     ∙ l .loop .inv .2)
 
--- src/reading.rt:110:9
 returns-2 : tie.Need-returns-2 Inv-loop μ-loop
 unfolding refusalOf
 returns-2 c = sym (checks-left-over _ _ _ (c .if1 .taken)) ∙ all (c .before)
 
--- src/reading.rt:95:1
 returns-3 : tie.Need-returns-3 Inv-loop μ-loop
 returns-3 c = sym (checks-end _ _ _ (c .if1 .left)) ∙ all (c .before)
 

@@ -4,39 +4,28 @@ use mathlib.Core.Path.{_≡_, sym, ap, _∙_}
 use native.Mathlib.Omega.{arith}
 use borrow.Author.Tests.{not-true, not-false}
 use Rattle.routine.specs.Refusals.{refusalOf}
-use Rattle.routine.specs.Routine.{commandsOf, routineCheck}
+use Rattle.routine.specs.Routine.{commandsOf, routineOf, routineCheck}
 use Rattle.routine.specs.declared.Routine.{Routine}
-use Rattle.routine.proofs.Laws.{check-counted}
+use Rattle.routine.proofs.Laws.{check-counted, routineOf-commands}
 use Rattle.layout.specs.Layout.{commandSize, bookDevices, offsetAt, lengthAt, commandsAt}
-use Rattle.layout.specs.Reading.{lengthFits, routineOf}
-use Rattle.layout.proofs.Laws.{fits-in-fours, placed-length, placed-offset, placed-end, placed-commands, length-commandsAt, routineOf-commands}
+use Rattle.layout.specs.Reading.{lengthFits}
+use Rattle.layout.proofs.Laws.{fits-in-fours, placed-length, placed-offset, placed-end, placed-commands, length-commandsAt}
 use borrow.Author.Needs.{needs}
 use Rattle.book.proofs.reading.check_placed.Statement.{statement}
 use Rattle.book.proofs.reading.check_placed.Tie as tie
-use Rattle.book.proofs.reading.check_placed.Reads as reads
-use Rattle.book.proofs.reading.check_placed.Lts as lts
-use Rattle.book.proofs.bytes.four_at.Reads as four-at-reads
-use Rattle.book.proofs.reading.length_fits.Reads as length-fits-reads
-use Rattle.book.proofs.reading.routine_at.Reads as routine-at-reads
-use Rattle.routine.proofs.check.Reads as check-reads
 
--- src/reading.rt:79:29
 mul-pair : tie.Need-mul-pair
 mul-pair c = search needs
 
--- src/reading.rt:79:16
 add-pair : tie.Need-add-pair
 add-pair c = search needs
 
--- src/reading.rt:80:30
 add-four-at : tie.Need-add-four-at
 add-four-at c = search needs
 
--- src/reading.rt:80:9
 four-at-requires : tie.Need-four-at-requires
 four-at-requires c κs = search needs
 
--- src/reading.rt:81:9
 length-fits-requires : tie.Need-length-fits-requires
 length-fits-requires c κs = search needs
 
@@ -57,25 +46,20 @@ offset : (c : tie.After-four-at2) →
 unfolding offsetAt
 offset c = c .four-at2 .ensures .0
 
--- src/reading.rt:82:9
 returns : tie.Need-returns
 unfolding refusalOf
 returns c = sym (placed-length _ _ _ (fits (c .before) ∙ not-true _ (c .if1 .taken)))
 
--- src/reading.rt:84:8
 four-at-requires-2 : tie.Need-four-at-requires-2
 four-at-requires-2 c κs = search needs
 
--- src/reading.rt:85:9
 returns-2 : tie.Need-returns-2
 unfolding refusalOf
 returns-2 c = sym (placed-offset _ _ _ (good (c .before .before)) (λ e. c .if2 .taken (offset (c .before) ∙ e)))
 
--- src/reading.rt:87:8
 sub-if3 : tie.Need-sub-if3
 sub-if3 c = search needs
 
--- src/reading.rt:88:9
 returns-3 : tie.Need-returns-3
 unfolding refusalOf
 returns-3 c =     let x = c .before .before .before in
@@ -83,18 +67,15 @@ returns-3 c =     let x = c .before .before .before in
     let o = sym (offset (c .before .before)) ∙ c .before .if2 .left in
     sym (placed-end _ _ _ (good x) o (omega arith))
 
--- src/reading.rt:90:9
 routine-at-requires : tie.Need-routine-at-requires
 routine-at-requires c κs =     let x = c .before .before .before in
     let f = fits-in-fours _ (good x) in
     let e = size (x .before) in
     (omega arith, omega arith)
 
--- src/reading.rt:91:5
 check-requires : tie.Need-check-requires
 check-requires c κs = search needs
 
--- src/reading.rt:75:1
 returns-4 : tie.Need-returns-4
 returns-4 c =     let y = c .before .before in
     let x = y .before .before .before in

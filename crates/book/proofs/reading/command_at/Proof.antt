@@ -8,40 +8,28 @@ use Rattle.layout.specs.Layout.{commandAt}
 use borrow.Author.Needs.{needs}
 use Rattle.book.proofs.reading.command_at.Statement.{statement}
 use Rattle.book.proofs.reading.command_at.Tie as tie
-use Rattle.book.proofs.reading.command_at.Reads as reads
-use Rattle.book.proofs.reading.command_at.Lts as lts
-use Rattle.book.proofs.bytes.byte_at.Reads as byte-at-reads
-use Rattle.book.proofs.bytes.setting_of.Reads as setting-of-reads
 
--- src/reading.rt:20:44
 add-byte-at : tie.Need-add-byte-at
 add-byte-at c = search needs
 
--- src/reading.rt:20:30
 byte-at-requires : tie.Need-byte-at-requires
 byte-at-requires c κs = search needs
 
--- src/reading.rt:20:67
 add-byte-at-2 : tie.Need-add-byte-at-2
 add-byte-at-2 c = search needs
 
--- src/reading.rt:20:53
 byte-at-requires-2 : tie.Need-byte-at-requires-2
 byte-at-requires-2 c κs = search needs
 
--- src/reading.rt:20:9
 setting-of-requires : tie.Need-setting-of-requires
 setting-of-requires c κs = search needs
 
--- src/reading.rt:22:17
 byte-at-requires-3 : tie.Need-byte-at-requires-3
 byte-at-requires-3 c κs = search needs
 
--- src/reading.rt:23:28
 add-byte-at-3 : tie.Need-add-byte-at-3
 add-byte-at-3 c = search needs
 
--- src/reading.rt:23:14
 byte-at-requires-4 : tie.Need-byte-at-requires-4
 byte-at-requires-4 c κs = search needs
 
@@ -56,7 +44,6 @@ sixteen c =
     let n : a .at + 2 + 1 ≡ a .at + 3 = omega arith in
     rw (n, x .before .byte-at .ensures, x .byte-at2 .ensures)
 
--- src/reading.rt:16:1
 returns : tie.Need-returns
 unfolding commandAt
 returns c =     let s = c .before .before in

@@ -3,24 +3,18 @@ use Rattle.layout.specs.Reading.{lengthFits}
 use borrow.Author.Needs.{needs}
 use Rattle.book.proofs.reading.length_fits.Statement.{statement}
 use Rattle.book.proofs.reading.length_fits.Tie as tie
-use Rattle.book.proofs.reading.length_fits.Reads as reads
-use Rattle.book.proofs.reading.length_fits.Lts as lts
 
--- src/reading.rt:72:9
 returns : tie.Need-returns
 unfolding lengthFits
 returns c = simp (lt-leb 4 (c .before .args .length) (c .if1 .taken))
 
--- src/reading.rt:74:8
 mul-if2 : tie.Need-mul-if2
 mul-if2 c = search needs
 
--- src/reading.rt:75:9
 returns-2 : tie.Need-returns-2
 unfolding lengthFits
 returns-2 c = simp (le-leb 4 (c .before .before .args .length) (c .before .if1 .left), lt-leb (c .before .before .args .length) 32 (c .if2 .taken))
 
--- src/reading.rt:68:1
 returns-3 : tie.Need-returns-3
 unfolding lengthFits
 returns-3 c = simp (le-leb 4 (c .before .before .args .length) (c .before .if1 .left), le-leb (c .before .before .args .length) 32 (c .if2 .left))

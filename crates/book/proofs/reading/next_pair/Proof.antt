@@ -4,36 +4,26 @@ use mathlib.Core.Bool.{true}
 use mathlib.Core.Path.{_≡_, sym, ap, ap₂, _∙_}
 use native.Mathlib.Omega.{arith}
 use borrow.Author.Tests.{not-true, not-false}
+use Rattle.routine.specs.Routine.{routineOf}
 use Rattle.routine.specs.declared.Routine.{Routine}
 use Rattle.layout.specs.Numbers.{fourAt}
 use Rattle.layout.specs.Layout.{commandSize, pairsEnd, countOf, commandsAt}
-use Rattle.layout.specs.Reading.{lengthFits, routineOf}
+use Rattle.layout.specs.Reading.{lengthFits}
 use Rattle.layout.specs.declared.Item.the-variants.{Handed}
 use Rattle.layout.proofs.Laws.{fits-in-fours, pair-handed, pair-past, pair-between, pair-length, pair-outside}
 use borrow.Author.Needs.{needs}
 use Rattle.book.proofs.reading.next_pair.Statement.{statement}
 use Rattle.book.proofs.reading.next_pair.Tie as tie
-use Rattle.book.proofs.reading.next_pair.Reads as reads
-use Rattle.book.proofs.reading.next_pair.Lts as lts
-use Rattle.book.proofs.bytes.four_at.Reads as four-at-reads
-use Rattle.book.proofs.bytes.two_at.Reads as two-at-reads
-use Rattle.book.proofs.reading.ended.Reads as ended-reads
-use Rattle.book.proofs.reading.length_fits.Reads as length-fits-reads
-use Rattle.book.proofs.reading.routine_at.Reads as routine-at-reads
 
--- src/reading.rt:136:46
 two-at-requires : tie.Need-two-at-requires
 two-at-requires c κs = search needs
 
--- src/reading.rt:136:34
 mul-pairs-end : tie.Need-mul-pairs-end
 mul-pairs-end c = search needs
 
--- src/reading.rt:136:21
 add-pairs-end : tie.Need-add-pairs-end
 add-pairs-end c = search needs
 
--- src/reading.rt:138:9
 ended-requires : tie.Need-ended-requires
 ended-requires c κs = search needs
 
@@ -56,64 +46,50 @@ good : (c : tie.Else3) →
     lengthFits (fourAt (a .book .now) (a .position + 4)) ≡ true
 good c = fits (c .before) ∙ not-false _ (c .if3 .left)
 
--- src/reading.rt:138:9
 returns : tie.Need-returns
 returns c =     let e = count (c .before .before) in
     c .ended .ensures ∙ sym (pair-past _ _ (omega arith))
 
--- src/reading.rt:141:9
 ended-requires-2 : tie.Need-ended-requires-2
 ended-requires-2 c κs = search needs
 
--- src/reading.rt:141:9
 returns-2 : tie.Need-returns-2
 returns-2 c = c .ended2 .ensures ∙ sym (pair-between _ _ (before (c .before .before)) (c .before .if2 .taken))
 
--- src/reading.rt:143:9
 four-at-requires : tie.Need-four-at-requires
 four-at-requires c κs = search needs
 
--- src/reading.rt:144:30
 add-four-at : tie.Need-add-four-at
 add-four-at c = search needs
 
--- src/reading.rt:144:9
 four-at-requires-2 : tie.Need-four-at-requires-2
 four-at-requires-2 c κs = search needs
 
--- src/reading.rt:145:9
 length-fits-requires : tie.Need-length-fits-requires
 length-fits-requires c κs = search needs
 
--- src/reading.rt:146:9
 ended-requires-3 : tie.Need-ended-requires-3
 ended-requires-3 c κs = search needs
 
--- src/reading.rt:146:9
 returns-3 : tie.Need-returns-3
 returns-3 c =     let x = c .before .before in
     c .ended3 .ensures ∙ sym (pair-length _ _ (before (x .before .before .before .before)) (x .before .before .before .if2 .left) (fits x ∙ not-true _ (c .before .if3 .taken)))
 
--- src/reading.rt:149:9
 ended-requires-4 : tie.Need-ended-requires-4
 ended-requires-4 c κs = search needs
 
--- src/reading.rt:149:9
 returns-4 : tie.Need-returns-4
 returns-4 c =     let x = c .before .before .before in
     let f = x .before .before .four-at .ensures .0 in
     c .ended4 .ensures
     ∙ sym (pair-outside _ _ (before (x .before .before .before .before)) (x .before .before .before .if2 .left) (good (c .before .before)) (omega arith))
 
--- src/reading.rt:151:8
 sub-if5 : tie.Need-sub-if5
 sub-if5 c = search needs
 
--- src/reading.rt:152:9
 ended-requires-5 : tie.Need-ended-requires-5
 ended-requires-5 c κs = search needs
 
--- src/reading.rt:152:9
 returns-5 : tie.Need-returns-5
 returns-5 c =     let x = c .before .before .before .before in
     let f = x .before .before .four-at .ensures .0 in
@@ -121,18 +97,15 @@ returns-5 c =     let x = c .before .before .before .before in
     c .ended5 .ensures
     ∙ sym (pair-outside _ _ (before (x .before .before .before .before)) (x .before .before .before .if2 .left) (good (c .before .before .before)) (omega arith))
 
--- src/reading.rt:154:9
 routine-at-requires : tie.Need-routine-at-requires
 routine-at-requires c κs =     let x = c .before .before .before in
     let s = x .before .four-at2 .ensures .0 in
     let i = fits-in-fours _ (good (c .before .before)) in
     (omega arith, omega arith)
 
--- src/reading.rt:158:19
 add-t8 : tie.Need-add-t8
 add-t8 c = search needs
 
--- src/reading.rt:133:1
 returns-6 : tie.Need-returns-6
 returns-6 c =     let x = c .before .before .before .before in
     let f = x .before .before .four-at .ensures .0 in

@@ -3,22 +3,17 @@ use mathlib.Core.List.{[], _∷_, _++_}
 use native.Mathlib.Numerals.{add-one}
 use Rattle.routine.specs.declared.Command.{Command}
 use Rattle.routine.specs.declared.Routine.{Routine}
-use Rattle.layout.proofs.Laws.{length-commandsAt, routineOf-count}
-use Rattle.book.specs.Held.{withCommand}
-use Rattle.book.proofs.Laws.{with-more, commandsAt-more}
+use Rattle.layout.proofs.Laws.{length-commandsAt}
+use Rattle.routine.proofs.Laws.{routineOf-count, with-more}
+use Rattle.book.proofs.Laws.{commandsAt-more}
 use borrow.Author.Needs.{needs}
 use Prim.Native.Nat.{_+_, _-_, _*_, _≤_}
 use mathlib.Core.Path.{_≡_, sym, ap, _∙_}
 use native.Mathlib.Omega.{arith}
 use Rattle.layout.specs.Layout.{commandsAt}
-use Rattle.layout.specs.Reading.{routineOf}
+use Rattle.routine.specs.Routine.{routineOf, withCommand}
 use Rattle.book.proofs.reading.routine_at.Statement.{statement}
 use Rattle.book.proofs.reading.routine_at.Tie as tie
-use Rattle.book.proofs.reading.routine_at.Reads as reads
-use Rattle.book.proofs.reading.routine_at.Lts as lts
-use Rattle.book.proofs.reading.command_at.Reads as command-at-reads
-use Rattle.book.proofs.reading.no_routine.Reads as no-routine-reads
-use Rattle.book.proofs.reading.with_command.Reads as with-command-reads
 
 abbrev Inv-loop : tie.InvT-loop
 Inv-loop book at count routine₀ i₀ routine i = (i ≤ count) × (routine ≡ routineOf (commandsAt book at i))
@@ -26,41 +21,32 @@ Inv-loop book at count routine₀ i₀ routine i = (i ≤ count) × (routine ≡
 abbrev μ-loop : tie.MeasureT-loop
 μ-loop book at count routine₀ i₀ routine i = count - i
 
--- src/reading.rt:57:9
-no-routine-requires : tie.Need-no-routine-requires Inv-loop μ-loop
-no-routine-requires c κs = search needs
+empty-requires : tie.Need-empty-requires Inv-loop μ-loop
+empty-requires c κs = search needs
 
--- src/reading.rt:59:5
 loop-holds : tie.Need-loop-holds Inv-loop μ-loop
-loop-holds c = (search needs, c .no-routine .ensures)
+loop-holds c = (search needs, c .empty .ensures)
 
--- src/reading.rt:60:45
 mul-command-at : tie.Need-mul-command-at Inv-loop μ-loop
 mul-command-at c = search needs
 
--- src/reading.rt:60:40
 add-command-at : tie.Need-add-command-at Inv-loop μ-loop
 add-command-at c = search needs
 
--- src/reading.rt:60:13
 command-at-requires : tie.Need-command-at-requires Inv-loop μ-loop
 command-at-requires c κs = search needs
 
--- src/reading.rt:61:9
 with-command-requires : tie.Need-with-command-requires Inv-loop μ-loop
 with-command-requires c κs =     let l = c .before .before in
     let e : l .loop .routine .count ≡ l .loop .i = ap (λ (r : Routine). r .count) (l .loop .inv .1) ∙ routineOf-count _ ∙ length-commandsAt _ _ _ in
     omega arith
 
--- src/reading.rt:62:9
 add-i : tie.Need-add-i Inv-loop μ-loop
 add-i c = search needs
 
--- src/reading.rt:59:5
 loop-less : tie.Need-loop-less Inv-loop μ-loop
 loop-less c = search needs
 
--- src/reading.rt:59:5
 loop-again : tie.Need-loop-again Inv-loop μ-loop
 loop-again c =     let l = c .before .before .before in
     let a = l .before .before .before .args in
@@ -73,7 +59,6 @@ loop-again c =     let l = c .before .before .before in
     ∙ ap routineOf (sym (commandsAt-more (a .book .now) (a .at) (l .loop .i)))
     ∙ ap (λ (k : ℕ). routineOf (commandsAt (a .book .now) (a .at) k)) (sym (add-one (l .loop .i))))
 
--- src/reading.rt:53:1
 returns : tie.Need-returns Inv-loop μ-loop
 returns c =     let a = c .before .before .before .before .args in
     let n : c .before .loop .i ≡ a .count = omega arith in
@@ -85,7 +70,7 @@ routine-at-spec =
     (tie.spec
     Inv-loop
     μ-loop
-    no-routine-requires
+    empty-requires
     loop-holds
     mul-command-at
     add-command-at

@@ -1,0 +1,114 @@
+-- `book_writer::write` meets its contract: each way out is one of the laws of `writeCheck`. Assumes nothing.
+use mathlib.Core.Path.{_≡_, sym, ap, _∙_}
+use mathlib.Core.List.{List}
+use Prim.Native.Nat.{ℕ, _+_, _*_, _≤_}
+use native.Mathlib.Omega.{arith}
+use lib.ListN.{length, take}
+use Rattle.layout.specs.Writing.{rowOf, routinesOf}
+use Rattle.routine.specs.Refusals.{refusalOf}
+use Rattle.routine.specs.declared.Verdict.the-variants.{Accepted}
+use Rattle.layout.specs.Writing.{routinesCheck}
+use Rattle.book_writer.proofs.Row.{length-routinesOf, commands-few, length-book, write-refused, write-many, write-short, write-fits, turned-down, written}
+use borrow.Author.Needs.{needs}
+use Rattle.book_writer.proofs.write.Statement.{statement}
+use Rattle.book_writer.proofs.write.Tie as tie
+
+check-routines-requires : tie.Need-check-routines-requires
+check-routines-requires c κs = search needs
+
+enum-known-verdict : tie.Need-enum-known-verdict
+enum-known-verdict c = search needs
+
+-- the routines pass
+accepted : (c : tie.After-enum-told) →
+    let a = c .before .before .before .before .before .before .before .args in
+    routinesCheck (routinesOf (a .counts .now) (rowOf (a .devices .now) (a .tags .now) (a .settings .now))) ≡ Accepted
+accepted c = sym (c .before .before .check-routines .ensures) ∙ c .enum-told .given .1
+
+-- how many commands there can be
+few : (c : tie.After-count-commands) →
+    c .count-commands .result ≤ 255 * length (c .before .before .before .before .before .before .before .before .before .args .counts .now)
+few c =
+    let s = c .before .before .before .before .before .before .before .before in
+    let a = s .before .args in
+    let f = commands-few (a .counts .now) (rowOf (a .devices .now) (a .tags .now) (a .settings .now)) (λ i. s .shared-slice-known .given i .fits) in
+    omega (arith, c .count-commands .ensures, f)
+
+returns : tie.Need-returns
+returns c =     let x = c .before .before .before in
+    let a = x .before .before .before .before .before .args in
+    turned-down (routinesOf (a .counts .now) (rowOf (a .devices .now) (a .tags .now) (a .settings .now))) (a .out .now) _ (write-refused (routinesOf (a .counts .now) (rowOf (a .devices .now) (a .tags .now) (a .settings .now))) _ _ (sym (x .check-routines .ensures) ∙ c .before .verdict .given .1))
+
+enum-told : tie.Need-enum-told
+enum-told c = search needs
+
+returns-2 : tie.Need-returns-2
+unfolding refusalOf
+returns-2 c =     let x = c .before .before .before in
+    let a = x .before .before .before .before .before .args in
+    let n = length-routinesOf (a .counts .now) (rowOf (a .devices .now) (a .tags .now) (a .settings .now)) in
+    turned-down (routinesOf (a .counts .now) (rowOf (a .devices .now) (a .tags .now) (a .settings .now))) (a .out .now) _ (write-many (routinesOf (a .counts .now) (rowOf (a .devices .now) (a .tags .now) (a .settings .now))) _ (accepted (c .before)) (omega arith))
+
+count-commands-requires : tie.Need-count-commands-requires
+count-commands-requires c κs = search needs
+
+mul-size : tie.Need-mul-size
+mul-size c = search needs
+
+add-size : tie.Need-add-size
+add-size c = search needs
+
+mul-size-2 : tie.Need-mul-size-2
+mul-size-2 c = let f = few c in search needs
+
+add-size-2 : tie.Need-add-size-2
+add-size-2 c = let f = few c in search needs
+
+returns-3 : tie.Need-returns-3
+unfolding refusalOf
+returns-3 c =     let y = c .before .before in
+    let a = y .before .before .before .before .before .before .before .before .args in
+    let n = length-routinesOf (a .counts .now) (rowOf (a .devices .now) (a .tags .now) (a .settings .now)) in
+    let l = length-book (a .counts .now) (rowOf (a .devices .now) (a .tags .now) (a .settings .now)) in
+    let e = c .before .count-commands .ensures in
+    turned-down (routinesOf (a .counts .now) (rowOf (a .devices .now) (a .tags .now) (a .settings .now))) (a .out .now) _ (write-short (routinesOf (a .counts .now) (rowOf (a .devices .now) (a .tags .now) (a .settings .now))) _ (accepted (y .before)) (omega arith) (omega (arith, c .if2 .taken, e, l)))
+
+put-book-requires : tie.Need-put-book-requires
+put-book-requires c κs =     let d = c .before .before in
+    let y = d .before in
+    let a = y .before .before .before .before .before .before .before .before .args in
+    let l = length-book (a .counts .now) (rowOf (a .devices .now) (a .tags .now) (a .settings .now)) in
+    (y .if1 .left, d .count-commands .ensures, omega (arith, c .before .if2 .left, d .count-commands .ensures, l))
+
+same-length : tie.Need-same-length
+same-length c = c .before .before .put-book .kept .1 .1 .1 .1 .1 .0
+
+returns-4 : tie.Need-returns-4
+returns-4 c =     let z = c .before .before .before .before in
+    let d = z .before in
+    let y = d .before in
+    let a = y .before .before .before .before .before .before .before .before .args in
+    let n = length-routinesOf (a .counts .now) (rowOf (a .devices .now) (a .tags .now) (a .settings .now)) in
+    let l = length-book (a .counts .now) (rowOf (a .devices .now) (a .tags .now) (a .settings .now)) in
+    let e = d .count-commands .ensures in
+    let fits = write-fits (routinesOf (a .counts .now) (rowOf (a .devices .now) (a .tags .now) (a .settings .now))) (length (a .out .now)) (accepted (y .before)) (omega (arith, y .if1 .left, n)) (omega (arith, z .if2 .left, e, l)) in
+    written (routinesOf (a .counts .now) (rowOf (a .devices .now) (a .tags .now) (a .settings .now))) (a .out .now) fits (omega (arith, z .if2 .left, e, l)) _ _ (omega (arith, e, l)) (c .before .before .put-book .ensures)
+
+pub write-spec : {M : Type 1} → statement M
+write-spec =
+    tie.close
+    (tie.spec
+    check-routines-requires
+    enum-known-verdict
+    returns
+    enum-told
+    returns-2
+    count-commands-requires
+    mul-size
+    add-size
+    mul-size-2
+    add-size-2
+    returns-3
+    put-book-requires
+    same-length
+    returns-4)
