@@ -2,9 +2,14 @@
 mod bytes;
 mod reading;
 
-use layout::{COUNT_SIZE, CUT_SHORT, Item, MAX_ROUTINES, Next, PAIR_SIZE};
-use routine::{Refusal, Verdict};
-
+use layout::COUNT_SIZE;
+use layout::CUT_SHORT;
+use layout::Item;
+use layout::MAX_ROUTINES;
+use layout::Next;
+use layout::PAIR_SIZE;
+use routine::Refusal;
+use routine::Verdict;
 ghost use mathlib.Core.Path.{_≡_};
 ghost use Rattle.layout.specs.Reading.{bookCheck, nextOf};
 

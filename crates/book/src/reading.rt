@@ -1,8 +1,20 @@
 // The parts of reading a book.
-use crate::bytes::{byte_at, four_at, two_at};
-use layout::{BOOK_DEVICES, COMMAND_SIZE, COUNT_SIZE, Item, LENGTH, MISPLACED, Next, PAIR_SIZE};
-use routine::{Command, MAX_COMMANDS, Refusal, Routine, Verdict};
-
+use crate::bytes::byte_at;
+use crate::bytes::four_at;
+use crate::bytes::two_at;
+use layout::BOOK_DEVICES;
+use layout::COMMAND_SIZE;
+use layout::COUNT_SIZE;
+use layout::Item;
+use layout::LENGTH;
+use layout::MISPLACED;
+use layout::Next;
+use layout::PAIR_SIZE;
+use routine::Command;
+use routine::MAX_COMMANDS;
+use routine::Refusal;
+use routine::Routine;
+use routine::Verdict;
 ghost use mathlib.Core.Path.{_≡_};
 ghost use Prim.Native.Nat.{_+_, _*_, _<_, _≤_, _^_};
 ghost use lib.ListN.{length};

@@ -63,7 +63,7 @@ routines-more ns row i at k h e =
     let m : min (getD ns i 0) (length (drop at row)) ≡ k = omega (arith, length-drop at row) in
     let t : take (getD ns i 0) (drop at row) ≡ take k (drop at row) = take-less (getD ns i 0) (drop at row) ∙ ap (λ (j : ℕ). take j (drop at row)) m in
     let d : drop (getD ns i 0) (drop at row) ≡ drop (at + k) row =
-        drop-less (getD ns i 0) (drop at row) ∙ ap (λ (j : ℕ). drop j (drop at row)) m ∙ drop-drop k at row in
+    drop-less (getD ns i 0) (drop at row) ∙ ap (λ (j : ℕ). drop j (drop at row)) m ∙ drop-drop k at row in
     ap (λ (l : List ℕ). routinesOf l (drop at row)) (drop-cons ns i 0 h ∙ ap (λ (j : ℕ). getD ns i 0 ∷ drop j ns) (sym (add-one i)))
     ∙ ap₂ (λ (r l : List Command). r ∷ routinesOf (drop (i + 1) ns) l) t d
 

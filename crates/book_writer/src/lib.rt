@@ -1,18 +1,29 @@
 // The routine book, written as crate `layout` defines it. Document 01, "The routine book".
 mod writing;
 
-use layout::{COMMAND_SIZE, COUNT_SIZE, MAX_ROUTINES, NO_ROOM, PAIR_SIZE, Written};
-use routine::{Refusal, Verdict};
-
+use layout::COMMAND_SIZE;
+use layout::COUNT_SIZE;
+use layout::MAX_ROUTINES;
+use layout::NO_ROOM;
+use layout::PAIR_SIZE;
+use layout::Written;
+use routine::Refusal;
+use routine::Verdict;
 ghost use mathlib.Core.Path.{_≡_};
 ghost use lib.ListN.{length};
-ghost use Rattle.layout.specs.Writing.{rowOf, routinesOf, writtenOf, bufferAfter};
+ghost use Rattle.layout.specs.Writing.{routinesLent, writtenOf, bufferAfter};
 
 // Routines written into a lent buffer: the routines in turn (4, then commands), then 21. `counts` has a number of commands for each routine; the
 // three other slices hold the parts of all commands in a row, and each routine takes the next of them.
-pub fn write(counts: &[u8], devices: &[u8], tags: &[u8], settings: &[i16], out: &mut [u8]) -> Written
-    ensures answers { λ r. ⌜ r ≡ writtenOf (routinesOf (now (counts .entry)) (rowOf (now (devices .entry)) (now (tags .entry)) (now (settings .entry)))) (length (now (out .entry))) ⌝ }
-    ensures leaves { λ _. ⌜ now (out .exit) ≡ bufferAfter (routinesOf (now (counts .entry)) (rowOf (now (devices .entry)) (now (tags .entry)) (now (settings .entry)))) (now (out .entry)) ⌝ }
+pub fn write(
+    counts: &[u8],
+    devices: &[u8],
+    tags: &[u8],
+    settings: &[i16],
+    out: &mut [u8],
+) -> Written
+    ensures answers { λ r. ⌜ r ≡ writtenOf (routinesLent (now (counts .entry)) (now (devices .entry)) (now (tags .entry)) (now (settings .entry))) (length (now (out .entry))) ⌝ }
+    ensures leaves { λ _. ⌜ now (out .exit) ≡ bufferAfter (routinesLent (now (counts .entry)) (now (devices .entry)) (now (tags .entry)) (now (settings .entry))) (now (out .entry)) ⌝ }
 {
     let verdict = writing::check_routines(counts, devices, tags, settings);
     if let Verdict::Refused(refusal) = verdict {

@@ -1,7 +1,14 @@
 // The parts of writing a book. The routines are lent as a count for each, and their commands in a row as three slices.
-use layout::{BOOK_DEVICES, COMMAND_SIZE, COUNT_SIZE, PAIR_SIZE};
-use routine::{COMMAND_COUNT, Command, MAX_COMMANDS, Refusal, Routine, Verdict};
-
+use layout::BOOK_DEVICES;
+use layout::COMMAND_SIZE;
+use layout::COUNT_SIZE;
+use layout::PAIR_SIZE;
+use routine::COMMAND_COUNT;
+use routine::Command;
+use routine::MAX_COMMANDS;
+use routine::Refusal;
+use routine::Routine;
+use routine::Verdict;
 ghost use mathlib.Core.Path.{_≡_};
 ghost use Prim.Native.Nat.{_+_, _*_, _<_, _≤_, min};
 ghost use lib.ListN.{length, take, drop, getD};
@@ -9,7 +16,7 @@ ghost use lib.Seq.{sets};
 ghost use Rattle.routine.specs.Routine.{maxCommands, zeroCommand, routineOf, routineCheck};
 ghost use Rattle.layout.specs.Layout.{countSize, commandSize, maxRoutines, bookDevices, pairsEnd, commandBytes, commandsBytes, pairsBytes, bookBytes};
 ghost use Rattle.layout.specs.Numbers.{twoBytes, fourBytes};
-ghost use Rattle.layout.specs.Writing.{rowOf, routinesOf, routinesCheck};
+ghost use Rattle.layout.specs.Writing.{rowOf, routinesLent, routinesCheck};
 ghost use Rattle.book_writer.specs.Count.{commandsIn};
 
 fn less_of(a: usize, b: usize) -> usize
@@ -75,7 +82,7 @@ fn taken(counts: &[u8], i: usize, left: usize) -> usize
 
 // The routines in turn.
 pub fn check_routines(counts: &[u8], devices: &[u8], tags: &[u8], settings: &[i16]) -> Verdict
-    ensures { λ r. ⌜ r ≡ routinesCheck (routinesOf (now (counts .entry)) (rowOf (now (devices .entry)) (now (tags .entry)) (now (settings .entry)))) ⌝ }
+    ensures { λ r. ⌜ r ≡ routinesCheck (routinesLent (now (counts .entry)) (now (devices .entry)) (now (tags .entry)) (now (settings .entry))) ⌝ }
 {
     let row = row_length(devices, tags, settings);
     let mut at = 0;
@@ -94,7 +101,7 @@ pub fn check_routines(counts: &[u8], devices: &[u8], tags: &[u8], settings: &[i1
 
 // How many commands the routines have together.
 pub fn count_commands(counts: &[u8], devices: &[u8], tags: &[u8], settings: &[i16]) -> usize
-    ensures { λ r. ⌜ r ≡ commandsIn (routinesOf (now (counts .entry)) (rowOf (now (devices .entry)) (now (tags .entry)) (now (settings .entry)))) ⌝ }
+    ensures { λ r. ⌜ r ≡ commandsIn (routinesLent (now (counts .entry)) (now (devices .entry)) (now (tags .entry)) (now (settings .entry))) ⌝ }
 {
     let row = row_length(devices, tags, settings);
     let mut at = 0;
@@ -128,7 +135,7 @@ fn put_four(out: &mut [u8], at: usize, n: u32)
 // The pairs, behind the count.
 fn put_pairs(counts: &[u8], devices: &[u8], tags: &[u8], settings: &[i16], out: &mut [u8])
     requires { ⌜ (length (now counts) ≤ maxRoutines) × (pairsEnd (length (now counts)) ≤ length (now out)) ⌝ }
-    ensures { λ _. ⌜ now (out .exit) ≡ sets (now (out .entry)) countSize (pairsBytes (pairsEnd (length (now (counts .entry)))) (routinesOf (now (counts .entry)) (rowOf (now (devices .entry)) (now (tags .entry)) (now (settings .entry))))) ⌝ }
+    ensures { λ _. ⌜ now (out .exit) ≡ sets (now (out .entry)) countSize (pairsBytes (pairsEnd (length (now (counts .entry)))) (routinesLent (now (counts .entry)) (now (devices .entry)) (now (tags .entry)) (now (settings .entry)))) ⌝ }
 {
     let row = row_length(devices, tags, settings);
     let first = COUNT_SIZE + PAIR_SIZE * counts.len();
@@ -156,7 +163,14 @@ fn put_command(out: &mut [u8], at: usize, command: Command)
 }
 
 // The first commands of the row, from a place on.
-fn put_commands(devices: &[u8], tags: &[u8], settings: &[i16], count: usize, from: usize, out: &mut [u8])
+fn put_commands(
+    devices: &[u8],
+    tags: &[u8],
+    settings: &[i16],
+    count: usize,
+    from: usize,
+    out: &mut [u8],
+)
     requires { ⌜ (count ≤ length (rowOf (now devices) (now tags) (now settings))) × (from + commandSize * count ≤ length (now out)) ⌝ }
     ensures { λ _. ⌜ now (out .exit) ≡ sets (now (out .entry)) from (commandsBytes (take count (rowOf (now (devices .entry)) (now (tags .entry)) (now (settings .entry))))) ⌝ }
 {
@@ -169,11 +183,25 @@ fn put_commands(devices: &[u8], tags: &[u8], settings: &[i16], count: usize, fro
 }
 
 // The whole book: count, pairs, commands.
-pub fn put_book(counts: &[u8], devices: &[u8], tags: &[u8], settings: &[i16], commands: usize, out: &mut [u8])
-    requires { ⌜ (length (now counts) ≤ maxRoutines) × (commands ≡ commandsIn (routinesOf (now counts) (rowOf (now devices) (now tags) (now settings)))) × (length (bookBytes (routinesOf (now counts) (rowOf (now devices) (now tags) (now settings)))) ≤ length (now out)) ⌝ }
-    ensures { λ _. ⌜ now (out .exit) ≡ sets (now (out .entry)) 0 (bookBytes (routinesOf (now (counts .entry)) (rowOf (now (devices .entry)) (now (tags .entry)) (now (settings .entry))))) ⌝ }
+pub fn put_book(
+    counts: &[u8],
+    devices: &[u8],
+    tags: &[u8],
+    settings: &[i16],
+    commands: usize,
+    out: &mut [u8],
+)
+    requires { ⌜ (length (now counts) ≤ maxRoutines) × (commands ≡ commandsIn (routinesLent (now counts) (now devices) (now tags) (now settings))) × (length (bookBytes (routinesLent (now counts) (now devices) (now tags) (now settings))) ≤ length (now out)) ⌝ }
+    ensures { λ _. ⌜ now (out .exit) ≡ sets (now (out .entry)) 0 (bookBytes (routinesLent (now (counts .entry)) (now (devices .entry)) (now (tags .entry)) (now (settings .entry)))) ⌝ }
 {
     put_two(out, 0, counts.len() as u16);
     put_pairs(counts, devices, tags, settings, out);
-    put_commands(devices, tags, settings, commands, COUNT_SIZE + PAIR_SIZE * counts.len(), out);
+    put_commands(
+        devices,
+        tags,
+        settings,
+        commands,
+        COUNT_SIZE + PAIR_SIZE * counts.len(),
+        out,
+    );
 }

@@ -100,8 +100,12 @@ module _ (b : List ℕ) (i at : ℕ) (r : List Command) (s : Stands b i at r) wh
       let c = ap (λ (p : ℕ). commandsAt b p (lengthAt b i / 4)) o ∙ commands-same in
       let q : pairPlace i + 8 ≡ pairPlace (suc i) = omega arith in
       pair-next b i
-      ∙ simp (lt-ltb (pairPlace i) (pairsEnd (countOf b)) (omega arith), eq-eqb (pairPlace i % 8) 2 (omega arith), size-fits,
-        le-leb (offsetAt b i + lengthAt b i) (length b) (omega arith)) (λ j. record { item = Handed; routine = routineOf (c j); position = q j })
+      ∙ simp (
+        lt-ltb (pairPlace i) (pairsEnd (countOf b)) (omega arith),
+        eq-eqb (pairPlace i % 8) 2 (omega arith),
+        size-fits,
+        le-leb (offsetAt b i + lengthAt b i) (length b) (omega arith),
+      ) (λ j. record { item = Handed; routine = routineOf (c j); position = q j })
 
 -- ---- routines that may be written are read as they are
 
@@ -129,9 +133,10 @@ read-back b rest i at (r ∷ rs) h n pairs body =
     let p : pairPlace (suc i) ≡ pairPlace i + 4 + 4 = omega arith in
     let next = ap (λ (q : ℕ). drop q b) p ∙ behind b (fourBytes (lengthIn r)) more (pairPlace i + 4) 4 size (length-fourBytes (lengthIn r)) in
     let c = behind b (commandsBytes r) (bodyBytes rs) at (lengthIn r) body (length-commandsBytes r) in
-    let f = read-back b rest (suc i) (at + lengthIn r) rs (a .1) (omega arith) next c in
-    (accept-both _ _ (stands-accepted b i at r s) (rw (s .size) (f .0)),
-      hands-by b (pairPlace i) (handed i r) r rs (stands-handed b i at r s (omega arith)) refl (routineOf-commands r (s .few)) (f .1))
+    let f = read-back b rest (suc i) (at + lengthIn r) rs (a .1) (omega arith) next c in (
+      accept-both _ _ (stands-accepted b i at r s) (rw (s .size) (f .0)),
+      hands-by b (pairPlace i) (handed i r) r rs (stands-handed b i at r s (omega arith)) refl (routineOf-commands r (s .few)) (f .1),
+    )
 
 -- An accepted book is read from position 0 as from its first pair.
 from-start : (b : List ℕ) (rs : List (List Command)) → bookCheck b ≡ Accepted → Hands b 2 rs → Hands b 0 rs
@@ -160,7 +165,7 @@ book-read rs b w =
     let z = ap length e in
     let l : pairsEnd (countOf b) ≤ length b = omega (arith, length-append pairs body, length-pairsBytes (pairsEnd (length rs)) rs) in
     let u : headCheck b ≡ Accepted =
-      simp (le-ltb (length b) 2 (omega arith), le-ltb 64 (countOf b) (omega arith), le-ltb (length b) (pairsEnd (countOf b)) l) in
+    simp (le-ltb (length b) 2 (omega arith), le-ltb 64 (countOf b) (omega arith), le-ltb (length b) (pairsEnd (countOf b)) l) in
     from-start b rs (accept-both (headCheck b) _ u (rw n (f .0))) (f .1)
 
 -- ---- an accepted book is the bytes of routines that may be written
@@ -311,9 +316,10 @@ write-then-read rs buffer n e =
 
 -- (b)
 pub read-then-write : ReadThenWrite
-read-then-write b bytes =
-    (λ e. let w = book-written b bytes e in (w .0, book-read (w .0) b (w .1)),
-      λ rs h buffer l.
-        let w = book-written b bytes (hands-accepted b rs h) in
-        let same = hands-same b 0 (w .0) rs (book-read (w .0) b (w .1)) h in
-        write-again rs b buffer (subst (λ (qs : List (List Command)). Makes qs b) same (w .1)) l)
+read-then-write b bytes = (
+  λ e. let w = book-written b bytes e in (w .0, book-read (w .0) b (w .1)),
+  λ rs h buffer l.
+      let w = book-written b bytes (hands-accepted b rs h) in
+      let same = hands-same b 0 (w .0) rs (book-read (w .0) b (w .1)) h in
+      write-again rs b buffer (subst (λ (qs : List (List Command)). Makes qs b) same (w .1)) l,
+)

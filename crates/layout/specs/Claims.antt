@@ -1,4 +1,4 @@
--- What is claimed of the definitions, beside the contracts of crate `book`. The three theorems are proved in proofs/Theorems.antt.
+-- What is claimed of the definitions, beside the contracts of crate `book`. The theorems stand in proofs/Theorems.antt.
 -- Assumes nothing.
 use mathlib.Core.Path.{_≡_}
 use mathlib.Core.Logic.{_⊎_, _↔_, _≢_}
@@ -41,7 +41,7 @@ ReadThenWrite =
     (b : List ℕ) → Bytes b →
     (bookCheck b ≡ Accepted → (rs : List (List Command)) × Hands b 0 rs)
     × ((rs : List (List Command)) → Hands b 0 rs → (buffer : List ℕ) → length b ≤ length buffer →
-      (writtenOf rs (length buffer) ≡ Length (length b)) × (take (length b) (bufferAfter rs buffer) ≡ b))
+    (writtenOf rs (length buffer) ≡ Length (length b)) × (take (length b) (bufferAfter rs buffer) ≡ b))
 
 -- ---- when a book is turned down
 
@@ -117,3 +117,13 @@ ExactRefusals =
     (b : List ℕ) → Bytes b →
     ((r : Refusal) → (bookCheck b ≡ Refused r) ↔ ((t : Test) × First b t × (refusalOf (causeOf t) ≡ r)))
     × ((bookCheck b ≡ Accepted) ↔ Passes b tests)
+
+-- ---- how much of a book has to be read
+
+-- The longest book: 64 routines of 8 commands.
+abbrev pub longestBook : ℕ
+longestBook = pairsEnd maxRoutines + maxRoutines * (commandSize * maxCommands)
+
+-- (d) A book is judged by its first bytes, one more than the longest book has: what stands behind them changes nothing.
+abbrev pub JudgedByFirstBytes : Type 0
+JudgedByFirstBytes = (b : List ℕ) (n : ℕ) → longestBook < n → bookCheck (take n b) ≡ bookCheck b

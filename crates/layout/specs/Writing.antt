@@ -30,6 +30,10 @@ abbrev pub routinesOf : List ℕ → List Command → List (List Command)
 routinesOf [] row = []
 routinesOf (n ∷ ns) row = take n row ∷ routinesOf ns (drop n row)
 
+-- The routines of four lent slices: counts, devices, tags, settings.
+abbrev pub routinesLent : List ℕ → List ℕ → List ℕ → List ℤ → List (List Command)
+routinesLent ns ds ts ss = routinesOf ns (rowOf ds ts ss)
+
 -- ---- what is turned down, what is answered and what is left in the buffer
 
 -- The routines in turn: 4, then commands.

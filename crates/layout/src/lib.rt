@@ -1,24 +1,30 @@
 // The routine book of document 01 as definitions, and the theorems about them: specs/ and proofs/. Here stand what
 // the code of reading and writing shares: the types of the answers, the layout's numbers, and settings as 16 bits.
-use routine::{Refusal, Routine};
-
+use routine::Refusal;
+use routine::Routine;
 ghost use mathlib.Core.Path.{_≡_};
 ghost use Prim.Native.Nat.{_+_, _*_};
 ghost use Rattle.layout.specs.Numbers.{bitsOf, settingOf};
 
 // Sizes in bytes: the count, a pair of offset and length, a command.
 pub const COUNT_SIZE: usize = 2;
+
 pub const PAIR_SIZE: usize = 8;
+
 pub const COMMAND_SIZE: usize = 4;
 
 // A book has at most this many routines, and devices below this number.
 pub const MAX_ROUTINES: usize = 64;
+
 pub const BOOK_DEVICES: u8 = 32;
 
 // The numbers of the table that belong to books.
 pub const CUT_SHORT: u8 = 18;
+
 pub const MISPLACED: u8 = 19;
+
 pub const LENGTH: u8 = 20;
+
 pub const NO_ROOM: u8 = 21;
 
 // What a step of reading gives: a routine is handed out, or the end is reached, or the book is turned down.

@@ -111,10 +111,13 @@ with-more cs c h = λ i. record { commands = commands i; count = counts i }
   where
     counts : (if ltb (length cs) (2 ^ 64 - 1) then length cs + 1 else length cs) ≡ length (cs ++ (c ∷ []))
     counts = rw (lt-ltb (length cs) (2 ^ 64 - 1) (omega arith)) (sym (length-append cs (c ∷ [])))
+
     rest : ℕ → List Command
     rest n = replicate n zeroCommand
+
     left : maxCommands - length cs ≡ suc (maxCommands - length (cs ++ (c ∷ [])))
     left = omega (arith, length-append cs (c ∷ []))
+
     commands : set (cs ++ rest (maxCommands - length cs)) (length cs) c ≡ (cs ++ (c ∷ [])) ++ rest (maxCommands - length (cs ++ (c ∷ [])))
     commands =
         ap (λ (n : ℕ). set (cs ++ rest n) (length cs) c) left

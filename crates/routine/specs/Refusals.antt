@@ -13,24 +13,24 @@ pub data Cause : Type 0 where
   devices-not-1-to-32 : Cause
   pass-limit-above-8 : Cause
   first-id-0 : Cause
-  command-count : Cause -- routine of 0 or over 8 commands
-  device-not-below : ℕ → Cause -- device not below N (32 in a book); the command's index
-  setting-out-of-range : ℕ → Cause -- the command's index
-  tag-above-1 : ℕ → Cause -- the command's index
-  sequence-full : Cause -- 16 routines in the sequence
-  ids-used-up : Cause -- id 4,294,967,295 already given
-  not-running : Cause -- no running routine has this id
-  turn-in-flight : Cause -- turn with a command in flight
-  none-in-flight : Cause -- report with none in flight
+  command-count : Cause  -- routine of 0 or over 8 commands
+  device-not-below : ℕ → Cause  -- device not below N (32 in a book); the command's index
+  setting-out-of-range : ℕ → Cause  -- the command's index
+  tag-above-1 : ℕ → Cause  -- the command's index
+  sequence-full : Cause  -- 16 routines in the sequence
+  ids-used-up : Cause  -- id 4,294,967,295 already given
+  not-running : Cause  -- no running routine has this id
+  turn-in-flight : Cause  -- turn with a command in flight
+  none-in-flight : Cause  -- report with none in flight
   report-code-above-1 : Cause
-  event-device : Cause -- failure or restart, device not below N
+  event-device : Cause  -- failure or restart, device not below N
   failure-of-down : Cause
   restart-of-up : Cause
-  restart-setting : Cause -- restart setting out of range
-  book-cut-short : Cause -- book ends inside count or pairs, or count above 64
-  book-misplaced : Cause -- pair not where the layout puts it, past the end, or bytes left over
-  book-length : ℕ → Cause -- length not 4 to 32 in fours; the routine's index
-  no-room : Cause -- over 64 routines to write, or buffer too short
+  restart-setting : Cause  -- restart setting out of range
+  book-cut-short : Cause  -- book ends inside count or pairs, or count above 64
+  book-misplaced : Cause  -- pair not where the layout puts it, past the end, or bytes left over
+  book-length : ℕ → Cause  -- length not 4 to 32 in fours; the routine's index
+  no-room : Cause  -- over 64 routines to write, or buffer too short
 
 -- The table: the number of each cause, and the index that comes with it, if one does.
 unfoldable pub refusalOf : Cause → Refusal

@@ -8,13 +8,18 @@ pub const MAX_COMMANDS: usize = 8;
 
 // Settings and tags.
 pub const LOWEST_SETTING: i16 = -1000;
+
 pub const HIGHEST_SETTING: i16 = 1000;
+
 pub const HIGHEST_TAG: u8 = 1;
 
 // The numbers of the table that a routine's check gives.
 pub const COMMAND_COUNT: u8 = 4;
+
 pub const DEVICE: u8 = 5;
+
 pub const SETTING: u8 = 6;
+
 pub const TAG: u8 = 7;
 
 pub struct Command {

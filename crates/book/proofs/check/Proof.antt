@@ -40,7 +40,7 @@ check-all-requires : tie.Need-check-all-requires
 check-all-requires c κs = search needs
 
 returns-4 : tie.Need-returns-4
-returns-4 c =     let x = c .before .before .before in
+returns-4 c = let x = c .before .before .before in
     let e = count x in
     c .check-all .ensures
     ∙ ap (λ (n : ℕ). placedChecks (x .before .before .before .args .book .now) 0 n (pairsEnd n)) e

@@ -30,14 +30,14 @@ empty-requires : tie.Need-empty-requires
 empty-requires c κs = search needs
 
 returns-2 : tie.Need-returns-2
-returns-2 c =     let x = c .before .before .before in
+returns-2 c = let x = c .before .before .before in
     let a = x .before .before .before .args in
     c .next-pair2 .ensures
     ∙ sym (next-first _ (sym (x .check .ensures) ∙ c .before .enum-told .given .1))
     ∙ ap (nextOf (a .book .now)) (sym (x .before .if1 .left))
 
 returns-3 : tie.Need-returns-3
-returns-3 c =     let x = c .before .before .before .before in
+returns-3 c = let x = c .before .before .before .before in
     let a = x .before .before .before .args in
     ap (λ (q : Routine). record { item = RefusedBook (c .before .before .verdict .given .0 .0); routine = q; position = 0 }) (c .empty .ensures)
     ∙ sym (next-refused _ _ (sym (x .check .ensures) ∙ c .before .before .verdict .given .1))

@@ -35,7 +35,7 @@ few c =
     omega (arith, c .count-commands .ensures, f)
 
 returns : tie.Need-returns
-returns c =     let x = c .before .before .before in
+returns c = let x = c .before .before .before in
     let a = x .before .before .before .before .before .args in
     turned-down (routinesOf (a .counts .now) (rowOf (a .devices .now) (a .tags .now) (a .settings .now))) (a .out .now) _ (write-refused (routinesOf (a .counts .now) (rowOf (a .devices .now) (a .tags .now) (a .settings .now))) _ _ (sym (x .check-routines .ensures) ∙ c .before .verdict .given .1))
 
@@ -44,7 +44,7 @@ enum-told c = search needs
 
 returns-2 : tie.Need-returns-2
 unfolding refusalOf
-returns-2 c =     let x = c .before .before .before in
+returns-2 c = let x = c .before .before .before in
     let a = x .before .before .before .before .before .args in
     let n = length-routinesOf (a .counts .now) (rowOf (a .devices .now) (a .tags .now) (a .settings .now)) in
     turned-down (routinesOf (a .counts .now) (rowOf (a .devices .now) (a .tags .now) (a .settings .now))) (a .out .now) _ (write-many (routinesOf (a .counts .now) (rowOf (a .devices .now) (a .tags .now) (a .settings .now))) _ (accepted (c .before)) (omega arith))
@@ -66,7 +66,7 @@ add-size-2 c = let f = few c in search needs
 
 returns-3 : tie.Need-returns-3
 unfolding refusalOf
-returns-3 c =     let y = c .before .before in
+returns-3 c = let y = c .before .before in
     let a = y .before .before .before .before .before .before .before .before .args in
     let n = length-routinesOf (a .counts .now) (rowOf (a .devices .now) (a .tags .now) (a .settings .now)) in
     let l = length-book (a .counts .now) (rowOf (a .devices .now) (a .tags .now) (a .settings .now)) in
@@ -74,7 +74,7 @@ returns-3 c =     let y = c .before .before in
     turned-down (routinesOf (a .counts .now) (rowOf (a .devices .now) (a .tags .now) (a .settings .now))) (a .out .now) _ (write-short (routinesOf (a .counts .now) (rowOf (a .devices .now) (a .tags .now) (a .settings .now))) _ (accepted (y .before)) (omega arith) (omega (arith, c .if2 .taken, e, l)))
 
 put-book-requires : tie.Need-put-book-requires
-put-book-requires c κs =     let d = c .before .before in
+put-book-requires c κs = let d = c .before .before in
     let y = d .before in
     let a = y .before .before .before .before .before .before .before .before .args in
     let l = length-book (a .counts .now) (rowOf (a .devices .now) (a .tags .now) (a .settings .now)) in
@@ -84,7 +84,7 @@ same-length : tie.Need-same-length
 same-length c = c .before .before .put-book .kept .1 .1 .1 .1 .1 .0
 
 returns-4 : tie.Need-returns-4
-returns-4 c =     let z = c .before .before .before .before in
+returns-4 c = let z = c .before .before .before .before in
     let d = z .before in
     let y = d .before in
     let a = y .before .before .before .before .before .before .before .before .args in

@@ -25,15 +25,15 @@ cast-result-2 : tie.Need-cast-result-2
 cast-result-2 c = search needs
 
 sub-result-2 : tie.Need-sub-result-2
-sub-result-2 c =     let k = 65535 - (c .before .args .low + 256 * c .before .args .high) in
+sub-result-2 c = let k = 65535 - (c .before .args .low + 256 * c .before .args .high) in
     rw (toZ-pos w16 {n = k} (omega arith), minus-one-less) (record { sfits = omega arith })
 
 returns : tie.Need-returns
-returns c =     let u = c .before .args .low + 256 * c .before .args .high in
+returns c = let u = c .before .args .low + 256 * c .before .args .high in
     toZ-pos w16 {n = u} (omega arith) ∙ sym (setting-low u (omega arith))
 
 returns-2 : tie.Need-returns-2
-returns-2 c =     let u = c .before .args .low + 256 * c .before .args .high in
+returns-2 c = let u = c .before .args .low + 256 * c .before .args .high in
     let k = 65535 - u in
     rw (toZ-pos w16 {n = k} (omega arith), minus-one-less)
     (toZ-ofZ {w = w16} {z = negsuc k} (record { sfits = omega arith }) ∙ sym (setting-high u (omega arith) (omega arith)))

@@ -29,13 +29,13 @@ add-longer-2 c = search needs
 
 returns-2 : tie.Need-returns-2
 unfolding withCommand
-returns-2 c =     let r = c .before .before .args .routine in
+returns-2 c = let r = c .before .before .args .routine in
     let x : length (r .commands) ≡ 8 = search (needs, length-mapped) in
     rw (lt-ltb (r .count) (2 ^ 64 - 1) (c .if2 .taken), set-out (r .commands) (r .count) (c .before .before .args .command) (omega arith))
 
 returns-3 : tie.Need-returns-3
 unfolding withCommand
-returns-3 c =     let r = c .before .before .args .routine in
+returns-3 c = let r = c .before .before .args .routine in
     let x : length (r .commands) ≡ 8 = search (needs, length-mapped) in
     rw (le-ltb (r .count) (2 ^ 64 - 1) (c .if2 .left), set-out (r .commands) (r .count) (c .before .before .args .command) (omega arith))
 

@@ -21,7 +21,7 @@ add-result c = search needs
 
 returns : tie.Need-returns
 unfolding fourAt
-returns c =     let e = c .before .two-at .ensures .0 in
+returns c = let e = c .before .two-at .ensures .0 in
     let f = c .two-at2 .ensures .0 in
     (omega (arith, e, f), omega arith)
 

@@ -28,7 +28,7 @@ add-result c = search needs
 
 returns : tie.Need-returns
 unfolding twoAt
-returns c =     let x = c .before .before .before in
+returns c = let x = c .before .before .before in
     let a = x .before .before .args in
     let e = c .before .before .wide .ensures .0 ∙ x .byte-at .ensures in
     let f = c .wide2 .ensures .0 ∙ c .before .byte-at2 .ensures in

@@ -59,7 +59,7 @@ enum-told-2 : tie.Need-enum-told-2 Inv-loop μ-loop
 enum-told-2 c = search needs
 
 returns : tie.Need-returns Inv-loop μ-loop
-returns c =     let x = c .before .before in
+returns c = let x = c .before .before in
     let l = x .before .before in
     c .enum-told2 .given .1
     ∙ sym (checks-refused _ _ _ _ (x .before .loop-test .taken) _ (sym (x .check-placed .ensures) ∙ c .enum-told2 .given .1))
@@ -78,7 +78,7 @@ four-at-requires : tie.Need-four-at-requires Inv-loop μ-loop
 four-at-requires c κs = search needs
 
 add-at-2 : tie.Need-add-at-2 Inv-loop μ-loop
-add-at-2 c =     let h = moves (c .before) in
+add-at-2 c = let h = moves (c .before) in
     let e = size c in
     omega arith
 
@@ -89,15 +89,17 @@ loop-less : tie.Need-loop-less Inv-loop μ-loop
 loop-less c = search needs
 
 loop-again : tie.Need-loop-again Inv-loop μ-loop
-loop-again c =     let x = c .before .before .before in
+loop-again c = let x = c .before .before .before in
     let l = x .before .before in
     let a = l .before .before .args in
     let h = moves (c .before) in
-    let e = size c in
-    (omega arith, omega arith,
-    ap (λ (k : ℕ). placedChecks (a .book .now) (l .loop .i + 1) (a .count - (l .loop .i + 1)) (l .loop .at + k)) e
-    ∙ sym (checks-more _ _ _ _ (x .before .loop-test .taken) (sym (x .check-placed .ensures) ∙ c .before .enum-told .given .1))
-    ∙ l .loop .inv .2)
+    let e = size c in (
+      omega arith,
+      omega arith,
+      ap (λ (k : ℕ). placedChecks (a .book .now) (l .loop .i + 1) (a .count - (l .loop .i + 1)) (l .loop .at + k)) e
+          ∙ sym (checks-more _ _ _ _ (x .before .loop-test .taken) (sym (x .check-placed .ensures) ∙ c .before .enum-told .given .1))
+          ∙ l .loop .inv .2,
+    )
 
 returns-2 : tie.Need-returns-2 Inv-loop μ-loop
 unfolding refusalOf

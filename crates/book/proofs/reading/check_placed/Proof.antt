@@ -62,13 +62,13 @@ sub-if3 c = search needs
 
 returns-3 : tie.Need-returns-3
 unfolding refusalOf
-returns-3 c =     let x = c .before .before .before in
+returns-3 c = let x = c .before .before .before in
     let e = size (x .before) in
     let o = sym (offset (c .before .before)) ∙ c .before .if2 .left in
     sym (placed-end _ _ _ (good x) o (omega arith))
 
 routine-at-requires : tie.Need-routine-at-requires
-routine-at-requires c κs =     let x = c .before .before .before in
+routine-at-requires c κs = let x = c .before .before .before in
     let f = fits-in-fours _ (good x) in
     let e = size (x .before) in
     (omega arith, omega arith)
@@ -77,7 +77,7 @@ check-requires : tie.Need-check-requires
 check-requires c κs = search needs
 
 returns-4 : tie.Need-returns-4
-returns-4 c =     let y = c .before .before in
+returns-4 c = let y = c .before .before in
     let x = y .before .before .before in
     let a = x .before .before .before .before .args in
     let e = size (x .before) in

@@ -46,7 +46,7 @@ sixteen c =
 
 returns : tie.Need-returns
 unfolding commandAt
-returns c =     let s = c .before .before in
+returns c = let s = c .before .before in
     let a = s .before .before .before .before .args in
     let e : toZ w16 (ofZ w16 (s .setting-of .result)) ≡ s .setting-of .result = search needs in
     let f : s .setting-of .result ≡ settingOf (twoAt (a .book .now) (a .at + 2)) = s .setting-of .ensures ∙ ap settingOf (sixteen c) in

@@ -47,7 +47,7 @@ good : (c : tie.Else3) →
 good c = fits (c .before) ∙ not-false _ (c .if3 .left)
 
 returns : tie.Need-returns
-returns c =     let e = count (c .before .before) in
+returns c = let e = count (c .before .before) in
     c .ended .ensures ∙ sym (pair-past _ _ (omega arith))
 
 ended-requires-2 : tie.Need-ended-requires-2
@@ -72,14 +72,14 @@ ended-requires-3 : tie.Need-ended-requires-3
 ended-requires-3 c κs = search needs
 
 returns-3 : tie.Need-returns-3
-returns-3 c =     let x = c .before .before in
+returns-3 c = let x = c .before .before in
     c .ended3 .ensures ∙ sym (pair-length _ _ (before (x .before .before .before .before)) (x .before .before .before .if2 .left) (fits x ∙ not-true _ (c .before .if3 .taken)))
 
 ended-requires-4 : tie.Need-ended-requires-4
 ended-requires-4 c κs = search needs
 
 returns-4 : tie.Need-returns-4
-returns-4 c =     let x = c .before .before .before in
+returns-4 c = let x = c .before .before .before in
     let f = x .before .before .four-at .ensures .0 in
     c .ended4 .ensures
     ∙ sym (pair-outside _ _ (before (x .before .before .before .before)) (x .before .before .before .if2 .left) (good (c .before .before)) (omega arith))
@@ -91,14 +91,14 @@ ended-requires-5 : tie.Need-ended-requires-5
 ended-requires-5 c κs = search needs
 
 returns-5 : tie.Need-returns-5
-returns-5 c =     let x = c .before .before .before .before in
+returns-5 c = let x = c .before .before .before .before in
     let f = x .before .before .four-at .ensures .0 in
     let s = x .before .four-at2 .ensures .0 in
     c .ended5 .ensures
     ∙ sym (pair-outside _ _ (before (x .before .before .before .before)) (x .before .before .before .if2 .left) (good (c .before .before .before)) (omega arith))
 
 routine-at-requires : tie.Need-routine-at-requires
-routine-at-requires c κs =     let x = c .before .before .before in
+routine-at-requires c κs = let x = c .before .before .before in
     let s = x .before .four-at2 .ensures .0 in
     let i = fits-in-fours _ (good (c .before .before)) in
     (omega arith, omega arith)
@@ -107,12 +107,12 @@ add-t8 : tie.Need-add-t8
 add-t8 c = search needs
 
 returns-6 : tie.Need-returns-6
-returns-6 c =     let x = c .before .before .before .before in
+returns-6 c = let x = c .before .before .before .before in
     let f = x .before .before .four-at .ensures .0 in
     let s = x .before .four-at2 .ensures .0 in
     let a = x .before .before .before .before .before .before .before .args in
     let r : c .routine-at .result ≡ routineOf (commandsAt (a .book .now) (fourAt (a .book .now) (a .position)) (fourAt (a .book .now) (a .position + 4) / commandSize)) =
-        c .routine-at .ensures ∙ ap₂ (λ (n m : ℕ). routineOf (commandsAt (a .book .now) n (m / 4))) f s in
+    c .routine-at .ensures ∙ ap₂ (λ (n m : ℕ). routineOf (commandsAt (a .book .now) n (m / 4))) f s in
     ap (λ (q : Routine). record { item = Handed; routine = q; position = a .position + 8 }) r
     ∙ sym (pair-handed _ _ (record {
       before = before (x .before .before .before .before);

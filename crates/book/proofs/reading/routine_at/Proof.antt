@@ -37,7 +37,7 @@ command-at-requires : tie.Need-command-at-requires Inv-loop μ-loop
 command-at-requires c κs = search needs
 
 with-command-requires : tie.Need-with-command-requires Inv-loop μ-loop
-with-command-requires c κs =     let l = c .before .before in
+with-command-requires c κs = let l = c .before .before in
     let e : l .loop .routine .count ≡ l .loop .i = ap (λ (r : Routine). r .count) (l .loop .inv .1) ∙ routineOf-count _ ∙ length-commandsAt _ _ _ in
     omega arith
 
@@ -48,19 +48,20 @@ loop-less : tie.Need-loop-less Inv-loop μ-loop
 loop-less c = search needs
 
 loop-again : tie.Need-loop-again Inv-loop μ-loop
-loop-again c =     let l = c .before .before .before in
+loop-again c = let l = c .before .before .before in
     let a = l .before .before .before .args in
-    let n = length-commandsAt (a .book .now) (a .at) (l .loop .i) in
-    (search needs,
-    c .with-command .ensures
-    ∙ ap (λ (r : Routine). withCommand r (c .before .command-at .result)) (l .loop .inv .1)
-    ∙ with-more _ _ (omega arith)
-    ∙ ap (λ (x : Command). routineOf (commandsAt (a .book .now) (a .at) (l .loop .i) ++ (x ∷ []))) (c .before .command-at .ensures)
-    ∙ ap routineOf (sym (commandsAt-more (a .book .now) (a .at) (l .loop .i)))
-    ∙ ap (λ (k : ℕ). routineOf (commandsAt (a .book .now) (a .at) k)) (sym (add-one (l .loop .i))))
+    let n = length-commandsAt (a .book .now) (a .at) (l .loop .i) in (
+      search needs,
+      c .with-command .ensures
+          ∙ ap (λ (r : Routine). withCommand r (c .before .command-at .result)) (l .loop .inv .1)
+          ∙ with-more _ _ (omega arith)
+          ∙ ap (λ (x : Command). routineOf (commandsAt (a .book .now) (a .at) (l .loop .i) ++ (x ∷ []))) (c .before .command-at .ensures)
+          ∙ ap routineOf (sym (commandsAt-more (a .book .now) (a .at) (l .loop .i)))
+          ∙ ap (λ (k : ℕ). routineOf (commandsAt (a .book .now) (a .at) k)) (sym (add-one (l .loop .i))),
+    )
 
 returns : tie.Need-returns Inv-loop μ-loop
-returns c =     let a = c .before .before .before .before .args in
+returns c = let a = c .before .before .before .before .args in
     let n : c .before .loop .i ≡ a .count = omega arith in
     c .before .loop .inv .1 ∙ ap (λ (k : ℕ). routineOf (commandsAt (a .book .now) (a .at) k)) n
 

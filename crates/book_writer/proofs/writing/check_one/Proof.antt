@@ -15,7 +15,7 @@ use Rattle.book_writer.proofs.writing.check_one.Tie as tie
 
 returns : tie.Need-returns
 unfolding refusalOf
-returns c =     let a = c .before .before .before .args in
+returns c = let a = c .before .before .before .args in
     let n = length-part (rowOf (a .devices .now) (a .tags .now) (a .settings .now)) (a .at) (a .count) (c .before .before .before .pre) in
     sym (check-long _ _ (omega arith))
 
@@ -26,7 +26,7 @@ check-requires : tie.Need-check-requires
 check-requires c κs = search needs
 
 returns-2 : tie.Need-returns-2
-returns-2 c =     let a = c .before .before .before .before .before .args in
+returns-2 c = let a = c .before .before .before .before .before .args in
     let cs = take (a .count) (drop (a .at) (rowOf (a .devices .now) (a .tags .now) (a .settings .now))) in
     let n = length-part (rowOf (a .devices .now) (a .tags .now) (a .settings .now)) (a .at) (a .count) (c .before .before .before .before .before .pre) in
     c .check .ensures

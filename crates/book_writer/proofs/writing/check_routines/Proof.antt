@@ -50,7 +50,7 @@ enum-told-2 : tie.Need-enum-told-2 Inv-loop μ-loop
 enum-told-2 c = search needs
 
 returns : tie.Need-returns Inv-loop μ-loop
-returns c =     let x = c .before .before .before in
+returns c = let x = c .before .before .before in
     let l = x .before .before in
     let a = l .before .before .before .before .before .args in
     c .enum-told2 .given .1
@@ -68,17 +68,18 @@ loop-less : tie.Need-loop-less Inv-loop μ-loop
 loop-less c = search needs
 
 loop-again : tie.Need-loop-again Inv-loop μ-loop
-loop-again c =     let x = c .before .before .before in
+loop-again c = let x = c .before .before .before in
     let l = x .before .before in
     let a = l .before .before .before .before .before .args in
-    let e = takes x in
-    (omega (arith, e, l .before .row-length .ensures),
-    sym (check-more _ _ (sym (c .before .before .check-one .ensures) ∙ c .enum-told .given .1))
-    ∙ ap routinesCheck (sym (routines-more (a .counts .now) (rowOf (a .devices .now) (a .tags .now) (a .settings .now)) (l .loop .i) (l .loop .at) _ (x .before .loop-test .taken) e))
-    ∙ l .loop .inv .1)
+    let e = takes x in (
+      omega (arith, e, l .before .row-length .ensures),
+      sym (check-more _ _ (sym (c .before .before .check-one .ensures) ∙ c .enum-told .given .1))
+          ∙ ap routinesCheck (sym (routines-more (a .counts .now) (rowOf (a .devices .now) (a .tags .now) (a .settings .now)) (l .loop .i) (l .loop .at) _ (x .before .loop-test .taken) e))
+          ∙ l .loop .inv .1,
+    )
 
 returns-2 : tie.Need-returns-2 Inv-loop μ-loop
-returns-2 c =     let l = c .before in
+returns-2 c = let l = c .before in
     let a = l .before .before .before .before .before .args in
     sym check-none
     ∙ ap routinesCheck (sym (routines-end (a .counts .now) (rowOf (a .devices .now) (a .tags .now) (a .settings .now)) (l .loop .i) (l .loop .at) (c .loop-test .left)))

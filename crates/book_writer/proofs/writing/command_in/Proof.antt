@@ -11,27 +11,27 @@ use Rattle.book_writer.proofs.writing.command_in.Statement.{statement}
 use Rattle.book_writer.proofs.writing.command_in.Tie as tie
 
 mul-setting : tie.Need-mul-setting
-mul-setting c =     let a = c .args in
+mul-setting c = let a = c .args in
     let r = row-length (a .devices .now) (a .tags .now) (a .settings .now) in
     scaled-fits (a .at) (length (a .settings .now)) 2 (omega (arith, c .pre, r)) (c .good .1 .1 .0 .1)
 
 shared-slice-copy-out-setting : tie.Need-shared-slice-copy-out-setting
-shared-slice-copy-out-setting c =     let a = c .args in
+shared-slice-copy-out-setting c = let a = c .args in
     let r = row-length (a .devices .now) (a .tags .now) (a .settings .now) in
     omega (arith, c .pre, r)
 
 shared-slice-read-t10 : tie.Need-shared-slice-read-t10
-shared-slice-read-t10 c =     let a = c .before .before .args in
+shared-slice-read-t10 c = let a = c .before .before .args in
     let r = row-length (a .devices .now) (a .tags .now) (a .settings .now) in
     omega (arith, c .before .before .pre, r)
 
 shared-slice-read-t12 : tie.Need-shared-slice-read-t12
-shared-slice-read-t12 c =     let a = c .before .before .before .args in
+shared-slice-read-t12 c = let a = c .before .before .before .args in
     let r = row-length (a .devices .now) (a .tags .now) (a .settings .now) in
     omega (arith, c .before .before .before .pre, r)
 
 returns : tie.Need-returns
-returns c =     let a = c .before .before .before .args in
+returns c = let a = c .before .before .before .args in
     let z = getD (a .settings .now) (a .at) (pos 0) in
     let e : toZ w16 (ofZ w16 z) ≡ z = search needs in
     ap (λ (y : ℤ). record { device = getD (a .devices .now) (a .at) 0; tag = getD (a .tags .now) (a .at) 0; setting = y }) e

@@ -50,7 +50,7 @@ loop-less : tie.Need-loop-less Inv-loop μ-loop
 loop-less c = search needs
 
 loop-again : tie.Need-loop-again Inv-loop μ-loop
-loop-again c =     let l = c .before .before in
+loop-again c = let l = c .before .before in
     let a = l .before .before .before .before .before .args in
     let e = takes c in
     let r = l .before .row-length .ensures in
@@ -60,7 +60,7 @@ loop-again c =     let l = c .before .before in
     (omega (arith, e, r), omega (arith, m, p, i))
 
 returns : tie.Need-returns Inv-loop μ-loop
-returns c =     let l = c .before in
+returns c = let l = c .before in
     let a = l .before .before .before .before .before .args in
     let m = ap commandsIn (routines-end (a .counts .now) (rowOf (a .devices .now) (a .tags .now) (a .settings .now)) (l .loop .i) (l .loop .at) (c .loop-test .left)) in
     omega (arith, m, l .loop .inv .1)

@@ -34,7 +34,7 @@ same-length c = c .before .before .put-two .kept .0 ∙ simp length-set
 
 returns : tie.Need-returns
 unfolding commandBytes
-returns c =     let b = c .before .before .before in
+returns c = let b = c .before .before .before in
     let a = b .before .before .before .before .args in
     let z = a .command .setting in
     let e : toZ w16 (ofZ w16 z) ≡ z = search needs in

@@ -23,7 +23,7 @@ abbrev μ-loop : tie.MeasureT-loop
 μ-loop devices tags settings count from out₀ i₀ out i = count - i
 
 loop-holds : tie.Need-loop-holds Inv-loop μ-loop
-loop-holds c =     let a = c .before .before .before .args in
+loop-holds c = let a = c .before .before .before .args in
     let e : a .from + 0 ≡ a .from = omega arith in
     (search needs, refl, ap (λ (k : ℕ). sets (a .out .now) k (commandsBytes (take (a .count) (rowOf (a .devices .now) (a .tags .now) (a .settings .now))))) e)
 
@@ -46,7 +46,7 @@ loop-less : tie.Need-loop-less Inv-loop μ-loop
 loop-less c = search needs
 
 loop-again : tie.Need-loop-again Inv-loop μ-loop
-loop-again c =     let x = c .before .before .before .before in
+loop-again c = let x = c .before .before .before .before in
     let l = x .before .before in
     let s = l .before .before .before .before in
     let a = s .args in
@@ -55,11 +55,13 @@ loop-again c =     let x = c .before .before .before .before in
     let p = a .from + 4 * l .loop .i in
     let q : a .from + 4 * (l .loop .i + 1) ≡ p + 4 = omega arith in
     let w : c .before .before .put-command .last .0 ≡ sets (l .loop .out) p (commandBytes (getD row (l .loop .i) zeroCommand)) =
-        c .before .before .put-command .ensures ∙ ap (λ (y : Command). sets (l .loop .out) p (commandBytes y)) (x .command-in .ensures) in
-    (omega arith, c .before .before .put-command .kept .0 ∙ l .loop .inv .1,
-    ap₂ (λ (o : List ℕ) (k : ℕ). sets o k rest) w q
-    ∙ sym (commands-put (l .loop .out) row p (l .loop .i) (a .count) (x .before .loop-test .taken) (s .pre .0))
-    ∙ l .loop .inv .2)
+    c .before .before .put-command .ensures ∙ ap (λ (y : Command). sets (l .loop .out) p (commandBytes y)) (x .command-in .ensures) in (
+      omega arith,
+      c .before .before .put-command .kept .0 ∙ l .loop .inv .1,
+      ap₂ (λ (o : List ℕ) (k : ℕ). sets o k rest) w q
+          ∙ sym (commands-put (l .loop .out) row p (l .loop .i) (a .count) (x .before .loop-test .taken) (s .pre .0))
+          ∙ l .loop .inv .2,
+    )
 
 same-length : tie.Need-same-length Inv-loop μ-loop
 same-length c = c .before .loop .inv .1

@@ -41,7 +41,7 @@ add-first : tie.Need-add-first Inv-loop μ-loop
 add-first c = search needs
 
 loop-holds : tie.Need-loop-holds Inv-loop μ-loop
-loop-holds c =     let a = c .before .before .before .before .before .args in
+loop-holds c = let a = c .before .before .before .before .before .args in
     let e : 2 + 8 * length (a .counts .now) + 0 ≡ 2 + 8 * length (a .counts .now) = omega arith in
     (search needs, search needs, refl, ap (λ (k : ℕ). sets (a .out .now) 2 (pairsBytes k (routinesOf (a .counts .now) (rowOf (a .devices .now) (a .tags .now) (a .settings .now))))) e)
 
@@ -91,7 +91,7 @@ loop-less : tie.Need-loop-less Inv-loop μ-loop
 loop-less c = search needs
 
 loop-again : tie.Need-loop-again Inv-loop μ-loop
-loop-again c =     let y = c .before .before .before .before .before .before in
+loop-again c = let y = c .before .before .before .before .before .before in
     let x = y .before .before in
     let l = x .before .before in
     let a = l .before .before .before .before .before .before .args in
@@ -104,23 +104,25 @@ loop-again c =     let y = c .before .before .before .before .before .before in
     let at = first + 4 * l .loop .at in
     let rest = routinesOf (drop (i + 1) (a .counts .now)) (drop (l .loop .at + k) row) in
     let w : c .before .before .put-four2 .last .0 ≡ sets (sets (l .loop .out) (2 + 8 * i) (fourBytes at)) (2 + 8 * i + 4) (fourBytes (4 * k)) =
-        c .before .before .put-four2 .ensures ∙ ap (λ (o : List ℕ). sets o (2 + 8 * i + 4) (fourBytes (4 * k))) (y .put-four .ensures) in
+    c .before .before .put-four2 .ensures ∙ ap (λ (o : List ℕ). sets o (2 + 8 * i + 4) (fourBytes (4 * k))) (y .put-four .ensures) in
     let q : 2 + 8 * (i + 1) ≡ 2 + 8 * i + 8 = omega arith in
-    let n : first + 4 * (l .loop .at + k) ≡ at + 4 * k = omega arith in
-    (omega (arith, e, r), omega (arith, e, x .taken .ensures .1),
-    c .before .before .put-four2 .kept .0 ∙ y .put-four .kept .0 ∙ l .loop .inv .2,
-    ap₂ (λ (o : List ℕ) (p : ℕ). sets o p (pairsBytes (first + 4 * (l .loop .at + k)) rest)) w q
-    ∙ ap (λ (m : ℕ). sets (sets (sets (l .loop .out) (2 + 8 * i) (fourBytes at)) (2 + 8 * i + 4) (fourBytes (4 * k))) (2 + 8 * i + 8) (pairsBytes m rest)) n
-    ∙ sym (pairs-more (l .loop .out) (2 + 8 * i) at k (take k (drop (l .loop .at) row)) rest (length-part row (l .loop .at) k (omega arith)))
-    ∙ ap (λ (rs : List (List Command)). sets (l .loop .out) (2 + 8 * i) (pairsBytes at rs))
-      (sym (routines-more (a .counts .now) row i (l .loop .at) k (x .before .loop-test .taken) e))
-    ∙ l .loop .inv .3)
+    let n : first + 4 * (l .loop .at + k) ≡ at + 4 * k = omega arith in (
+      omega (arith, e, r),
+      omega (arith, e, x .taken .ensures .1),
+      c .before .before .put-four2 .kept .0 ∙ y .put-four .kept .0 ∙ l .loop .inv .2,
+      ap₂ (λ (o : List ℕ) (p : ℕ). sets o p (pairsBytes (first + 4 * (l .loop .at + k)) rest)) w q
+          ∙ ap (λ (m : ℕ). sets (sets (sets (l .loop .out) (2 + 8 * i) (fourBytes at)) (2 + 8 * i + 4) (fourBytes (4 * k))) (2 + 8 * i + 8) (pairsBytes m rest)) n
+          ∙ sym (pairs-more (l .loop .out) (2 + 8 * i) at k (take k (drop (l .loop .at) row)) rest (length-part row (l .loop .at) k (omega arith)))
+          ∙ ap (λ (rs : List (List Command)). sets (l .loop .out) (2 + 8 * i) (pairsBytes at rs))
+          (sym (routines-more (a .counts .now) row i (l .loop .at) k (x .before .loop-test .taken) e))
+          ∙ l .loop .inv .3,
+    )
 
 same-length : tie.Need-same-length Inv-loop μ-loop
 same-length c = c .before .loop .inv .2
 
 returns : tie.Need-returns Inv-loop μ-loop
-returns c =     let l = c .before in
+returns c = let l = c .before in
     let a = l .before .before .before .before .before .before .args in
     ap (λ (rs : List (List Command)). sets (l .loop .out) (2 + 8 * l .loop .i) (pairsBytes (2 + 8 * length (a .counts .now) + 4 * l .loop .at) rs))
     (sym (routines-end (a .counts .now) (rowOf (a .devices .now) (a .tags .now) (a .settings .now)) (l .loop .i) (l .loop .at) (c .loop-test .left)))

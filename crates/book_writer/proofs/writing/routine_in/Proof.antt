@@ -27,7 +27,7 @@ loop-holds : tie.Need-loop-holds Inv-loop μ-loop
 loop-holds c = (search needs, c .empty .ensures)
 
 add-command-in : tie.Need-add-command-in Inv-loop μ-loop
-add-command-in c =     let l = c .before in
+add-command-in c = let l = c .before in
     let a = l .before .before .before .before .args in
     let p = l .before .before .before .before .pre in
     omega (arith, row-length (a .devices .now) (a .tags .now) (a .settings .now))
@@ -36,11 +36,11 @@ command-in-requires : tie.Need-command-in-requires Inv-loop μ-loop
 command-in-requires c κs = search needs
 
 with-command-requires : tie.Need-with-command-requires Inv-loop μ-loop
-with-command-requires c κs =     let l = c .before .before in
+with-command-requires c κs = let l = c .before .before in
     let a = l .before .before .before .before .args in
     let p = l .before .before .before .before .pre in
     let e : l .loop .routine .count ≡ l .loop .i =
-        ap (λ (r : Routine). r .count) (l .loop .inv .1) ∙ routineOf-count _ ∙ length-part (rowOf (a .devices .now) (a .tags .now) (a .settings .now)) (a .at) (l .loop .i) (omega arith) in
+    ap (λ (r : Routine). r .count) (l .loop .inv .1) ∙ routineOf-count _ ∙ length-part (rowOf (a .devices .now) (a .tags .now) (a .settings .now)) (a .at) (l .loop .i) (omega arith) in
     omega arith
 
 add-i : tie.Need-add-i Inv-loop μ-loop
@@ -50,19 +50,20 @@ loop-less : tie.Need-loop-less Inv-loop μ-loop
 loop-less c = search needs
 
 loop-again : tie.Need-loop-again Inv-loop μ-loop
-loop-again c =     let l = c .before .before .before in
+loop-again c = let l = c .before .before .before in
     let a = l .before .before .before .before .args in
     let p = l .before .before .before .before .pre in
-    let n = length-part (rowOf (a .devices .now) (a .tags .now) (a .settings .now)) (a .at) (l .loop .i) (omega arith) in
-    (search needs,
-    c .with-command .ensures
-    ∙ ap (λ (r : Routine). withCommand r (c .before .command-in .result)) (l .loop .inv .1)
-    ∙ with-more _ _ (omega arith)
-    ∙ ap (λ (x : Command). routineOf (take (l .loop .i) (drop (a .at) (rowOf (a .devices .now) (a .tags .now) (a .settings .now))) ++ (x ∷ []))) (c .before .command-in .ensures)
-    ∙ ap routineOf (sym (part-more (rowOf (a .devices .now) (a .tags .now) (a .settings .now)) (a .at) (l .loop .i) (omega arith))))
+    let n = length-part (rowOf (a .devices .now) (a .tags .now) (a .settings .now)) (a .at) (l .loop .i) (omega arith) in (
+      search needs,
+      c .with-command .ensures
+          ∙ ap (λ (r : Routine). withCommand r (c .before .command-in .result)) (l .loop .inv .1)
+          ∙ with-more _ _ (omega arith)
+          ∙ ap (λ (x : Command). routineOf (take (l .loop .i) (drop (a .at) (rowOf (a .devices .now) (a .tags .now) (a .settings .now))) ++ (x ∷ []))) (c .before .command-in .ensures)
+          ∙ ap routineOf (sym (part-more (rowOf (a .devices .now) (a .tags .now) (a .settings .now)) (a .at) (l .loop .i) (omega arith))),
+    )
 
 returns : tie.Need-returns Inv-loop μ-loop
-returns c =     let a = c .before .before .before .before .before .args in
+returns c = let a = c .before .before .before .before .before .args in
     let n : c .before .loop .i ≡ a .count = omega arith in
     c .before .loop .inv .1 ∙ ap (λ (k : ℕ). routineOf (take k (drop (a .at) (rowOf (a .devices .now) (a .tags .now) (a .settings .now))))) n
 

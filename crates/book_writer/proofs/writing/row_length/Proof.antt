@@ -12,7 +12,7 @@ less-of-requires-2 : tie.Need-less-of-requires-2
 less-of-requires-2 c κs = search needs
 
 returns : tie.Need-returns
-returns c =     let a = c .before .before .before .before .args in
+returns c = let a = c .before .before .before .before .args in
     let e = c .before .less-of .ensures in
     let f = c .less-of2 .ensures in
     let r = row-length (a .devices .now) (a .tags .now) (a .settings .now) in

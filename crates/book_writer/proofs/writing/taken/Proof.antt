@@ -14,7 +14,7 @@ less-of-requires : tie.Need-less-of-requires
 less-of-requires c κs = search needs
 
 returns : tie.Need-returns
-returns c =     let b = c .before .before .shared-slice-known .given (c .before .before .before .args .i) .fits in
+returns c = let b = c .before .before .shared-slice-known .given (c .before .before .before .args .i) .fits in
     (c .less-of .ensures, omega (arith, c .less-of .ensures, b))
 
 pub taken-spec : {M : Type 1} → statement M
