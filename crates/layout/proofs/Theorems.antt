@@ -1,7 +1,8 @@
 -- The theorems of the routine book, by name. What each says stands in specs/Claims.antt. Assumes nothing.
-use Rattle.layout.specs.Claims.{WriteThenRead, ReadThenWrite, ExactRefusals}
+use Rattle.layout.specs.Claims.{WriteThenRead, ReadThenWrite, ExactRefusals, JudgedByFirstBytes}
 use Rattle.layout.proofs.RoundTrip as RoundTrip
 use Rattle.layout.proofs.Exact as Exact
+use Rattle.layout.proofs.FirstBytes as FirstBytes
 
 -- (a) What is written is read as the same routines.
 pub write-then-read : WriteThenRead
@@ -14,3 +15,7 @@ read-then-write = RoundTrip.read-then-write
 -- (c) Each refusal is given exactly under its cause.
 pub exact-refusals : ExactRefusals
 exact-refusals = Exact.exact-refusals
+
+-- (d) A book is judged by its first bytes.
+pub judged-by-first-bytes : JudgedByFirstBytes
+judged-by-first-bytes = FirstBytes.judged-by-first-bytes

@@ -1,0 +1,137 @@
+// A book is read and printed; if it is accepted, what was read is written again and compared with it.
+use layout::Item;
+use layout::MAX_ROUTINES;
+use layout::Written;
+use libc::STDOUT_FILENO;
+use routine::Command;
+use routine::MAX_COMMANDS;
+use routine::Routine;
+use routine::Verdict;
+
+// Routines as the writer takes them: a count for each, and their commands in a row.
+struct Shelf {
+    counts: [u8; 64],
+    devices: [u8; 512],
+    tags: [u8; 512],
+    settings: [i16; 512],
+    routines: usize,
+    commands: usize,
+}
+
+fn empty() -> Shelf {
+    let counts = [0u8; 64];
+    let devices = [0u8; 512];
+    let tags = [0u8; 512];
+    let settings = [0i16; 512];
+    Shelf {
+        counts,
+        devices,
+        tags,
+        settings,
+        routines: 0,
+        commands: 0,
+    }
+}
+
+fn with_command(shelf: Shelf, command: Command) -> Shelf {
+    let mut longer = shelf;
+    let at = longer.commands;
+    if 512 <= at {
+        return longer;
+    }
+    longer.devices[at] = command.device;
+    longer.tags[at] = command.tag;
+    let setting = command.setting;
+    longer.settings[at] = setting;
+    longer.commands = at + 1;
+    longer
+}
+
+fn with_count(shelf: Shelf, count: usize) -> Shelf {
+    let mut longer = shelf;
+    let at = longer.routines;
+    if 64 <= at {
+        return longer;
+    }
+    longer.counts[at] = (count % 256) as u8;
+    longer.routines = at + 1;
+    longer
+}
+
+fn with_commands(shelf: Shelf, routine: Routine) -> Shelf {
+    let mut longer = shelf;
+    for i in 0..MAX_COMMANDS {
+        if routine.count <= i {
+            return longer;
+        }
+        let command = routine.commands[i];
+        longer = with_command(longer, command);
+    }
+    longer
+}
+
+fn read_all(book: &[u8]) -> Shelf {
+    let mut shelf = empty();
+    let mut position = 0;
+    for _ in 0..MAX_ROUTINES {
+        let next = book::next(book, position);
+        let item = next.item;
+        let Item::Handed = item else {
+            return shelf;
+        };
+        let routine = next.routine;
+        shelf = with_commands(shelf, routine);
+        shelf = with_count(shelf, routine.count);
+        position = next.position;
+    }
+    shelf
+}
+
+fn starts_with(out: &[u8], size: usize, book: &[u8]) -> bool {
+    if out.len() < size {
+        return false;
+    }
+    check::same(book, &out[..size])
+}
+
+fn written_is(
+    book: &[u8],
+    counts: &[u8],
+    devices: &[u8],
+    tags: &[u8],
+    settings: &[i16],
+    out: &mut [u8],
+) -> bool {
+    let written = book_writer::write(counts, devices, tags, settings, out);
+    let Written::Length(size) = written else {
+        return false;
+    };
+    starts_with(out, size, book)
+}
+
+// Commands behind the last routine belong to none, so the row is lent whole.
+fn written_same(book: &[u8], shelf: Shelf) -> bool {
+    let counts = shelf.counts;
+    let devices = shelf.devices;
+    let tags = shelf.tags;
+    let settings = shelf.settings;
+    let n = shelf.routines;
+    if 64 < n {
+        return false;
+    }
+    let mut out = io::buffer();
+    written_is(book, &counts[..n], &devices, &tags, &settings, &mut out)
+}
+
+pub fn read_again(book: &[u8]) {
+    book_print::print_book(book);
+    let verdict = book::check(book);
+    let Verdict::Accepted = verdict else {
+        return;
+    };
+    if written_same(book, read_all(book)) {
+        io::write_all(STDOUT_FILENO, b"same\n");
+    } else {
+        io::write_all(STDOUT_FILENO, b"differs\n");
+    }
+}

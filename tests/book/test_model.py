@@ -1,0 +1,96 @@
+"""Checks of the model itself. Run: python3 tests/book/test_model.py"""
+
+import random
+import sys
+
+import model
+
+BYTE = bytes.fromhex
+
+
+def random_routines(rng, most):
+    return [[(rng.randrange(32), rng.randrange(2), rng.randint(-1000, 1000))
+             for _ in range(rng.randint(1, 8))]
+            for _ in range(rng.randint(0, most))]
+
+
+def refusal(number, index=None):
+    return ('refused', number, index)
+
+
+# The document's own examples, and books written out by hand.
+def reading():
+    yield BYTE('00 00'), ('routines', [])
+    yield BYTE('00'), refusal(18)
+    yield b'', refusal(18)
+    one = BYTE('01 00  0a 00 00 00 04 00 00 00  1f 01 18 fc')
+    yield one, ('routines', [[(31, 1, -1000)]])
+    two = BYTE('02 00  12 00 00 00 04 00 00 00  16 00 00 00 08 00 00 00'
+               '  00 00 e8 03  01 00 14 00  02 01 ff ff')
+    yield two, ('routines', [[(0, 0, 1000)], [(1, 0, 20), (2, 1, -1)]])
+    yield one[:-1], refusal(19)
+    yield one[:9], refusal(18)
+    yield one + b'\0', refusal(19)
+    yield b'\0\0\0', refusal(19)
+    yield BYTE('01 00  0a 00 00 00 04 00 00 00  20 01 18 fc'), refusal(5, 0)
+    yield BYTE('01 00  0a 00 00 00 04 00 00 00  1f 01 17 fc'), refusal(6, 0)
+    yield BYTE('01 00  0a 00 00 00 04 00 00 00  1f 01 e9 03'), refusal(6, 0)
+    yield BYTE('01 00  0a 00 00 00 04 00 00 00  1f 02 18 fc'), refusal(7, 0)
+    yield BYTE('01 00  0a 00 00 00 04 00 00 00  20 02 17 fc'), refusal(5, 0)
+    yield BYTE('01 00  0a 00 00 00 04 00 00 00  1f 02 17 fc'), refusal(6, 0)
+    yield BYTE('01 00  0a 00 00 00 00 00 00 00'), refusal(20, 0)
+    yield BYTE('01 00  0b 00 00 00 05 00 00 00  1f 01 18 fc'), refusal(20, 0)
+    yield BYTE('01 00  0b 00 00 00 04 00 00 00  1f 01 18 fc'), refusal(19)
+    yield BYTE('02 00  12 00 00 00 04 00 00 00  16 00 00 00 24 00 00 00'
+               '  00 02 e8 03'), refusal(7, 0)
+    yield BYTE('02 00  12 00 00 00 04 00 00 00  16 00 00 00 24 00 00 00'
+               '  00 01 e8 03'), refusal(20, 1)
+    yield BYTE('41 00') + bytes(65 * 12), refusal(18)
+
+
+def writing():
+    good = [(0, 0, 0)]
+    yield [], 2, ('book', BYTE('00 00'))
+    yield [], 1, refusal(21)
+    yield [[(31, 1, -1000)]], 14, ('book', BYTE(
+        '01 00  0a 00 00 00 04 00 00 00  1f 01 18 fc'))
+    yield [[(31, 1, -1000)]], 13, refusal(21)
+    yield [[]], 0, refusal(4)
+    yield [good * 9], 1000, refusal(4)
+    yield [good * 8], 42, ('book', BYTE('01 00  0a 00 00 00 20 00 00 00') + bytes(32))
+    yield [good, [(0, 0, 0), (32, 2, 1001)]], 0, refusal(5, 1)
+    yield [good, [(0, 0, 0), (31, 2, 1001)]], 0, refusal(6, 1)
+    yield [good, [(0, 0, 0), (31, 2, -1001)]], 0, refusal(6, 1)
+    yield [good, [(0, 0, 0), (31, 2, -1000)]], 0, refusal(7, 1)
+    yield [good] * 65, 10000, refusal(21)
+    yield [good] * 64 + [[(0, 2, 0)]], 10000, refusal(7, 0)
+
+
+# Each yields whether one check holds.
+def checks():
+    for book, expected in reading():
+        yield model.read(book) == expected
+    for routines, room, expected in writing():
+        yield model.write(routines, room) == expected
+    rng = random.Random(1)
+    for turn in range(500):
+        routines = random_routines(rng, 64 if turn % 10 == 0 else 6)
+        kind, book = model.write(routines, 3000)
+        yield kind == 'book' and model.read(book) == ('routines', routines)
+        yield model.write(routines, len(book)) == ('book', book)
+        yield model.write(routines, len(book) - 1) == refusal(21)
+        cut = rng.randrange(len(book))
+        head = 2 + 8 * len(routines)
+        yield model.read(book[:cut]) == refusal(18 if cut < head else 19)
+        yield model.read(book + b'\0') == refusal(19)
+
+
+def main():
+    results = list(checks())
+    failed = results.count(False)
+    print(f'{len(results) - failed} passed, {failed} failed')
+    return 1 if failed else 0
+
+
+if __name__ == '__main__':
+    sys.exit(main())
