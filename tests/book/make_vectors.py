@@ -1,23 +1,24 @@
 """Makes the test vectors of the routine book.
 
-    python3 tests/book/make_vectors.py OUTDIR
+    python3 tests/book/make_vectors.py crates
 
-writes OUTDIR/stdin (records) and OUTDIR/stdout (the lines expected for them).
-Every run makes the same bytes. The answers come from model.py alone.
+writes the stdin (records) and stdout (the lines expected for them) of the
+programs crates/read_vectors and crates/write_vectors. Every run makes the same
+bytes. The answers come from model.py alone.
 
-A record is two bytes of length, low byte first, and that many bytes, of which
-the first is the kind. All numbers of two bytes are low byte first.
+A record is two bytes of length and that many bytes. All numbers are of two
+bytes, low byte first.
 
-'R'  The rest is a book to read. Lines: `refused N` or `refused N I`; or
-     `routine` with ` D T S` for each command, for each routine; `end`; and
-     `same`, since the routines written again give the book.
-'W'  Routines to write: n and n bytes, a count for each routine; d and d
-     devices; t and t tags; s and s settings of two bytes; r, the length of the
-     lent buffer; f, one byte: byte i of the buffer is (f + i) % 256 before.
-     The commands are as many as the shortest of devices, tags and settings
-     has. Each routine takes the next `count` of them, or those that are left.
-     Line: `length N`, `refused N` or `refused N I`, then ` sum H`, the
-     checksum of the whole buffer afterwards.
+read_vectors   The record is a book to read. Lines: `refused N` or
+     `refused N I`; or `routine` with ` D T S` for each command, for each
+     routine; `end`; and `same`, since the routines written again give the book.
+write_vectors  Routines to write: four parts, each its number of bytes and its
+     bytes: a count for each routine, devices, tags, settings of two bytes each;
+     then r, the length of the lent buffer, and f, one byte: byte i of the
+     buffer is (f + i) % 256 before. The commands are as many as the shortest
+     of devices, tags and settings has. Each routine takes the next `count` of
+     them, or those that are left. Line: `length N`, `refused N` or
+     `refused N I`, then ` sum H`, the checksum of the whole buffer afterwards.
 
 Covered in reading: counts; truncations; single bytes changed; bytes left over;
 lengths; offsets; layouts with gaps, overlaps and another order; devices, tags
@@ -61,6 +62,7 @@ def four(number):
     return number.to_bytes(4, 'little')
 
 
+# In this file a record has its kind in front, R to read and W to write.
 def reading(book):
     """The record that reads a book."""
     return b'R' + bytes(book)
@@ -73,7 +75,7 @@ def lending(counts, devices, tags, settings, room, fill=0):
         two(len(counts)), bytes(counts),
         two(len(devices)), bytes(devices),
         two(len(tags)), bytes(tags),
-        two(len(settings)), b''.join(two(s % 65536) for s in settings),
+        two(2 * len(settings)), b''.join(two(s % 65536) for s in settings),
         two(room), bytes([fill % 256])])
 
 
@@ -143,7 +145,7 @@ def answer_writing(rest):
     devices = taker.take(taker.number())
     tags = taker.take(taker.number())
     settings = [int.from_bytes(taker.take(2), 'little', signed=True)
-                for _ in range(taker.number())]
+                for _ in range(taker.number() // 2)]
     room = taker.number()
     fill = taker.take(1)[0]
     assert taker.at == len(rest)
@@ -843,37 +845,39 @@ def check_coverage(tally):
         assert outcome is None or outcome[0] in expected[kind]
 
 
-def report(records, stdin, stdout, tally):
-    for kind in 'RW':
-        of_kind = [record for record in records if record[0] == ord(kind)]
-        longest = max(len(record) for record in of_kind)
-        print(f'{kind}: {len(of_kind)} records, the longest of {longest} bytes, '
-              f'{tally[kind, None]} accepted')
-        numbers = collections.Counter()
-        for (k, outcome), times in tally.items():
-            if k == kind and outcome is not None:
-                numbers[outcome[0]] += times
-        for number in sorted(numbers):
-            print(f'  refused {number}: {numbers[number]}')
-    print(f'stdin {len(stdin)} bytes, stdout {len(stdout)} bytes')
+def report(name, bodies, stdin, stdout, tally, kind):
+    longest = max(len(body) for body in bodies)
+    print(f'{name}: {len(bodies)} records, the longest of {longest} bytes, '
+          f'{tally[kind, None]} accepted; stdin {len(stdin)} bytes, stdout {len(stdout)} bytes')
+    numbers = collections.Counter()
+    for (k, outcome), times in tally.items():
+        if k == kind and outcome is not None:
+            numbers[outcome[0]] += times
+    for number in sorted(numbers):
+        print(f'  refused {number}: {numbers[number]}')
 
 
 def main():
     if len(sys.argv) != 2:
-        print('usage: python3 tests/book/make_vectors.py OUTDIR')
+        print('usage: python3 tests/book/make_vectors.py crates')
         return 2
     records = all_records()
     answers = [answer_of(record) for record in records]
-    stdin = b''.join(two(len(record)) + record for record in records)
-    stdout = ''.join(answers).encode('ascii')
-    assert len(stdin) < MOST_SIZE, len(stdin)
     tally = outcomes(records, answers)
     check_coverage(tally)
-    os.makedirs(sys.argv[1], exist_ok=True)
-    for name, data in [('stdin', stdin), ('stdout', stdout)]:
-        with open(os.path.join(sys.argv[1], name), 'wb') as out:
-            out.write(data)
-    report(records, stdin, stdout, tally)
+    for kind, name in [('R', 'read_vectors'), ('W', 'write_vectors')]:
+        of_kind = [(record[1:], answer) for record, answer in zip(records, answers)
+                   if record[0] == ord(kind)]
+        bodies = [body for body, _ in of_kind]
+        stdin = b''.join(two(len(body)) + body for body in bodies)
+        stdout = ''.join(answer for _, answer in of_kind).encode('ascii')
+        assert len(stdin) < MOST_SIZE, len(stdin)
+        folder = os.path.join(sys.argv[1], name)
+        os.makedirs(folder, exist_ok=True)
+        for part, data in [('stdin', stdin), ('stdout', stdout)]:
+            with open(os.path.join(folder, part), 'wb') as out:
+                out.write(data)
+        report(name, bodies, stdin, stdout, tally, kind)
     return 0
 
 
