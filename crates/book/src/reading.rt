@@ -9,6 +9,7 @@ use layout::Item;
 use layout::LENGTH;
 use layout::MISPLACED;
 use layout::Next;
+use layout::OFFSET_SIZE;
 use layout::PAIR_SIZE;
 use routine::Command;
 use routine::MAX_COMMANDS;
@@ -70,7 +71,7 @@ pub fn check_placed(book: &[u8], i: usize, at: usize) -> Verdict
     ensures { λ r. ⌜ r ≡ placedCheck (now (book .entry)) i at ⌝ }
 {
     let pair = COUNT_SIZE + PAIR_SIZE * i;
-    let size = four_at(book, pair + 4);
+    let size = four_at(book, pair + OFFSET_SIZE);
     if !length_fits(size) {
         return Verdict::Refused(Refusal::Indexed(LENGTH, i));
     }
@@ -96,7 +97,7 @@ pub fn check_all(book: &[u8], count: usize) -> Verdict
         let Verdict::Accepted = verdict else {
             return verdict;
         };
-        at += four_at(book, COUNT_SIZE + PAIR_SIZE * i + 4);
+        at += four_at(book, COUNT_SIZE + PAIR_SIZE * i + OFFSET_SIZE);
         i += 1;
     }
     if at < book.len() {
@@ -128,7 +129,7 @@ pub fn next_pair(book: &[u8], position: usize) -> Next
         return ended(position);
     }
     let from = four_at(book, position);
-    let size = four_at(book, position + 4);
+    let size = four_at(book, position + OFFSET_SIZE);
     if !length_fits(size) {
         return ended(position);
     }

@@ -2,6 +2,7 @@
 use layout::BOOK_DEVICES;
 use layout::COMMAND_SIZE;
 use layout::COUNT_SIZE;
+use layout::OFFSET_SIZE;
 use layout::PAIR_SIZE;
 use routine::COMMAND_COUNT;
 use routine::Command;
@@ -145,7 +146,7 @@ fn put_pairs(counts: &[u8], devices: &[u8], tags: &[u8], settings: &[i16], out: 
         let count = taken(counts, i, row - at);
         let pair = COUNT_SIZE + PAIR_SIZE * i;
         put_four(out, pair, (first + COMMAND_SIZE * at) as u32);
-        put_four(out, pair + 4, (COMMAND_SIZE * count) as u32);
+        put_four(out, pair + OFFSET_SIZE, (COMMAND_SIZE * count) as u32);
         at += count;
         i += 1;
     }

@@ -1,11 +1,11 @@
--- What is claimed of the definitions, beside the contracts of crate `book`. The theorems stand in proofs/Theorems.antt.
+-- What is claimed of the definitions, beside the contracts of crates `book` and `book_writer`. The theorems stand in proofs/Theorems.antt.
 -- Assumes nothing.
 use mathlib.Core.Path.{_≡_}
 use mathlib.Core.Logic.{_⊎_, _↔_, _≢_}
 use mathlib.Core.List.{List, [], _∷_, _++_}
 use Prim.Native.Nat.{ℕ, zero, suc, _+_, _*_, _<_, _≤_}
 use lib.ListN.{length, take}
-use Rattle.routine.specs.Refusals.{Cause, device-not-below, setting-out-of-range, tag-above-1, book-cut-short, book-misplaced, book-length, refusalOf}
+use Rattle.routine.specs.Refusals.{Cause, device-not-below, setting-out-of-range, tag-out-of-range, book-cut-short, book-misplaced, book-length, refusalOf}
 use Rattle.routine.specs.Routine.{maxCommands, commandsOf}
 use Rattle.routine.specs.declared.Command.{Command}
 use Rattle.routine.specs.declared.Refusal.{Refusal}
@@ -76,7 +76,7 @@ causeOf (routine-length i) = book-length i
 causeOf (routine-place i) = book-misplaced
 causeOf (command-device i j) = device-not-below j
 causeOf (command-setting i j) = setting-out-of-range j
-causeOf (command-tag i j) = tag-above-1 j
+causeOf (command-tag i j) = tag-out-of-range j
 causeOf left-over = book-misplaced
 
 -- Where the layout puts routine i: where the pairs end, and then where the routine before ends.

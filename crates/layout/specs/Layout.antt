@@ -15,6 +15,10 @@ countSize = 2
 abbrev pub pairSize : ℕ
 pairSize = 8
 
+-- An offset's part of its pair.
+abbrev pub offsetSize : ℕ
+offsetSize = 4
+
 abbrev pub commandSize : ℕ
 commandSize = 4
 
@@ -67,7 +71,7 @@ unfoldable pub offsetAt : List ℕ → ℕ → ℕ
 offsetAt b i = fourAt b (pairPlace i)
 
 unfoldable pub lengthAt : List ℕ → ℕ → ℕ
-lengthAt b i = fourAt b (pairPlace i + 4)
+lengthAt b i = fourAt b (pairPlace i + offsetSize)
 
 -- The command whose first byte is at a place, and n of them in a row.
 unfoldable pub commandAt : List ℕ → ℕ → Command

@@ -11,7 +11,7 @@ use Rattle.routine.specs.Routine.{maxCommands, routineOf, noRoutine, commandsCh
 use Rattle.routine.specs.declared.Verdict.{Verdict}
 use Rattle.routine.specs.declared.Verdict.the-variants.{Accepted, Refused}
 use Rattle.layout.specs.Numbers.{fourAt}
-use Rattle.layout.specs.Layout.{countSize, pairSize, commandSize, maxRoutines, bookDevices, pairsEnd, countOf, offsetAt, lengthAt, commandsAt}
+use Rattle.layout.specs.Layout.{countSize, pairSize, offsetSize, commandSize, maxRoutines, bookDevices, pairsEnd, countOf, offsetAt, lengthAt, commandsAt}
 use Rattle.layout.specs.declared.Item.{Item}
 use Rattle.layout.specs.declared.Item.the-variants.{Handed, End, Refused as RefusedBook}
 use Rattle.layout.specs.declared.Next.{Next}
@@ -48,7 +48,7 @@ bookCheck b = headCheck b andThen placedChecks b 0 (countOf b) (pairsEnd (countO
 unfoldable pub pairNext : List ℕ → ℕ → Next
 pairNext b at =
     let from = fourAt b at in
-    let size = fourAt b (at + 4) in
+    let size = fourAt b (at + offsetSize) in
     if ltb at (pairsEnd (countOf b)) && eqb (at % pairSize) countSize && lengthFits size && leb (from + size) (length b)
     then record { item = Handed; routine = routineOf (commandsAt b from (size / commandSize)); position = at + pairSize }
     else record { item = End; routine = noRoutine; position = at }

@@ -11,6 +11,9 @@ pub const COUNT_SIZE: usize = 2;
 
 pub const PAIR_SIZE: usize = 8;
 
+// An offset's part of its pair.
+pub const OFFSET_SIZE: usize = 4;
+
 pub const COMMAND_SIZE: usize = 4;
 
 // A book has at most this many routines, and devices below this number.

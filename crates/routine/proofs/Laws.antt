@@ -13,7 +13,7 @@ use lib.ListN.{length, take, drop, getD, set, replicate, length-append, length-r
 use lib.Seq.{set-at, take-append-seam, slice, slice-cons, slice-empty, take-append-le, length-take-le}
 use Rattle.routine.specs.Choice.{if_then_else_}
 use Rattle.routine.specs.Range.{inRange}
-use Rattle.routine.specs.Refusals.{Cause, command-count, device-not-below, setting-out-of-range, tag-above-1, refusalOf, refuse_when_, _andThen_}
+use Rattle.routine.specs.Refusals.{Cause, command-count, device-not-below, setting-out-of-range, tag-out-of-range, refusalOf, refuse_when_, _andThen_}
 use Rattle.routine.specs.Routine.{maxCommands, highestTag, zeroCommand, commandsOf, routineOf, withCommand, commandCheck, commandsCheck, routineCheck}
 use Rattle.routine.specs.declared.Command.{Command}
 use Rattle.routine.specs.declared.Refusal.{Refusal}
@@ -135,7 +135,7 @@ module _ (limit i : ℕ) (c : Command) where
   unfolding commandCheck
   command-setting h e = simp (lt-leb limit (c .device) h, e)
 
-  pub command-tag : c .device < limit → inRange (c .setting) ≡ true → highestTag < c .tag → commandCheck limit i c ≡ Refused (refusalOf (tag-above-1 i))
+  pub command-tag : c .device < limit → inRange (c .setting) ≡ true → highestTag < c .tag → commandCheck limit i c ≡ Refused (refusalOf (tag-out-of-range i))
   unfolding commandCheck
   command-tag h e t = simp (lt-leb limit (c .device) h, e, lt-ltb highestTag (c .tag) t)
 

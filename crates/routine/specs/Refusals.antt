@@ -10,22 +10,22 @@ use Rattle.routine.specs.declared.Verdict.the-variants.{Accepted, Refuse
 
 -- The causes, in the table's order. A cause that is returned with an index has it here.
 pub data Cause : Type 0 where
-  devices-not-1-to-32 : Cause
-  pass-limit-above-8 : Cause
-  first-id-0 : Cause
+  devices-out-of-range : Cause  -- N not 1 to 32
+  pass-limit-out-of-range : Cause  -- K above 8
+  first-id-0 : Cause  -- first id 0
   command-count : Cause  -- routine of 0 or over 8 commands
   device-not-below : ℕ → Cause  -- device not below N (32 in a book); the command's index
-  setting-out-of-range : ℕ → Cause  -- the command's index
-  tag-above-1 : ℕ → Cause  -- the command's index
+  setting-out-of-range : ℕ → Cause  -- setting out of range; the command's index
+  tag-out-of-range : ℕ → Cause  -- tag above 1; the command's index
   sequence-full : Cause  -- 16 routines in the sequence
   ids-used-up : Cause  -- id 4,294,967,295 already given
   not-running : Cause  -- no running routine has this id
   turn-in-flight : Cause  -- turn with a command in flight
   none-in-flight : Cause  -- report with none in flight
-  report-code-above-1 : Cause
+  report-code-out-of-range : Cause  -- report code above 1
   event-device : Cause  -- failure or restart, device not below N
-  failure-of-down : Cause
-  restart-of-up : Cause
+  failure-of-down : Cause  -- failure of a down device
+  restart-of-up : Cause  -- restart of an up device
   restart-setting : Cause  -- restart setting out of range
   book-cut-short : Cause  -- book ends inside count or pairs, or count above 64
   book-misplaced : Cause  -- pair not where the layout puts it, past the end, or bytes left over
@@ -34,19 +34,19 @@ pub data Cause : Type 0 where
 
 -- The table: the number of each cause, and the index that comes with it, if one does.
 unfoldable pub refusalOf : Cause → Refusal
-refusalOf devices-not-1-to-32 = Number 1
-refusalOf pass-limit-above-8 = Number 2
+refusalOf devices-out-of-range = Number 1
+refusalOf pass-limit-out-of-range = Number 2
 refusalOf first-id-0 = Number 3
 refusalOf command-count = Number 4
 refusalOf (device-not-below i) = Indexed 5 i
 refusalOf (setting-out-of-range i) = Indexed 6 i
-refusalOf (tag-above-1 i) = Indexed 7 i
+refusalOf (tag-out-of-range i) = Indexed 7 i
 refusalOf sequence-full = Number 8
 refusalOf ids-used-up = Number 9
 refusalOf not-running = Number 10
 refusalOf turn-in-flight = Number 11
 refusalOf none-in-flight = Number 12
-refusalOf report-code-above-1 = Number 13
+refusalOf report-code-out-of-range = Number 13
 refusalOf event-device = Number 14
 refusalOf failure-of-down = Number 15
 refusalOf restart-of-up = Number 16

@@ -8,7 +8,7 @@ use lib.IntN.{pos}
 use lib.ListN.{length, take, set, replicate}
 use Rattle.routine.specs.Choice.{if_then_else_}
 use Rattle.routine.specs.Range.{inRange}
-use Rattle.routine.specs.Refusals.{command-count, device-not-below, setting-out-of-range, tag-above-1, refuse_when_, _andThen_}
+use Rattle.routine.specs.Refusals.{command-count, device-not-below, setting-out-of-range, tag-out-of-range, refuse_when_, _andThen_}
 use Rattle.routine.specs.declared.Command.{Command}
 use Rattle.routine.specs.declared.Routine.{Routine}
 use Rattle.routine.specs.declared.Verdict.{Verdict}
@@ -45,7 +45,7 @@ unfoldable pub commandCheck : ℕ → ℕ → Command → Verdict
 commandCheck limit i c =
     refuse (device-not-below i) when leb limit (c .device)
     andThen refuse (setting-out-of-range i) when not (inRange (c .setting))
-    andThen refuse (tag-above-1 i) when ltb highestTag (c .tag)
+    andThen refuse (tag-out-of-range i) when ltb highestTag (c .tag)
 
 -- Commands in turn, the first of them at index i.
 unfoldable pub commandsCheck : ℕ → ℕ → List Command → Verdict

@@ -82,7 +82,7 @@ pub fn in_range(setting: i16) -> bool
 }
 
 // A command against a device limit: 5, 6, 7, with the command's index.
-pub fn check_command(command: Command, limit: u8, index: usize) -> Verdict
+fn check_command(command: Command, limit: u8, index: usize) -> Verdict
     ensures { λ r. ⌜ r ≡ commandCheck limit index command ⌝ }
 {
     if limit <= command.device {
