@@ -9,7 +9,7 @@ use routine::Routine;
 use routine::Verdict;
 
 // Routines as the writer takes them: a count for each, and their commands in a row.
-struct Shelf {
+struct Rows {
     counts: [u8; 64],
     devices: [u8; 512],
     tags: [u8; 512],
@@ -18,12 +18,12 @@ struct Shelf {
     commands: usize,
 }
 
-fn empty() -> Shelf {
+fn empty() -> Rows {
     let counts = [0u8; 64];
     let devices = [0u8; 512];
     let tags = [0u8; 512];
     let settings = [0i16; 512];
-    Shelf {
+    Rows {
         counts,
         devices,
         tags,
@@ -33,8 +33,8 @@ fn empty() -> Shelf {
     }
 }
 
-fn with_command(shelf: Shelf, command: Command) -> Shelf {
-    let mut longer = shelf;
+fn with_command(rows: Rows, command: Command) -> Rows {
+    let mut longer = rows;
     let at = longer.commands;
     if 512 <= at {
         return longer;
@@ -47,8 +47,8 @@ fn with_command(shelf: Shelf, command: Command) -> Shelf {
     longer
 }
 
-fn with_count(shelf: Shelf, count: usize) -> Shelf {
-    let mut longer = shelf;
+fn with_count(rows: Rows, count: usize) -> Rows {
+    let mut longer = rows;
     let at = longer.routines;
     if 64 <= at {
         return longer;
@@ -58,8 +58,8 @@ fn with_count(shelf: Shelf, count: usize) -> Shelf {
     longer
 }
 
-fn with_commands(shelf: Shelf, routine: Routine) -> Shelf {
-    let mut longer = shelf;
+fn with_commands(rows: Rows, routine: Routine) -> Rows {
+    let mut longer = rows;
     for i in 0..MAX_COMMANDS {
         if routine.count <= i {
             return longer;
@@ -70,21 +70,21 @@ fn with_commands(shelf: Shelf, routine: Routine) -> Shelf {
     longer
 }
 
-fn read_all(book: &[u8]) -> Shelf {
-    let mut shelf = empty();
+fn read_all(book: &[u8]) -> Rows {
+    let mut rows = empty();
     let mut position = 0;
     for _ in 0..MAX_ROUTINES {
         let next = book::next(book, position);
         let item = next.item;
         let Item::Handed = item else {
-            return shelf;
+            return rows;
         };
         let routine = next.routine;
-        shelf = with_commands(shelf, routine);
-        shelf = with_count(shelf, routine.count);
+        rows = with_commands(rows, routine);
+        rows = with_count(rows, routine.count);
         position = next.position;
     }
-    shelf
+    rows
 }
 
 fn starts_with(out: &[u8], size: usize, book: &[u8]) -> bool {
@@ -110,12 +110,12 @@ fn written_is(
 }
 
 // Commands behind the last routine belong to none, so the row is lent whole.
-fn written_same(book: &[u8], shelf: Shelf) -> bool {
-    let counts = shelf.counts;
-    let devices = shelf.devices;
-    let tags = shelf.tags;
-    let settings = shelf.settings;
-    let n = shelf.routines;
+fn written_same(book: &[u8], rows: Rows) -> bool {
+    let counts = rows.counts;
+    let devices = rows.devices;
+    let tags = rows.tags;
+    let settings = rows.settings;
+    let n = rows.routines;
     if 64 < n {
         return false;
     }

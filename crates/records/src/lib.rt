@@ -1,5 +1,9 @@
 // Records of test vectors: two bytes of length, low first, and then so many bytes; within a record, parts of the same form.
-ghost use Prim.Native.Nat.{_<_};
+use libc::STDIN_FILENO;
+use libc::STDOUT_FILENO;
+ghost use mathlib.Core.Path.{_≡_};
+ghost use Prim.Native.Nat.{_≤_, _<_};
+ghost use lib.ListN.{length};
 ghost use Rattle.records.specs.Within.{Within};
 
 // A part of a slice: from a place up to, not including, another.
@@ -46,4 +50,23 @@ pub fn part_at(bytes: &[u8], at: usize) -> Part
         return Part { from, to: end };
     }
     Part { from, to: from + n }
+}
+
+// Room for the records of one run. The `ensures` keeps the array shut: only its length is known.
+pub fn room() -> [u8; 2097152]
+    ensures { λ r. ⌜ 2097152 ≡ length r ⌝ }
+{
+    [0; 2097152]
+}
+
+// Reads standard input whole, and says so where it does not fit; how much was read.
+pub fn load(buffer: &mut [u8]) -> usize
+    ensures { λ r. ⌜ r ≤ length (now (buffer .exit)) ⌝ }
+{
+    let n = io::read_full(STDIN_FILENO, buffer);
+    let mut more = [0u8; 1];
+    if libc::read(STDIN_FILENO, &mut more) > 0 {
+        io::write_all(STDOUT_FILENO, b"input too long\n");
+    }
+    n
 }

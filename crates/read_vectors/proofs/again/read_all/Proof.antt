@@ -5,10 +5,10 @@ use Rattle.read_vectors.proofs.again.read_all.Statement.{statement}
 use Rattle.read_vectors.proofs.again.read_all.Tie as tie
 
 abbrev Inv-loop : tie.InvT-loop
-Inv-loop book shelf₀ position₀ counter₀ shelf position counter = counter ≤ 64
+Inv-loop book rows₀ position₀ counter₀ rows position counter = counter ≤ 64
 
 abbrev μ-loop : tie.MeasureT-loop
-μ-loop book shelf₀ position₀ counter₀ shelf position counter = 64 - counter
+μ-loop book rows₀ position₀ counter₀ rows position counter = 64 - counter
 
 empty-requires : tie.Need-empty-requires Inv-loop μ-loop
 empty-requires c κs = search needs

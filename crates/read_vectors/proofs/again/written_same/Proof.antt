@@ -14,10 +14,10 @@ buffer-requires : tie.Need-buffer-requires
 buffer-requires c κs = search needs
 
 array-share-prefix-counts : tie.Need-array-share-prefix-counts
-array-share-prefix-counts c = let x : length (c .before .before .before .before .before .before .before .args .shelf .counts) ≡ 64 = search (needs, length-mapped) in omega arith
+array-share-prefix-counts c = let x : length (c .before .before .before .before .before .before .before .args .rows .counts) ≡ 64 = search (needs, length-mapped) in omega arith
 
 slice-aggregate-written-is : tie.Need-slice-aggregate-written-is
-slice-aggregate-written-is c = let x : length (c .before .before .before .before .before .before .before .before .args .shelf .counts) ≡ 64 = search (needs, length-mapped) in simp length-take (omega arith)
+slice-aggregate-written-is c = let x : length (c .before .before .before .before .before .before .before .before .args .rows .counts) ≡ 64 = search (needs, length-mapped) in simp length-take (omega arith)
 
 slice-aggregate-written-is-2 : tie.Need-slice-aggregate-written-is-2
 slice-aggregate-written-is-2 c = search needs

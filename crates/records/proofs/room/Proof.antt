@@ -2,8 +2,8 @@
 use mathlib.Core.Path.{sym}
 use Prim.Native.Nat.{ℕ}
 use lib.ListN.{length-replicate}
-use Rattle.read_vectors.proofs.room.Statement.{statement}
-use Rattle.read_vectors.proofs.room.Tie as tie
+use Rattle.records.proofs.room.Statement.{statement}
+use Rattle.records.proofs.room.Tie as tie
 
 returns : tie.Need-returns
 returns c = sym (length-replicate {0} {A = ℕ} 2097152 0)
