@@ -25,7 +25,7 @@ ghost use Rattle.layout.specs.Reading.{lengthFits, placedCheck, placedChecks, p
 ghost use Rattle.book.specs.End.{endAt};
 
 // The command whose first byte is at a place.
-pub fn command_at(book: &[u8], at: usize) -> Command
+fn command_at(book: &[u8], at: usize) -> Command
     requires { ⌜ at + 3 < 2 ^ 64 ⌝ }
     ensures { λ r. ⌜ r ≡ commandAt (now (book .entry)) at ⌝ }
 {
@@ -38,7 +38,7 @@ pub fn command_at(book: &[u8], at: usize) -> Command
 }
 
 // The routine of so many commands from a place on.
-pub fn routine_at(book: &[u8], at: usize, count: usize) -> Routine
+fn routine_at(book: &[u8], at: usize, count: usize) -> Routine
     requires { ⌜ (count ≤ maxCommands) × (at + commandSize * maxCommands < 2 ^ 64) ⌝ }
     ensures { λ r. ⌜ r ≡ routineOf (commandsAt (now (book .entry)) at count) ⌝ }
 {
@@ -53,7 +53,7 @@ pub fn routine_at(book: &[u8], at: usize, count: usize) -> Routine
 }
 
 // 4 to 32 in fours.
-pub fn length_fits(length: usize) -> bool
+fn length_fits(length: usize) -> bool
     ensures { λ r. ⌜ r ≡ lengthFits length ⌝ }
 {
     if length < COMMAND_SIZE {
@@ -66,7 +66,7 @@ pub fn length_fits(length: usize) -> bool
 }
 
 // Routine i, which the layout puts at a place: 20, 19, then its commands. No sum of an offset and a length is made.
-pub fn check_placed(book: &[u8], i: usize, at: usize) -> Verdict
+fn check_placed(book: &[u8], i: usize, at: usize) -> Verdict
     requires { ⌜ (i < maxRoutines) × (at ≤ length (now book)) ⌝ }
     ensures { λ r. ⌜ r ≡ placedCheck (now (book .entry)) i at ⌝ }
 {

@@ -8,21 +8,24 @@ use routine::MAX_COMMANDS;
 use routine::Routine;
 use routine::Verdict;
 
+// The most commands that a book has.
+const MOST_COMMANDS: usize = MAX_ROUTINES * MAX_COMMANDS;
+
 // Routines as the writer takes them: a count for each, and their commands in a row.
 struct Rows {
-    counts: [u8; 64],
-    devices: [u8; 512],
-    tags: [u8; 512],
-    settings: [i16; 512],
+    counts: [u8; MAX_ROUTINES],
+    devices: [u8; MOST_COMMANDS],
+    tags: [u8; MOST_COMMANDS],
+    settings: [i16; MOST_COMMANDS],
     routines: usize,
     commands: usize,
 }
 
 fn empty() -> Rows {
-    let counts = [0u8; 64];
-    let devices = [0u8; 512];
-    let tags = [0u8; 512];
-    let settings = [0i16; 512];
+    let counts = [0u8; MAX_ROUTINES];
+    let devices = [0u8; MOST_COMMANDS];
+    let tags = [0u8; MOST_COMMANDS];
+    let settings = [0i16; MOST_COMMANDS];
     Rows {
         counts,
         devices,
@@ -36,7 +39,7 @@ fn empty() -> Rows {
 fn with_command(rows: Rows, command: Command) -> Rows {
     let mut longer = rows;
     let at = longer.commands;
-    if 512 <= at {
+    if MOST_COMMANDS <= at {
         return longer;
     }
     longer.devices[at] = command.device;
@@ -50,7 +53,7 @@ fn with_command(rows: Rows, command: Command) -> Rows {
 fn with_count(rows: Rows, count: usize) -> Rows {
     let mut longer = rows;
     let at = longer.routines;
-    if 64 <= at {
+    if MAX_ROUTINES <= at {
         return longer;
     }
     longer.counts[at] = (count % 256) as u8;
@@ -116,7 +119,7 @@ fn written_same(book: &[u8], rows: Rows) -> bool {
     let tags = rows.tags;
     let settings = rows.settings;
     let n = rows.routines;
-    if 64 < n {
+    if MAX_ROUTINES < n {
         return false;
     }
     let mut out = io::buffer();
