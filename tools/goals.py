@@ -1,0 +1,75 @@
+#!/usr/bin/env python3
+"""The edit loop of a crate: runs `rt dev NAME --allow-holes`, writes each proof file that the check offers, and prints errors and goals.
+
+    tools/goals.py NAME [PART] [LINES]    # only of files whose path has PART; at most LINES lines
+"""
+
+import os
+import re
+import subprocess
+import sys
+
+OFFER = re.compile(r'help: write (\S+) with these lines')
+NOISE = re.compile(r'\s+(was found\. Every|The fields of the hyp|Congruence closure|`omega` was tried|is applied only)')
+
+
+def write_offers(text):
+    """Writes the offered proof files that are not there yet."""
+    path, lines, offers = None, [], []
+    for line in text.split('\n'):
+        found = OFFER.match(line)
+        if found:
+            path, lines = found.group(1), []
+            offers.append((path, lines))
+        elif path is not None and (line.startswith('    ') or not line.strip()):
+            lines.append(line[4:])
+        else:
+            path = None
+    for path, lines in offers:
+        if not os.path.exists(path):
+            os.makedirs(os.path.dirname(path), exist_ok=True)
+            with open(path, 'w', encoding='utf-8') as out:
+                out.write('\n'.join(lines).rstrip('\n') + '\n')
+            print('wrote', path)
+
+
+def pretty(text):
+    """The goals with short names."""
+    kit = os.path.dirname(os.path.dirname(subprocess.run(['rt', 'doc'], capture_output=True, text=True).stdout.strip()))
+    tool = os.path.join(kit, 'tools', 'pretty.py')
+    if os.path.exists(tool):
+        text = subprocess.run([sys.executable, tool], input=text, capture_output=True, text=True).stdout
+    text = re.sub(r'Rattle·[a-z_]+(·(specs|proofs))?\.(specs|proofs)\.', '', text)
+    return re.sub(r'declared\.[A-Za-z]+\.the-variants\.', '', text)
+
+
+def shown(text, part, most):
+    """The blocks of files whose path has the part, without antt's advice."""
+    on, count = False, 0
+    for line in text.split('\n'):
+        if line[:1].strip():
+            skipped = line.startswith(('note', 'help', 'logic ', 'library', 'crate '))
+            on = not skipped and (part in line.replace('::', '/') or line.startswith(('logic=', 'holes=')))
+        if on and not NOISE.match(line) and 'a trial run of this declaration' not in line:
+            print(line[:700])
+            count += 1
+            if count >= most:
+                return
+
+
+def main():
+    if len(sys.argv) < 2:
+        print(__doc__)
+        return 2
+    name = sys.argv[1]
+    part = sys.argv[2] if len(sys.argv) > 2 else ''
+    most = int(sys.argv[3]) if len(sys.argv) > 3 else 80
+    run = subprocess.run(['rt', 'dev', name, '--allow-holes'], capture_output=True, text=True, env=dict(os.environ, RT_CUT='0'))
+    text = run.stdout + run.stderr
+    write_offers(text)
+    shown(pretty(text), part, most)
+    return 0
+
+
+if __name__ == '__main__':
+    sys.exit(main())
