@@ -21,8 +21,7 @@ ghost use Prim.Native.Nat.{_+_, _*_, _<_, _≤_, _^_};
 ghost use lib.ListN.{length};
 ghost use Rattle.routine.specs.Routine.{maxCommands, routineOf};
 ghost use Rattle.layout.specs.Layout.{commandSize, maxRoutines, pairsEnd, commandAt, commandsAt};
-ghost use Rattle.layout.specs.Reading.{lengthFits, placedCheck, placedChecks, pairNext};
-ghost use Rattle.book.specs.End.{endAt};
+ghost use Rattle.layout.specs.Reading.{lengthFits, placedCheck, placedChecks, endAt, pairNext};
 
 // The command whose first byte is at a place.
 fn command_at(book: &[u8], at: usize) -> Command

@@ -8,7 +8,7 @@ use native.Mathlib.Omega.{arith}
 use borrow.Author.Tests.{lt-ltb, le-ltb}
 use lib.IntN.{ℤ, pos}
 use lib.ListN.{length, take, drop, getD, set, length-append, length-take, length-drop, drop-of-length-le}
-use lib.Seq.{sets, sets-eq, slice, slice-cons, slice-empty, drop-cons, drop-drop, take-all, take-nil, drop-nil, take-suc, getD-drop}
+use lib.Seq.{sets, sets-eq, slice, slice-cons, slice-empty, drop-cons, drop-drop, take-nil, drop-nil, take-suc, getD-drop}
 use Rattle.routine.specs.Refusals.{no-room, refusalOf}
 use Rattle.routine.specs.Routine.{zeroCommand, routineCheck}
 use Rattle.routine.specs.declared.Command.{Command}

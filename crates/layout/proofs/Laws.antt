@@ -1,31 +1,26 @@
 -- Laws of the layout's definitions that the theorems and the code's proofs cite. Assumes nothing.
 use Prim.Native.Nat.{ℕ, zero, suc, _+_, _-_, _*_, _/_, _%_, _≤_, _<_}
-use mathlib.Core.Path.{_≡_, refl, sym, ap, subst, _∙_}
-use mathlib.Core.Bool.{Bool, true, false, not, _&&_, _||_}
-use mathlib.Core.List.{List, [], _∷_, _++_, append-assoc, append-nil}
+use mathlib.Core.Path.{_≡_, refl, sym, ap}
+use mathlib.Core.Bool.{true, false, _&&_}
+use mathlib.Core.List.{List, [], _∷_, _++_}
 use native.Mathlib.Nat.{zero-add}
 use native.Mathlib.Numerals.{add-one}
 use native.Mathlib.Omega.{arith}
-use borrow.Author.Tests.{lt-ltb, le-ltb, le-leb, lt-leb, eq-eqb, ne-eqb, ltb-true, ltb-false, leb-true, leb-false, eqb-true, eqb-false, not-true, not-false}
-use lib.Dec.{leb, ltb, eqb}
+use borrow.Author.Tests.{lt-ltb, le-ltb, le-leb, lt-leb, eq-eqb, ne-eqb, ltb-true, ltb-false, leb-true, eqb-true, not-false}
+use lib.Dec.{leb, eqb}
 use lib.IntN.{ℤ, pos, negsuc, _-ℤ_}
 use lib.Signed.{ltZ, mag}
-use lib.ListN.{length, take, drop, getD, replicate, length-append, length-replicate}
-use lib.Seq.{getD-append-add, take-append-seam, length-take-le}
-use Rattle.routine.specs.Choice.{if_then_else_}
-use Rattle.routine.specs.Range.{inRange}
-use Rattle.routine.specs.Refusals.{book-cut-short, book-misplaced, book-length, refusalOf, refuse_when_, _andThen_}
+use lib.ListN.{length, length-append}
+use Rattle.routine.specs.Refusals.{book-cut-short, book-misplaced, book-length, refusalOf}
 use Rattle.routine.specs.Routine.{maxCommands, routineOf, noRoutine, commandsCheck}
 use Rattle.routine.specs.declared.Command.{Command}
 use Rattle.routine.specs.declared.Refusal.{Refusal}
-use Rattle.routine.specs.declared.Routine.{Routine}
-use Rattle.routine.specs.declared.Verdict.{Verdict}
 use Rattle.routine.specs.declared.Verdict.the-variants.{Accepted, Refused}
 use Rattle.routine.proofs.Laws.{and-true, both-accept, not-refused, or-false}
-use Rattle.layout.specs.Numbers.{twoBytes, fourBytes, byteAt, twoAt, fourAt, bitsOf, settingOf}
-use Rattle.layout.specs.Layout.{countSize, pairSize, commandSize, maxRoutines, bookDevices, pairsEnd, commandBytes, commandsBytes, lengthIn, pairsBytes, bodyBytes, bookBytes, countOf, offsetAt, lengthAt, commandAt, commandsAt}
-use Rattle.layout.specs.Reading.{headCheck, lengthFits, placedCheck, placedChecks, bookCheck, pairNext, nextOf}
-use Rattle.layout.specs.declared.Item.the-variants.{Handed, End, Refused as RefusedBook}
+use Rattle.layout.specs.Numbers.{twoBytes, fourBytes, fourAt, bitsOf, settingOf}
+use Rattle.layout.specs.Layout.{countSize, pairSize, commandSize, maxRoutines, bookDevices, pairsEnd, commandBytes, commandsBytes, lengthIn, pairsBytes, countOf, offsetAt, lengthAt, commandsAt}
+use Rattle.layout.specs.Reading.{headCheck, lengthFits, placedCheck, placedChecks, bookCheck, endAt, pairNext, nextOf}
+use Rattle.layout.specs.declared.Item.the-variants.{Handed, Refused as RefusedBook}
 
 -- ---- lengths that fit: 4 to 32 in fours
 
@@ -220,21 +215,21 @@ module _ (b : List ℕ) (at : ℕ) where
       simp (lt-ltb at (pairsEnd (countOf b)) (h .before), eq-eqb (at % pairSize) countSize (h .whole), h .fits, le-leb (fourAt b at + fourAt b (at + 4)) (length b) (h .inside))
 
   -- the tests in turn: the first that fails ends the book
-  pub pair-past : pairsEnd (countOf b) ≤ at → pairNext b at ≡ record { item = End; routine = noRoutine; position = at }
+  pub pair-past : pairsEnd (countOf b) ≤ at → pairNext b at ≡ endAt at
   unfolding pairNext
   pair-past h = simp (le-ltb at (pairsEnd (countOf b)) h)
 
-  pub pair-between : at < pairsEnd (countOf b) → (at % pairSize ≡ countSize → ⊥) → pairNext b at ≡ record { item = End; routine = noRoutine; position = at }
+  pub pair-between : at < pairsEnd (countOf b) → (at % pairSize ≡ countSize → ⊥) → pairNext b at ≡ endAt at
   unfolding pairNext
   pair-between h k = simp (lt-ltb at (pairsEnd (countOf b)) h, ne-eqb (at % pairSize) countSize k)
 
   pub pair-length : at < pairsEnd (countOf b) → at % pairSize ≡ countSize → lengthFits (fourAt b (at + 4)) ≡ false →
-      pairNext b at ≡ record { item = End; routine = noRoutine; position = at }
+      pairNext b at ≡ endAt at
   unfolding pairNext
   pair-length h k e = simp (lt-ltb at (pairsEnd (countOf b)) h, eq-eqb (at % pairSize) countSize k, e)
 
   pub pair-outside : at < pairsEnd (countOf b) → at % pairSize ≡ countSize → lengthFits (fourAt b (at + 4)) ≡ true →
-      length b < fourAt b at + fourAt b (at + 4) → pairNext b at ≡ record { item = End; routine = noRoutine; position = at }
+      length b < fourAt b at + fourAt b (at + 4) → pairNext b at ≡ endAt at
   unfolding pairNext
   pair-outside h k e l =
       simp (lt-ltb at (pairsEnd (countOf b)) h, eq-eqb (at % pairSize) countSize k, e, lt-leb (fourAt b at + fourAt b (at + 4)) (length b) l)

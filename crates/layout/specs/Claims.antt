@@ -6,7 +6,7 @@ use mathlib.Core.List.{List, [], _∷_, _++_}
 use Prim.Native.Nat.{ℕ, zero, suc, _+_, _*_, _<_, _≤_}
 use lib.ListN.{length, take}
 use Rattle.routine.specs.Refusals.{Cause, device-not-below, setting-out-of-range, tag-out-of-range, book-cut-short, book-misplaced, book-length, refusalOf}
-use Rattle.routine.specs.Routine.{maxCommands, commandsOf}
+use Rattle.routine.specs.Routine.{maxCommands, highestTag, commandsOf}
 use Rattle.routine.specs.declared.Command.{Command}
 use Rattle.routine.specs.declared.Refusal.{Refusal}
 use Rattle.routine.specs.declared.Verdict.the-variants.{Accepted, Refused}
@@ -94,7 +94,7 @@ Breaks b (command-device i j) = (i < countOf b) × (commandSize * j < lengthAt b
 Breaks b (command-setting i j) =
     (i < countOf b) × (commandSize * j < lengthAt b i)
     × (1000 < twoAt b (place b i + commandSize * j + 2)) × (twoAt b (place b i + commandSize * j + 2) < 64536)
-Breaks b (command-tag i j) = (i < countOf b) × (commandSize * j < lengthAt b i) × (1 < byteAt b (place b i + commandSize * j + 1))
+Breaks b (command-tag i j) = (i < countOf b) × (commandSize * j < lengthAt b i) × (highestTag < byteAt b (place b i + commandSize * j + 1))
 Breaks b left-over = place b (countOf b) < length b
 
 -- None of these tests is broken.

@@ -9,10 +9,9 @@ use Rattle.routine.specs.Refusals.{refusalOf}
 use Rattle.routine.specs.Routine.{routineOf, commandCheck, commandsCheck, routineCheck}
 use Rattle.routine.specs.declared.Command.{Command}
 use Rattle.routine.specs.declared.Refusal.the-variants.{Number, Indexed}
-use Rattle.routine.specs.declared.Verdict.{Verdict}
 use Rattle.routine.specs.declared.Verdict.the-variants.{Accepted, Refused}
 use Rattle.layout.specs.Numbers.{twoBytes, fourBytes, twoAt, fourAt, bitsOf, settingOf}
-use Rattle.layout.specs.Layout.{commandBytes, bookBytes, countOf, offsetAt, lengthAt, commandAt, commandsAt}
+use Rattle.layout.specs.Layout.{commandBytes, bookBytes, countOf, offsetAt, lengthAt, commandAt}
 use Rattle.layout.specs.Reading.{headCheck, lengthFits, placedCheck, placedChecks, bookCheck, pairNext, nextOf}
 use Rattle.layout.specs.Writing.{routinesCheck, writeCheck, writtenOf, bufferAfter}
 use Rattle.layout.specs.declared.Item.the-variants.{Handed, End}

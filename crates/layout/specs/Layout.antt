@@ -29,9 +29,12 @@ maxRoutines = 64
 abbrev pub bookDevices : ℕ
 bookDevices = 32
 
--- Where the pairs of a book of n routines end.
+-- Where the pair of routine i stands; and where the pairs of a book of n routines end.
+abbrev pub pairPlace : ℕ → ℕ
+pairPlace i = countSize + pairSize * i
+
 abbrev pub pairsEnd : ℕ → ℕ
-pairsEnd n = countSize + pairSize * n
+pairsEnd n = pairPlace n
 
 -- ---- the bytes of a book
 
@@ -63,10 +66,7 @@ bookBytes rs = twoBytes (length rs) ++ (pairsBytes (pairsEnd (length rs)) rs ++ 
 unfoldable pub countOf : List ℕ → ℕ
 countOf b = twoAt b 0
 
--- The pair of routine i.
-abbrev pub pairPlace : ℕ → ℕ
-pairPlace i = countSize + pairSize * i
-
+-- What the pair of routine i says.
 unfoldable pub offsetAt : List ℕ → ℕ → ℕ
 offsetAt b i = fourAt b (pairPlace i)
 

@@ -12,7 +12,6 @@ use Rattle.routine.specs.declared.Verdict.{Verdict}
 use Rattle.routine.specs.declared.Verdict.the-variants.{Accepted, Refused}
 use Rattle.layout.specs.Numbers.{fourAt}
 use Rattle.layout.specs.Layout.{countSize, pairSize, offsetSize, commandSize, maxRoutines, bookDevices, pairsEnd, countOf, offsetAt, lengthAt, commandsAt}
-use Rattle.layout.specs.declared.Item.{Item}
 use Rattle.layout.specs.declared.Item.the-variants.{Handed, End, Refused as RefusedBook}
 use Rattle.layout.specs.declared.Next.{Next}
 
@@ -43,6 +42,10 @@ bookCheck b = headCheck b andThen placedChecks b 0 (countOf b) (pairsEnd (countO
 
 -- ---- routine by routine
 
+-- The end, at a position.
+abbrev pub endAt : ℕ → Next
+endAt at = record { item = End; routine = noRoutine; position = at }
+
 -- A position is the place of a pair. If it is one of the book's, its routine is handed out, and the position moves to the next; else this is the
 -- end. (Where the whole book was accepted, the last two tests hold of each of its pairs.)
 unfoldable pub pairNext : List ℕ → ℕ → Next
@@ -51,7 +54,7 @@ pairNext b at =
     let size = fourAt b (at + offsetSize) in
     if ltb at (pairsEnd (countOf b)) && eqb (at % pairSize) countSize && lengthFits size && leb (from + size) (length b)
     then record { item = Handed; routine = routineOf (commandsAt b from (size / commandSize)); position = at + pairSize }
-    else record { item = End; routine = noRoutine; position = at }
+    else endAt at
 
 abbrev pub startWith : Verdict → List ℕ → Next
 startWith Accepted b = pairNext b countSize

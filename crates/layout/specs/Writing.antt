@@ -1,6 +1,6 @@
 -- Writing a book: document 01, "The routine book" and "When a call is turned down" ("Writing: the routines in turn (4, then commands), then
 -- 21"). Assumes nothing.
-use mathlib.Core.Bool.{Bool, _||_}
+use mathlib.Core.Bool.{_||_}
 use mathlib.Core.List.{List, [], _∷_, _++_}
 use Prim.Native.Nat.{ℕ}
 use lib.Dec.{ltb}

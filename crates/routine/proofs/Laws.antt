@@ -1,15 +1,14 @@
 -- Laws of the definitions that callers cite, so that no caller opens them. Assumes nothing.
-use Prim.Native.Nat.{ℕ, zero, suc, _+_, _-_, _≤_, _<_, _^_}
+use Prim.Native.Nat.{ℕ, suc, _+_, _-_, _≤_, _<_, _^_}
 use mathlib.Core.Path.{_≡_, refl, sym, ap, _∙_}
 use mathlib.Core.Bool.{Bool, true, false, not, _&&_, _||_}
-use mathlib.Core.Logic.{_⊎_, inl, inr}
 use mathlib.Core.List.{List, [], _∷_, _++_, map, append-assoc}
 use native.Mathlib.Numerals.{add-one}
 use native.Mathlib.Omega.{arith}
 use borrow.Author.Tests.{lt-ltb, le-ltb, le-leb, lt-leb, eq-eqb, ne-eqb}
-use lib.Dec.{leb, ltb, eqb}
+use lib.Dec.{leb, ltb}
 use lib.IntN.{pos, negsuc}
-use lib.ListN.{length, take, drop, getD, set, replicate, length-append, length-replicate, length-map}
+use lib.ListN.{length, take, getD, set, replicate, length-append, length-replicate, length-map}
 use lib.Seq.{set-at, take-append-seam, slice, slice-cons, slice-empty, take-append-le, length-take-le}
 use Rattle.routine.specs.Choice.{if_then_else_}
 use Rattle.routine.specs.Range.{inRange}
@@ -41,10 +40,6 @@ pub byTest {ℓ} : (P : Bool → Type ℓ) (t : Bool) → (t ≡ true → P true
 byTest P true yes′ no′ = yes′ refl
 byTest P false yes′ no′ = no′ refl
 
-pub or-true : (s t : Bool) → s || t ≡ true → (s ≡ true) ⊎ (t ≡ true)
-or-true true t e = inl refl
-or-true false t e = inr e
-
 pub or-false : (s t : Bool) → s || t ≡ false → (s ≡ false) × (t ≡ false)
 or-false true t e = let z : _≡_ {A = ℕ} 0 1 = cc in absurd (omega arith)
 or-false false t e = (refl, e)
@@ -52,10 +47,6 @@ or-false false t e = (refl, e)
 pub and-true : (s t : Bool) → s && t ≡ true → (s ≡ true) × (t ≡ true)
 and-true true t e = (refl, e)
 and-true false t e = let z : _≡_ {A = ℕ} 0 1 = cc in absurd (omega arith)
-
-pub and-false : (s t : Bool) → s && t ≡ false → (s ≡ false) ⊎ (t ≡ false)
-and-false true t e = inr e
-and-false false t e = inl refl
 
 -- ---- settings
 
@@ -99,10 +90,6 @@ routineOf-commands cs h =
 pub routineOf-count : (cs : List Command) → routineOf cs .count ≡ length cs
 unfolding routineOf
 routineOf-count cs = refl
-
-pub routineOf-length : (cs : List Command) → length cs ≤ maxCommands → length (routineOf cs .commands) ≡ maxCommands
-unfolding routineOf
-routineOf-length cs h = omega (arith, length-append cs (replicate (maxCommands - length cs) zeroCommand), length-replicate (maxCommands - length cs) zeroCommand)
 
 -- one command more
 pub with-more : (cs : List Command) (c : Command) → length cs < maxCommands → withCommand (routineOf cs) c ≡ routineOf (cs ++ (c ∷ []))

@@ -1,6 +1,6 @@
 -- The table of document 01, "When a call is turned down". Every definition of the project that refuses does so through `refusalOf`.
 -- Assumes nothing.
-use mathlib.Core.Bool.{Bool, true, false}
+use mathlib.Core.Bool.{Bool}
 use Prim.Native.Nat.{ℕ}
 use Rattle.routine.specs.Choice.{if_then_else_}
 use Rattle.routine.specs.declared.Refusal.{Refusal}

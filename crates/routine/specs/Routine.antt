@@ -1,6 +1,6 @@
 -- Document 01, "Things and ranges": a routine is 1 to 8 commands, each with a device, a tag and a setting; and what turns one down.
 -- Assumes nothing.
-use mathlib.Core.Bool.{Bool, not, _||_}
+use mathlib.Core.Bool.{not, _||_}
 use mathlib.Core.List.{List, [], _∷_, _++_}
 use Prim.Native.Nat.{ℕ, suc, _+_, _-_, _^_}
 use lib.Dec.{leb, ltb, eqb}

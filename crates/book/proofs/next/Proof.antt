@@ -1,7 +1,7 @@
 -- `book::next` meets its contract. Assumes nothing.
 use Rattle.routine.specs.declared.Routine.{Routine}
 use Rattle.layout.specs.declared.Item.the-variants.{Refused as RefusedBook}
-use mathlib.Core.Path.{_≡_, sym, ap, _∙_}
+use mathlib.Core.Path.{sym, ap, _∙_}
 use Rattle.layout.specs.Reading.{nextOf}
 use Rattle.layout.proofs.Laws.{next-first, next-later, next-refused}
 use borrow.Author.Needs.{needs}

@@ -1,9 +1,8 @@
 -- `book_writer::write` meets its contract: each way out is one of the laws of `writeCheck`. Assumes nothing.
-use mathlib.Core.Path.{_≡_, sym, ap, _∙_}
-use mathlib.Core.List.{List}
-use Prim.Native.Nat.{ℕ, _+_, _*_, _≤_}
+use mathlib.Core.Path.{_≡_, sym, _∙_}
+use Prim.Native.Nat.{_*_, _≤_}
 use native.Mathlib.Omega.{arith}
-use lib.ListN.{length, take}
+use lib.ListN.{length}
 use Rattle.layout.specs.Writing.{rowOf, routinesOf}
 use Rattle.routine.specs.Refusals.{refusalOf}
 use Rattle.routine.specs.declared.Verdict.the-variants.{Accepted}

@@ -1,10 +1,10 @@
 -- `routine::check` meets its contract. The loop's invariant: the check of the commands from the i-th on is the check of all of them.
 -- Assumes nothing.
 use borrow.Author.Needs.{needs}
-use Prim.Native.Nat.{_+_, _-_, _≤_, _<_}
+use Prim.Native.Nat.{_-_, _≤_}
 use native.Mathlib.Omega.{arith}
-use mathlib.Core.Path.{_≡_, refl, sym, ap, _∙_}
-use lib.ListN.{length, take, getD}
+use mathlib.Core.Path.{_≡_, refl, sym, _∙_}
+use lib.ListN.{length, take}
 use lib.Seq.{slice}
 use Rattle.routine.specs.Refusals.{refusalOf}
 use Rattle.routine.specs.Routine.{commandsOf, commandsCheck, routineCheck}

@@ -7,7 +7,7 @@ use Rattle.layout.proofs.Laws.{length-commandsAt}
 use Rattle.routine.proofs.Laws.{routineOf-count, with-more}
 use Rattle.book.proofs.Laws.{commandsAt-more}
 use borrow.Author.Needs.{needs}
-use Prim.Native.Nat.{_+_, _-_, _*_, _≤_}
+use Prim.Native.Nat.{_-_, _≤_}
 use mathlib.Core.Path.{_≡_, sym, ap, _∙_}
 use native.Mathlib.Omega.{arith}
 use Rattle.layout.specs.Layout.{commandsAt}

@@ -1,12 +1,10 @@
 -- `book_writer::writing::check_routines` meets its contract. The loop's invariant: the check of the routines from the i-th on, which take the row's
 -- commands from `at` on, is the check of all of them. Assumes nothing.
 use borrow.Author.Needs.{needs}
-use Prim.Native.Nat.{ℕ, _+_, _*_, _-_, _≤_, min}
+use Prim.Native.Nat.{_-_, _≤_, min}
 use mathlib.Core.Path.{_≡_, refl, sym, ap, _∙_}
-use mathlib.Core.List.{List, [], _∷_}
 use native.Mathlib.Omega.{arith}
 use lib.ListN.{length, take, drop, getD}
-use Rattle.routine.specs.declared.Command.{Command}
 use Rattle.layout.specs.Writing.{rowOf, routinesOf}
 use Rattle.layout.specs.Writing.{routinesCheck}
 use Rattle.book_writer.proofs.Row.{routines-more, routines-end, check-none, check-more, check-stops}

@@ -1,12 +1,10 @@
 -- `book_writer::writing::count_commands` meets its contract. The loop's invariant: the commands counted and those of the routines from the i-th on are
 -- all. Assumes nothing.
 use borrow.Author.Needs.{needs}
-use Prim.Native.Nat.{ℕ, _+_, _*_, _-_, _≤_, min}
-use mathlib.Core.Path.{_≡_, refl, sym, ap, _∙_}
-use mathlib.Core.List.{List, [], _∷_}
+use Prim.Native.Nat.{_+_, _-_, _≤_, min}
+use mathlib.Core.Path.{_≡_, ap}
 use native.Mathlib.Omega.{arith}
-use lib.ListN.{length, take, drop, getD}
-use Rattle.routine.specs.declared.Command.{Command}
+use lib.ListN.{length, drop, getD}
 use Rattle.layout.specs.Writing.{rowOf, routinesOf}
 use Rattle.book_writer.specs.Count.{commandsIn}
 use Rattle.book_writer.proofs.Row.{routines-more, routines-end, length-part}

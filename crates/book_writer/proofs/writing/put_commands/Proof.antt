@@ -7,8 +7,8 @@ use Prim.Native.Nat.{ℕ, _+_, _*_, _-_, _≤_}
 use mathlib.Core.Path.{_≡_, refl, sym, ap, _∙_}
 use mathlib.Core.List.{List}
 use native.Mathlib.Omega.{arith}
-use lib.ListN.{length, take, drop, getD}
-use lib.Seq.{sets, slice, length-sets}
+use lib.ListN.{length, take, getD}
+use lib.Seq.{sets, slice}
 use Rattle.routine.specs.declared.Command.{Command}
 use Rattle.layout.specs.Layout.{commandBytes, commandsBytes}
 use Rattle.layout.specs.Writing.{rowOf}

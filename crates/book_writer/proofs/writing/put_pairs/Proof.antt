@@ -7,7 +7,7 @@ use mathlib.Core.Path.{_≡_, refl, sym, ap, _∙_}
 use mathlib.Core.List.{List}
 use native.Mathlib.Omega.{arith}
 use lib.ListN.{length, take, drop, getD}
-use lib.Seq.{sets, length-sets}
+use lib.Seq.{sets}
 use Rattle.routine.specs.declared.Command.{Command}
 use Rattle.layout.specs.Numbers.{fourBytes}
 use Rattle.layout.specs.Layout.{pairsBytes}

@@ -1,9 +1,9 @@
 -- `write_vectors::lent::checksum` is safe and ends. Assumes nothing.
 use borrow.Author.Needs.{needs}
-use Prim.Native.Nat.{_+_, _-_, _*_, _≤_, _<_}
-use mathlib.Core.Path.{_≡_, refl}
+use Prim.Native.Nat.{_-_, _≤_, _<_}
+use mathlib.Core.Path.{_≡_}
 use native.Mathlib.Omega.{arith}
-use lib.ListN.{length, length-set}
+use lib.ListN.{length}
 use Rattle.write_vectors.proofs.lent.checksum.Statement.{statement}
 use Rattle.write_vectors.proofs.lent.checksum.Tie as tie
 

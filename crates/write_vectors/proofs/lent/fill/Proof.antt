@@ -1,9 +1,8 @@
 -- `write_vectors::lent::fill` is safe and ends. Assumes nothing.
 use borrow.Author.Needs.{needs}
-use Prim.Native.Nat.{_+_, _-_, _*_, _≤_, _<_}
-use mathlib.Core.Path.{_≡_, refl}
-use native.Mathlib.Omega.{arith}
-use lib.ListN.{length, length-set}
+use Prim.Native.Nat.{_-_, _≤_}
+use mathlib.Core.Path.{_≡_}
+use lib.ListN.{length}
 use Rattle.write_vectors.proofs.lent.fill.Statement.{statement}
 use Rattle.write_vectors.proofs.lent.fill.Tie as tie
 

@@ -1,9 +1,8 @@
 -- `write_vectors::lent::settings_of` is safe and ends. Assumes nothing.
 use borrow.Author.Needs.{needs}
-use Prim.Native.Nat.{_+_, _-_, _*_, _≤_, _<_}
-use mathlib.Core.Path.{_≡_, refl}
-use native.Mathlib.Omega.{arith}
-use lib.ListN.{length, length-set}
+use Prim.Native.Nat.{_-_, _≤_}
+use mathlib.Core.Path.{_≡_}
+use lib.ListN.{length}
 use Rattle.write_vectors.proofs.lent.settings_of.Statement.{statement}
 use Rattle.write_vectors.proofs.lent.settings_of.Tie as tie
 
