@@ -6,12 +6,11 @@ use mathlib.Core.Bool.{Bool, true, not}
 use mathlib.Core.List.{List, [], _∷_, _++_, append-assoc}
 use native.Mathlib.Numerals.{add-one}
 use native.Mathlib.Omega.{arith}
-use borrow.Author.Tests.{lt-ltb, le-ltb, leb-true, not-false}
+use borrow.Author.Tests.{leb-true, ltb-true, ltb-false, not-false}
 use lib.Dec.{leb, ltb}
-use lib.IntN.{ℤ, pos, negsuc, _-ℤ_}
+use lib.IntN.{ℤ, pos, negsuc}
 use lib.ListN.{length, drop}
 use lib.Seq.{drop-at, drop-drop, drop-cons, getD-drop}
-use Rattle.routine.specs.Choice.{if_then_else_}
 use Rattle.routine.specs.Range.{inRange}
 use Rattle.routine.specs.Refusals.{device-not-below, setting-out-of-range, refuse_when_}
 use Rattle.routine.specs.Routine.{commandCheck, commandsCheck}
@@ -21,24 +20,25 @@ use Rattle.routine.proofs.Laws.{byTest, both-accept, not-refused, in-range-pos,
 use Rattle.layout.specs.Numbers.{twoBytes, fourBytes, byteAt, twoAt, fourAt, bitsOf, settingOf}
 use Rattle.layout.specs.Layout.{commandBytes, commandsBytes, commandAt, commandsAt}
 use Rattle.layout.specs.Claims.{Bytes}
-use Rattle.layout.proofs.Laws.{length-twoBytes, length-commandBytes}
+use Rattle.layout.proofs.Laws.{setting-low, setting-high, bits-pos, bits-negsuc, length-twoBytes, length-commandBytes}
 
 -- ---- settings and their 16 bits
 
 -- a setting in range is read from its bits
 pub setting-read : (z : ℤ) → inRange z ≡ true → settingOf (bitsOf z) ≡ z
-unfolding settingOf bitsOf
-setting-read (pos n) e = let l : n ≤ 1000 = leb-true n 1000 (sym (in-range-pos n) ∙ e) in simp (lt-ltb n 32768 (omega arith))
+setting-read (pos n) e =
+    let l : n ≤ 1000 = leb-true n 1000 (sym (in-range-pos n) ∙ e) in
+    rw (bits-pos n) (setting-low n (omega arith))
 setting-read (negsuc n) e =
     let l : n ≤ 999 = leb-true n 999 (sym (in-range-negsuc n) ∙ e) in
-    simp (le-ltb (65535 - n) 32768 (omega arith), lt-ltb (65535 - n) 65536 (omega arith)) (ap negsuc (omega arith))
+    rw (bits-negsuc n) (setting-high (65535 - n) (omega arith) (omega arith) ∙ ap negsuc (omega arith))
 
 -- bits are those of the setting that they are read as
 pub setting-written : (n : ℕ) → n < 65536 → bitsOf (settingOf n) ≡ n
-unfolding settingOf bitsOf
 setting-written n h =
-    byTest (λ (t : Bool). bitsOf (if t then pos n else pos n -ℤ pos 65536) ≡ n) (ltb n 32768)
-    (λ _. refl) (λ _. simp (lt-ltb n 65536 h) (omega arith))
+    byTest (λ (_ : Bool). bitsOf (settingOf n) ≡ n) (ltb n 32768)
+    (λ e. let l = ltb-true n 32768 e in rw (setting-low n l) (bits-pos n))
+    (λ e. let l = ltb-false n 32768 e in let k : 65535 - (65535 - n) ≡ n = omega arith in rw (setting-high n l h) (bits-negsuc (65535 - n) ∙ k))
 
 -- ---- reading at a place what stands there
 

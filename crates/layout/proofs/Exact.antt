@@ -6,11 +6,9 @@ use mathlib.Core.Bool.{Bool, true, false, not, _||_}
 use mathlib.Core.Logic.{_⊎_, inl, inr, _≢_}
 use mathlib.Core.List.{List, [], _∷_, _++_, append-assoc}
 use native.Mathlib.Omega.{arith}
-use borrow.Author.Tests.{lt-ltb, ltb-true, ltb-false, leb-true, leb-false, eqb-true, eqb-false, not-true, not-false}
+use borrow.Author.Tests.{ltb-true, ltb-false, leb-true, leb-false, eqb-true, eqb-false, not-true, not-false}
 use lib.Dec.{leb, ltb, eqb}
-use lib.IntN.{pos, _-ℤ_}
 use lib.ListN.{length}
-use Rattle.routine.specs.Choice.{if_then_else_}
 use Rattle.routine.specs.Range.{inRange}
 use Rattle.routine.specs.Refusals.{refusalOf, refuse_when_, _andThen_}
 use Rattle.routine.specs.Routine.{maxCommands, highestTag, commandCheck, commandsCheck}
@@ -23,7 +21,7 @@ use Rattle.layout.specs.Layout.{countSize, commandSize, maxRoutines, boo
 use Rattle.layout.specs.Reading.{headCheck, lengthFits, placedCheck, placedChecks, bookCheck}
 use Rattle.layout.specs.Claims.{Bytes, Breaks, Passes, First, ExactRefusals, commandTests, routineTests, tests, causeOf, place}
 use Rattle.layout.specs.Claims.{Test, head, routine-length, routine-place, command-device, command-setting, command-tag, left-over}
-use Rattle.layout.proofs.Laws.{fits-in-fours, in-fours-fits}
+use Rattle.layout.proofs.Laws.{fits-in-fours, in-fours-fits, setting-low, setting-high}
 
 -- ---- Boolean tests and what they decide
 
@@ -63,16 +61,15 @@ unfit n =
 
 -- a setting is out of range exactly if its 16 bits are 1,001 to 64,535
 out-of-range : (n : ℕ) → n < 65536 → Decides (not (inRange (settingOf n))) ((1000 < n) × (n < 64536))
-unfolding settingOf
 out-of-range n h =
-    byTest (λ (t : Bool). Decides (not (inRange (if t then pos n else pos n -ℤ pos 65536))) ((1000 < n) × (n < 64536))) (ltb n 32768)
-    (λ e. let l = ltb-true n 32768 e in rw (in-range-pos n) record {
+    byTest (λ (_ : Bool). Decides (not (inRange (settingOf n))) ((1000 < n) × (n < 64536))) (ltb n 32768)
+    (λ e. let l = ltb-true n 32768 e in rw (setting-low n l, in-range-pos n) record {
       met = λ e. let x = leb-false n 1000 (not-true _ e) in (omega arith, omega arith);
       unmet = λ e p. let x = leb-true n 1000 (not-false _ e) in omega arith;
     })
-    (λ e. let l = ltb-false n 32768 e in rw (lt-ltb n 65536 h, in-range-negsuc (65536 - suc n)) record {
-      met = λ e. let x = leb-false (65536 - suc n) 999 (not-true _ e) in (omega arith, omega arith);
-      unmet = λ e p. let x = leb-true (65536 - suc n) 999 (not-false _ e) in omega arith;
+    (λ e. let l = ltb-false n 32768 e in rw (setting-high n l h, in-range-negsuc (65535 - n)) record {
+      met = λ e. let x = leb-false (65535 - n) 999 (not-true _ e) in (omega arith, omega arith);
+      unmet = λ e p. let x = leb-true (65535 - n) 999 (not-false _ e) in omega arith;
     })
 
 -- ---- tests in turn, and what comes of them

@@ -61,6 +61,14 @@ pub setting-high : (n : ℕ) → 32768 ≤ n → n < 65536 → settingOf n ≡ n
 unfolding settingOf
 setting-high n l h = simp (le-ltb n 32768 l, lt-ltb n 65536 h) (ap negsuc (omega arith))
 
+pub bits-pos : (n : ℕ) → bitsOf (pos n) ≡ n
+unfolding bitsOf
+bits-pos n = refl
+
+pub bits-negsuc : (n : ℕ) → bitsOf (negsuc n) ≡ 65535 - n
+unfolding bitsOf
+bits-negsuc n = refl
+
 -- −1 − z of a negative z, and the bits of each sign
 pub flipped : (z : ℤ) → ltZ z (pos 0) ≡ true → negsuc 0 -ℤ z ≡ pos (mag z)
 flipped (pos n) e = let h : n < 0 = ltb-true n 0 e in absurd (omega arith)

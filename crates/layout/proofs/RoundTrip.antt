@@ -1,11 +1,11 @@
 -- Theorems (a) and (b): a book is accepted only if it is the bytes of routines that may be written, and such bytes are accepted and read as
 -- the same routines. Assumes nothing.
-use Prim.Native.Nat.{ℕ, zero, suc, _+_, _*_, _/_, _%_, _≤_, _<_}
+use Prim.Native.Nat.{ℕ, zero, suc, _+_, _*_, _/_, _≤_, _<_}
 use mathlib.Core.Path.{_≡_, refl, sym, ap, ap₂, subst, _∙_}
 use mathlib.Core.Bool.{true, _||_}
 use mathlib.Core.List.{List, [], _∷_, _++_, append-assoc}
 use native.Mathlib.Omega.{arith}
-use borrow.Author.Tests.{lt-ltb, le-ltb, le-leb, eq-eqb, ne-eqb, ltb-false, eqb-false}
+use borrow.Author.Tests.{le-ltb, ltb-false, eqb-false}
 use lib.Dec.{ltb, eqb}
 use lib.ListN.{length, take, drop, length-append, length-drop, drop-of-length-le}
 use lib.Seq.{take-append-seam}
@@ -26,6 +26,7 @@ use Rattle.layout.specs.declared.Item.the-variants.{Handed, End, Refused
 use Rattle.layout.specs.declared.Next.{Next}
 use Rattle.layout.specs.declared.Written.the-variants.{Length}
 use Rattle.layout.proofs.Laws.{InFours, fits-in-fours, in-fours-fits, placed-commands, Placed, placed}
+use Rattle.layout.proofs.Laws.{head-fine, book-placed, pair-handed, pair-past, next-first, next-later}
 use Rattle.layout.proofs.Laws.{length-fourBytes, length-commandsBytes, length-pairsBytes, length-commandsAt}
 use Rattle.layout.proofs.Bytes.{behind, two-read, four-read, commands-read, two-written, four-written, commands-written}
 
@@ -63,13 +64,11 @@ stands b x y z i at r h offset size body =
 
 -- At the place of a pair a step of reading looks at the pair;
 pair-next : (b : List ℕ) (i : ℕ) → nextOf b (pairPlace i) ≡ pairNext b (pairPlace i)
-unfolding nextOf
-pair-next b i = simp (ne-eqb (pairPlace i) 0 (λ e. omega arith))
+pair-next b i = next-later b (pairPlace i) (λ e. omega arith)
 
 -- behind the pairs it is at the end;
 pairs-over : (b : List ℕ) (i : ℕ) → countOf b ≤ i → nextOf b (pairPlace i) .item ≡ End
-unfolding pairNext
-pairs-over b i h = rw (pair-next b i) (simp (le-ltb (pairPlace i) (pairsEnd (countOf b)) (omega arith)))
+pairs-over b i h = ap (λ (t : Next). t .item) (pair-next b i ∙ pair-past b (pairPlace i) (omega arith))
 
 -- and this is the step that hands out r, the i-th routine.
 abbrev handed : ℕ → List Command → Next
@@ -94,18 +93,14 @@ module _ (b : List ℕ) (i at : ℕ) (r : List Command) (s : Stands b i at r) wh
 
   -- and it is handed out.
   stands-handed : i < countOf b → nextOf b (pairPlace i) ≡ handed i r
-  unfolding pairNext offsetAt lengthAt
+  unfolding offsetAt lengthAt
   stands-handed h =
       let o = s .offset in let e = s .size in let l = s .inside in
       let c = ap (λ (p : ℕ). commandsAt b p (lengthAt b i / 4)) o ∙ commands-same in
       let q : pairPlace i + 8 ≡ pairPlace (suc i) = omega arith in
       pair-next b i
-      ∙ simp (
-        lt-ltb (pairPlace i) (pairsEnd (countOf b)) (omega arith),
-        eq-eqb (pairPlace i % 8) 2 (omega arith),
-        size-fits,
-        le-leb (offsetAt b i + lengthAt b i) (length b) (omega arith),
-      ) (λ j. record { item = Handed; routine = routineOf (c j); position = q j })
+      ∙ pair-handed b (pairPlace i) (record { before = omega arith; whole = omega arith; fits = size-fits; inside = omega arith })
+      ∙ (λ j. record { item = Handed; routine = routineOf (c j); position = q j })
 
 -- ---- routines that may be written are read as they are
 
@@ -140,9 +135,8 @@ read-back b rest i at (r ∷ rs) h n pairs body =
 
 -- An accepted book is read from position 0 as from its first pair.
 from-start : (b : List ℕ) (rs : List (List Command)) → bookCheck b ≡ Accepted → Hands b 2 rs → Hands b 0 rs
-unfolding nextOf
-from-start b [] e (ends x) = ends {at = 0} (rw e x)
-from-start b (r ∷ rs) e (hands x y z) = hands-by b 0 (nextOf b 2) r rs (rw e) x y z
+from-start b [] e (ends x) = let t = next-first b e ∙ sym (pair-next b 0) in ends {at = 0} (ap (λ (u : Next). u .item) t ∙ x)
+from-start b (r ∷ rs) e (hands x y z) = hands-by b 0 (nextOf b 2) r rs (next-first b e ∙ sym (pair-next b 0)) x y z
 
 -- Routines that may be written, and book b is their bytes.
 record Makes (rs : List (List Command)) (b : List ℕ) : Type 0 where
@@ -152,7 +146,7 @@ record Makes (rs : List (List Command)) (b : List ℕ) : Type 0 where
 
 -- Then it is read as these routines.
 book-read : (rs : List (List Command)) (b : List ℕ) → Makes rs b → Hands b 0 rs
-unfolding bookBytes countOf headCheck bookCheck twoBytes
+unfolding bookBytes countOf twoBytes
 book-read rs b w =
     let few = w .few in let e = w .book in
     let count = twoBytes (length rs) in
@@ -164,9 +158,7 @@ book-read rs b w =
     let f = read-back b body 0 (pairsEnd (length rs)) rs (w .fine) (omega arith) p q in
     let z = ap length e in
     let l : pairsEnd (countOf b) ≤ length b = omega (arith, length-append pairs body, length-pairsBytes (pairsEnd (length rs)) rs) in
-    let u : headCheck b ≡ Accepted =
-    simp (le-ltb (length b) 2 (omega arith), le-ltb 64 (countOf b) (omega arith), le-ltb (length b) (pairsEnd (countOf b)) l) in
-    from-start b rs (accept-both (headCheck b) _ u (rw n (f .0))) (f .1)
+    from-start b rs (book-placed b (head-fine b (omega arith) (omega arith) l) ∙ rw n (f .0)) (f .1)
 
 -- ---- an accepted book is the bytes of routines that may be written
 
