@@ -5,6 +5,7 @@
 use mathlib.Core.List.{List, [], _∷_, _++_}
 use Prim.Native.Nat.{ℕ, zero, suc, _+_, _*_}
 use lib.ListN.{length}
+use Rattle.routine.specs.Routine.{maxDevices}
 use Rattle.routine.specs.declared.Command.{Command}
 use Rattle.layout.specs.Numbers.{twoBytes, fourBytes, byteAt, twoAt, fourAt, bitsOf, settingOf}
 
@@ -27,7 +28,7 @@ maxRoutines = 64
 
 -- "Device 0 to 31 is accepted in a book."
 abbrev pub bookDevices : ℕ
-bookDevices = 32
+bookDevices = maxDevices
 
 -- Where the pair of routine i stands; and where the pairs of a book of n routines end.
 abbrev pub pairPlace : ℕ → ℕ

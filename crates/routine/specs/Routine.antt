@@ -14,6 +14,10 @@ use Rattle.routine.specs.declared.Routine.{Routine}
 use Rattle.routine.specs.declared.Verdict.{Verdict}
 use Rattle.routine.specs.declared.Verdict.the-variants.{Accepted}
 
+-- "Devices are 0 to N−1, N from 1 to 32."
+abbrev pub maxDevices : ℕ
+maxDevices = 32
+
 abbrev pub maxCommands : ℕ
 maxCommands = 8
 

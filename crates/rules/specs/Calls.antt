@@ -1,0 +1,16 @@
+-- All calls: from a state and a call to the answers and the next state. Assumes nothing.
+use Rattle.rules.specs.State.{State}
+use Rattle.rules.specs.Answers.{Call, submit, turn, report, failure, restart, cancel, Result}
+use Rattle.rules.specs.Submit.{submitOf}
+use Rattle.rules.specs.Turn.{turnOf}
+use Rattle.rules.specs.Report.{reportOf}
+use Rattle.rules.specs.Events.{failureOf, restartOf}
+use Rattle.rules.specs.Cancel.{cancelOf}
+
+abbrev pub resultOf : State → Call → Result
+resultOf s (submit cs) = submitOf s cs
+resultOf s (turn i) = turnOf s i
+resultOf s (report i code) = reportOf s i code
+resultOf s (failure d) = failureOf s d
+resultOf s (restart d v) = restartOf s d v
+resultOf s (cancel i) = cancelOf s i

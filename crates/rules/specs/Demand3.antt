@@ -1,0 +1,86 @@
+-- Demand 3, its statement. The proof is `demand-3` of `proofs/Theorem.antt`; `docs/DEMAND-3.md` walks through it. Assumes nothing.
+use mathlib.Core.Path.{_≡_}
+use mathlib.Core.Bool.{Bool, true, false}
+use mathlib.Core.List.{List, [], _∷_, _++_}
+use Prim.Native.Nat.{ℕ, _<_}
+use Rattle.routine.specs.Choice.{if_then_else_}
+use Rattle.routine.specs.declared.Command.{Command}
+use Rattle.routine.specs.declared.Verdict.the-variants.{Accepted}
+use Rattle.rules.specs.Tables.{anyOf}
+use Rattle.rules.specs.Open.{openCheck}
+use Rattle.rules.specs.History.{Outcome, reported-done, reported-failed, not-sent, Answered, Account, workingOf}
+use Rattle.rules.specs.Order.{Entry, routine, event, Order, entries, orderOf}
+use Rattle.rules.specs.Serial.{Condition, allUp, runCommand, runEntry, serialRun}
+use Rattle.rules.specs.World.{Origin, put-back, sent-for, Message, World, accounts, Act, worldAfterAll, PremiseAll, openedWorld}
+
+-- The order of a world: built from its calls and answers.
+abbrev pub orderIn : World → Order
+orderIn w = orderOf (w .history)
+
+-- Part 1, end state. No routine runs: by the answers, none is placed and neither committed nor aborted.
+abbrev pub NoneRuns : World → Type 0
+NoneRuns w = (i : ℕ) → accounts w i .running ≡ false
+
+abbrev pub isBack : Message → Bool
+isBack m = isPutBack (m .origin)
+  where
+    isPutBack : Origin → Bool
+    isPutBack put-back = true
+    isPutBack (sent-for i n) = false
+
+-- Each working device, nothing that puts it back being left to take, "has exactly the setting" of the serial run.
+abbrev pub EndState : ℕ → World → Type 0
+EndState n w =
+    NoneRuns w → (d : ℕ) → d < n → workingOf (w .history) d ≡ true → anyOf isBack (w .devices d .sent) ≡ false →
+    serialRun (entries (orderIn w)) allUp d ≡ record { up = true; setting = w .devices d .setting }
+
+-- Part 2, settled part. "what was settled after any first part of the list stands unchanged and unmoved at the beginning of that order"
+abbrev pub Begins : List Entry → List Entry → Type 0
+Begins first whole = (rest : List Entry) × (whole ≡ first ++ rest)
+
+abbrev pub SettledStands : World → List Act → Type 0
+SettledStands w acts =
+    (before rest : List Act) → acts ≡ before ++ rest → Begins (orderIn (worldAfterAll w before) .settled) (entries (orderIn (worldAfterAll w acts)))
+
+-- Part 3, where commands stand. "In it every done command finds its device up; every skipped one was reported failed or finds it down."
+abbrev pub Finds : Bool → Outcome → Type 0
+Finds isUp reported-done = isUp ≡ true
+Finds isUp reported-failed = Unit {0}
+Finds isUp not-sent = isUp ≡ false
+
+-- The answered commands of a routine, in turn.
+abbrev pub afterAnswered : Outcome → Command → (ℕ → Condition) → ℕ → Condition
+afterAnswered reported-done c t = runCommand c t
+afterAnswered reported-failed c t = t
+afterAnswered not-sent c t = t
+
+abbrev pub AllFind : List Answered → (ℕ → Condition) → Type 0
+AllFind [] t = Unit {0}
+AllFind (x ∷ l) t = Finds (t (x .command .device) .up) (x .outcome) × AllFind l (afterAnswered (x .outcome) (x .command) t)
+
+abbrev pub doneOnes : List Answered → List Command
+doneOnes [] = []
+doneOnes (x ∷ l) = ifDone (x .outcome) (x .command) (doneOnes l)
+  where
+    ifDone : Outcome → Command → List Command → List Command
+    ifDone reported-done c cs = c ∷ cs
+    ifDone reported-failed c cs = cs
+    ifDone not-sent c cs = cs
+
+-- The routines of an order, run from t: each one's done commands are those that were answered done, and its answered commands find what they should.
+abbrev pub CommandsStand : (ℕ → Account) → List Entry → (ℕ → Condition) → Type 0
+CommandsStand a [] t = Unit {0}
+CommandsStand a (routine i cs b ∷ l) t = (cs ≡ doneOnes (a i .answered)) × AllFind (a i .answered) t × CommandsStand a l (runEntry (routine i cs b) t)
+CommandsStand a (event e ∷ l) t = CommandsStand a l (runEntry (event e) t)
+
+-- The three parts, for a list of calls and device steps from an opening. Only the first needs the premise on the devices.
+pub record Demand3 (n k first : ℕ) (acts : List Act) : Type 0 where
+  pub end-state : PremiseAll (openedWorld n k first) acts → EndState n (worldAfterAll (openedWorld n k first) acts)
+  pub settled-part : SettledStands (openedWorld n k first) acts
+  pub commands-stand :
+      let w = worldAfterAll (openedWorld n k first) acts in
+      CommandsStand (accounts w) (entries (orderIn w)) allUp
+
+-- Demand 3: for every accepted opening and every list.
+abbrev pub Statement : Type 0
+Statement = (n k first : ℕ) → openCheck n k first ≡ Accepted → (acts : List Act) → Demand3 n k first acts

@@ -1,0 +1,212 @@
+-- Document 01, "Examples from the exam hall": those with ★ that concern the hub, as one list, each through its last settings. (The two ★ examples
+-- of a book stand in crate `layout`.) Assumes nothing.
+use mathlib.Core.Path.{_≡_, refl}
+use mathlib.Core.Bool.{Bool, true, false}
+use mathlib.Core.List.{List, [], _∷_, _++_, map}
+use mathlib.Core.Option.{Option, none, some}
+use Prim.Native.Nat.{ℕ, zero, suc}
+use lib.IntN.{ℤ, pos, negsuc}
+use lib.ListN.{replicate}
+use Rattle.routine.specs.Choice.{if_then_else_}
+use Rattle.routine.specs.Range.{inRange}
+use Rattle.routine.specs.Refusals.{refusalOf}
+use Rattle.routine.specs.Routine.{commandCheck, commandsCheck, routineCheck}
+use Rattle.routine.specs.declared.Command.{Command}
+use Rattle.routine.specs.declared.Refusal.the-variants.{Number, Indexed}
+use Rattle.routine.specs.declared.Verdict.the-variants.{Accepted}
+use Rattle.rules.specs.State.{State}
+use Rattle.rules.specs.Answers.{Call, submit, turn, report, failure, restart, cancel, Back, Answer, refused, placed, wait, send, done, skipped, committed, aborted, down, up}
+use Rattle.rules.specs.Progress.{begun, finished, inFlightOn, inFlight}
+use Rattle.rules.specs.Due.{afterMember, due}
+use Rattle.rules.specs.Sequence.{isRunning, runs}
+use Rattle.rules.specs.Settle.{clearMarks, joinSettled, settle}
+use Rattle.rules.specs.Abort.{attachTo, settleRestarts, moveMarks, leave, isPutBack, putBacks, abort}
+use Rattle.rules.specs.Open.{openCheck, opened}
+use Rattle.rules.specs.Submit.{submitCheck, blocks, pass, newcomer, place, submitOf}
+use Rattle.rules.specs.Turn.{holds, markBegun, commit, commitTurn, sendTurn, skipTurn, turnOf}
+use Rattle.rules.specs.Report.{doneReport, backUnless, skippedState, skipReport, reportOf}
+use Rattle.rules.specs.Events.{isHalfway, abortHalfway, attach, oneRestart, failed, restarted, failureOf, restartOf}
+use Rattle.rules.specs.Cancel.{cancelOf}
+use Rattle.rules.specs.Calls.{resultOf}
+
+-- All that a computation with the rules opens.
+abbrev pub calc : Unit {0}
+unfolding inRange refusalOf commandCheck commandsCheck routineCheck begun finished inFlightOn inFlight afterMember due isRunning runs clearMarks joinSettled settle attachTo settleRestarts moveMarks leave isPutBack putBacks abort openCheck opened submitCheck blocks pass newcomer place submitOf holds markBegun commit commitTurn sendTurn skipTurn turnOf doneReport backUnless skippedState skipReport reportOf isHalfway abortHalfway attach oneRestart failed restarted failureOf restartOf cancelOf
+calc = tt
+
+-- An opening, calls, what each answers, and the device lines at the end: the due setting of a device that is up, none of one that is down.
+pub record Example : Type 0 where
+  pub devices : ℕ
+  pub passLimit : ℕ
+  pub firstId : ℕ
+  pub calls : List Call
+  pub answers : List (List Answer)
+  pub settings : List (Option ℤ)
+
+abbrev pub answersOf : State → List Call → List (List Answer)
+answersOf s [] = []
+answersOf s (c ∷ l) = resultOf s c .answers ∷ answersOf (resultOf s c .state) l
+
+abbrev pub stateAfter : State → List Call → State
+stateAfter s [] = s
+stateAfter s (c ∷ l) = stateAfter (resultOf s c .state) l
+
+-- The lines of the `left` devices from d on.
+abbrev pub deviceLines : State → ℕ → ℕ → List (Option ℤ)
+deviceLines s d zero = []
+deviceLines s d (suc left) = (if s .up d then some (due s d) else none) ∷ deviceLines s (suc d) left
+
+abbrev pub Holds : Example → Type 0
+Holds e =
+    let s = opened (e .devices) (e .passLimit) (e .firstId) in
+    (openCheck (e .devices) (e .passLimit) (e .firstId) ≡ Accepted) × (answersOf s (e .calls) ≡ e .answers)
+    × (deviceLines (stateAfter s (e .calls)) 0 (e .devices) ≡ e .settings)
+
+abbrev pub AllHold : List Example → Type 0
+AllHold [] = Unit {0}
+AllHold (e ∷ l) = Holds e × AllHold l
+
+abbrev pub must : ℕ → ℤ → Command
+must d v = record { device = d; tag = 0; setting = v }
+
+abbrev pub best : ℕ → ℤ → Command
+best d v = record { device = d; tag = 1; setting = v }
+
+abbrev pub back : ℕ → ℤ → Back
+back d v = record { device = d; setting = v }
+
+-- The listing.
+abbrev pub listing : Example
+listing = record {
+  devices = 3;
+  passLimit = 2;
+  firstId = 1;
+  calls = submit (must 0 (pos 50) ∷ must 1 (pos 20) ∷ []) ∷ submit (must 0 (pos 70) ∷ []) ∷ turn 2 ∷ report 2 0 ∷ turn 2 ∷ turn 1 ∷ report 1 0 ∷ failure 0 ∷ cancel 1
+      ∷ restart 0 (pos 15) ∷ [];
+  answers = (placed 1 0 ∷ []) ∷ (placed 2 0 ∷ []) ∷ (send 2 (must 0 (pos 70)) ∷ []) ∷ (done 2 ∷ []) ∷ (committed 2 ∷ []) ∷ (send 1 (must 0 (pos 50)) ∷ [])
+      ∷ (done 1 ∷ []) ∷ (down 0 1 ∷ []) ∷ (aborted 1 [] ∷ []) ∷ (up 0 0 ∷ []) ∷ [];
+  settings = some (pos 15) ∷ some (pos 0) ∷ some (pos 0) ∷ [];
+}
+
+-- "K = 1, three routines on device 0: 1, then 2 after 0, then 3 after 1."
+abbrev pub passing : Example
+passing = record {
+  devices = 1;
+  passLimit = 1;
+  firstId = 1;
+  calls = submit (must 0 (pos 1) ∷ []) ∷ submit (must 0 (pos 2) ∷ []) ∷ submit (must 0 (pos 3) ∷ []) ∷ [];
+  answers = (placed 1 0 ∷ []) ∷ (placed 2 0 ∷ []) ∷ (placed 3 1 ∷ []) ∷ [];
+  settings = some (pos 0) ∷ [];
+}
+
+-- "K = 0, routines on devices 0 and 1; 1 and 2; 2 and 0: the first turn of 3 waits on 2."
+abbrev pub ring : Example
+ring = record {
+  devices = 3;
+  passLimit = 0;
+  firstId = 1;
+  calls = submit (must 0 (pos 1) ∷ must 1 (pos 1) ∷ []) ∷ submit (must 1 (pos 2) ∷ must 2 (pos 2) ∷ []) ∷ submit (must 2 (pos 3) ∷ must 0 (pos 3) ∷ []) ∷ turn 3 ∷ [];
+  answers = (placed 1 0 ∷ []) ∷ (placed 2 1 ∷ []) ∷ (placed 3 2 ∷ []) ∷ (wait 3 2 ∷ []) ∷ [];
+  settings = some (pos 0) ∷ some (pos 0) ∷ some (pos 0) ∷ [];
+}
+
+-- "1 did device 0 = 50 and has device 1 left; 2 follows with 70" and has done it.
+abbrev pub followed : Command → List Call
+followed c = submit (must 0 (pos 50) ∷ must 1 (pos 20) ∷ []) ∷ turn 1 ∷ report 1 0 ∷ submit (c ∷ []) ∷ turn 2 ∷ []
+
+abbrev pub followedAnswers : Command → List (List Answer)
+followedAnswers c = (placed 1 0 ∷ []) ∷ (send 1 (must 0 (pos 50)) ∷ []) ∷ (done 1 ∷ []) ∷ (placed 2 1 ∷ []) ∷ (send 2 c ∷ []) ∷ []
+
+-- "and commits; cancel 1: no command back, device 0 stays 70."
+abbrev pub laterStands : Example
+laterStands = record {
+  devices = 2;
+  passLimit = 8;
+  firstId = 1;
+  calls = followed (must 0 (pos 70)) ++ (report 2 0 ∷ turn 2 ∷ cancel 1 ∷ []);
+  answers = followedAnswers (must 0 (pos 70)) ++ ((done 2 ∷ []) ∷ (committed 2 ∷ []) ∷ (aborted 1 [] ∷ []) ∷ []);
+  settings = some (pos 70) ∷ some (pos 0) ∷ [];
+}
+
+-- "The same, but 2 is cancelled after its done: device 0 back to 50; then cancel 1: back to 0."
+abbrev pub backTwice : Example
+backTwice = record {
+  devices = 2;
+  passLimit = 8;
+  firstId = 1;
+  calls = followed (must 0 (pos 70)) ++ (report 2 0 ∷ cancel 2 ∷ cancel 1 ∷ []);
+  answers = followedAnswers (must 0 (pos 70)) ++ ((done 2 ∷ []) ∷ (aborted 2 (back 0 (pos 50) ∷ []) ∷ []) ∷ (aborted 1 (back 0 (pos 0) ∷ []) ∷ []) ∷ []);
+  settings = some (pos 0) ∷ some (pos 0) ∷ [];
+}
+
+-- "Once more, but 2's 70 is best-effort and in flight at the cancel of 1: `aborted 1 back 0`; then failed: `skipped 2 back 1 0 0`."
+abbrev pub inFlightAtCancel : Example
+inFlightAtCancel = record {
+  devices = 2;
+  passLimit = 8;
+  firstId = 1;
+  calls = followed (best 0 (pos 70)) ++ (cancel 1 ∷ report 2 1 ∷ []);
+  answers = followedAnswers (best 0 (pos 70)) ++ ((aborted 1 [] ∷ []) ∷ (skipped 2 (back 0 (pos 0) ∷ []) ∷ []) ∷ []);
+  settings = some (pos 0) ∷ some (pos 0) ∷ [];
+}
+
+-- "Best-effort on a down device is skipped; must aborts."
+abbrev pub onDown : Example
+onDown = record {
+  devices = 1;
+  passLimit = 0;
+  firstId = 1;
+  calls = failure 0 ∷ submit (best 0 (pos 5) ∷ []) ∷ submit (must 0 (pos 6) ∷ []) ∷ turn 1 ∷ turn 2 ∷ [];
+  answers = (down 0 0 ∷ []) ∷ (placed 1 0 ∷ []) ∷ (placed 2 1 ∷ []) ∷ (skipped 1 [] ∷ []) ∷ (aborted 2 [] ∷ []) ∷ [];
+  settings = none ∷ [];
+}
+
+-- "Setting 1,000 accepted, 1,001 refused (6); −1,000 and −1,001 likewise."
+abbrev pub limits : Example
+limits = record {
+  devices = 1;
+  passLimit = 0;
+  firstId = 1;
+  calls = submit (must 0 (pos 1000) ∷ []) ∷ submit (must 0 (pos 1001) ∷ []) ∷ submit (must 0 (negsuc 999) ∷ []) ∷ submit (must 0 (negsuc 1000) ∷ []) ∷ [];
+  answers = (placed 1 0 ∷ []) ∷ (refused (Indexed 6 0) ∷ []) ∷ (placed 2 1 ∷ []) ∷ (refused (Indexed 6 0) ∷ []) ∷ [];
+  settings = some (pos 0) ∷ [];
+}
+
+-- The answers to n submissions in a row, from id i on, where each follows the one before.
+abbrev placedInRow : ℕ → ℕ → List (List Answer)
+placedInRow i zero = []
+placedInRow i (suc n) = (placed (suc i) i ∷ []) ∷ placedInRow (suc i) n
+
+-- "Sixteenth routine placed, seventeenth refused (8)."
+abbrev pub full : Example
+full = record {
+  devices = 1;
+  passLimit = 0;
+  firstId = 1;
+  calls = replicate 17 (submit (must 0 (pos 5) ∷ []));
+  answers = placedInRow 0 16 ++ ((refused (Number 8) ∷ []) ∷ []);
+  settings = some (pos 0) ∷ [];
+}
+
+abbrev pub starred : List Example
+starred = listing ∷ passing ∷ ring ∷ laterStands ∷ backTwice ∷ inFlightAtCancel ∷ onDown ∷ limits ∷ full ∷ []
+
+-- The ★ examples, as one list by one theorem.
+pub starred-hold : AllHold starred
+unfolding calc
+starred-hold = ((refl, refl, refl), ((refl, refl, refl), ((refl, refl, refl), ((refl, refl, refl), ((refl, refl, refl), ((refl, refl, refl), ((refl, refl, refl), ((refl, refl, refl), ((refl, refl, refl), tt)))))))))
+
+-- "First id 4,294,967,295: one routine placed, the next refused (9)."
+abbrev pub lastIds : Example
+lastIds = record {
+  devices = 1;
+  passLimit = 0;
+  firstId = 4294967295;
+  calls = submit (must 0 (pos 5) ∷ []) ∷ submit (must 0 (pos 5) ∷ []) ∷ [];
+  answers = (placed 4294967295 0 ∷ []) ∷ (refused (Number 9) ∷ []) ∷ [];
+  settings = some (pos 0) ∷ [];
+}
+
+pub last-ids : Holds lastIds
+unfolding calc
+last-ids = (refl, refl, refl)

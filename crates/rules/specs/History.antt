@@ -1,0 +1,115 @@
+-- What the calls and their answers tell, without a look at the hub. A history is the calls with their answers, the latest first. Assumes nothing.
+use mathlib.Core.Bool.{Bool, true, false}
+use mathlib.Core.List.{List, [], _∷_, _++_}
+use Prim.Native.Nat.{ℕ, suc}
+use lib.IntN.{ℤ}
+use Rattle.routine.specs.Routine.{zeroCommand}
+use Rattle.routine.specs.declared.Command.{Command}
+use Rattle.rules.specs.Tables.{put}
+use Rattle.rules.specs.Answers.{Call, submit, turn, report, failure, restart, cancel, Answer, refused, placed, wait, send, done, skipped, committed, aborted, down, up}
+
+pub record Told : Type 0 where
+  pub call : Call
+  pub answers : List Answer
+
+-- How a command was answered: reported done; skipped as it was reported failed; skipped by a turn, without being sent.
+pub data Outcome : Type 0 where
+  reported-done : Outcome
+  reported-failed : Outcome
+  not-sent : Outcome
+
+pub record Answered : Type 0 where
+  pub command : Command
+  pub outcome : Outcome
+
+-- What is told of one id: does it run ("a routine runs until committed or aborted"); its commands that are not answered yet; the command last sent
+-- for it, and how many were sent; its answered commands in turn.
+pub record Account : Type 0 where
+  pub running : Bool
+  pub left : List Command
+  pub lastSent : Command
+  pub sends : ℕ
+  pub answered : List Answered
+
+abbrev pub noAccount : Account
+noAccount = record { running = false; left = []; lastSent = zeroCommand; sends = 0; answered = [] }
+
+-- The commands that a submission brings.
+abbrev pub submittedBy : Call → List Command
+submittedBy (submit cs) = cs
+submittedBy (turn i) = []
+submittedBy (report i code) = []
+submittedBy (failure d) = []
+submittedBy (restart d v) = []
+submittedBy (cancel i) = []
+
+-- A command is skipped by a report or by a turn.
+abbrev pub skippedBy : Call → Outcome
+skippedBy (submit cs) = not-sent
+skippedBy (turn i) = not-sent
+skippedBy (report i code) = reported-failed
+skippedBy (failure d) = not-sent
+skippedBy (restart d v) = not-sent
+skippedBy (cancel i) = not-sent
+
+abbrev pub placedAccount : List Command → Account
+placedAccount cs = record { running = true; left = cs; lastSent = zeroCommand; sends = 0; answered = [] }
+
+abbrev pub sentAccount : Command → Account → Account
+sentAccount c a = record { running = a .running; left = a .left; lastSent = c; sends = suc (a .sends); answered = a .answered }
+
+-- The first command that is left is answered.
+abbrev pub answeredAccount : Outcome → List Command → Account → Account
+answeredAccount o [] a = a
+answeredAccount o (c ∷ cs) a = record {
+  running = a .running;
+  left = cs;
+  lastSent = a .lastSent;
+  sends = a .sends;
+  answered = a .answered ++ (record { command = c; outcome = o } ∷ []);
+}
+
+abbrev pub endedAccount : Account → Account
+endedAccount a = record { running = false; left = a .left; lastSent = a .lastSent; sends = a .sends; answered = a .answered }
+
+abbrev pub noteAnswer : Call → Answer → (ℕ → Account) → ℕ → Account
+noteAnswer c (refused r) a = a
+noteAnswer c (placed i j) a = put a i (placedAccount (submittedBy c))
+noteAnswer c (wait i j) a = a
+noteAnswer c (send i x) a = put a i (sentAccount x (a i))
+noteAnswer c (done i) a = put a i (answeredAccount reported-done (a i .left) (a i))
+noteAnswer c (skipped i l) a = put a i (answeredAccount (skippedBy c) (a i .left) (a i))
+noteAnswer c (committed i) a = put a i (endedAccount (a i))
+noteAnswer c (aborted i l) a = put a i (endedAccount (a i))
+noteAnswer c (down d j) a = a
+noteAnswer c (up d j) a = a
+
+abbrev pub noteAnswers : Call → List Answer → (ℕ → Account) → ℕ → Account
+noteAnswers c [] a = a
+noteAnswers c (x ∷ l) a = noteAnswers c l (noteAnswer c x a)
+
+-- The account of every id.
+abbrev pub accountsOf : List Told → ℕ → Account
+accountsOf [] = λ i. noAccount
+accountsOf (t ∷ earlier) = noteAnswers (t .call) (t .answers) (accountsOf earlier)
+
+-- "A device works unless its last accepted event is a failure".
+abbrev pub workingAfter : Answer → (ℕ → Bool) → ℕ → Bool
+workingAfter (refused r) w = w
+workingAfter (placed i j) w = w
+workingAfter (wait i j) w = w
+workingAfter (send i x) w = w
+workingAfter (done i) w = w
+workingAfter (skipped i l) w = w
+workingAfter (committed i) w = w
+workingAfter (aborted i l) w = w
+workingAfter (down d j) w = put w d false
+workingAfter (up d j) w = put w d true
+
+abbrev pub workingAfterAll : List Answer → (ℕ → Bool) → ℕ → Bool
+workingAfterAll [] w = w
+workingAfterAll (x ∷ l) w = workingAfterAll l (workingAfter x w)
+
+abbrev pub workingOf : List Told → ℕ → Bool
+workingOf [] = λ d. true
+workingOf (t ∷ earlier) = workingAfterAll (t .answers) (workingOf earlier)

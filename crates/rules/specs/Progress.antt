@@ -1,0 +1,96 @@
+-- Document 01, "The steps": how far a routine is with its commands and with a device. Assumes nothing.
+use mathlib.Core.Bool.{Bool, true, false, not, _&&_}
+use mathlib.Core.List.{List, [], _∷_}
+use mathlib.Core.Option.{Option, none, some}
+use Prim.Native.Nat.{ℕ}
+use lib.Dec.{eqb}
+use lib.IntN.{ℤ}
+use Rattle.routine.specs.Choice.{if_then_else_}
+use Rattle.routine.specs.declared.Command.{Command}
+use Rattle.rules.specs.Tables.{anyOf}
+use Rattle.rules.specs.State.{Status, to-do, in-flight, was-done, was-skipped, Step, Member}
+
+-- "tag (0 must, 1 best-effort)"
+abbrev pub isMust : Command → Bool
+isMust c = eqb (c .tag) 0
+
+abbrev pub isOn : ℕ → Step → Bool
+isOn d x = eqb (x .command .device) d
+
+abbrev pub isToDo : Status → Bool
+isToDo to-do = true
+isToDo (in-flight u) = false
+isToDo was-done = false
+isToDo was-skipped = false
+
+abbrev pub isInFlight : Status → Bool
+isInFlight to-do = false
+isInFlight (in-flight u) = true
+isInFlight was-done = false
+isInFlight was-skipped = false
+
+abbrev pub isDone : Status → Bool
+isDone to-do = false
+isDone (in-flight u) = false
+isDone was-done = true
+isDone was-skipped = false
+
+-- "answered (done or skipped)"
+abbrev pub isAnswered : Status → Bool
+isAnswered to-do = false
+isAnswered (in-flight u) = false
+isAnswered was-done = true
+isAnswered was-skipped = true
+
+-- Begun (document 01, The steps): "from its first command on D that was sent or skipped".
+unfoldable pub begun : ℕ → Member → Bool
+begun d m = anyOf (λ x. isOn d x && not (isToDo (x .status))) (m .steps)
+
+-- Finished (document 01, The steps): "when all its commands on D are answered".
+unfoldable pub finished : ℕ → Member → Bool
+finished d m = not (anyOf (λ x. isOn d x && not (isAnswered (x .status))) (m .steps))
+
+-- It has a command in flight on D.
+unfoldable pub inFlightOn : ℕ → Member → Bool
+inFlightOn d m = anyOf (λ x. isOn d x && isInFlight (x .status)) (m .steps)
+
+-- It has a command in flight.
+unfoldable pub inFlight : Member → Bool
+inFlight m = anyOf (λ x. isInFlight (x .status)) (m .steps)
+
+-- The next command: the first that is neither sent nor skipped.
+abbrev pub next : List Step → Option Command
+next [] = none
+next (x ∷ l) = if isToDo (x .status) then some (x .command) else next l
+
+-- A command in flight, with its device's due setting when it was sent.
+pub record Flight : Type 0 where
+  pub command : Command
+  pub dueThen : ℤ
+
+abbrev pub flightOr : Step → Status → Option Flight → Option Flight
+flightOr x to-do other = other
+flightOr x (in-flight u) other = some (record { command = x .command; dueThen = u })
+flightOr x was-done other = other
+flightOr x was-skipped other = other
+
+-- The command in flight.
+abbrev pub flight : List Step → Option Flight
+flight [] = none
+flight (x ∷ l) = flightOr x (x .status) (flight l)
+
+abbrev pub withStatus : Status → Step → Step
+withStatus st x = record { command = x .command; status = st }
+
+-- The next command gets this status.
+abbrev pub advance : Status → List Step → List Step
+advance st [] = []
+advance st (x ∷ l) = if isToDo (x .status) then withStatus st x ∷ l else x ∷ advance st l
+
+-- The command in flight gets this status.
+abbrev pub answer : Status → List Step → List Step
+answer st [] = []
+answer st (x ∷ l) = if isInFlight (x .status) then withStatus st x ∷ l else x ∷ answer st l
+
+abbrev pub withSteps : Member → List Step → Member
+withSteps m l = record { id = m .id; steps = l; passed = m .passed; committed = m .committed; restarts = m .restarts }

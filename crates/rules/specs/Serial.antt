@@ -1,0 +1,32 @@
+-- Document 01, "The hub's order": "It runs from all devices up at 0: a routine sets its done commands in turn, a failure makes its device down, a
+-- restart up at the setting it reports." Neither the hub nor its due settings are mentioned. Assumes nothing.
+use mathlib.Core.Bool.{Bool, true, false}
+use mathlib.Core.List.{List, [], _∷_}
+use Prim.Native.Nat.{ℕ}
+use lib.IntN.{ℤ, pos}
+use Rattle.routine.specs.declared.Command.{Command}
+use Rattle.rules.specs.Tables.{put}
+use Rattle.rules.specs.Order.{Event, failed, restarted, Entry, routine, event}
+
+pub record Condition : Type 0 where
+  pub up : Bool
+  pub setting : ℤ
+
+abbrev pub allUp : ℕ → Condition
+allUp d = record { up = true; setting = pos 0 }
+
+abbrev pub runCommand : Command → (ℕ → Condition) → ℕ → Condition
+runCommand c t = put t (c .device) (record { up = t (c .device) .up; setting = c .setting })
+
+abbrev pub runCommands : List Command → (ℕ → Condition) → ℕ → Condition
+runCommands [] t = t
+runCommands (c ∷ l) t = runCommands l (runCommand c t)
+
+abbrev pub runEntry : Entry → (ℕ → Condition) → ℕ → Condition
+runEntry (routine i cs b) t = runCommands cs t
+runEntry (event (failed d)) t = put t d (record { up = false; setting = t d .setting })
+runEntry (event (restarted d v)) t = put t d (record { up = true; setting = v })
+
+abbrev pub serialRun : List Entry → (ℕ → Condition) → ℕ → Condition
+serialRun [] t = t
+serialRun (x ∷ l) t = serialRun l (runEntry x t)
