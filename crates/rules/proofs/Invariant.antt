@@ -1,0 +1,190 @@
+-- What holds between calls, of the hub, its order, the accounts and each device. Assumes nothing.
+use mathlib.Core.Path.{_≡_}
+use mathlib.Core.Logic.{_⊎_, inl, inr}
+use mathlib.Core.Bool.{Bool, true, false, not}
+use mathlib.Core.List.{List, [], _∷_, _++_, map}
+use mathlib.Core.Option.{Option, none, some}
+use Prim.Native.Nat.{ℕ, _<_, _≤_}
+use lib.Dec.{eqb}
+use lib.IntN.{ℤ, pos}
+use Rattle.routine.specs.Choice.{if_then_else_}
+use Rattle.routine.specs.declared.Command.{Command}
+use Rattle.rules.specs.Tables.{anyOf}
+use Rattle.rules.specs.State.{Member, State}
+use Rattle.rules.specs.Answers.{Call, submit, turn, report, failure, restart, cancel}
+use Rattle.rules.specs.Progress.{begun, finished, inFlightOn, Flight, flight}
+use Rattle.rules.specs.Due.{due}
+use Rattle.rules.specs.Report.{codeDone}
+use Rattle.rules.specs.Events.{isHalfway}
+use Rattle.rules.specs.History.{Answered, Account}
+use Rattle.rules.specs.Order.{Event, failed, restarted, Entry, routine, event, Order, beforeBar, entries}
+use Rattle.rules.specs.World.{Origin, put-back, sent-for, sameOrigin, Message, Device}
+use Rattle.rules.specs.Demand3.{doneOnes}
+use Rattle.rules.proofs.Lists.{Each, IdsOk}
+use Rattle.rules.proofs.Groups.{Group, members, ids, doneSteps, flat, entryIds, isOf, lastRestart}
+use Rattle.rules.proofs.Steps.{InTurn, leftSteps, answeredSteps}
+
+-- ---- marks
+
+-- d has not been begun, and no event of it is attached
+pub record Quiet (d : ℕ) (g : Group) : Type 0 where
+  pub idle : begun d (g .member) ≡ false
+  pub bare : anyOf (isOf d) (g .events) ≡ false
+
+pub record Fin (d : ℕ) (g : Group) : Type 0 where
+  pub fin : finished d (g .member) ≡ true
+
+-- the routine at the mark: it has finished d, or it has begun it and no event of d is attached
+pub data AtMark (d : ℕ) (g : Group) : Type 0 where
+  whole : Fin d g → AtMark d g
+  part : begun d (g .member) ≡ true → anyOf (isOf d) (g .events) ≡ false → AtMark d g
+
+-- the mark is i: those ahead of it have finished d, those behind it are quiet
+pub data Upto (d i : ℕ) : List Group → Type 0 where
+  here : {g : Group} {l : List Group} → g .member .id ≡ i → AtMark d g → Each (Quiet d) l → Upto d i (g ∷ l)
+  there : {g : Group} {l : List Group} → Fin d g → Upto d i l → Upto d i (g ∷ l)
+
+pub data MarkOk (d i : ℕ) (l : List Group) : Type 0 where
+  unmarked : i ≡ 0 → Each (Quiet d) l → MarkOk d i l
+  marked : Upto d i l → MarkOk d i l
+
+-- what is committed has nothing left
+pub record Shut (g : Group) : Type 0 where
+  pub shut : g .member .committed ≡ true → leftSteps (g .member .steps) ≡ []
+
+pub record Turns (g : Group) : Type 0 where
+  pub turns : InTurn (g .member .steps)
+
+-- ---- the hub
+
+pub record HubOk (s : State) (l : List Group) : Type 0 where
+  pub sequence-is : s .sequence ≡ members l
+  pub ids-ok : IdsOk (s .nextId) (ids l)
+  pub marks : (d : ℕ) → MarkOk d (s .mark d) l
+  pub shuts : Each Shut l
+  pub turns : Each Turns l
+  pub some-id : 0 < s .nextId
+
+-- a device with a command in flight on it is up
+pub record FliesUp (s : State) (g : Group) : Type 0 where
+  pub flies-up : (d : ℕ) → inFlightOn d (g .member) ≡ true → s .up d ≡ true
+
+-- not begun and unfinished
+pub record Calm (d : ℕ) (g : Group) : Type 0 where
+  pub calm : isHalfway d (g .member) ≡ false
+
+-- the first runs
+abbrev pub FirstRuns : List Group → Type 0
+FirstRuns [] = Unit {0}
+FirstRuns (g ∷ l) = g .member .committed ≡ false
+
+-- ---- the serial run, for one device
+
+abbrev pub setEvent : ℕ → Event → ℤ → ℤ
+setEvent d (failed e) v = v
+setEvent d (restarted e w) v = if eqb e d then w else v
+
+abbrev pub setCommands : ℕ → List Command → ℤ → ℤ
+setCommands d [] v = v
+setCommands d (c ∷ l) v = setCommands d l (if eqb (c .device) d then c .setting else v)
+
+-- the setting that d has after these entries
+abbrev pub setAfter : ℕ → List Entry → ℤ → ℤ
+setAfter d [] v = v
+setAfter d (routine i cs b ∷ l) v = setAfter d l (setCommands d cs v)
+setAfter d (event e ∷ l) v = setAfter d l (setEvent d e v)
+
+abbrev pub upEvent : ℕ → Event → Bool → Bool
+upEvent d (failed e) u = if eqb e d then false else u
+upEvent d (restarted e w) u = if eqb e d then true else u
+
+-- and whether it is up
+abbrev pub upAfter : ℕ → List Entry → Bool → Bool
+upAfter d [] u = u
+upAfter d (routine i cs b ∷ l) u = upAfter d l u
+upAfter d (event e ∷ l) u = upAfter d l (upEvent d e u)
+
+-- ---- order and hub
+
+-- the restarts that a routine keeps are the last ones among its events
+pub record EventsOk (g : Group) : Type 0 where
+  pub events-ok : (d : ℕ) → g .member .restarts d ≡ lastRestart d (g .events)
+
+-- `lead`: events attached to 0 in this call, which stand behind the bar until it moves; between calls there are none
+pub record OrderOk (s : State) (o : Order) (lead : List Event) (l : List Group) : Type 0 where
+  pub open-is : o .open-part ≡ map event lead ++ flat l
+  pub settled-is : (d : ℕ) → setAfter d (o .settled ++ map event lead) (pos 0) ≡ s .settled d
+  pub up-is : (d : ℕ) → upAfter d (entries o) true ≡ s .up d
+  pub events-ok : Each EventsOk l
+  pub ids-ok : IdsOk (s .nextId) (entryIds (o .settled) ++ ids l)
+  pub barred : beforeBar (o .settled) ≡ o .settled
+
+-- ---- accounts and hub
+
+abbrev pub commandsIn : List Answered → List Command
+commandsIn [] = []
+commandsIn (x ∷ l) = x .command ∷ commandsIn l
+
+pub record Tells (a : ℕ → Account) (g : Group) : Type 0 where
+  pub runs : a (g .member .id) .running ≡ not (g .member .committed)
+  pub left-is : a (g .member .id) .left ≡ leftSteps (g .member .steps)
+  pub sent-is : (x : Flight) → flight (g .member .steps) ≡ some x → a (g .member .id) .lastSent ≡ x .command
+  pub answered-is : commandsIn (a (g .member .id) .answered) ≡ answeredSteps (g .member .steps)
+  pub done-is : doneOnes (a (g .member .id) .answered) ≡ doneSteps (g .member .steps)
+
+-- ---- devices
+
+-- what was sent for an id is one of those that its account counts
+abbrev pub Old : (ℕ → Account) → Origin → Type 0
+Old a put-back = Unit {0}
+Old a (sent-for i n) = n ≤ a i .sends
+
+abbrev pub OldMessage : (ℕ → Account) → Message → Type 0
+OldMessage a m = Old a (m .origin)
+
+abbrev pub backTo : ℤ → Message
+backTo v = record { setting = v; origin = put-back }
+
+-- these were sent to a device with setting u: it comes to v for good, for nothing was sent, or the last of them puts it back to v
+pub data Comes (u : ℤ) (v : ℤ) (l : List Message) : Type 0 where
+  has : l ≡ [] → u ≡ v → Comes u v l
+  goes-back : (k : List Message) → l ≡ k ++ (backTo v ∷ []) → Comes u v l
+
+abbrev pub flightOrigin : (ℕ → Account) → ℕ → Origin
+flightOrigin a i = sent-for i (a i .sends)
+
+pub record NotOrigin (o : Origin) (m : Message) : Type 0 where
+  pub other : sameOrigin (m .origin) o ≡ false
+
+-- the command in flight of routine i: taken, or the last on its way
+pub data Flying (a : ℕ → Account) (i : ℕ) (x : Flight) (w : Device) : Type 0 where
+  arrived : w .sent ≡ [] → w .setting ≡ x .command .setting → anyOf (sameOrigin (flightOrigin a i)) (w .took) ≡ true → Flying a i x w
+  going : (k : List Message) → w .sent ≡ k ++ (record { setting = x .command .setting; origin = flightOrigin a i } ∷ []) → Each (NotOrigin (flightOrigin a i)) k →
+      anyOf (sameOrigin (flightOrigin a i)) (w .took) ≡ false → Comes (w .setting) (x .dueThen) k → Flying a i x w
+
+pub record Still (d : ℕ) (g : Group) : Type 0 where
+  pub still : inFlightOn d (g .member) ≡ false
+
+-- one routine of the list has a command in flight on d, and it flies so
+pub data OneFlies (d : ℕ) (a : ℕ → Account) (w : Device) : List Group → Type 0 where
+  first-flies : {g : Group} {l : List Group} (x : Flight) → flight (g .member .steps) ≡ some x → x .command .device ≡ d → Flying a (g .member .id) x w → Each (Still d) l → OneFlies d a w (g ∷ l)
+  later-flies : {g : Group} {l : List Group} → Still d g → OneFlies d a w l → OneFlies d a w (g ∷ l)
+
+pub data DeviceAt (d : ℕ) (isUp : Bool) (v : ℤ) (a : ℕ → Account) (l : List Group) (w : Device) : Type 0 where
+  dead : isUp ≡ false → w .sent ≡ [] → DeviceAt d isUp v a l w
+  free : isUp ≡ true → Each (Still d) l → Comes (w .setting) v (w .sent) → DeviceAt d isUp v a l w
+  busy : isUp ≡ true → OneFlies d a w l → DeviceAt d isUp v a l w
+
+pub record DeviceOk (d : ℕ) (s : State) (a : ℕ → Account) (l : List Group) (w : Device) : Type 0 where
+  pub old-sent : Each (OldMessage a) (w .sent)
+  pub old-took : Each (Old a) (w .took)
+  pub device-at : DeviceAt d (s .up d) (due s d) a l w
+
+-- the premise on a call, with the accounts and devices before it
+abbrev pub Honest : (ℕ → Account) → (ℕ → Device) → Call → Type 0
+Honest a ds (submit cs) = Unit {0}
+Honest a ds (turn i) = Unit {0}
+Honest a ds (report i code) = anyOf (sameOrigin (sent-for i (a i .sends))) (ds (a i .lastSent .device) .took) ≡ eqb code codeDone
+Honest a ds (failure d) = Unit {0}
+Honest a ds (restart d v) = v ≡ ds d .setting
+Honest a ds (cancel i) = Unit {0}

@@ -1,0 +1,15 @@
+pub mod Lists
+pub mod Groups
+pub mod Steps
+pub mod Invariant
+pub mod View
+pub mod Runs
+pub mod Settled
+pub mod Marks
+pub mod Moved
+pub mod Kept
+pub mod Serial
+pub mod Ordered
+pub mod Accounts
+pub mod Stands
+pub mod Devices

@@ -1,0 +1,126 @@
+-- Laws of the serial run for one device, and of the due setting. Assumes nothing.
+use mathlib.Core.Path.{_≡_, refl, sym, ap, _∙_}
+use mathlib.Core.Bool.{Bool, true, false, _&&_, _||_, and-true, and-false}
+use mathlib.Core.List.{List, [], _∷_, _++_, map}
+use mathlib.Core.Option.{Option, none, some}
+use Prim.Native.Nat.{ℕ}
+use borrow.Author.Tests.{eqb-true, eqb-false, eq-eqb, ne-eqb}
+use lib.Dec.{eqb}
+use lib.IntN.{ℤ}
+use Rattle.routine.specs.Choice.{if_then_else_}
+use Rattle.rules.specs.Tables.{anyOf}
+use Rattle.rules.specs.State.{Step, Member}
+use Rattle.rules.specs.Progress.{isOn, isDone, begun}
+use Rattle.rules.specs.Due.{afterSteps, afterRestart, afterMember, afterMembers}
+use Rattle.rules.specs.Abort.{later}
+use Rattle.rules.specs.Events.{oneRestart}
+use Rattle.rules.specs.Order.{Event, failed, restarted, Entry, routine, event}
+use Rattle.rules.proofs.Lists.{or-left, or-right, Each}
+use Rattle.rules.proofs.Groups.{Group, members, doneSteps, flat, isOf, lastRestart}
+use Rattle.rules.proofs.Steps.{unbegun-after}
+use Rattle.rules.proofs.Invariant.{Quiet, setEvent, setCommands, setAfter, upEvent, upAfter, EventsOk}
+
+-- ---- parts of lists
+
+pub set-++ : (d : ℕ) (a b : List Entry) (v : ℤ) → setAfter d (a ++ b) v ≡ setAfter d b (setAfter d a v)
+set-++ d [] b v = refl
+set-++ d (routine i cs c ∷ a) b v = set-++ d a b (setCommands d cs v)
+set-++ d (event e ∷ a) b v = set-++ d a b (setEvent d e v)
+
+pub up-++ : (d : ℕ) (a b : List Entry) (u : Bool) → upAfter d (a ++ b) u ≡ upAfter d b (upAfter d a u)
+up-++ d [] b u = refl
+up-++ d (routine i cs c ∷ a) b u = up-++ d a b u
+up-++ d (event e ∷ a) b u = up-++ d a b (upEvent d e u)
+
+pub members-after-++ : (d : ℕ) (a b : List Member) (v : ℤ) → afterMembers d (a ++ b) v ≡ afterMembers d b (afterMembers d a v)
+members-after-++ d [] b v = refl
+members-after-++ d (m ∷ a) b v = members-after-++ d a b (afterMember d m v)
+
+-- ---- events
+
+pub restart-later : (x y : Option ℤ) (v : ℤ) → afterRestart (later x y) v ≡ afterRestart y (afterRestart x v)
+restart-later x none v = refl
+restart-later x (some w) v = refl
+
+later-assoc : (x y z : Option ℤ) → later x (later y z) ≡ later (later x y) z
+later-assoc x y none = refl
+later-assoc x y (some v) = refl
+
+later-none : (x : Option ℤ) → later none x ≡ x
+later-none none = refl
+later-none (some v) = refl
+
+pub lastRestart-++ : (d : ℕ) (a b : List Event) → lastRestart d (a ++ b) ≡ later (lastRestart d a) (lastRestart d b)
+lastRestart-++ d [] b = sym (later-none (lastRestart d b))
+lastRestart-++ d (failed e ∷ a) b = lastRestart-++ d a b
+lastRestart-++ d (restarted e v ∷ a) b = ap (λ x. later (oneRestart e v d) x) (lastRestart-++ d a b) ∙ later-assoc (oneRestart e v d) (lastRestart d a) (lastRestart d b)
+
+eqb-sym : (a b : ℕ) → eqb a b ≡ eqb b a
+eqb-sym a b = go (eqb b a) refl
+  where
+    go : (t : Bool) → eqb b a ≡ t → eqb a b ≡ t
+    go true t = eq-eqb a b (sym (eqb-true b a t))
+    go false t = ne-eqb a b (λ e. eqb-false b a t (sym e))
+
+set-one : (d e : ℕ) (w v : ℤ) → setEvent d (restarted e w) v ≡ afterRestart (oneRestart e w d) v
+unfolding oneRestart
+set-one d e w v = ap (λ t. if t then w else v) (eqb-sym e d) ∙ go (eqb d e)
+  where
+    go : (t : Bool) → (if t then w else v) ≡ afterRestart (if t then some w else none) v
+    go true = refl
+    go false = refl
+
+-- what events leave d at is their last restart of it
+pub set-events : (d : ℕ) (l : List Event) (v : ℤ) → setAfter d (map event l) v ≡ afterRestart (lastRestart d l) v
+set-events d [] v = refl
+set-events d (failed e ∷ l) v = set-events d l v
+set-events d (restarted e w ∷ l) v = set-events d l (setEvent d (restarted e w) v) ∙ ap (λ x. afterRestart (lastRestart d l) x) (set-one d e w v) ∙ sym (restart-later (oneRestart e w d) (lastRestart d l) v)
+
+-- events of other devices
+one-other : (d e : ℕ) (w : ℤ) → eqb e d ≡ false → oneRestart e w d ≡ none
+unfolding oneRestart
+one-other d e w n = ap (λ t. if t then some w else none) (eqb-sym d e ∙ n)
+
+pub lastRestart-quiet : (d : ℕ) (l : List Event) → anyOf (isOf d) l ≡ false → lastRestart d l ≡ none
+lastRestart-quiet d [] n = refl
+lastRestart-quiet d (failed e ∷ l) n = lastRestart-quiet d l (or-right (eqb e d) (anyOf (isOf d) l) n)
+lastRestart-quiet d (restarted e w ∷ l) n =
+    ap (λ x. later x (lastRestart d l)) (one-other d e w (or-left (eqb e d) (anyOf (isOf d) l) n)) ∙ later-none (lastRestart d l) ∙ lastRestart-quiet d l (or-right (eqb e d) (anyOf (isOf d) l) n)
+
+pub up-quiet : (d : ℕ) (l : List Event) (u : Bool) → anyOf (isOf d) l ≡ false → upAfter d (map event l) u ≡ u
+up-quiet d [] u n = refl
+up-quiet d (failed e ∷ l) u n = ap (λ t. upAfter d (map event l) (if t then false else u)) (or-left (eqb e d) (anyOf (isOf d) l) n) ∙ up-quiet d l u (or-right (eqb e d) (anyOf (isOf d) l) n)
+up-quiet d (restarted e w ∷ l) u n = ap (λ t. upAfter d (map event l) (if t then true else u)) (or-left (eqb e d) (anyOf (isOf d) l) n) ∙ up-quiet d l u (or-right (eqb e d) (anyOf (isOf d) l) n)
+
+-- ---- groups
+
+pub up-flat-quiet : (d : ℕ) (l : List Group) (u : Bool) → Each (Quiet d) l → upAfter d (flat l) u ≡ u
+up-flat-quiet d [] u q = refl
+up-flat-quiet d (g ∷ l) u q = up-++ d (map event (g .events)) (flat l) u ∙ ap (λ x. upAfter d (flat l) x) (up-quiet d (g .events) u (q .0 .bare)) ∙ up-flat-quiet d l u (q .1)
+
+pub set-done : (d : ℕ) (l : List Step) (v : ℤ) → setCommands d (doneSteps l) v ≡ afterSteps d l v
+set-done d [] v = refl
+set-done d (x ∷ l) v = go (λ w. set-done d l w) (isDone (x .status))
+  where
+    go : ((w : ℤ) → setCommands d (doneSteps l) w ≡ afterSteps d l w) → (t : Bool) →
+        setCommands d (if t then x .command ∷ doneSteps l else doneSteps l) v ≡ afterSteps d l (if isOn d x && t then x .command .setting else v)
+    go ih true = ih _ ∙ ap (λ t. afterSteps d l (if t then x .command .setting else v)) (sym (and-true (isOn d x)))
+    go ih false = ih v ∙ ap (λ t. afterSteps d l (if t then x .command .setting else v)) (sym (and-false (isOn d x)))
+
+-- the groups' entries leave d at what is due after their members
+pub set-flat : (d : ℕ) (l : List Group) (v : ℤ) → Each EventsOk l → setAfter d (flat l) v ≡ afterMembers d (members l) v
+unfolding afterMember
+set-flat d [] v h = refl
+set-flat d (g ∷ l) v h =
+    set-++ d (map event (g .events)) (flat l) (setCommands d (doneSteps (g .member .steps)) v)
+    ∙ ap (λ x. setAfter d (flat l) x) (set-events d (g .events) _ ∙ ap (λ x. afterRestart x (setCommands d (doneSteps (g .member .steps)) v)) (sym (h .0 .events-ok d)) ∙ ap (λ x. afterRestart (g .member .restarts d) x) (set-done d (g .member .steps) v))
+    ∙ set-flat d l _ (h .1)
+
+-- a quiet routine leaves d as it was
+pub quiet-after : (d : ℕ) (g : Group) (v : ℤ) → EventsOk g → Quiet d g → afterMember d (g .member) v ≡ v
+unfolding afterMember
+quiet-after d g v h q = ap (λ x. afterRestart x (afterSteps d (g .member .steps) v)) (h .events-ok d ∙ lastRestart-quiet d (g .events) (q .bare)) ∙ unbegun-after (g .member) d v (q .idle)
+
+pub quiet-members : (d : ℕ) (l : List Group) (v : ℤ) → Each EventsOk l → Each (Quiet d) l → afterMembers d (members l) v ≡ v
+quiet-members d [] v h q = refl
+quiet-members d (g ∷ l) v h q = ap (λ x. afterMembers d (members l) x) (quiet-after d g v (h .0) (q .0)) ∙ quiet-members d l v (h .1) (q .1)
