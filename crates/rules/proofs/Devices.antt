@@ -24,11 +24,5 @@ use Rattle.rules.proofs.View.{Moves}
 pub device-takes : (d : ℕ) (s : State) (a : ℕ → Account) (l : List Group) (w : Device) (k : ℕ) → DeviceOk d s a l w → DeviceOk d s a l (takes k (w .sent) w)
 device-takes d s a l w k h = ?
 
--- `a`: the accounts before the call; v: what a failing device is left at
-pub device-moves : (d : ℕ) (s : State) (a : ℕ → Account) (l : List Group) (ds : ℕ → Device) (v : ℤ) {c : Call} {r : Result} {lead : List Event} {k : List Group} →
-    d < s .devices → HubOk s l → Each EventsOk l → Each (Tells a) l → DeviceOk d s a l (ds d) → Honest a ds c → Moves s l c r lead k →
-    DeviceOk d (r .state) (noteAnswers c (r .answers) a) k (devicesAfterAll c (noteAnswers c (r .answers) a) v (r .answers) ds d)
-device-moves d s a l ds v n h e t w p m = ?
-
 pub device-settles : (d : ℕ) (s : State) (a : ℕ → Account) (l : List Group) (w : Device) → HubOk s l → DeviceOk d s a l w → DeviceOk d (settle s) a (unsettled l) w
 device-settles d s a l w h k = ?

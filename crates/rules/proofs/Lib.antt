@@ -13,3 +13,5 @@ pub mod Ordered
 pub mod Accounts
 pub mod Stands
 pub mod Devices
+pub mod DeviceKept
+pub mod Theorem

@@ -1,26 +1,26 @@
 -- Where the routines stand to a device's mark: those ahead of it have finished the device, those behind it have not begun it. Assumes nothing.
 use mathlib.Core.Path.{_≡_, refl, sym, ap, _∙_, subst}
-use mathlib.Core.Logic.{_≢_, _⊎_, inl, inr}
-use mathlib.Core.Bool.{Bool, true, false, not, _&&_, _||_}
-use mathlib.Core.List.{List, [], _∷_, _++_, map}
-use mathlib.Core.Option.{Option, none, some}
-use Prim.Native.Nat.{ℕ, _<_}
+use mathlib.Core.Logic.{_≢_, inl, inr}
+use mathlib.Core.Bool.{Bool, true, false, not, _&&_}
+use mathlib.Core.List.{List, [], _∷_, _++_}
+use mathlib.Core.Option.{none, some}
+use Prim.Native.Nat.{ℕ}
 use native.Mathlib.Omega.{arith}
-use lib.Dec.{leb, ltb, eqb}
-use lib.IntN.{ℤ}
+use borrow.Author.Tests.{eqb-true, eqb-false, not-true, not-false}
+use lib.Dec.{eqb}
 use Rattle.routine.specs.Choice.{if_then_else_}
 use Rattle.routine.specs.declared.Command.{Command}
-use Rattle.rules.specs.Tables.{anyOf, put}
-use Rattle.rules.specs.State.{Step, Member, State}
-use Rattle.rules.specs.Answers.{Call, Result}
-use Rattle.rules.specs.Progress.{begun, finished, inFlightOn, inFlight, next, Flight, flight}
-use Rattle.rules.specs.Sequence.{isRunning}
+use Rattle.rules.specs.Tables.{anyOf}
+use Rattle.rules.specs.State.{Member, State}
+use Rattle.rules.specs.Progress.{begun, finished, inFlight, next, Flight, flight}
+use Rattle.rules.specs.Due.{due}
+use Rattle.rules.specs.Sequence.{isRunning, withMark, change}
 use Rattle.rules.specs.Turn.{holds, firstHolding, markBegun, commit, commitTurn, sendTurn, skipTurn}
 use Rattle.rules.specs.Report.{doneReport, skippedState, skipReport}
 use Rattle.rules.specs.Events.{isHalfway}
-use Rattle.rules.specs.Order.{Event}
-use Rattle.rules.proofs.Lists.{t≠f, byIf, Each, each-++, each-left, each-right, In}
-use Rattle.rules.proofs.Groups.{Group, members, ids, isOf, with, foundAt}
+use Rattle.rules.proofs.Lists.{t≠f, byIf, and-left, and-right, put-same, put-other, Each, each-++, each-left, each-right, each-mid, each-swap, In}
+use Rattle.rules.proofs.Groups.{Group, members, ids, isOf, with, foundAt, members-++}
+use Rattle.rules.proofs.Steps.{InTurn, AnsweredOne, send-step, skip-step, done-step, fail-step, none-left, left-finished}
 use Rattle.rules.proofs.Invariant.{Quiet, Fin, AtMark, whole, part, Upto, here, there, MarkOk, unmarked, marked, Shut, Turns, HubOk}
 use Rattle.rules.proofs.View.{sentMember, skippedMember, doneMember, failedMember}
 
@@ -80,49 +80,198 @@ pub record Clear (d : ℕ) (a : List Group) (g : Group) (b : List Group) : Type 
   pub no-event : anyOf (isOf d) (g .events) ≡ false
   pub behind-quiet : Each (Quiet d) b
 
+-- a routine that has begun d and not finished it is at the mark
+at-mark : (d i : ℕ) (a : List Group) (g : Group) (b : List Group) → begun d (g .member) ≡ true → finished d (g .member) ≡ false → MarkOk d i (a ++ (g ∷ b)) →
+    Clear d a g b × (g .member .id ≡ i)
+at-mark d i a g b y n k = go (see d i a g b k)
+  where
+    go : Seen d i a g b → Clear d a g b × (g .member .id ≡ i)
+    go (nowhere z p q s) = t≠f (sym y ∙ q .idle)
+    go (near (mark-ahead u q s)) = t≠f (sym y ∙ q .idle)
+    go (near (mark-here f e (whole w) s)) = t≠f (sym (w .fin) ∙ n)
+    go (near (mark-here f e (part x z) s)) = (record { ahead-fin = f; no-event = z; behind-quiet = s }, e)
+    go (near (mark-behind f w u)) = t≠f (sym (w .fin) ∙ n)
+
+-- if everyone ahead has finished d and g has not, d's mark is not behind g
+not-behind : (d i : ℕ) (a : List Group) (g : Group) (b : List Group) → Each (Fin d) a → finished d (g .member) ≡ false → MarkOk d i (a ++ (g ∷ b)) → Clear d a g b
+not-behind d i a g b f n k = go (see d i a g b k)
+  where
+    go : Seen d i a g b → Clear d a g b
+    go (nowhere z p q s) = record { ahead-fin = f; no-event = q .bare; behind-quiet = s }
+    go (near (mark-ahead u q s)) = record { ahead-fin = f; no-event = q .bare; behind-quiet = s }
+    go (near (mark-here p e (whole w) s)) = t≠f (sym (w .fin) ∙ n)
+    go (near (mark-here p e (part x z) s)) = record { ahead-fin = f; no-event = z; behind-quiet = s }
+    go (near (mark-behind p w u)) = t≠f (sym (w .fin) ∙ n)
+
+-- who does not hold d has finished it
+unheld : (d : ℕ) (g : Group) → Shut g → holds d (g .member) ≡ false → Fin d g
+unfolding holds isRunning
+unheld d g s h = record { fin = go (g .member .committed) refl h }
+  where
+    go : (t : Bool) → g .member .committed ≡ t → not t && not (finished d (g .member)) ≡ false → finished d (g .member) ≡ true
+    go true q n = left-finished (g .member) d (s .shut q)
+    go false q n = not-false (finished d (g .member)) n
+
+-- the wait search finds nobody
+none-holds : (d : ℕ) (a : List Group) → Each Shut a → firstHolding d (members a) ≡ none → Each (Fin d) a
+none-holds d [] s e = tt
+none-holds d (g ∷ a) s e = go (none-holds d a (s .1)) (holds d (g .member)) refl e
+  where
+    go : (firstHolding d (members a) ≡ none → Each (Fin d) a) → (t : Bool) → holds d (g .member) ≡ t →
+        (if t then some (g .member .id) else firstHolding d (members a)) ≡ none → Fin d g × Each (Fin d) a
+    go ih true q e = let z : _≡_ {A = ℕ} 0 1 = cc in absurd (omega arith)
+    go ih false q e = (unheld d g (s .0) q, ih e)
+
+pub in-turn : (s : State) (a : List Group) (g : Group) (b : List Group) → HubOk s (a ++ (g ∷ b)) → InTurn (g .member .steps)
+in-turn s a g b h = each-mid Turns a g b (h .turns) .turns
+
 -- the device of the next command, when nobody ahead holds it
 pub turn-clear : (s : State) (a : List Group) (g : Group) (b : List Group) (c : Command) → HubOk s (a ++ (g ∷ b)) →
     next (g .member .steps) ≡ some c → inFlight (g .member) ≡ false → firstHolding (c .device) (members a) ≡ none → Clear (c .device) a g b
-turn-clear s a g b c h e f n = ?
+turn-clear s a g b c h e f n =
+    not-behind (c .device) (s .mark (c .device)) a g b (none-holds (c .device) a (each-left Shut a (g ∷ b) (h .shuts)) n)
+    (skip-step (g .member) (in-turn s a g b h) c e f .unfinished) (h .marks (c .device))
 
 -- the device of the command in flight
 pub flight-clear : (s : State) (a : List Group) (g : Group) (b : List Group) (x : Flight) → HubOk s (a ++ (g ∷ b)) →
     flight (g .member .steps) ≡ some x → Clear (x .command .device) a g b
-flight-clear s a g b x h e = ?
+flight-clear s a g b x h e =
+    let y = done-step (g .member) (in-turn s a g b h) x e in
+    at-mark (x .command .device) (s .mark (x .command .device)) a g b (y .had-begun) (y .unfinished) (h .marks (x .command .device)) .0
 
 -- a device that a routine has begun and not finished
 pub halfway-clear : (s : State) (d : ℕ) (a : List Group) (g : Group) (b : List Group) → HubOk s (a ++ (g ∷ b)) → isHalfway d (g .member) ≡ true → Clear d a g b
-halfway-clear s d a g b h e = ?
+unfolding isHalfway
+halfway-clear s d a g b h e =
+    let m = g .member in
+    let y = and-left (isRunning m && begun d m) (not (finished d m)) e in
+    at-mark d (s .mark d) a g b (and-right (isRunning m) (begun d m) y) (not-true (finished d m) (and-right (isRunning m && begun d m) (not (finished d m)) e)) (h .marks d) .0
 
 -- the mark in the list
 pub data MarkPlace (d i : ℕ) (l : List Group) : Type 0 where
   at-zero : i ≡ 0 → Each (Quiet d) l → MarkPlace d i l
   at-group : (a : List Group) (g : Group) (b : List Group) → l ≡ a ++ (g ∷ b) → g .member .id ≡ i → Each (Quiet d) b → MarkPlace d i l
 
+upto-place : (d i : ℕ) (l : List Group) → Upto d i l →
+    (a : List Group) × (g : Group) × (b : List Group) × (l ≡ a ++ (g ∷ b)) × (g .member .id ≡ i) × Each (Quiet d) b
+upto-place d i (g ∷ l) (here e h q) = ([], g, l, refl, e, q)
+upto-place d i (x ∷ l) (there f u) = let r = upto-place d i l u in (x ∷ r .0, r .1, r .2, ap (λ k. x ∷ k) (r .3), r .4, r .5)
+
 pub mark-place : (s : State) (l : List Group) → HubOk s l → (d : ℕ) → MarkPlace d (s .mark d) l
-mark-place s l h d = ?
+mark-place s l h d = go (h .marks d)
+  where
+    go : MarkOk d (s .mark d) l → MarkPlace d (s .mark d) l
+    go (unmarked z q) = at-zero z q
+    go (marked u) = let r = upto-place d (s .mark d) l u in at-group (r .0) (r .1) (r .2) (r .3) (r .4) (r .5)
 
 -- ---- a routine changes in its place
+
+-- a change of g that keeps which devices it has begun and those it has finished
+swap-mark : (d i : ℕ) (a : List Group) (g : Group) (b : List Group) (n : Member) → n .id ≡ g .member .id → begun d n ≡ begun d (g .member) →
+    (finished d (g .member) ≡ true → finished d n ≡ true) → MarkOk d i (a ++ (g ∷ b)) → MarkOk d i (a ++ (with g n ∷ b))
+swap-mark d i a g b n e y f k = seen-back d i a (with g n) b (go (see d i a g b k))
+  where
+    quiet : Quiet d g → Quiet d (with g n)
+    quiet q = record { idle = y ∙ q .idle; bare = q .bare }
+
+    done : Fin d g → Fin d (with g n)
+    done q = record { fin = f (q .fin) }
+
+    mark : AtMark d g → AtMark d (with g n)
+    mark (whole q) = whole (done q)
+    mark (part q z) = part (y ∙ q) z
+
+    go : Seen d i a g b → Seen d i a (with g n) b
+    go (nowhere z p q s) = nowhere z p (quiet q) s
+    go (near (mark-ahead u q s)) = near (mark-ahead u (quiet q) s)
+    go (near (mark-here p q w s)) = near (mark-here p (e ∙ q) (mark w) s)
+    go (near (mark-behind p w u)) = near (mark-behind p (done w) u)
+
+same-ids : (a : List Group) (g : Group) (b : List Group) (n : Member) → n .id ≡ g .member .id → ids (a ++ (with g n ∷ b)) ≡ ids (a ++ (g ∷ b))
+same-ids [] g b n e = ap (λ i. i ∷ ids b) e
+same-ids (x ∷ a) g b n e = ap (λ l. x .member .id ∷ l) (same-ids a g b n e)
+
+-- nothing is asked of a routine that runs
+running : (g : Group) (n : Member) → n .committed ≡ false → Shut (with g n)
+running g n r = record { shut = λ t. t≠f (sym t ∙ r) }
+
+module _ (s : State) (a : List Group) (g : Group) (b : List Group) (h : HubOk s (a ++ (g ∷ b))) where
+  -- g becomes n, with these marks
+  hub-changes : (n : Member) (mark : ℕ → ℕ) → n .id ≡ g .member .id → Shut (with g n) → InTurn (n .steps) → ((d : ℕ) → MarkOk d (mark d) (a ++ (with g n ∷ b))) →
+      HubOk (withMark (change s (foundAt a g b) n) mark) (a ++ (with g n ∷ b))
+  hub-changes n mark e c t k = record {
+    sequence-is = sym (members-++ a (with g n ∷ b));
+    ids-ok = rw (same-ids a g b n e) (h .ids-ok);
+    marks = k;
+    shuts = each-swap Shut a g (with g n) b (h .shuts) c;
+    turns = each-swap Turns a g (with g n) b (h .turns) (record { turns = t });
+    some-id = h .some-id;
+  }
+
+  -- a command on e begins: e's mark becomes g, if it is not g already
+  begin-marks : (e : ℕ) (n : Member) → n .id ≡ g .member .id → Clear e a g b → finished e (g .member) ≡ false → begun e n ≡ true →
+      ((d : ℕ) → e ≢ d → begun d n ≡ begun d (g .member)) → ((d : ℕ) → finished d (g .member) ≡ true → finished d n ≡ true) →
+      (d : ℕ) → MarkOk d (markBegun (g .member) e (s .mark) d) (a ++ (with g n ∷ b))
+  unfolding markBegun
+  begin-marks e n i c u y o f d = go (eqb d e) refl
+    where
+      Ok : ℕ → (ℕ → ℕ) → Type 0
+      Ok x mark = MarkOk x (mark x) (a ++ (with g n ∷ b))
+
+      mine : MarkOk e (g .member .id) (a ++ (with g n ∷ b))
+      mine = seen-back e (g .member .id) a (with g n) b (near (mark-here (c .ahead-fin) i (part y (c .no-event)) (c .behind-quiet)))
+
+      other : e ≢ d → MarkOk d (s .mark d) (a ++ (with g n ∷ b))
+      other q = swap-mark d (s .mark d) a g b n i (o d q) (f d) (h .marks d)
+
+      go : (t : Bool) → eqb d e ≡ t → Ok d (markBegun (g .member) e (s .mark))
+      go true t =
+          subst (λ x. Ok x (markBegun (g .member) e (s .mark))) (sym (eqb-true d e t))
+          (byIf (Ok e) (begun e (g .member))
+          (λ p. subst (λ j. MarkOk e j (a ++ (with g n ∷ b))) (at-mark e (s .mark e) a g b p u (h .marks e) .1) mine)
+          (λ _. rw (put-same (s .mark) e (g .member .id)) mine))
+      go false t =
+          let q : d ≢ e = eqb-false d e t in
+          byIf (Ok d) (begun e (g .member)) (λ _. other (λ p. q (sym p))) (λ _. rw (put-other (s .mark) e (g .member .id) d q) (other (λ p. q (sym p))))
 
 -- the five changes of a turn or a report keep the hub's invariant
 pub hub-commits : (s : State) (a : List Group) (g : Group) (b : List Group) → HubOk s (a ++ (g ∷ b)) → inFlight (g .member) ≡ false → next (g .member .steps) ≡ none →
     HubOk (commitTurn s (foundAt a g b) .state) (a ++ (with g (commit (g .member)) ∷ b))
-hub-commits s a g b h f e = ?
+unfolding commitTurn commit begun finished
+hub-commits s a g b h f e =
+    hub-changes s a g b h (commit (g .member)) (s .mark) refl (record { shut = λ _. none-left (g .member) e f }) (in-turn s a g b h)
+    (λ d. swap-mark d (s .mark d) a g b (commit (g .member)) refl refl (λ q. q) (h .marks d))
 
 pub hub-sends : (s : State) (a : List Group) (g : Group) (b : List Group) (c : Command) → HubOk s (a ++ (g ∷ b)) → g .member .committed ≡ false →
     inFlight (g .member) ≡ false → next (g .member .steps) ≡ some c → firstHolding (c .device) (members a) ≡ none →
     HubOk (sendTurn s (foundAt a g b) c .state) (a ++ (with g (sentMember s g c) ∷ b))
-hub-sends s a g b c h r f e n = ?
+unfolding sendTurn
+hub-sends s a g b c h r f e n =
+    let x = send-step (g .member) (in-turn s a g b h) c (due s (c .device)) e f in
+    hub-changes s a g b h (sentMember s g c) (markBegun (g .member) (c .device) (s .mark)) refl (running g (sentMember s g c) r) (x .in-turn)
+    (begin-marks s a g b h (c .device) (sentMember s g c) refl (turn-clear s a g b c h e f n) (x .unfinished) (x .begins) (x .other-begun) (λ d q. x .finishes d ∙ q))
 
 pub hub-skips : (s : State) (a : List Group) (g : Group) (b : List Group) (c : Command) → HubOk s (a ++ (g ∷ b)) → g .member .committed ≡ false →
     inFlight (g .member) ≡ false → next (g .member .steps) ≡ some c → firstHolding (c .device) (members a) ≡ none →
     HubOk (skipTurn s (foundAt a g b) c .state) (a ++ (with g (skippedMember g) ∷ b))
-hub-skips s a g b c h r f e n = ?
+unfolding skipTurn
+hub-skips s a g b c h r f e n =
+    let x = skip-step (g .member) (in-turn s a g b h) c e f in
+    hub-changes s a g b h (skippedMember g) (markBegun (g .member) (c .device) (s .mark)) refl (running g (skippedMember g) r) (x .in-turn)
+    (begin-marks s a g b h (c .device) (skippedMember g) refl (turn-clear s a g b c h e f n) (x .unfinished) (x .begins) (x .other-begun) (x .finishes))
+
+-- the command in flight, c, is answered
+hub-answers : (s : State) (a : List Group) (g : Group) (b : List Group) (c : Command) (n : Member) → HubOk s (a ++ (g ∷ b)) → n .id ≡ g .member .id → n .committed ≡ false →
+    AnsweredOne c (g .member) n → HubOk (change s (foundAt a g b) n) (a ++ (with g n ∷ b))
+hub-answers s a g b c n h i r x =
+    hub-changes s a g b h n (s .mark) i (running g n r) (x .in-turn) (λ d. swap-mark d (s .mark d) a g b n i (x .same-begun d) (x .finishes d) (h .marks d))
 
 pub hub-dones : (s : State) (a : List Group) (g : Group) (b : List Group) (x : Flight) → HubOk s (a ++ (g ∷ b)) → g .member .committed ≡ false →
     flight (g .member .steps) ≡ some x → HubOk (doneReport s (foundAt a g b) .state) (a ++ (with g (doneMember g) ∷ b))
-hub-dones s a g b x h r e = ?
+unfolding doneReport
+hub-dones s a g b x h r e = hub-answers s a g b (x .command) (doneMember g) h refl r (done-step (g .member) (in-turn s a g b h) x e)
 
 pub hub-misses : (s : State) (a : List Group) (g : Group) (b : List Group) (x : Flight) → HubOk s (a ++ (g ∷ b)) → g .member .committed ≡ false →
     flight (g .member .steps) ≡ some x → HubOk (skipReport s (foundAt a g b) x .state) (a ++ (with g (failedMember g) ∷ b))
-hub-misses s a g b x h r e = ?
+unfolding skipReport skippedState
+hub-misses s a g b x h r e = hub-answers s a g b (x .command) (failedMember g) h refl r (fail-step (g .member) (in-turn s a g b h) x e)

@@ -1,54 +1,208 @@
 -- The serial run device by device, the due setting, and the bar. Assumes nothing.
 use mathlib.Core.Path.{_≡_, refl, sym, ap, _∙_, subst}
-use mathlib.Core.Logic.{_≢_, _⊎_, inl, inr}
-use mathlib.Core.Bool.{Bool, true, false, not, _&&_, _||_}
-use mathlib.Core.List.{List, [], _∷_, _++_, map, append-assoc, append-nil}
-use mathlib.Core.Option.{Option, none, some}
-use Prim.Native.Nat.{ℕ, _<_}
-use native.Mathlib.Omega.{arith}
-use lib.Dec.{leb, ltb, eqb}
+use mathlib.Core.Bool.{Bool, true, false}
+use mathlib.Core.List.{List, [], _∷_, _++_, map, append-assoc, append-nil, tail-eq-of-cons-eq, nil≢cons}
+use Prim.Native.Nat.{ℕ}
+use borrow.Author.Tests.{eqb-true, eqb-false}
+use lib.Dec.{eqb}
 use lib.IntN.{ℤ, pos}
 use Rattle.routine.specs.Choice.{if_then_else_}
-use Rattle.rules.specs.Tables.{anyOf, put}
-use Rattle.rules.specs.State.{Step, Member, State}
-use Rattle.rules.specs.Answers.{Call, Result}
-use Rattle.rules.specs.Due.{due}
-use Rattle.rules.specs.Settle.{settle}
-use Rattle.rules.specs.History.{Account}
-use Rattle.rules.specs.Order.{Event, Entry, Order, orderAfterAll, entries, moveBar}
-use Rattle.rules.specs.Serial.{Condition, serialRun}
+use Rattle.routine.specs.declared.Command.{Command}
+use Rattle.rules.specs.Tables.{put}
+use Rattle.rules.specs.State.{State}
+use Rattle.rules.specs.Sequence.{withSequence}
+use Rattle.rules.specs.Due.{afterMember, afterMembers, due}
+use Rattle.rules.specs.Settle.{joinSettled, settleFrom, settle}
+use Rattle.rules.specs.Order.{Event, failed, restarted, Entry, routine, event, Order, beforeBar, behindBar, entries, moveBar}
+use Rattle.rules.specs.Serial.{Condition, runCommand, runCommands, serialRun}
 use Rattle.rules.specs.Demand3.{Begins}
-use Rattle.rules.proofs.Lists.{t≠f, byIf, Each}
-use Rattle.rules.proofs.Groups.{Group, unsettled}
-use Rattle.rules.proofs.Invariant.{HubOk, FirstRuns, setAfter, upAfter, OrderOk, Tells}
-use Rattle.rules.proofs.View.{Moves}
+use Rattle.rules.proofs.Lists.{byIf, put-same, put-other, Each, IdsOk}
+use Rattle.rules.proofs.Groups.{Group, members, ids, doneSteps, entryOf, flat, entryIds, unsettled, entryIds-++, entryIds-events}
+use Rattle.rules.proofs.Invariant.{HubOk, FirstRuns, setCommands, setAfter, upAfter, EventsOk, OrderOk}
+use Rattle.rules.proofs.Runs.{set-++, set-flat}
 
 -- ---- the serial run, device by device
 
+-- a field of the changed table, with the test turned round as in setAfter and upAfter
+put-field : {A : Type 0} (f : Condition → A) (t : ℕ → Condition) (e : ℕ) (c : Condition) (d : ℕ) → f (put t e c d) ≡ (if eqb e d then f c else f (t d))
+put-field f t e c d = go (eqb e d) refl
+  where
+    go : (b : Bool) → eqb e d ≡ b → f (put t e c d) ≡ (if b then f c else f (t d))
+    go true q = subst (λ x. f (put t e c x) ≡ f c) (eqb-true e d q) (ap f (put-same t e c))
+    go false q = ap f (put-other t e c d (λ p. eqb-false e d q (sym p)))
+
+-- a field that the new condition has from the old one
+put-keeps : {A : Type 0} (f : Condition → A) (t : ℕ → Condition) (e : ℕ) (c : Condition) (d : ℕ) → f c ≡ f (t e) → f (put t e c d) ≡ f (t d)
+put-keeps f t e c d k = put-field f t e c d ∙ go (eqb e d) refl
+  where
+    go : (b : Bool) → eqb e d ≡ b → (if b then f c else f (t d)) ≡ f (t d)
+    go true q = k ∙ ap (λ x. f (t x)) (eqb-true e d q)
+    go false q = refl
+
+commands-setting : (d : ℕ) (l : List Command) (t : ℕ → Condition) → runCommands l t d .setting ≡ setCommands d l (t d .setting)
+commands-setting d [] t = refl
+commands-setting d (c ∷ l) t = commands-setting d l (runCommand c t) ∙ ap (λ v. setCommands d l v) (put-field (λ x. x .setting) t (c .device) _ d)
+
 pub serial-setting : (d : ℕ) (l : List Entry) (t : ℕ → Condition) → serialRun l t d .setting ≡ setAfter d l (t d .setting)
-serial-setting d l t = ?
+serial-setting d [] t = refl
+serial-setting d (routine i cs b ∷ l) t = serial-setting d l _ ∙ ap (λ v. setAfter d l v) (commands-setting d cs t)
+serial-setting d (event (failed e) ∷ l) t = serial-setting d l _ ∙ ap (λ v. setAfter d l v) (put-keeps (λ x. x .setting) t e _ d refl)
+serial-setting d (event (restarted e v) ∷ l) t = serial-setting d l _ ∙ ap (λ v. setAfter d l v) (put-field (λ x. x .setting) t e _ d)
+
+commands-up : (d : ℕ) (l : List Command) (t : ℕ → Condition) → runCommands l t d .up ≡ t d .up
+commands-up d [] t = refl
+commands-up d (c ∷ l) t = commands-up d l (runCommand c t) ∙ put-keeps (λ x. x .up) t (c .device) _ d refl
 
 pub serial-up : (d : ℕ) (l : List Entry) (t : ℕ → Condition) → serialRun l t d .up ≡ upAfter d l (t d .up)
-serial-up d l t = ?
+serial-up d [] t = refl
+serial-up d (routine i cs b ∷ l) t = serial-up d l _ ∙ ap (λ u. upAfter d l u) (commands-up d cs t)
+serial-up d (event (failed e) ∷ l) t = serial-up d l _ ∙ ap (λ u. upAfter d l u) (put-field (λ x. x .up) t e _ d)
+serial-up d (event (restarted e v) ∷ l) t = serial-up d l _ ∙ ap (λ u. upAfter d l u) (put-field (λ x. x .up) t e _ d)
 
 -- ---- the due setting is that of the serial run
 
+-- with no lead, the settled part alone leaves what the hub keeps of it
+settled-alone : (s : State) (o : Order) (l : List Group) → OrderOk s o [] l → (d : ℕ) → setAfter d (o .settled) (pos 0) ≡ s .settled d
+settled-alone s o l k d = ap (λ q. setAfter d q (pos 0)) (sym (append-nil (o .settled))) ∙ k .settled-is d
+
 pub order-due : (s : State) (o : Order) (l : List Group) → HubOk s l → OrderOk s o [] l → (d : ℕ) → setAfter d (entries o) (pos 0) ≡ due s d
-order-due s o l h k d = ?
+unfolding due
+order-due s o l h k d =
+    set-++ d (o .settled) (o .open-part) (pos 0)
+    ∙ ap (λ q. setAfter d q (setAfter d (o .settled) (pos 0))) (k .open-is)
+    ∙ set-flat d l _ (k .events-ok)
+    ∙ ap (λ v. afterMembers d (members l) v) (settled-alone s o l k d)
+    ∙ ap (λ q. afterMembers d q (s .settled d)) (sym (h .sequence-is))
 
--- ---- the bar moves as routines settle
+-- ---- the bar
 
-pub order-settles : (s : State) (o : Order) (lead : List Event) (l : List Group) → HubOk s l → OrderOk s o lead l →
-    OrderOk (settle s) (moveBar o) [] (unsettled l) × Begins (o .settled) (moveBar o .settled)
-order-settles s o lead l h k = ?
+bar-whole : (l : List Entry) → beforeBar l ++ behindBar l ≡ l
+bar-whole [] = refl
+bar-whole (event e ∷ l) = ap (λ k. event e ∷ k) (bar-whole l)
+bar-whole (routine i cs true ∷ l) = ap (λ k. routine i cs true ∷ k) (bar-whole l)
+bar-whole (routine i cs false ∷ l) = refl
 
--- the bar moves over nothing and loses nothing
+-- moving the bar neither reorders nor loses an entry
 pub bar-entries : (o : Order) → entries (moveBar o) ≡ entries o
-bar-entries o = ?
+unfolding moveBar
+bar-entries o = bar-whole (entries o)
+
+-- what stands before the bar stays there, whatever follows
+before-++ : (p l : List Entry) → beforeBar p ≡ p → beforeBar (p ++ l) ≡ p ++ beforeBar l
+before-++ [] l e = refl
+before-++ (event x ∷ p) l e = ap (λ k. event x ∷ k) (before-++ p l (tail-eq-of-cons-eq e))
+before-++ (routine i cs true ∷ p) l e = ap (λ k. routine i cs true ∷ k) (before-++ p l (tail-eq-of-cons-eq e))
+before-++ (routine i cs false ∷ p) l e = absurd (nil≢cons e)
+
+behind-++ : (p l : List Entry) → beforeBar p ≡ p → behindBar (p ++ l) ≡ behindBar l
+behind-++ [] l e = refl
+behind-++ (event x ∷ p) l e = behind-++ p l (tail-eq-of-cons-eq e)
+behind-++ (routine i cs true ∷ p) l e = behind-++ p l (tail-eq-of-cons-eq e)
+behind-++ (routine i cs false ∷ p) l e = absurd (nil≢cons e)
+
+before-events : (l : List Event) → beforeBar (map event l) ≡ map event l
+before-events [] = refl
+before-events (e ∷ l) = ap (λ k. event e ∷ k) (before-events l)
+
+before-flat : (l : List Group) → FirstRuns l → beforeBar (flat l) ≡ []
+before-flat [] f = refl
+before-flat (g ∷ l) f = rw f refl
+
+behind-flat : (l : List Group) → FirstRuns l → behindBar (flat l) ≡ flat l
+behind-flat [] f = refl
+behind-flat (g ∷ l) f = rw f refl
 
 -- between calls the bar stands where it should
 pub bar-stays : (s : State) (o : Order) (l : List Group) → OrderOk s o [] l → FirstRuns l → moveBar o ≡ o
-bar-stays s o l k f = ?
+unfolding moveBar
+bar-stays s o l k f =
+    let a : beforeBar (entries o) ≡ o .settled = before-++ (o .settled) (o .open-part) (k .barred) ∙ ap (λ q. o .settled ++ q) (ap beforeBar (k .open-is) ∙ before-flat l f) ∙ append-nil (o .settled) in
+    let b : behindBar (entries o) ≡ o .open-part = behind-++ (o .settled) (o .open-part) (k .barred) ∙ ap behindBar (k .open-is) ∙ behind-flat l f ∙ sym (k .open-is) in
+    ap (λ q. record { settled = q; open-part = behindBar (entries o) }) a ∙ ap (λ q. record { settled = o .settled; open-part = q }) b
 
 pub first-runs : (l : List Group) → FirstRuns (unsettled l)
-first-runs l = ?
+first-runs [] = tt
+first-runs (g ∷ l) = byIf FirstRuns (g .member .committed) (λ _. first-runs l) (λ e. e)
+
+-- ---- the bar moves as routines settle
+
+-- where the bar goes depends on the whole list alone
+bar-same : (o q : Order) → entries o ≡ entries q → moveBar o ≡ moveBar q
+unfolding moveBar
+bar-same o q e = ap (λ l. record { settled = beforeBar l; open-part = behindBar l }) e
+
+-- the bar between p and the groups' entries
+abbrev barAt : List Entry → List Group → Order
+barAt p l = record { settled = p; open-part = flat l }
+
+-- the bar behind p goes over r, where the groups begin
+bar-over : (s : State) (p r : List Entry) (l : List Group) → beforeBar p ≡ p → beforeBar r ≡ r → ((d : ℕ) → setAfter d (p ++ r) (pos 0) ≡ s .settled d) →
+    ((d : ℕ) → upAfter d (p ++ (r ++ flat l)) true ≡ s .up d) → Each EventsOk l → IdsOk (s .nextId) (entryIds p ++ (entryIds r ++ ids l)) → OrderOk s (barAt (p ++ r) l) [] l
+bar-over s p r l before-p before-r set up eo io = record {
+  open-is = refl;
+  settled-is = λ d. ap (λ q. setAfter d q (pos 0)) (append-nil (p ++ r)) ∙ set d;
+  up-is = λ d. ap (λ q. upAfter d q true) (append-assoc p r (flat l)) ∙ up d;
+  events-ok = eo;
+  ids-ok = rw (entryIds-++ p r, append-assoc (entryIds p) (entryIds r) (ids l)) io;
+  barred = before-++ p r before-p ∙ ap (λ q. p ++ q) before-r;
+}
+
+-- over the events attached to 0
+lead-settles : (s : State) (o : Order) (lead : List Event) (l : List Group) → OrderOk s o lead l → OrderOk s (barAt (o .settled ++ map event lead) l) [] l
+lead-settles s o lead l k =
+    bar-over s (o .settled) (map event lead) l (k .barred) (before-events lead) (k .settled-is) (λ d. ap (λ q. upAfter d (o .settled ++ q) true) (sym (k .open-is)) ∙ k .up-is d)
+    (k .events-ok) (rw (entryIds-events lead) (k .ids-ok))
+
+-- over a committed routine and its events
+abbrev entriesOf : Group → List Entry
+entriesOf g = entryOf (g .member) ∷ map event (g .events)
+
+before-group : (g : Group) → g .member .committed ≡ true → beforeBar (entriesOf g) ≡ entriesOf g
+before-group g t = rw t (ap (λ q. routine (g .member .id) (doneSteps (g .member .steps)) true ∷ q) (before-events (g .events)))
+
+set-group : (d : ℕ) (g : Group) (v : ℤ) → EventsOk g → setAfter d (entriesOf g) v ≡ afterMember d (g .member) v
+set-group d g v h = ap (λ q. setAfter d q v) (sym (append-nil (entriesOf g))) ∙ set-flat d (g ∷ []) v (h, tt)
+
+member-settles : (s : State) (p : List Entry) (g : Group) (l : List Group) → g .member .committed ≡ true → OrderOk s (barAt p (g ∷ l)) [] (g ∷ l) →
+    OrderOk (joinSettled s (g .member)) (barAt (p ++ entriesOf g) l) [] l
+unfolding joinSettled
+member-settles s p g l t k =
+    bar-over (joinSettled s (g .member)) p (entriesOf g) l (k .barred) (before-group g t)
+    (λ d. set-++ d p (entriesOf g) (pos 0) ∙ set-group d g _ (k .events-ok .0) ∙ ap (λ v. afterMember d (g .member) v) (settled-alone s (barAt p (g ∷ l)) (g ∷ l) k d))
+    (k .up-is) (k .events-ok .1) (rw (entryIds-events (g .events)) (k .ids-ok))
+
+-- at a routine that runs, or at the end, neither the bar nor the hub goes on
+rest-stays : (s : State) (p : List Entry) (l : List Group) → FirstRuns l → OrderOk s (barAt p l) [] l → OrderOk (withSequence s (members l)) (moveBar (barAt p l)) [] l
+rest-stays s p l f k = subst (λ o. OrderOk (withSequence s (members l)) o [] l) (sym (bar-stays s (barAt p l) l k f)) record {
+  open-is = k .open-is;
+  settled-is = k .settled-is;
+  up-is = k .up-is;
+  events-ok = k .events-ok;
+  ids-ok = k .ids-ok;
+  barred = k .barred;
+}
+
+members-settle : (l : List Group) (s : State) (p : List Entry) → OrderOk s (barAt p l) [] l → OrderOk (settleFrom s (members l)) (moveBar (barAt p l)) [] (unsettled l)
+members-settle [] s p k = rest-stays s p [] tt k
+members-settle (g ∷ l) s p k = go (members-settle l t (p ++ entriesOf g)) (g .member .committed) refl
+  where
+    t : State
+    t = joinSettled s (g .member)
+
+    q : Order
+    q = barAt (p ++ entriesOf g) l
+
+    go : (OrderOk t q [] l → OrderOk (settleFrom t (members l)) (moveBar q) [] (unsettled l)) → (b : Bool) → g .member .committed ≡ b →
+        OrderOk (if b then settleFrom t (members l) else withSequence s (members (g ∷ l))) (moveBar (barAt p (g ∷ l))) [] (if b then unsettled l else g ∷ l)
+    go ih true e =
+        subst (λ o. OrderOk (settleFrom t (members l)) o [] (unsettled l)) (bar-same q (barAt p (g ∷ l)) (append-assoc p (entriesOf g) (flat l))) (ih (member-settles s p g l e k))
+    go ih false e = rest-stays s p (g ∷ l) e k
+
+pub order-settles : (s : State) (o : Order) (lead : List Event) (l : List Group) → HubOk s l → OrderOk s o lead l →
+    OrderOk (settle s) (moveBar o) [] (unsettled l) × Begins (o .settled) (moveBar o .settled)
+unfolding settle moveBar
+order-settles s o lead l h k =
+    let p = o .settled ++ map event lead in
+    let same : moveBar (barAt p l) ≡ moveBar o = bar-same (barAt p l) o (append-assoc (o .settled) (map event lead) (flat l) ∙ ap (λ q. o .settled ++ q) (sym (k .open-is))) in
+    let ok : OrderOk (settleFrom s (members l)) (moveBar o) [] (unsettled l) = subst (λ q. OrderOk (settleFrom s (members l)) q [] (unsettled l)) same (members-settle l s p (lead-settles s o lead l k)) in
+    (subst (λ q. OrderOk (settleFrom s q) (moveBar o) [] (unsettled l)) (sym (h .sequence-is)) ok, (beforeBar (o .open-part), before-++ (o .settled) (o .open-part) (k .barred)))

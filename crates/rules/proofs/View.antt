@@ -1,34 +1,35 @@
--- Every call, seen once: it changes nothing, or it does one of ten things to the state and the groups, and settles. Assumes nothing.
+-- Every call, seen once: it changes nothing, or it does one of nine things to the state and the groups, and settles. Assumes nothing.
 use mathlib.Core.Path.{_≡_, refl, sym, ap, _∙_, subst}
-use mathlib.Core.Logic.{_≢_, _⊎_, inl, inr}
-use mathlib.Core.Bool.{Bool, true, false, not, _&&_, _||_}
-use mathlib.Core.List.{List, [], _∷_, _++_, map}
+use mathlib.Core.Bool.{Bool, true, false, not}
+use mathlib.Core.List.{List, [], _∷_, _++_}
 use mathlib.Core.Option.{Option, none, some}
 use Prim.Native.Nat.{ℕ}
+use borrow.Author.Tests.{eqb-true, not-true, not-false}
 use lib.Dec.{leb, ltb, eqb}
 use lib.IntN.{ℤ}
-use Rattle.routine.specs.Choice.{if_then_else_}
+use Rattle.routine.specs.Range.{inRange}
+use Rattle.routine.specs.Refusals.{report-code-out-of-range, failure-of-down, restart-of-up, restart-setting, refuse_when_, _andThen_}
 use Rattle.routine.specs.declared.Command.{Command}
 use Rattle.routine.specs.declared.Refusal.{Refusal}
 use Rattle.routine.specs.declared.Verdict.{Verdict}
 use Rattle.routine.specs.declared.Verdict.the-variants.{Accepted, Refused}
 use Rattle.rules.specs.Tables.{anyOf, put}
-use Rattle.rules.specs.State.{in-flight, was-done, was-skipped, Step, Member, State}
-use Rattle.rules.specs.Answers.{Call, submit, turn, report, failure, restart, cancel, Answer, refused, placed, wait, down, up, Result, refusedFor, unlessRefused}
+use Rattle.rules.specs.State.{in-flight, was-done, was-skipped, Member, State}
+use Rattle.rules.specs.Answers.{Call, submit, turn, report, failure, restart, cancel, refused, placed, wait, down, up, Result, unlessRefused}
 use Rattle.rules.specs.Progress.{isMust, inFlight, next, Flight, flight, advance, answer, withSteps}
 use Rattle.rules.specs.Due.{due}
-use Rattle.rules.specs.Sequence.{Found, find, isRunning, runs, lastIdOr, withUp}
+use Rattle.rules.specs.Sequence.{Found, onto, find, isRunning, runs, lastIdOr, withUp}
 use Rattle.rules.specs.Settle.{settling}
 use Rattle.rules.specs.Abort.{abort}
 use Rattle.rules.specs.Submit.{submitCheck, blocks, upToLast, pastLast, newcomer, place, submitOf}
-use Rattle.rules.specs.Turn.{firstHolding, commit, commitTurn, sendTurn, skipTurn, proceed, waitOr, turnNext, turnFound, turnOf}
-use Rattle.rules.specs.Report.{codeDone, doneReport, skipReport, reported, reportFlight, reportFound, reportOf}
+use Rattle.rules.specs.Turn.{firstHolding, commit, commitTurn, sendTurn, skipTurn, waitOr, turnNext, turnFound, turnOf}
+use Rattle.rules.specs.Report.{codeDone, codeFailed, doneReport, skipReport, reportFlight, reportFound, reportOf}
 use Rattle.rules.specs.Events.{isHalfway, abortIfAny, abortHalfway, attach, oneRestart, failed, restarted, failureOf, restartOf}
 use Rattle.rules.specs.Cancel.{cancelFound, cancelOf}
 use Rattle.rules.specs.Calls.{resultOf}
 use Rattle.rules.specs.Order.{Event, failed as failed-event, restarted as restarted-event}
-use Rattle.rules.proofs.Lists.{t≠f, byIf, or-left, or-right, and-left, and-right, Each}
-use Rattle.rules.proofs.Groups.{Group, members, alone, with, passAll, foundAt, without, leadOf, attachEvent, leadWith, members-++, Cut, cut}
+use Rattle.rules.proofs.Lists.{byIf, and-left, and-right, Each, each-map}
+use Rattle.rules.proofs.Groups.{Group, members, alone, with, passAll, foundAt, without, leadOf, attachEvent, leadWith}
 use Rattle.rules.proofs.Invariant.{Calm}
 
 -- the changed routine of a turn or a report, from the result's text
@@ -93,5 +94,147 @@ pub data Seen (s : State) (l : List Group) (c : Call) : Result → Type 0 where
   waits : (i j : ℕ) → Seen s l c (record { state = s; answers = wait i j ∷ [] })
   moves : {r : Result} {lead : List Event} {k : List Group} → Moves s l c r lead k → Seen s l c (settling r)
 
+-- ---- the groups that a call is about
+
+-- what a search of the sequence finds: nobody, or one of the groups
+data Finding (p : Member → Bool) (l : List Group) : Option Found → Type 0 where
+  missing : Each (λ g. p (g .member) ≡ false) l → Finding p l none
+  located : (a : List Group) (g : Group) (b : List Group) → l ≡ a ++ (g ∷ b) → p (g .member) ≡ true → Finding p l (some (foundAt a g b))
+
+find-members : (p : Member → Bool) (l : List Group) → Finding p l (find p (members l))
+find-members p [] = missing tt
+find-members p (g ∷ l) = byIf (Finding p (g ∷ l)) (p (g .member)) (λ t. located [] g l refl t) (λ t. further t (find-members p l))
+  where
+    further : p (g .member) ≡ false → {o : Option Found} → Finding p l o → Finding p (g ∷ l) (onto (g .member) o)
+    further t (missing n) = missing (t, n)
+    further t (located a x b w u) = located (g ∷ a) x b (ap (λ k. g ∷ k) w) u
+
+find-group : (p : Member → Bool) (s : State) (l : List Group) → s .sequence ≡ members l → Finding p l (find p (s .sequence))
+find-group p s l e = subst (λ q. Finding p l (find p q)) (sym e) (find-members p l)
+
+-- the running routine with an id, should there be one
+running : (i : ℕ) (s : State) (l : List Group) → s .sequence ≡ members l → (P : Option Found → Type 0) → P none →
+    ((a : List Group) (g : Group) (b : List Group) → l ≡ a ++ (g ∷ b) → g .member .id ≡ i → g .member .committed ≡ false → P (some (foundAt a g b))) →
+    P (find (runs i) (s .sequence))
+unfolding runs isRunning
+running i s l e P otherwise found = go (find-group (runs i) s l e)
+  where
+    go : {o : Option Found} → Finding (runs i) l o → P o
+    go (missing n) = otherwise
+    go (located a g b w t) =
+        let m = g .member in
+        found a g b w (eqb-true (m .id) i (and-left (eqb (m .id) i) (isRunning m) t)) (not-true (m .committed) (and-right (eqb (m .id) i) (isRunning m) t))
+
+-- the groups up to the last that passes the test, and those behind it
+record Divided (p : Member → Bool) (l : List Group) : Type 0 where
+  ahead : List Group
+  behind : List Group
+  whole : l ≡ ahead ++ behind
+  ahead-is : upToLast p (members l) ≡ members ahead
+  behind-is : pastLast p (members l) ≡ members behind
+  none-behind : anyOf p (members behind) ≡ false
+
+divide : (p : Member → Bool) (l : List Group) → Divided p l
+divide p [] = record { ahead = []; behind = []; whole = refl; ahead-is = refl; behind-is = refl; none-behind = refl }
+divide p (g ∷ l) = go (divide p l) (anyOf p (members (g ∷ l))) refl
+  where
+    go : Divided p l → (t : Bool) → anyOf p (members (g ∷ l)) ≡ t → Divided p (g ∷ l)
+    go h true e = record {
+      ahead = g ∷ h .ahead;
+      behind = h .behind;
+      whole = ap (λ k. g ∷ k) (h .whole);
+      ahead-is = rw e (ap (λ k. g .member ∷ k) (h .ahead-is));
+      behind-is = rw e (h .behind-is);
+      none-behind = h .none-behind;
+    }
+    go h false e = record { ahead = []; behind = g ∷ l; whole = refl; ahead-is = rw e refl; behind-is = rw e refl; none-behind = e }
+
+-- the abort ahead of an event
+gone : (d : ℕ) (s : State) (l : List Group) → s .sequence ≡ members l → (lead : List Event) × (k : List Group) × Gone s d l (abortHalfway d s) lead k
+unfolding abortHalfway
+gone d s l e = go (find-group (isHalfway d) s l e)
+  where
+    go : {o : Option Found} → Finding (isHalfway d) l o → (lead : List Event) × (k : List Group) × Gone s d l (abortIfAny s o) lead k
+    go (missing n) = ([], l, nobody (each-map _ _ (λ g t. record { calm = t }) l n))
+    go (located a g b w t) = (leadOf a g, without a g b, somebody a g b w t)
+
+-- ---- the calls
+
+-- a call is refused, or its checks accept it
+unless : (s : State) (l : List Group) (c : Call) (v : Verdict) {r : Result} → (v ≡ Accepted → Seen s l c r) → Seen s l c (unlessRefused v s r)
+unless s l c Accepted f = f refl
+unless s l c (Refused x) f = is-refused x
+
+-- a turn of the running routine g, and a report on it
+module _ (s : State) {l : List Group} (i : ℕ) (a : List Group) (g : Group) (b : List Group) (w : l ≡ a ++ (g ∷ b)) (n : g .member .id ≡ i) (u : g .member .committed ≡ false) where
+  turned : inFlight (g .member) ≡ false → (o : Option Command) → next (g .member .steps) ≡ o → Seen s l (turn i) (turnNext s (foundAt a g b) o)
+  turned f none e = moves (commits i a g b w n u f e)
+  turned f (some c) e = unheld (firstHolding (c .device) (members a)) refl
+    where
+      unheld : (o : Option ℕ) → firstHolding (c .device) (members a) ≡ o → Seen s l (turn i) (waitOr s (foundAt a g b) c o)
+      unheld (some j) h = waits (g .member .id) j
+      unheld none h =
+          byIf (Seen s l (turn i)) (s .up (c .device)) (λ t. moves (sends i a g b c w n u f e h t))
+          (λ t. byIf (Seen s l (turn i)) (isMust c) (λ _. moves (aborts (turn i) a g b w u (by-turn i n f))) (λ _. moves (skips i a g b c w n u f e h t)))
+
+  told : (code : ℕ) (o : Option Flight) → flight (g .member .steps) ≡ o → Seen s l (report i code) (reportFlight s (foundAt a g b) code o)
+  told code none e = is-refused _
+  told code (some x) e =
+      unless s l (report i code) (refuse report-code-out-of-range when ltb codeFailed code)
+      (λ _. byIf (Seen s l (report i code)) (eqb code codeDone) (λ t. moves (dones i code a g b x w n u e t))
+      (λ t. byIf (Seen s l (report i code)) (isMust (x .command)) (λ _. moves (aborts (report i code) a g b w u (by-report i code x n e t))) (λ _. moves (misses i code a g b x w n u e t))))
+
+module _ (s : State) (l : List Group) (e : s .sequence ≡ members l) where
+  see-submit : (cs : List Command) → Seen s l (submit cs) (submitOf s cs)
+  unfolding submitOf
+  see-submit cs =
+      let h = divide (blocks s cs) l in
+      unless s l (submit cs) (submitCheck s cs)
+      (λ v. moves (places cs (h .ahead) (h .behind) v (h .whole) (ap (upToLast (blocks s cs)) e ∙ h .ahead-is) (ap (pastLast (blocks s cs)) e ∙ h .behind-is) (h .none-behind)))
+
+  see-turn : (i : ℕ) → Seen s l (turn i) (turnOf s i)
+  unfolding turnOf
+  see-turn i =
+      running i s l e (λ o. Seen s l (turn i) (turnFound s o)) (is-refused _)
+      (λ a g b w n u. byIf (λ v. Seen s l (turn i) (unlessRefused v s (turnNext s (foundAt a g b) (next (g .member .steps))))) (inFlight (g .member)) (λ _. is-refused _)
+      (λ f. turned s i a g b w n u f (next (g .member .steps)) refl))
+
+  see-report : (i code : ℕ) → Seen s l (report i code) (reportOf s i code)
+  unfolding reportOf
+  see-report i code =
+      running i s l e (λ o. Seen s l (report i code) (reportFound s code o)) (is-refused _) (λ a g b w n u. told s i a g b w n u code (flight (g .member .steps)) refl)
+
+  see-failure : (d : ℕ) → Seen s l (failure d) (failureOf s d)
+  unfolding failureOf failed
+  see-failure d =
+      let h = gone d (withUp s (put (s .up) d false)) l e in
+      byIf (λ v. Checked (v andThen refuse failure-of-down when not (s .up d))) (leb (s .devices) d) (λ _. is-refused _)
+      (λ t. byIf Checked (not (s .up d)) (λ _. is-refused _) (λ u. moves (fails d _ (h .0) (h .1) t (not-false _ u) (h .2))))
+    where
+      Checked : Verdict → Type 0
+      Checked v = Seen s l (failure d) (unlessRefused v s (settling (failed s d)))
+
+  see-restart : (d : ℕ) (v : ℤ) → Seen s l (restart d v) (restartOf s d v)
+  unfolding restartOf restarted
+  see-restart d v =
+      let h = gone d s l e in
+      let setting = refuse restart-setting when not (inRange v) in
+      byIf (λ x. Checked (x andThen refuse restart-of-up when s .up d andThen setting)) (leb (s .devices) d) (λ _. is-refused _)
+      (λ t. byIf (λ x. Checked (x andThen setting)) (s .up d) (λ _. is-refused _)
+      (λ u. unless s l (restart d v) setting (λ _. moves (restarts d v _ (h .0) (h .1) t u (h .2)))))
+    where
+      Checked : Verdict → Type 0
+      Checked x = Seen s l (restart d v) (unlessRefused x s (settling (restarted s d v)))
+
+  see-cancel : (i : ℕ) → Seen s l (cancel i) (cancelOf s i)
+  unfolding cancelOf
+  see-cancel i =
+      running i s l e (λ o. Seen s l (cancel i) (cancelFound s o)) (is-refused _) (λ a g b w n u. moves (aborts (cancel i) a g b w u (by-cancel i n)))
+
 pub see : (s : State) (l : List Group) → s .sequence ≡ members l → (c : Call) → Seen s l c (resultOf s c)
-see s l e c = ?
+see s l e (submit cs) = see-submit s l e cs
+see s l e (turn i) = see-turn s l e i
+see s l e (report i code) = see-report s l e i code
+see s l e (failure d) = see-failure s l e d
+see s l e (restart d v) = see-restart s l e d v
+see s l e (cancel i) = see-cancel s l e i

@@ -1,0 +1,346 @@
+-- Demand 3, proved: what holds at the opening is kept by every call and by every step of a device, and gives the three parts. Assumes nothing.
+use mathlib.Core.Path.{_≡_, refl, sym, ap, _∙_, subst}
+use mathlib.Core.Logic.{_≢_}
+use mathlib.Core.Bool.{Bool, true, false, not, _||_, or-true}
+use mathlib.Core.List.{List, [], _∷_, _++_, append-assoc, append-nil}
+use mathlib.Core.Option.{Option}
+use Prim.Native.Nat.{ℕ, _<_}
+use native.Mathlib.Omega.{arith}
+use borrow.Author.Tests.{eqb-true, eqb-false}
+use lib.Dec.{ltb, eqb}
+use lib.IntN.{ℤ, pos}
+use Rattle.routine.specs.Choice.{if_then_else_}
+use Rattle.routine.specs.Routine.{maxDevices}
+use Rattle.routine.specs.Refusals.{devices-out-of-range, pass-limit-out-of-range, first-id-0, refuse_when_, _andThen_}
+use Rattle.routine.specs.declared.Verdict.the-variants.{Accepted}
+use Rattle.routine.proofs.Laws.{both-accept, not-refused}
+use Rattle.rules.specs.Tables.{anyOf, put}
+use Rattle.rules.specs.State.{highestPassLimit, State}
+use Rattle.rules.specs.Answers.{Call, submit, turn, report, failure, restart, cancel, Answer, refused, wait, Result}
+use Rattle.rules.specs.Due.{due}
+use Rattle.rules.specs.Settle.{settle, settling}
+use Rattle.rules.specs.Abort.{leave, abort}
+use Rattle.rules.specs.Open.{openCheck, opened}
+use Rattle.rules.specs.Submit.{place}
+use Rattle.rules.specs.Turn.{commitTurn, sendTurn, skipTurn}
+use Rattle.rules.specs.Report.{doneReport, skippedState, skipReport}
+use Rattle.rules.specs.Events.{attach, oneRestart}
+use Rattle.rules.specs.Calls.{resultOf}
+use Rattle.rules.specs.History.{Account, noteAnswer, noteAnswers, accountsOf, workingAfter, workingOf}
+use Rattle.rules.specs.Order.{Event, Entry, Order, orderAfter, orderAfterAll, entries, moveBar, orderOf}
+use Rattle.rules.specs.Serial.{Condition, allUp, serialRun}
+use Rattle.rules.specs.World.{Message, Device, takes, devicesAfterAll, World, Act, calls, takes-one, accounts, tell, worldAfter, worldAfterAll, taken, isAccepted, Truthful, Premise, PremiseAll, openedWorld}
+use Rattle.rules.specs.Demand3.{orderIn, NoneRuns, isBack, EndState, Begins, SettledStands, CommandsStand, Demand3, Statement}
+use Rattle.rules.proofs.Lists.{byIf, t≠f, Each, anyOf-++}
+use Rattle.rules.proofs.Groups.{Group, unsettled}
+use Rattle.rules.proofs.Invariant.{unmarked, HubOk, FliesUp, FirstRuns, upAfter, setAfter, OrderOk, Tells, backTo, Comes, has, goes-back, OneFlies, DeviceAt, dead, free, busy, DeviceOk, Honest}
+use Rattle.rules.proofs.View.{Gone, nobody, somebody, Moves, places, commits, sends, skips, dones, misses, aborts, fails, restarts, Seen, is-refused, waits, moves, see}
+use Rattle.rules.proofs.Settled.{settle-up, settle-devices}
+use Rattle.rules.proofs.Moved.{hub-settles}
+use Rattle.rules.proofs.Kept.{hub-moves, flies-moves, flies-settles}
+use Rattle.rules.proofs.Serial.{serial-setting, serial-up, order-due, order-settles, bar-entries, bar-stays, first-runs}
+use Rattle.rules.proofs.Ordered.{order-moves}
+use Rattle.rules.proofs.Accounts.{accounts-moves, accounts-settles, working-moves}
+use Rattle.rules.proofs.Stands.{stands-moves}
+use Rattle.rules.proofs.Devices.{device-takes, device-settles}
+use Rattle.rules.proofs.DeviceKept.{device-moves}
+
+-- what holds between calls; P: the premise so far, on which only the devices depend
+record Holds (P : Type 0) (w : World) : Type 0 where
+  groups : List Group
+  hub : HubOk (w .state) groups
+  flies : Each (FliesUp (w .state)) groups
+  order : OrderOk (w .state) (orderIn w) [] groups
+  first : FirstRuns groups
+  tells : Each (Tells (accounts w)) groups
+  works : (d : ℕ) → workingOf (w .history) d ≡ w .state .up d
+  stands : CommandsStand (accounts w) (entries (orderIn w)) allUp
+  devices : P → (d : ℕ) → d < w .state .devices → DeviceOk d (w .state) (accounts w) groups (w .devices d)
+
+-- ---- what begins a list
+
+begins-refl : (l : List Entry) → Begins l l
+begins-refl l = ([], sym (append-nil l))
+
+begins-trans : (a b c : List Entry) → Begins a b → Begins b c → Begins a c
+begins-trans a b c p q = (p .0 ++ q .0, q .1 ∙ ap (λ l. l ++ q .0) (p .1) ∙ append-assoc a (p .0) (q .0))
+
+-- ---- a call
+
+-- the world after a call with this result
+abbrev afterCall : World → Call → ℤ → Result → World
+afterCall w c v r = record {
+  state = r .state;
+  history = record { call = c; answers = r .answers } ∷ w .history;
+  devices = devicesAfterAll c (accountsOf (record { call = c; answers = r .answers } ∷ w .history)) v (r .answers) (w .devices);
+}
+
+-- the premise on a call with this result
+abbrev Premised : World → Call → Result → Type 0
+Premised w c r = isAccepted (r .answers) ≡ true → Truthful w c
+
+honest : (w : World) (c : Call) → Truthful w c → Honest (accounts w) (w .devices) c
+unfolding taken
+honest w (submit cs) t = t
+honest w (turn i) t = t
+honest w (report i code) t = t
+honest w (failure d) t = t
+honest w (restart d v) t = t
+honest w (cancel i) t = t
+
+gone-accepted : (s : State) (d : ℕ) (l : List Group) (x : Answer) {r : Result} {lead : List Event} {k : List Group} → isAccepted (x ∷ []) ≡ true → Gone s d l r lead k → isAccepted (r .answers ++ (x ∷ [])) ≡ true
+unfolding abort
+gone-accepted s d l x e (nobody q) = e
+gone-accepted s d l x e (somebody a g b q f) = refl
+
+moves-accepted : (s : State) (l : List Group) {c : Call} {r : Result} {lead : List Event} {k : List Group} → Moves s l c r lead k → isAccepted (r .answers) ≡ true
+unfolding commitTurn sendTurn skipTurn doneReport skipReport abort
+moves-accepted s l (places cs a b q e u p n) = refl
+moves-accepted s l (commits i a g b e n r f q) = refl
+moves-accepted s l (sends i a g b c e n r f q w u) = refl
+moves-accepted s l (skips i a g b c e n r f q w u) = refl
+moves-accepted s l (dones i code a g b x e n r f q) = refl
+moves-accepted s l (misses i code a g b x e n r f q) = refl
+moves-accepted s l (aborts c a g b e r q) = refl
+moves-accepted s l (fails d r lead k n u g) = gone-accepted _ d l _ refl g
+moves-accepted s l (restarts d v r lead k n u g) = gone-accepted s d l _ refl g
+
+gone-devices : (s : State) (d : ℕ) (l : List Group) {r : Result} {lead : List Event} {k : List Group} → Gone s d l r lead k → r .state .devices ≡ s .devices
+unfolding abort leave
+gone-devices s d l (nobody q) = refl
+gone-devices s d l (somebody a g b q f) = refl
+
+attach-devices : (j : ℕ) (e : ℕ → Option ℤ) (s : State) → attach j e s .devices ≡ s .devices
+unfolding attach
+attach-devices j e s = byIf (λ (t : State). t .devices ≡ s .devices) (eqb j 0) (λ _. refl) (λ _. refl)
+
+moves-devices : (s : State) (l : List Group) {c : Call} {r : Result} {lead : List Event} {k : List Group} → Moves s l c r lead k → r .state .devices ≡ s .devices
+unfolding place commitTurn sendTurn skipTurn doneReport skippedState skipReport abort leave
+moves-devices s l (places cs a b q e u p n) = refl
+moves-devices s l (commits i a g b e n r f q) = refl
+moves-devices s l (sends i a g b c e n r f q w u) = refl
+moves-devices s l (skips i a g b c e n r f q w u) = refl
+moves-devices s l (dones i code a g b x e n r f q) = refl
+moves-devices s l (misses i code a g b x e n r f q) = refl
+moves-devices s l (aborts c a g b e r q) = refl
+moves-devices s l (fails d r lead k n u g) = gone-devices _ d l g
+moves-devices s l (restarts d v r lead k n u g) = attach-devices (r .state .mark d) (oneRestart d v) (r .state) ∙ gone-devices s d l g
+
+-- what holds after a call, and the settled part has only grown
+record Next (P : Type 0) (w t : World) : Type 0 where
+  next : Holds P t
+  grows : Begins (orderIn w .settled) (orderIn t .settled)
+  same-devices : t .state .devices ≡ w .state .devices
+
+-- a call whose answer, x, tells nothing
+untold : (P Q : Type 0) (w : World) (c : Call) (x : Answer) → Holds P w → noteAnswer c x (accounts w) ≡ accounts w → workingAfter x (workingOf (w .history)) ≡ workingOf (w .history) →
+    orderAfter c (accounts w) x (orderIn w) ≡ orderIn w → Next (P × Q) w (record { state = w .state; history = record { call = c; answers = x ∷ [] } ∷ w .history; devices = w .devices })
+untold P Q w c x h a k o = record {
+  next = record {
+    groups = h .groups;
+    hub = h .hub;
+    flies = h .flies;
+    order = subst (λ q. OrderOk (w .state) q [] (h .groups)) (sym same) (h .order);
+    first = h .first;
+    tells = subst (λ q. Each (Tells q) (h .groups)) (sym a) (h .tells);
+    works = λ d. ap (λ f. f d) k ∙ h .works d;
+    stands = subst (λ q. CommandsStand q (entries (moveBar (orderAfter c (accounts w) x (orderIn w)))) allUp) (sym a) (subst (λ q. CommandsStand (accounts w) (entries q) allUp) (sym same) (h .stands));
+    devices = λ p d n. subst (λ q. DeviceOk d (w .state) q (h .groups) (w .devices d)) (sym a) (h .devices (p .0) d n);
+  };
+  grows = subst (λ (q : Order). Begins (orderIn w .settled) (q .settled)) (sym same) (begins-refl (orderIn w .settled));
+  same-devices = refl;
+}
+  where
+    same : moveBar (orderAfter c (accounts w) x (orderIn w)) ≡ orderIn w
+    same = ap moveBar o ∙ bar-stays (w .state) (orderIn w) (h .groups) (h .order) (h .first)
+
+-- a call that changes something
+told : (P : Type 0) (w : World) (c : Call) (v : ℤ) (h : Holds P w) {r : Result} {lead : List Event} {k : List Group} → Moves (w .state) (h .groups) c r lead k →
+    Next (P × Premised w c r) w (afterCall w c v (settling r))
+told P w c v h {r = r} {lead = lead} {k = k} m = record {
+  next = record {
+    groups = unsettled k;
+    hub = hub-settles (r .state) k hub;
+    flies = flies-settles (r .state) k (flies-moves s l (h .hub) (h .flies) m);
+    order = settled .0;
+    first = first-runs k;
+    tells = accounts-settles _ k (accounts-moves s a l (h .hub) (h .tells) m);
+    works = λ d. working-moves s (workingOf (w .history)) l (h .works) m d ∙ ap (λ f. f d) (sym (settle-up (r .state)));
+    stands = subst (λ q. CommandsStand (noteAnswers c (r .answers) a) q allUp) (sym (bar-entries (orderAfterAll c a (r .answers) (orderIn w))))
+        (stands-moves s (orderIn w) a l (h .hub) (h .flies) (h .order) (h .tells) (h .stands) m);
+    devices = λ p d n. device-settles d (r .state) _ k _ hub
+        (device-moves d s a l (w .devices) v (subst (λ q. d < q) same n) (h .hub) (h .order .events-ok) (h .tells)
+        (h .devices (p .0) d (subst (λ q. d < q) same n)) (honest w c (p .1 (moves-accepted s l m))) m);
+  };
+  grows = subst (λ q. Begins q (moveBar (orderAfterAll c a (r .answers) (orderIn w)) .settled)) (moved .1) (settled .1);
+  same-devices = same;
+}
+  where
+    s : State
+    s = w .state
+
+    l : List Group
+    l = h .groups
+
+    a : ℕ → Account
+    a = accounts w
+
+    same : settle (r .state) .devices ≡ s .devices
+    same = settle-devices (r .state) ∙ moves-devices s l m
+
+    hub : HubOk (r .state) k
+    hub = hub-moves s l (h .hub) m
+
+    moved : OrderOk (r .state) (orderAfterAll c a (r .answers) (orderIn w)) lead k × (orderAfterAll c a (r .answers) (orderIn w) .settled ≡ orderIn w .settled)
+    moved = order-moves s (orderIn w) a l (h .hub) (h .order) (h .tells) m
+
+    settled : OrderOk (settle (r .state)) (moveBar (orderAfterAll c a (r .answers) (orderIn w))) [] (unsettled k)
+        × Begins (orderAfterAll c a (r .answers) (orderIn w) .settled) (moveBar (orderAfterAll c a (r .answers) (orderIn w)) .settled)
+    settled = order-settles (r .state) (orderAfterAll c a (r .answers) (orderIn w)) lead k hub (moved .0)
+
+seen : (P : Type 0) (w : World) (c : Call) (v : ℤ) (h : Holds P w) {r : Result} → Seen (w .state) (h .groups) c r → Next (P × Premised w c r) w (afterCall w c v r)
+seen P w c v h (is-refused r) = untold P _ w c (refused r) h refl refl refl
+seen P w c v h (waits i j) = untold P _ w c (wait i j) h refl refl refl
+seen P w c v h (moves m) = told P w c v h m
+
+-- ---- any act
+
+acted : (P : Type 0) (w : World) (x : Act) → Holds P w → Next (P × Premise w x) w (worldAfter w x)
+acted P w (calls c v) h = seen P w c v h (see (w .state) (h .groups) (h .hub .sequence-is) c)
+acted P w (takes-one d k) h = record {
+  next = record {
+    groups = h .groups;
+    hub = h .hub;
+    flies = h .flies;
+    order = h .order;
+    first = h .first;
+    tells = h .tells;
+    works = h .works;
+    stands = h .stands;
+    devices = λ p e n. byIf (DeviceOk e (w .state) (accounts w) (h .groups)) (eqb e d)
+        (λ t. subst (λ x. DeviceOk x (w .state) (accounts w) (h .groups) (takes k (w .devices d .sent) (w .devices d))) (sym (eqb-true e d t))
+        (device-takes d (w .state) (accounts w) (h .groups) (w .devices d) k (h .devices (p .0) d (subst (λ x. x < w .state .devices) (eqb-true e d t) n))))
+        (λ _. h .devices (p .0) e n);
+  };
+  grows = begins-refl (orderIn w .settled);
+  same-devices = refl;
+}
+
+-- the premise may be stronger
+stronger : (P Q : Type 0) (w : World) → (Q → P) → Holds P w → Holds Q w
+stronger P Q w f h = record {
+  groups = h .groups;
+  hub = h .hub;
+  flies = h .flies;
+  order = h .order;
+  first = h .first;
+  tells = h .tells;
+  works = h .works;
+  stands = h .stands;
+  devices = λ q. h .devices (f q);
+}
+
+-- a list of acts
+acts-hold : (P : Type 0) (w : World) (l : List Act) → Holds P w → Next (P × PremiseAll w l) w (worldAfterAll w l)
+acts-hold P w [] h = record { next = stronger P (P × Unit {0}) w (λ q. q .0) h; grows = begins-refl (orderIn w .settled); same-devices = refl }
+acts-hold P w (x ∷ l) h =
+    let n = acted P w x h in
+    let m = acts-hold (P × Premise w x) (worldAfter w x) l (n .next) in
+    record {
+      next = stronger ((P × Premise w x) × PremiseAll (worldAfter w x) l) (P × PremiseAll w (x ∷ l)) (worldAfterAll (worldAfter w x) l) (λ q. ((q .0, q .1 .0), q .1 .1)) (m .next);
+      grows = begins-trans (orderIn w .settled) (orderIn (worldAfter w x) .settled) (orderIn (worldAfterAll (worldAfter w x) l) .settled) (n .grows) (m .grows);
+      same-devices = m .same-devices ∙ n .same-devices;
+    }
+
+-- ---- the opening
+
+opens : (n k first : ℕ) → openCheck n k first ≡ Accepted → 0 < first
+unfolding openCheck
+opens n k first e =
+    let p = both-accept (refuse devices-out-of-range when (eqb n 0 || ltb maxDevices n)) _ e .1 in
+    let q = both-accept (refuse pass-limit-out-of-range when ltb highestPassLimit k) _ p .1 in
+    let r = eqb-false first 0 (not-refused first-id-0 (eqb first 0) q) in
+    positive first r
+  where
+    positive : (i : ℕ) → i ≢ 0 → 0 < i
+    positive i z = omega arith
+
+opened-holds : (n k first : ℕ) → 0 < first → Holds (Unit {0}) (openedWorld n k first)
+unfolding openedWorld opened due
+opened-holds n k first p = record {
+  groups = [];
+  hub = record { sequence-is = refl; ids-ok = tt; marks = λ d. unmarked refl tt; shuts = tt; turns = tt; some-id = p };
+  flies = tt;
+  order = record { open-is = refl; settled-is = λ d. refl; up-is = λ d. refl; events-ok = tt; ids-ok = tt; barred = refl };
+  first = tt;
+  tells = tt;
+  works = λ d. refl;
+  stands = tt;
+  devices = λ q d m. record { old-sent = tt; old-took = tt; device-at = free refl tt (has refl refl) };
+}
+
+opened-devices : (n k first : ℕ) → openedWorld n k first .state .devices ≡ n
+unfolding openedWorld opened
+opened-devices n k first = refl
+
+-- ---- the three parts
+
+-- the first of the sequence runs, so that if none does there is none
+none-left : (w : World) (l : List Group) → NoneRuns w → FirstRuns l → Each (Tells (accounts w)) l → l ≡ []
+none-left w [] n f t = refl
+none-left w (g ∷ l) n f t = t≠f (sym (t .0 .runs ∙ ap not f) ∙ n (g .member .id))
+
+-- what puts a device back is the last of what was sent to it, and none is left
+comes-to : (u v : ℤ) (l : List Message) → anyOf isBack l ≡ false → Comes u v l → u ≡ v
+comes-to u v l n (has e f) = f
+comes-to u v l n (goes-back k e) = t≠f (sym (ap (anyOf isBack) e ∙ anyOf-++ isBack k (backTo v ∷ []) ∙ or-true (anyOf isBack k)) ∙ n)
+
+settles-at : (d : ℕ) (s : State) (a : ℕ → Account) (w : Device) → s .up d ≡ true → anyOf isBack (w .sent) ≡ false → DeviceAt d (s .up d) (due s d) a [] w → due s d ≡ w .setting
+settles-at d s a w u n (dead e f) = t≠f (sym u ∙ e)
+settles-at d s a w u n (free e f k) = sym (comes-to (w .setting) (due s d) (w .sent) n k)
+settles-at d s a w u n (busy e f) = absurd (nobody-flies f)
+  where
+    nobody-flies : OneFlies d a w [] → ⊥
+    nobody-flies = elim [ ]
+
+end-state : (P : Type 0) (w : World) → Holds P w → P → EndState (w .state .devices) w
+end-state P w h p none-runs d n works no-back =
+    ap (λ u. record { up = u; setting = serialRun (entries (orderIn w)) allUp d .setting }) (serial-up d (entries (orderIn w)) allUp ∙ h .order .up-is d ∙ up)
+    ∙ ap (λ v. record { up = true; setting = v })
+    (serial-setting d (entries (orderIn w)) allUp ∙ order-due (w .state) (orderIn w) (h .groups) (h .hub) (h .order) d
+    ∙ settles-at d (w .state) (accounts w) (w .devices d) up no-back (subst (λ l. DeviceAt d (w .state .up d) (due (w .state) d) (accounts w) l (w .devices d)) (none-left w (h .groups) none-runs (h .first) (h .tells)) (h .devices p d n .device-at)))
+  where
+    up : w .state .up d ≡ true
+    up = sym (h .works d) ∙ works
+
+-- acts in two parts
+acts-++ : (w : World) (a b : List Act) → worldAfterAll w (a ++ b) ≡ worldAfterAll (worldAfterAll w a) b
+acts-++ w [] b = refl
+acts-++ w (x ∷ a) b = acts-++ (worldAfter w x) a b
+
+pub demand-3 : Statement
+demand-3 n k first e acts = record {
+  end-state = λ p. subst (λ m. EndState m w) (devices-of (all .same-devices)) (end-state (Unit {0} × PremiseAll o acts) w (all .next) (tt, p));
+  settled-part = λ before rest q.
+      let b = acts-hold (Unit {0}) o before start in
+      let r = acts-hold (Unit {0} × PremiseAll o before) (worldAfterAll o before) rest (b .next) in
+      let same : worldAfterAll o acts ≡ worldAfterAll (worldAfterAll o before) rest = ap (worldAfterAll o) q ∙ acts-++ o before rest in
+      subst (λ t. Begins (orderIn (worldAfterAll o before) .settled) (entries (orderIn t))) (sym same)
+      (begins-trans (orderIn (worldAfterAll o before) .settled) (orderIn (worldAfterAll (worldAfterAll o before) rest) .settled) (entries (orderIn (worldAfterAll (worldAfterAll o before) rest))) (r .grows) (orderIn (worldAfterAll (worldAfterAll o before) rest) .open-part, refl));
+  commands-stand = all .next .stands;
+}
+  where
+    o : World
+    o = openedWorld n k first
+
+    w : World
+    w = worldAfterAll o acts
+
+    start : Holds (Unit {0}) o
+    start = opened-holds n k first (opens n k first e)
+
+    all : Next (Unit {0} × PremiseAll o acts) o w
+    all = acts-hold (Unit {0}) o acts start
+
+    devices-of : w .state .devices ≡ o .state .devices → w .state .devices ≡ n
+    devices-of q = q ∙ opened-devices n k first
