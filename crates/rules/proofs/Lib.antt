@@ -15,3 +15,4 @@ pub mod Stands
 pub mod Devices
 pub mod DeviceKept
 pub mod Theorem
+pub mod Worlds

@@ -30,7 +30,7 @@ use Rattle.rules.specs.Cancel.{cancelOf}
 use Rattle.rules.specs.Calls.{resultOf}
 
 -- All that a computation with the rules opens.
-abbrev pub calc : Unit {0}
+unfoldable pub calc : Unit {0}
 unfolding inRange refusalOf commandCheck commandsCheck routineCheck begun finished inFlightOn inFlight afterMember due isRunning runs clearMarks joinSettled settle attachTo settleRestarts moveMarks leave isPutBack putBacks abort openCheck opened submitCheck blocks pass newcomer place submitOf holds markBegun commit commitTurn sendTurn skipTurn turnOf doneReport backUnless skippedState skipReport reportOf isHalfway abortHalfway attach oneRestart failed restarted failureOf restartOf cancelOf
 calc = tt
 

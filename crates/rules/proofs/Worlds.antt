@@ -1,0 +1,200 @@
+-- The theorem is not empty: worlds that meet the premise, end with no routine running and nothing left to put back, and pass through what is hard.
+-- Each is computed; the theorem is not used. Assumes nothing.
+use mathlib.Core.Path.{_≡_, refl, sym, ap, _∙_, subst}
+use mathlib.Core.Bool.{Bool, true, false, not, _&&_}
+use mathlib.Core.List.{List, [], _∷_, _++_}
+use Prim.Native.Nat.{ℕ, zero, suc}
+use borrow.Author.Tests.{eqb-true}
+use lib.Dec.{eqb}
+use lib.IntN.{ℤ, pos, negsuc}
+use lib.ListN.{take}
+use Rattle.routine.specs.Choice.{if_then_else_}
+use Rattle.routine.specs.declared.Verdict.the-variants.{Accepted}
+use Rattle.rules.specs.Tables.{anyOf}
+use Rattle.rules.specs.Answers.{Call, submit, turn, report, failure, restart, cancel, Answer, done, skipped, aborted, down, up}
+use Rattle.rules.specs.Open.{openCheck}
+use Rattle.rules.specs.History.{Told, Account, workingOf}
+use Rattle.rules.specs.Order.{putAfter, moveBar, entries}
+use Rattle.rules.specs.Serial.{Condition, allUp, serialRun}
+use Rattle.rules.specs.World.{sent-for, put-back, Message, Device, World, Act, calls, takes-one, accounts, worldAfterAll, taken, PremiseAll, openedWorld}
+use Rattle.rules.specs.Demand3.{orderIn, NoneRuns, isBack}
+use Rattle.rules.specs.Examples.{calc, must, best, back}
+use Rattle.rules.proofs.Lists.{t≠f}
+
+-- all that a computation with worlds opens
+unfoldable calcWorld : Unit {0}
+unfolding calc putAfter moveBar taken openedWorld
+calcWorld = tt
+
+-- an opening and what happens; the settings that the devices have in the end
+pub record Passage : Type 0 where
+  pub devices : ℕ
+  pub passLimit : ℕ
+  pub acts : List Act
+  pub settings : List ℤ
+
+abbrev pub endOf : Passage → World
+endOf p = worldAfterAll (openedWorld (p .devices) (p .passLimit) 1) (p .acts)
+
+-- of the `left` devices from d on: does it work, with nothing left that puts it back? its setting; what the serial run gives it
+abbrev pub readyFrom : World → ℕ → ℕ → Bool
+readyFrom w d zero = true
+readyFrom w d (suc left) = workingOf (w .history) d && not (anyOf isBack (w .devices d .sent)) && readyFrom w (suc d) left
+
+abbrev pub settingsFrom : World → ℕ → ℕ → List ℤ
+settingsFrom w d zero = []
+settingsFrom w d (suc left) = w .devices d .setting ∷ settingsFrom w (suc d) left
+
+abbrev pub conditionsFrom : World → ℕ → ℕ → List Condition
+conditionsFrom w d zero = []
+conditionsFrom w d (suc left) = serialRun (entries (orderIn w)) allUp d ∷ conditionsFrom w (suc d) left
+
+abbrev pub upAt : List ℤ → List Condition
+upAt [] = []
+upAt (v ∷ l) = record { up = true; setting = v } ∷ upAt l
+
+-- everything that the theorem asks of it holds, and what the theorem says of it
+pub record Passes (p : Passage) : Type 0 where
+  pub accepted : openCheck (p .devices) (p .passLimit) 1 ≡ Accepted
+  pub premise : PremiseAll (openedWorld (p .devices) (p .passLimit) 1) (p .acts)
+  pub none-runs : NoneRuns (endOf p)
+  pub ready : readyFrom (endOf p) 0 (p .devices) ≡ true
+  pub settings-are : settingsFrom (endOf p) 0 (p .devices) ≡ p .settings
+  pub serial-is : conditionsFrom (endOf p) 0 (p .devices) ≡ upAt (p .settings)
+
+-- a call that leaves no device at another setting
+abbrev pub call : Call → Act
+call c = calls c (pos 0)
+
+-- a table looked at in one place and in the others
+elsewhere : (f : ℕ → Account) (k : ℕ) → f k .running ≡ false → (i : ℕ) → (eqb i k ≡ false → f i .running ≡ false) → f i .running ≡ false
+elsewhere f k e i g = go (eqb i k) refl
+  where
+    go : (b : Bool) → eqb i k ≡ b → f i .running ≡ false
+    go true t = ap (λ j. f j .running) (eqb-true i k t) ∙ e
+    go false t = g t
+
+-- A send is taken only after its routine was cancelled; then what puts the device back is taken.
+abbrev pub takenLate : Passage
+takenLate = record {
+  devices = 1;
+  passLimit = 0;
+  acts = call (submit (must 0 (pos 50) ∷ [])) ∷ call (turn 1) ∷ call (cancel 1) ∷ takes-one 0 0 ∷ takes-one 0 0 ∷ [];
+  settings = pos 0 ∷ [];
+}
+
+pub taken-late : Passes takenLate
+unfolding calcWorld
+taken-late = record {
+  accepted = refl;
+  premise = ((λ _. tt), ((λ _. tt), ((λ _. tt), (tt, (tt, tt)))));
+  none-runs = λ i. elsewhere (accounts (endOf takenLate)) 1 refl i (λ n. rw n refl);
+  ready = refl;
+  settings-are = refl;
+  serial-is = refl;
+}
+
+-- What puts a device back is overtaken by a later send, which was done.
+abbrev pub overtaken : Passage
+overtaken = record {
+  devices = 2;
+  passLimit = 8;
+  acts = call (submit (must 0 (pos 50) ∷ must 1 (pos 20) ∷ [])) ∷ call (turn 1) ∷ takes-one 0 0 ∷ call (report 1 0) ∷ call (cancel 1) ∷ call (submit (must 0 (pos 70) ∷ [])) ∷ call (turn 2)
+      ∷ takes-one 0 1 ∷ call (report 2 0) ∷ call (turn 2) ∷ [];
+  settings = pos 70 ∷ pos 0 ∷ [];
+}
+
+pub overtaken-passes : Passes overtaken
+unfolding calcWorld
+overtaken-passes = record {
+  accepted = refl;
+  premise = ((λ _. tt), ((λ _. tt), (tt, ((λ _. refl), ((λ _. tt), ((λ _. tt), ((λ _. tt), (tt, ((λ _. refl), ((λ _. tt), tt))))))))));
+  none-runs = λ i. elsewhere (accounts (endOf overtaken)) 1 refl i (λ n. elsewhere (accounts (endOf overtaken)) 2 refl i (λ m. rw (n, m) refl));
+  ready = refl;
+  settings-are = refl;
+  serial-is = refl;
+}
+
+-- A failure with a command in flight leaves another setting, 33, which no command gave; the restart reports it.
+abbrev pub failedInFlight : Passage
+failedInFlight = record {
+  devices = 1;
+  passLimit = 0;
+  acts = call (submit (best 0 (pos 50) ∷ [])) ∷ call (turn 1) ∷ calls (failure 0) (pos 33) ∷ call (restart 0 (pos 33)) ∷ [];
+  settings = pos 33 ∷ [];
+}
+
+pub failed-in-flight : Passes failedInFlight
+unfolding calcWorld
+failed-in-flight = record {
+  accepted = refl;
+  premise = ((λ _. tt), ((λ _. tt), ((λ _. tt), ((λ _. refl), tt))));
+  none-runs = λ i. elsewhere (accounts (endOf failedInFlight)) 1 refl i (λ n. rw n refl);
+  ready = refl;
+  settings-are = refl;
+  serial-is = refl;
+}
+
+-- A restart at a setting that no command gave, behind a committed routine and ahead of another; refused calls in between, whatever they say.
+abbrev pub restartedElsewhere : Passage
+restartedElsewhere = record {
+  devices = 1;
+  passLimit = 0;
+  acts = call (submit (must 0 (pos 50) ∷ [])) ∷ call (turn 1) ∷ takes-one 0 0 ∷ call (report 1 0) ∷ call (report 1 0) ∷ call (restart 0 (pos 9)) ∷ calls (failure 0) (negsuc 6)
+      ∷ call (turn 1) ∷ call (failure 0) ∷ call (restart 0 (negsuc 6)) ∷ [];
+  settings = negsuc 6 ∷ [];
+}
+
+pub restarted-elsewhere : Passes restartedElsewhere
+unfolding calcWorld
+restarted-elsewhere = record {
+  accepted = refl;
+  premise = ((λ _. tt), ((λ _. tt), (tt, ((λ _. refl), ((λ e. t≠f (sym e)), ((λ e. t≠f (sym e)), ((λ _. tt), ((λ _. tt), ((λ _. tt), ((λ _. refl), tt))))))))));
+  none-runs = λ i. elsewhere (accounts (endOf restartedElsewhere)) 1 refl i (λ n. rw n refl);
+  ready = refl;
+  settings-are = refl;
+  serial-is = refl;
+}
+
+-- A best-effort command is reported failed after the due setting changed under it.
+abbrev pub failedAfterChange : Passage
+failedAfterChange = record {
+  devices = 2;
+  passLimit = 8;
+  acts = call (submit (must 0 (pos 50) ∷ must 1 (pos 20) ∷ [])) ∷ call (turn 1) ∷ takes-one 0 0 ∷ call (report 1 0) ∷ call (submit (best 0 (pos 70) ∷ [])) ∷ call (turn 2) ∷ call (cancel 1)
+      ∷ call (report 2 1) ∷ takes-one 0 0 ∷ call (turn 2) ∷ [];
+  settings = pos 0 ∷ pos 0 ∷ [];
+}
+
+pub failed-after-change : Passes failedAfterChange
+unfolding calcWorld
+failed-after-change = record {
+  accepted = refl;
+  premise = ((λ _. tt), ((λ _. tt), (tt, ((λ _. refl), ((λ _. tt), ((λ _. tt), ((λ _. tt), ((λ _. refl), (tt, ((λ _. tt), tt))))))))));
+  none-runs = λ i. elsewhere (accounts (endOf failedAfterChange)) 1 refl i (λ n. elsewhere (accounts (endOf failedAfterChange)) 2 refl i (λ m. rw (n, m) refl));
+  ready = refl;
+  settings-are = refl;
+  serial-is = refl;
+}
+
+-- the world after the first n acts
+abbrev pub after : ℕ → Passage → World
+after n p = worldAfterAll (openedWorld (p .devices) (p .passLimit) 1) (take n (p .acts))
+
+abbrev lastAnswers : List Told → List Answer
+lastAnswers [] = []
+lastAnswers (t ∷ l) = t .answers
+
+-- What is claimed of the five on their way: 50 is taken after `aborted`, with the put-back behind it; 70 is taken past a put-back; 50 is on its
+-- way when the failure leaves 33; the restart reports −7; the report finds the due setting changed.
+pub midways :
+    (lastAnswers (after 3 takenLate .history) ≡ aborted 1 (back 0 (pos 0) ∷ []) ∷ []) × (after 4 takenLate .devices 0 .setting ≡ pos 50)
+    × (after 4 takenLate .devices 0 .sent ≡ record { setting = pos 0; origin = put-back } ∷ [])
+    × (after 7 overtaken .devices 0 .sent ≡ record { setting = pos 0; origin = put-back } ∷ record { setting = pos 70; origin = sent-for 2 1 } ∷ [])
+    × (after 8 overtaken .devices 0 .sent ≡ []) × (lastAnswers (after 9 overtaken .history) ≡ done 2 ∷ [])
+    × (after 2 failedInFlight .devices 0 .sent ≡ record { setting = pos 50; origin = sent-for 1 1 } ∷ [])
+    × (lastAnswers (after 3 failedInFlight .history) ≡ aborted 1 [] ∷ down 0 0 ∷ []) × (after 3 failedInFlight .devices 0 .setting ≡ pos 33)
+    × (lastAnswers (after 10 restartedElsewhere .history) ≡ up 0 0 ∷ [])
+    × (lastAnswers (after 8 failedAfterChange .history) ≡ skipped 2 (back 0 (pos 0) ∷ []) ∷ [])
+unfolding calcWorld
+midways = (refl, refl, refl, refl, refl, refl, refl, refl, refl, refl, refl)
