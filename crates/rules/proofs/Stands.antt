@@ -1,27 +1,408 @@
 -- Part 3 of demand 3 is kept by every call: where commands stand in the serial run. Assumes nothing.
-use mathlib.Core.Path.{_≡_, refl, sym, ap, _∙_, subst}
-use mathlib.Core.Logic.{_≢_, _⊎_, inl, inr}
-use mathlib.Core.Bool.{Bool, true, false, not, _&&_, _||_}
+use mathlib.Core.Path.{_≡_, refl, sym, ap, ap₂, _∙_, subst, transport, fun-ext}
+use mathlib.Core.Logic.{_≢_}
+use mathlib.Core.Bool.{Bool, true, false}
 use mathlib.Core.List.{List, [], _∷_, _++_, map, append-assoc, append-nil}
-use mathlib.Core.Option.{Option, none, some}
-use Prim.Native.Nat.{ℕ, _<_}
+use mathlib.Core.Option.{Option}
+use Prim.Native.Nat.{ℕ}
 use native.Mathlib.Omega.{arith}
-use lib.Dec.{leb, ltb, eqb}
-use lib.IntN.{ℤ, pos}
+use borrow.Author.Tests.{eqb-true, eqb-false, eq-eqb, ne-eqb}
+use lib.Dec.{eqb}
+use lib.IntN.{ℤ}
 use Rattle.routine.specs.Choice.{if_then_else_}
+use Rattle.routine.specs.declared.Command.{Command}
 use Rattle.rules.specs.Tables.{anyOf, put}
-use Rattle.rules.specs.State.{Step, Member, State}
-use Rattle.rules.specs.Answers.{Call, Result}
-use Rattle.rules.specs.History.{Account, noteAnswer, noteAnswers}
-use Rattle.rules.specs.Order.{Event, Entry, Order, orderAfterAll, entries}
-use Rattle.rules.specs.Serial.{Condition, allUp}
-use Rattle.rules.specs.Demand3.{CommandsStand}
-use Rattle.rules.proofs.Lists.{t≠f, byIf, Each}
-use Rattle.rules.proofs.Groups.{Group}
-use Rattle.rules.proofs.Invariant.{HubOk, FliesUp, OrderOk, Tells}
-use Rattle.rules.proofs.View.{Moves}
+use Rattle.rules.specs.State.{Step, State}
+use Rattle.rules.specs.Answers.{Call, failure, restart, Answer, down, up, Result}
+use Rattle.rules.specs.Sequence.{withUp}
+use Rattle.rules.specs.Abort.{attachTo, abort}
+use Rattle.rules.specs.Submit.{pass, newcomer}
+use Rattle.rules.specs.Turn.{commit, commitTurn, sendTurn, skipTurn}
+use Rattle.rules.specs.Report.{doneReport, skipReport}
+use Rattle.rules.specs.History.{Outcome, reported-done, reported-failed, not-sent, Answered, Account, placedAccount, sentAccount, answeredAccount, endedAccount, noteAnswer, noteAnswers}
+use Rattle.rules.specs.Order.{Event, failed, restarted, Entry, routine, event, Order, orderAfterAll, entries}
+use Rattle.rules.specs.Serial.{Condition, allUp, runEntry}
+use Rattle.rules.specs.Demand3.{Finds, afterAnswered, AllFind, doneOnes, CommandsStand}
+use Rattle.rules.proofs.Lists.{byIf, or-left, or-right, put-same, put-other, Each, each-++, each-right, each-mid, NotIn, IdsOk, notIn-left, notIn-right, ids-fresh, ids-right, ids-front, ids-behind}
+use Rattle.rules.proofs.Groups.{Group, ids, doneSteps, entryOf, flat, entryIds, isOf, alone, with, passAll, addToLast, without, leadOf, addEvent, attachEvent, leadWith, ids-++, flat-++, entryIds-++, entryIds-flat}
+use Rattle.rules.proofs.Steps.{leftSteps, skip-step, done-step, fail-step, unbegun-answered}
+use Rattle.rules.proofs.Invariant.{Quiet, Turns, HubOk, FliesUp, upEvent, upAfter, OrderOk, commandsIn, Tells}
+use Rattle.rules.proofs.View.{sentMember, skippedMember, doneMember, failedMember, Gone, nobody, somebody, Moves, places, commits, sends, skips, dones, misses, aborts, fails, restarts}
+use Rattle.rules.proofs.Runs.{up-++, up-quiet, up-flat-quiet}
+use Rattle.rules.proofs.Marks.{Clear, turn-clear, flight-clear, MarkPlace, at-zero, at-group, mark-place}
+use Rattle.rules.proofs.Moved.{hub-gone, hub-up}
+use Rattle.rules.proofs.Serial.{serial-up}
+use Rattle.rules.proofs.Accounts.{accounts-moves}
+use Rattle.rules.proofs.Ordered.{order-moves}
+
+-- ---- where commands stand, told by the devices that are up alone
+
+-- `u`: is the device up?
+abbrev Fits : (ℕ → Bool) → Answered → Type 0
+Fits u x = Finds (u (x .command .device)) (x .outcome)
+
+-- `q`: the answered commands of each id
+abbrev Stand : (ℕ → List Answered) → List Entry → (ℕ → Bool) → Type 0
+Stand q [] u = Unit {0}
+Stand q (routine i cs b ∷ l) u = (cs ≡ doneOnes (q i)) × Each (Fits u) (q i) × Stand q l u
+Stand q (event e ∷ l) u = Stand q l (λ d. upEvent d e (u d))
+
+abbrev answeredIn : (ℕ → Account) → ℕ → List Answered
+answeredIn a i = a i .answered
+
+-- from all devices up
+abbrev Standing : (ℕ → Account) → List Entry → Type 0
+Standing a l = Stand (answeredIn a) l (λ d. true)
+
+-- this is what the statement says: a run's commands leave the devices up or down as they were
+fits-is : (l : List Answered) (t : ℕ → Condition) → AllFind l t ≡ Each (Fits (λ d. t d .up)) l
+fits-is [] t = refl
+fits-is (x ∷ l) t = ap (λ A. Fits (λ d. t d .up) x × A) (fits-is l (afterAnswered (x .outcome) (x .command) t) ∙ ap (λ u. Each (Fits u) l) (same-up (x .outcome)))
+  where
+    same-up : (o : Outcome) → _≡_ {A = ℕ → Bool} (λ d. afterAnswered o (x .command) t d .up) (λ d. t d .up)
+    same-up reported-done = fun-ext (λ d. serial-up d (routine 0 (x .command ∷ []) true ∷ []) t)
+    same-up reported-failed = refl
+    same-up not-sent = refl
+
+stand-is : (a : ℕ → Account) (l : List Entry) (t : ℕ → Condition) → CommandsStand a l t ≡ Stand (answeredIn a) l (λ d. t d .up)
+stand-is a [] t = refl
+stand-is a (routine i cs b ∷ l) t =
+    ap₂ (λ A B. (cs ≡ doneOnes (a i .answered)) × A × B) (fits-is (a i .answered) t)
+    (stand-is a l (runEntry (routine i cs b) t) ∙ ap (λ u. Stand (answeredIn a) l u) (fun-ext (λ d. serial-up d (routine i cs b ∷ []) t)))
+stand-is a (event e ∷ l) t = stand-is a l (runEntry (event e) t) ∙ ap (λ u. Stand (answeredIn a) l u) (fun-ext (λ d. serial-up d (event e ∷ []) t))
+
+-- ---- parts of orders
+
+-- the devices that are up behind these entries
+abbrev upBehind : List Entry → (ℕ → Bool) → ℕ → Bool
+upBehind l u d = upAfter d l (u d)
+
+stand-split : (q : ℕ → List Answered) (p r : List Entry) (u : ℕ → Bool) → Stand q (p ++ r) u → Stand q p u × Stand q r (upBehind p u)
+stand-split q [] r u h = (tt, h)
+stand-split q (routine i cs b ∷ p) r u h = let k = stand-split q p r u (h .2) in ((h .0, h .1, k .0), k .1)
+stand-split q (event e ∷ p) r u h = stand-split q p r (λ d. upEvent d e (u d)) h
+
+stand-join : (q : ℕ → List Answered) (p r : List Entry) (u : ℕ → Bool) → Stand q p u → Stand q r (upBehind p u) → Stand q (p ++ r) u
+stand-join q [] r u h k = k
+stand-join q (routine i cs b ∷ p) r u h k = (h .0, h .1, stand-join q p r u (h .2) k)
+stand-join q (event e ∷ p) r u h k = stand-join q p r (λ d. upEvent d e (u d)) h k
+
+-- the part behind p changes
+stand-behind : (q : ℕ → List Answered) (p r l : List Entry) → ((u : ℕ → Bool) → Stand q r u → Stand q l u) → (u : ℕ → Bool) → Stand q (p ++ r) u → Stand q (p ++ l) u
+stand-behind q p r l f u h = let k = stand-split q p r u h in stand-join q p l u (k .0) (f (upBehind p u) (k .1))
+
+-- other routines do not look at the commands of i
+stand-other : (q : ℕ → List Answered) (i : ℕ) (v : List Answered) (l : List Entry) (u : ℕ → Bool) → NotIn i (entryIds l) → Stand q l u → Stand (put q i v) l u
+stand-other q i v [] u n h = tt
+stand-other q i v (routine j cs b ∷ l) u n h =
+    subst (λ x. (cs ≡ doneOnes x) × Each (Fits u) x × Stand (put q i v) l u) (sym (put-other q i v j (n .0))) (h .0, h .1, stand-other q i v l u (n .1) (h .2))
+stand-other q i v (event e ∷ l) u n h = stand-other q i v l (λ d. upEvent d e (u d)) n h
+
+-- the routine i between p and r, its answered commands being v
+stand-with : (q : ℕ → List Answered) (i : ℕ) (v : List Answered) (p : List Entry) (cs : List Command) (b : Bool) (r : List Entry) (u : ℕ → Bool) →
+    NotIn i (entryIds p) → NotIn i (entryIds r) → Stand q p u → Stand q r (upBehind p u) → cs ≡ doneOnes v → Each (Fits (upBehind p u)) v →
+    Stand (put q i v) (p ++ (routine i cs b ∷ r)) u
+stand-with q i v p cs b r u m n h k e f =
+    stand-join (put q i v) p (routine i cs b ∷ r) u (stand-other q i v p u m h)
+    (subst (λ x. (cs ≡ doneOnes x) × Each (Fits (upBehind p u)) x × Stand (put q i v) r (upBehind p u)) (sym (put-same q i v)) (e, f, stand-other q i v r (upBehind p u) n k))
+
+-- ---- an event of d is put in, behind which no answered command is on d
+
+abbrev onDevice : ℕ → Command → Bool
+onDevice d c = eqb (c .device) d
+
+abbrev SameBut : ℕ → (ℕ → Bool) → (ℕ → Bool) → Type 0
+SameBut d u w = (x : ℕ) → x ≢ d → u x ≡ w x
+
+fits-spared : (d : ℕ) (u w : ℕ → Bool) → SameBut d u w → (l : List Answered) → anyOf (onDevice d) (commandsIn l) ≡ false → Each (Fits u) l → Each (Fits w) l
+fits-spared d u w e [] n h = tt
+fits-spared d u w e (x ∷ l) n h =
+    let y = x .command in (
+      subst (λ b. Finds b (x .outcome)) (e (y .device) (eqb-false (y .device) d (or-left (onDevice d y) (anyOf (onDevice d) (commandsIn l)) n))) (h .0),
+      fits-spared d u w e l (or-right (onDevice d y) (anyOf (onDevice d) (commandsIn l)) n) (h .1),
+    )
+
+-- no answered command of this id is on d
+abbrev Spared : ℕ → (ℕ → List Answered) → ℕ → Type 0
+Spared d q i = anyOf (onDevice d) (commandsIn (q i)) ≡ false
+
+stand-spared : (d : ℕ) (q : ℕ → List Answered) (l : List Entry) (u w : ℕ → Bool) → SameBut d u w → Each (Spared d q) (entryIds l) → Stand q l u → Stand q l w
+stand-spared d q [] u w e n h = tt
+stand-spared d q (routine i cs b ∷ l) u w e n h = (h .0, fits-spared d u w e (q i) (n .0) (h .1), stand-spared d q l u w e (n .1) (h .2))
+stand-spared d q (event x ∷ l) u w e n h = stand-spared d q l (λ y. upEvent y x (u y)) (λ y. upEvent y x (w y)) (λ y m. ap (upEvent y x) (e y m)) n h
+
+event-other : (d : ℕ) (e : Event) → isOf d e ≡ true → (u : ℕ → Bool) → SameBut d u (λ x. upEvent x e (u x))
+event-other d (failed y) t u x n = ap (λ b. if b then false else u x) (sym (ne-eqb y x (λ z. n (sym z ∙ eqb-true y d t))))
+event-other d (restarted y v) t u x n = ap (λ b. if b then true else u x) (sym (ne-eqb y x (λ z. n (sym z ∙ eqb-true y d t))))
+
+spared-groups : (d : ℕ) (a : ℕ → Account) (l : List Group) → Each (Quiet d) l → Each (Tells a) l → Each (Spared d (answeredIn a)) (ids l)
+spared-groups d a [] q t = tt
+spared-groups d a (g ∷ l) q t =
+    (ap (anyOf (onDevice d)) (t .0 .answered-is) ∙ unbegun-answered (g .member) d (q .0 .idle), spared-groups d a l (q .1) (t .1))
+
+-- those that are quiet with d do not see an event of it
+stand-event : (d : ℕ) (e : Event) → isOf d e ≡ true → (a : ℕ → Account) (l : List Group) → Each (Quiet d) l → Each (Tells a) l → (u : ℕ → Bool) →
+    Stand (answeredIn a) (flat l) u → Stand (answeredIn a) (event e ∷ flat l) u
+stand-event d e t a l q k u h =
+    stand-spared d (answeredIn a) (flat l) u (λ x. upEvent x e (u x)) (event-other d e t u) (rw (entryIds-flat l) (spared-groups d a l q k)) h
+
+-- ---- the entries of groups
+
+-- f: the events attached to 0
+abbrev openPart : List Event → List Group → List Entry
+openPart f l = map event f ++ flat l
+
+map-events : (f h : List Event) (r : List Entry) → map event (f ++ h) ++ r ≡ map event f ++ (map event h ++ r)
+map-events [] h r = refl
+map-events (e ∷ f) h r = ap (λ l. event e ∷ l) (map-events f h r)
+
+flat-pass : (l : List Group) → flat (passAll l) ≡ flat l
+unfolding pass
+flat-pass [] = refl
+flat-pass (g ∷ l) = ap (λ k. entryOf (g .member) ∷ (map event (g .events) ++ k)) (flat-pass l)
+
+flat-last : (f : List Event) (e : ℕ → Option ℤ) (g : Group) (a b : List Group) → flat (addToLast f e (g ∷ a) ++ b) ≡ flat (g ∷ a) ++ (map event f ++ flat b)
+unfolding attachTo
+flat-last f e g [] b =
+    ap (λ k. entryOf (g .member) ∷ k) (map-events (g .events) f (flat b) ∙ ap (λ k. k ++ (map event f ++ flat b)) (sym (append-nil (map event (g .events)))))
+flat-last f e g (h ∷ a) b =
+    ap (λ k. entryOf (g .member) ∷ k) (ap (λ k. map event (g .events) ++ k) (flat-last f e h a b) ∙ sym (append-assoc (map event (g .events)) (flat (h ∷ a)) (map event f ++ flat b)))
+
+-- a routine goes, its events stay
+flat-without : (a : List Group) (g : Group) (b : List Group) → openPart (leadOf a g) (without a g b) ≡ flat a ++ (map event (g .events) ++ flat b)
+flat-without [] g b = refl
+flat-without (x ∷ a) g b = flat-last (g .events) (g .member .restarts) x a b
+
+flat-added : (e : Event) (g : Group) (b : List Group) → flat (addEvent e g ∷ b) ≡ entryOf (g .member) ∷ (map event (g .events) ++ (event e ∷ flat b))
+unfolding attachTo
+flat-added (failed d) g b = ap (λ k. entryOf (g .member) ∷ k) (map-events (g .events) (failed d ∷ []) (flat b))
+flat-added (restarted d v) g b = ap (λ k. entryOf (g .member) ∷ k) (map-events (g .events) (restarted d v ∷ []) (flat b))
+
+-- ---- the accounts' answered commands
+
+put-answered : (a : ℕ → Account) (i : ℕ) (z : Account) → answeredIn (put a i z) ≡ put (answeredIn a) i (z .answered)
+put-answered a i z = fun-ext (λ j. go j (eqb j i))
+  where
+    go : (j : ℕ) (t : Bool) → (if t then z else a j) .answered ≡ (if t then z .answered else a j .answered)
+    go j true = refl
+    go j false = refl
+
+-- a routine that ends keeps them
+ended-answered : (a : ℕ → Account) (i : ℕ) → answeredIn (put a i (endedAccount (a i))) ≡ answeredIn a
+ended-answered a i = fun-ext (λ j. byIf (λ (z : Account). z .answered ≡ a j .answered) (eqb j i) (λ e. ap (λ x. a x .answered) (sym (eqb-true j i e))) (λ _. refl))
+
+-- ---- a routine is placed, or changes in its place
+
+-- what holds before a call
+record Before (s : State) (o : Order) (a : ℕ → Account) (l : List Group) : Type 0 where
+  hub : HubOk s l
+  flies : Each (FliesUp s) l
+  order : OrderOk s o [] l
+  tells : Each (Tells a) l
+  stand : Standing a (o .settled ++ flat l)
+
+flat-at : (p : List Entry) (a b : List Group) → p ++ flat (a ++ b) ≡ (p ++ flat a) ++ flat b
+flat-at p a b = ap (λ k. p ++ k) (flat-++ a b) ∙ sym (append-assoc p (flat a) (flat b))
+
+order-ids : (s : State) (o : Order) (a b : List Group) → OrderOk s o [] (a ++ b) → IdsOk (s .nextId) (entryIds (o .settled ++ flat a) ++ entryIds (flat b))
+order-ids s o a b k =
+    rw (entryIds-++ (o .settled) (flat a), entryIds-flat a, entryIds-flat b, append-assoc (entryIds (o .settled)) (ids a) (ids b), ← ids-++ a b) (k .ids-ok)
+
+-- and behind p and these groups, from all devices up
+abbrev upPast : List Entry → List Group → ℕ → Bool
+upPast p x = upBehind (p ++ flat x) (λ d. true)
+
+stand-at : (a : ℕ → Account) (p : List Entry) (x y : List Group) → Standing a (p ++ flat (x ++ y)) → Standing a (p ++ flat x) × Stand (answeredIn a) (flat y) (upPast p x)
+stand-at a p x y w = stand-split (answeredIn a) (p ++ flat x) (flat y) (λ d. true) (subst (λ l. Standing a l) (flat-at p x y) w)
+
+-- g stands between x and y, its account having become z
+stand-put : (a : ℕ → Account) (p : List Entry) (x : List Group) (g : Group) (y : List Group) (z : Account) →
+    NotIn (g .member .id) (entryIds (p ++ flat x)) → NotIn (g .member .id) (entryIds (map event (g .events) ++ flat y)) →
+    Standing a (p ++ flat x) → Stand (answeredIn a) (map event (g .events) ++ flat y) (upPast p x) →
+    Each (Tells (put a (g .member .id) z)) (x ++ (g ∷ y)) → Each (Fits (upPast p x)) (z .answered) → Standing (put a (g .member .id) z) (p ++ flat (x ++ (g ∷ y)))
+stand-put a p x g y z m n h k t f =
+    let i = g .member .id in
+    let e : doneSteps (g .member .steps) ≡ doneOnes (z .answered) = sym (each-mid (Tells (put a i z)) x g y t .done-is) ∙ ap (λ (c : Account). doneOnes (c .answered)) (put-same a i z) in
+    subst (λ l. Standing (put a i z) l) (sym (flat-at p x (g ∷ y)))
+    (subst (λ q. Stand q ((p ++ flat x) ++ flat (g ∷ y)) (λ d. true)) (sym (put-answered a i z))
+    (stand-with (answeredIn a) i (z .answered) (p ++ flat x) (doneSteps (g .member .steps)) (g .member .committed) (map event (g .events) ++ flat y) (λ d. true) m n h k e f))
+
+stand-places : (s : State) (o : Order) (a : ℕ → Account) (cs : List Command) (x y : List Group) → Before s o a (x ++ y) →
+    Each (Tells (put a (s .nextId) (placedAccount cs))) (x ++ (alone (newcomer (s .nextId) cs) ∷ passAll y)) →
+    Standing (put a (s .nextId) (placedAccount cs)) (o .settled ++ flat (x ++ (alone (newcomer (s .nextId) cs) ∷ passAll y)))
+unfolding newcomer
+stand-places s o a cs x y f t =
+    let i = s .nextId in
+    let p = entryIds (o .settled ++ flat x) in
+    let r = entryIds (flat y) in
+    let n = ids-fresh i (p ++ r) (order-ids s o x y (f .order)) in
+    let h = stand-at a (o .settled) x y (f .stand) in
+    stand-put a (o .settled) x (alone (newcomer i cs)) (passAll y) (placedAccount cs) (notIn-left i p r n)
+    (subst (λ l. NotIn i (entryIds l)) (sym (flat-pass y)) (notIn-right i p r n)) (h .0)
+    (subst (λ l. Stand (answeredIn a) l (upPast (o .settled) x)) (sym (flat-pass y)) (h .1)) t tt
+
+-- the routine with these steps
+abbrev changed : Group → List Step → Bool → Group
+changed g l b = with g (record { id = g .member .id; steps = l; passed = g .member .passed; committed = b; restarts = g .member .restarts })
+
+module _ (s : State) (o : Order) (a : ℕ → Account) (x : List Group) (g : Group) (y : List Group) (f : Before s o a (x ++ (g ∷ y))) where
+  stand-changes : (l : List Step) (b : Bool) (z : Account) →
+      (Each (Fits (upPast (o .settled) x)) (a (g .member .id) .answered) → Each (Fits (upPast (o .settled) x)) (z .answered)) →
+      Each (Tells (put a (g .member .id) z)) (x ++ (changed g l b ∷ y)) → Standing (put a (g .member .id) z) (o .settled ++ flat (x ++ (changed g l b ∷ y)))
+  stand-changes l b z m t =
+      let i = g .member .id in
+      let p = entryIds (o .settled ++ flat x) in
+      let r = entryIds (map event (g .events) ++ flat y) in
+      let n = order-ids s o x (g ∷ y) (f .order) in
+      let h = stand-at a (o .settled) x (g ∷ y) (f .stand) in
+      stand-put a (o .settled) x (changed g l b) y z (ids-front (s .nextId) p i r n) (ids-behind (s .nextId) p i r n) (h .0) (h .1 .2) t (m (h .1 .1))
+
+  -- its first command that is left, c, is answered
+  stand-answers : (l : List Step) (b : Bool) (c : Command) (cs : List Command) (v : Outcome) → leftSteps (g .member .steps) ≡ c ∷ cs →
+      Finds (upPast (o .settled) x (c .device)) v → let z = answeredAccount v (a (g .member .id) .left) (a (g .member .id)) in
+      Each (Tells (put a (g .member .id) z)) (x ++ (changed g l b ∷ y)) → Standing (put a (g .member .id) z) (o .settled ++ flat (x ++ (changed g l b ∷ y)))
+  stand-answers l b c cs v e m =
+      let j = a (g .member .id) in
+      let u = upPast (o .settled) x in
+      let k : j .left ≡ c ∷ cs = each-mid (Tells a) x g y (f .tells) .left-is ∙ e in
+      stand-changes l b (answeredAccount v (j .left) j)
+      (λ h. subst (λ r. Each (Fits u) (answeredAccount v r j .answered)) (sym k) (each-++ (Fits u) (j .answered) (record { command = c; outcome = v } ∷ []) h (m, tt)))
+
+  -- a device that nothing behind g touches is up before g as it is now
+  up-before : (d : ℕ) → Clear d x g y → upPast (o .settled) x d ≡ s .up d
+  up-before d c =
+      let p = o .settled ++ flat x in
+      let u = upPast (o .settled) x d in
+      let whole : entries o ≡ p ++ flat (g ∷ y) = ap (λ l. o .settled ++ l) (f .order .open-is) ∙ flat-at (o .settled) x (g ∷ y) in
+      let same : upAfter d (flat (g ∷ y)) u ≡ u = up-++ d (map event (g .events)) (flat y) u ∙ up-flat-quiet d y _ (c .behind-quiet) ∙ up-quiet d (g .events) u (c .no-event) in
+      sym (ap (λ l. upAfter d l true) whole ∙ up-++ d p (flat (g ∷ y)) true ∙ same) ∙ f .order .up-is d
+
+-- ---- a routine leaves
+
+stand-leaves : (a : ℕ → Account) (p : List Entry) (x : List Group) (g : Group) (y : List Group) → Standing a (p ++ flat (x ++ (g ∷ y))) →
+    Standing a (p ++ openPart (leadOf x g) (without x g y))
+stand-leaves a p x g y w =
+    let h = stand-at a p x (g ∷ y) w in
+    let r = map event (g .events) ++ flat y in
+    subst (λ l. Standing a l) (append-assoc p (flat x) r ∙ ap (λ l. p ++ l) (sym (flat-without x g y)))
+    (stand-join (answeredIn a) (p ++ flat x) r (λ d. true) (h .0) (h .1 .2))
+
+-- ---- an event is attached to its device's mark
+
+attach-past : (j : ℕ) (e : Event) (a b : List Group) → NotIn j (ids a) → attachEvent j e (a ++ b) ≡ a ++ attachEvent j e b
+attach-past j e [] b n = refl
+attach-past j e (g ∷ a) b n =
+    ap (λ t. if t then addEvent e g ∷ (a ++ b) else g ∷ attachEvent j e (a ++ b)) (ne-eqb (g .member .id) j (n .0)) ∙ ap (λ k. g ∷ k) (attach-past j e a b (n .1))
+
+attach-none : (j : ℕ) (e : Event) (l : List Group) → NotIn j (ids l) → attachEvent j e l ≡ l
+attach-none j e l n = subst (λ b. attachEvent j e b ≡ b) (append-nil l) (attach-past j e l [] n)
+
+attach-at : (j : ℕ) (e : Event) (a : List Group) (g : Group) (b : List Group) → NotIn j (ids a) → g .member .id ≡ j → attachEvent j e (a ++ (g ∷ b)) ≡ a ++ (addEvent e g ∷ b)
+attach-at j e a g b n i = attach-past j e a (g ∷ b) n ∙ ap (λ t. a ++ (if t then addEvent e g ∷ b else g ∷ attachEvent j e b)) (eq-eqb (g .member .id) j i)
+
+zero-not-in : (n : ℕ) (l : List ℕ) → IdsOk n l → NotIn 0 l
+zero-not-in n [] h = tt
+zero-not-in n (x ∷ l) h = (let p = h .0 in omega arith, zero-not-in n l (h .3))
+
+-- everyone behind the mark is quiet
+stand-attached : (s : State) (d : ℕ) (e : Event) → isOf d e ≡ true → (a : ℕ → Account) (p : List Entry) (lead : List Event) (l : List Group) → HubOk s l →
+    Each (Tells a) (attachEvent (s .mark d) e l) → Standing a (p ++ openPart lead l) → Standing a (p ++ openPart (leadWith (s .mark d) e lead) (attachEvent (s .mark d) e l))
+stand-attached s d e t a p lead l h k w = go (mark-place s l h d)
+  where
+    j : ℕ
+    j = s .mark d
+
+    q : ℕ → List Answered
+    q = answeredIn a
+
+    leads : (b : Bool) → eqb j 0 ≡ b → leadWith j e lead ≡ (if b then lead ++ (e ∷ []) else lead)
+    leads b = ap (λ c. if c then lead ++ (e ∷ []) else lead)
+
+    go : MarkPlace d j l → Standing a (p ++ openPart (leadWith j e lead) (attachEvent j e l))
+    go (at-zero z n) =
+        let past : attachEvent j e l ≡ l = attach-none j e l (subst (λ i. NotIn i (ids l)) (sym z) (zero-not-in (s .nextId) (ids l) (h .ids-ok))) in
+        let told : Each (Tells a) l = subst (λ b. Each (Tells a) b) past k in
+        subst (λ r. Standing a (p ++ r)) (sym (ap₂ openPart (leads true (eq-eqb j 0 z)) past ∙ map-events lead (e ∷ []) (flat l)))
+        (stand-behind q p (openPart lead l) (map event lead ++ (event e ∷ flat l))
+        (stand-behind q (map event lead) (flat l) (event e ∷ flat l) (stand-event d e t a l n told)) (λ d. true) w)
+    go (at-group x g y c i n) =
+        let ok : IdsOk (s .nextId) (ids x ++ (g .member .id ∷ ids y)) = subst (λ b. IdsOk (s .nextId) b) (ap ids c ∙ ids-++ x (g ∷ y)) (h .ids-ok) in
+        let front : NotIn j (ids x) = subst (λ m. NotIn m (ids x)) i (ids-front (s .nextId) (ids x) (g .member .id) (ids y) ok) in
+        let past : attachEvent j e l ≡ x ++ (addEvent e g ∷ y) = ap (attachEvent j e) c ∙ attach-at j e x g y front i in
+        let told : Each (Tells a) y = each-right (Tells a) x (addEvent e g ∷ y) (subst (λ b. Each (Tells a) b) past k) .1 in
+        let not-zero : j ≢ 0 = λ z. zero-not-in (s .nextId) (g .member .id ∷ ids y) (ids-right (s .nextId) (ids x) (g .member .id ∷ ids y) ok) .0 (i ∙ z) in
+        let r = entryOf (g .member) ∷ map event (g .events) in
+        let new = flat x ++ (r ++ (event e ∷ flat y)) in
+        let new-is : flat (attachEvent j e l) ≡ new = ap flat past ∙ flat-++ x (addEvent e g ∷ y) ∙ ap (λ b. flat x ++ b) (flat-added e g y) in
+        subst (λ v. Standing a (p ++ v)) (sym (ap₂ (λ f b. map event f ++ b) (leads false (ne-eqb j 0 not-zero)) new-is))
+        (stand-behind q p (openPart lead l) (map event lead ++ new)
+        (stand-behind q (map event lead) (flat l) new
+        (λ v m. stand-behind q (flat x) (flat (g ∷ y)) (r ++ (event e ∷ flat y)) (stand-behind q r (flat y) (event e ∷ flat y) (stand-event d e t a y n told)) v
+        (subst (λ b. Stand q b v) (ap flat c ∙ flat-++ x (g ∷ y)) m))) (λ d. true) w)
+
+-- the abort ahead of the event
+stand-gone : (s : State) (d : ℕ) (l : List Group) {r : Result} {lead : List Event} {k : List Group} → Gone s d l r lead k → (a : ℕ → Account) (p : List Entry) →
+    Standing a (p ++ flat l) → Standing a (p ++ openPart lead k)
+stand-gone s d l (nobody n) a p w = w
+stand-gone s d l (somebody x g y e n) a p w = stand-leaves a p x g y (subst (λ b. Standing a (p ++ flat b)) e w)
+
+-- the answer behind it tells nothing of a routine
+gone-answered : (s : State) (d : ℕ) (l : List Group) {r : Result} {lead : List Event} {k : List Group} → Gone s d l r lead k →
+    (c : Call) (v : Answer) → ((b : ℕ → Account) → noteAnswer c v b ≡ b) → (a : ℕ → Account) → answeredIn (noteAnswers c (r .answers ++ (v ∷ [])) a) ≡ answeredIn a
+unfolding abort
+gone-answered s d l (nobody n) c v same a = ap answeredIn (same a)
+gone-answered s d l (somebody x g y e n) c v same a = ap answeredIn (same _) ∙ ended-answered a (g .member .id)
+
+stand-happens : (s : State) (d : ℕ) (e : Event) → isOf d e ≡ true → (a : ℕ → Account) (p : List Entry) (l : List Group) (r : Result) (lead : List Event) (k : List Group) →
+    HubOk s l → Gone s d l r lead k → (c : Call) (v : Answer) → ((b : ℕ → Account) → noteAnswer c v b ≡ b) → Standing a (p ++ flat l) →
+    Each (Tells (noteAnswers c (r .answers ++ (v ∷ [])) a)) (attachEvent (r .state .mark d) e k) →
+    Standing (noteAnswers c (r .answers ++ (v ∷ [])) a) (p ++ openPart (leadWith (r .state .mark d) e lead) (attachEvent (r .state .mark d) e k))
+stand-happens s d e t a p l r lead k h g c v same w n =
+    let b = noteAnswers c (r .answers ++ (v ∷ [])) a in
+    stand-attached (r .state) d e t b p lead k (hub-gone s d l h g .0) n
+    (stand-gone s d l g b p (subst (λ q. Stand q (p ++ flat l) (λ d. true)) (sym (gone-answered s d l g c v same a)) w))
+
+-- ---- every call
+
+stand-moves : (s : State) (o : Order) (a : ℕ → Account) (l : List Group) {c : Call} {r : Result} {lead : List Event} {k : List Group} → Before s o a l → Moves s l c r lead k →
+    Each (Tells (noteAnswers c (r .answers) a)) k → Standing (noteAnswers c (r .answers) a) (o .settled ++ openPart lead k)
+unfolding abort newcomer commit commitTurn sendTurn skipTurn doneReport skipReport
+stand-moves s o a l f (places cs x y v e m n b) = stand-places s o a cs x y (subst (λ l. Before s o a l) e f)
+stand-moves s o a l f (commits i x g y e j r n b) =
+    stand-changes s o a x g y (subst (λ l. Before s o a l) e f) (g .member .steps) true (endedAccount (a (g .member .id))) (λ h. h)
+stand-moves s o a l f (sends i x g y c e j r n b m u) =
+    stand-changes s o a x g y (subst (λ l. Before s o a l) e f) (sentMember s g c .steps) (g .member .committed) (sentAccount c (a (g .member .id))) (λ h. h)
+stand-moves s o a l f (skips i x g y c e j r n b m u) =
+    let w = subst (λ l. Before s o a l) e f in
+    let k = skip-step (g .member) (each-mid Turns x g y (w .hub .turns) .turns) c b n in
+    stand-answers s o a x g y w (skippedMember g .steps) (g .member .committed) c (leftSteps (skippedMember g .steps)) not-sent (k .left-is)
+    (up-before s o a x g y w (c .device) (turn-clear s x g y c (w .hub) b n m) ∙ u)
+stand-moves s o a l f (dones i code x g y v e j r n b) =
+    let w = subst (λ l. Before s o a l) e f in
+    let k = done-step (g .member) (each-mid Turns x g y (w .hub .turns) .turns) v n in
+    let d = v .command .device in
+    stand-answers s o a x g y w (doneMember g .steps) (g .member .committed) (v .command) (leftSteps (doneMember g .steps)) reported-done (k .left-is)
+    (up-before s o a x g y w d (flight-clear s x g y v (w .hub) n) ∙ each-mid (FliesUp s) x g y (w .flies) .flies-up d (k .flew d ∙ eq-eqb d d refl))
+stand-moves s o a l f (misses i code x g y v e j r n b) =
+    let w = subst (λ l. Before s o a l) e f in
+    let k = fail-step (g .member) (each-mid Turns x g y (w .hub .turns) .turns) v n in
+    stand-answers s o a x g y w (failedMember g .steps) (g .member .committed) (v .command) (leftSteps (failedMember g .steps)) reported-failed (k .left-is) tt
+stand-moves s o a l f (aborts c x g y e j n) = λ _.
+    subst (λ q. Stand q (o .settled ++ openPart (leadOf x g) (without x g y)) (λ d. true)) (sym (ended-answered a (g .member .id)))
+    (stand-leaves a (o .settled) x g y (subst (λ l. Standing a (o .settled ++ flat l)) e (f .stand)))
+stand-moves s o a l f (fails d r lead b n u g) =
+    stand-happens (withUp s (put (s .up) d false)) d (failed d) (eq-eqb d d refl) a (o .settled) l r lead b (hub-up s (put (s .up) d false) l (f .hub)) g
+    (failure d) (down d (r .state .mark d)) (λ b. refl) (f .stand)
+stand-moves s o a l f (restarts d v r lead b n u g) =
+    stand-happens s d (restarted d v) (eq-eqb d d refl) a (o .settled) l r lead b (f .hub) g (restart d v) (up d (r .state .mark d)) (λ b. refl) (f .stand)
 
 pub stands-moves : (s : State) (o : Order) (a : ℕ → Account) (l : List Group) {c : Call} {r : Result} {lead : List Event} {k : List Group} →
     HubOk s l → Each (FliesUp s) l → OrderOk s o [] l → Each (Tells a) l → CommandsStand a (entries o) allUp → Moves s l c r lead k →
     CommandsStand (noteAnswers c (r .answers) a) (entries (orderAfterAll c a (r .answers) o)) allUp
-stands-moves s o a l h f k t w m = ?
+stands-moves s o a l {c = c} {r = r} h f k t w m =
+    let b = noteAnswers c (r .answers) a in
+    let n = order-moves s o a l h k t m in
+    let v = subst (λ p. Standing a (o .settled ++ p)) (k .open-is) (transport (stand-is a (entries o) allUp) w) in
+    transport (sym (stand-is b (entries (orderAfterAll c a (r .answers) o)) allUp))
+    (subst (λ p. Standing b p) (sym (ap₂ (λ x y. x ++ y) (n .1) (n .0 .open-is)))
+    (stand-moves s o a l (record { hub = h; flies = f; order = k; tells = t; stand = v }) m (accounts-moves s a l h t m)))
