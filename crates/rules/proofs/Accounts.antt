@@ -3,8 +3,9 @@ use mathlib.Core.Path.{_≡_, refl, sym, ap, _∙_, subst}
 use mathlib.Core.Bool.{Bool, true, false, not}
 use mathlib.Core.List.{List, [], _∷_, _++_, append-nil}
 use mathlib.Core.Option.{Option, none, some}
-use Prim.Native.Nat.{ℕ}
+use Prim.Native.Nat.{ℕ, _<_, _≤_}
 use native.Mathlib.Omega.{arith}
+use borrow.Author.Tests.{eqb-true}
 use lib.Dec.{eqb}
 use lib.IntN.{ℤ}
 use Rattle.routine.specs.Choice.{if_then_else_}
@@ -23,7 +24,7 @@ use Rattle.rules.specs.Events.{attach, oneRestart}
 use Rattle.rules.specs.History.{Outcome, reported-done, reported-failed, not-sent, Answered, Account, placedAccount, sentAccount, answeredAccount, endedAccount, noteAnswer, noteAnswers, workingAfter, workingAfterAll}
 use Rattle.rules.specs.Order.{Event, failed, restarted}
 use Rattle.rules.specs.Demand3.{doneOnes}
-use Rattle.rules.proofs.Lists.{byIf, put-same, put-other, Each, each-++, each-left, each-right, each-mid, NotIn, IdsOk, notIn-left, notIn-right, ids-fresh, ids-front, ids-behind}
+use Rattle.rules.proofs.Lists.{byIf, put-same, put-other, Each, each-++, each-left, each-right, each-mid, NotIn, IdsOk, notIn-left, notIn-right, ids-fresh, ids-right, ids-front, ids-behind}
 use Rattle.rules.proofs.Groups.{Group, ids, doneSteps, alone, with, passAll, addToLast, without, addEvent, attachEvent, unsettled, ids-++}
 use Rattle.rules.proofs.Steps.{InTurn, leftSteps, answeredSteps, Sent, Skipped, AnsweredOne, send-step, skip-step, done-step, done-gains, fail-step, fail-done, Fresh, fresh-newcomer}
 use Rattle.rules.proofs.Invariant.{Turns, HubOk, commandsIn, Tells}
@@ -231,6 +232,58 @@ accounts-moves s a l h t (restarts d v r lead k n u w) =
 pub accounts-settles : (a : ℕ → Account) (l : List Group) → Each (Tells a) l → Each (Tells a) (unsettled l)
 accounts-settles a [] t = tt
 accounts-settles a (g ∷ l) t = byIf (λ k. Each (Tells a) k) (g .member .committed) (λ _. accounts-settles a l (t .1)) (λ _. t)
+
+-- ---- for an id that is not given yet nothing was sent
+
+-- an account that changes in another part
+put-sends : (a : ℕ → Account) (j : ℕ) (x : Account) (i : ℕ) → x .sends ≡ a j .sends → put a j x i .sends ≡ a i .sends
+put-sends a j x i e = byElse (eqb i j) refl
+  where
+    byElse : (b : Bool) → eqb i j ≡ b → (if b then x else a i) .sends ≡ a i .sends
+    byElse true t = e ∙ ap (λ k. a k .sends) (sym (eqb-true i j t))
+    byElse false t = refl
+
+pub answered-sends : (o : Outcome) (l : List Command) (x : Account) → answeredAccount o l x .sends ≡ x .sends
+answered-sends o [] x = refl
+answered-sends o (c ∷ l) x = refl
+
+put-answered : (a : ℕ → Account) (j : ℕ) (o : Outcome) (i : ℕ) → put a j (answeredAccount o (a j .left) (a j)) i .sends ≡ a i .sends
+put-answered a j o i = put-sends a j (answeredAccount o (a j .left) (a j)) i (answered-sends o (a j .left) (a j))
+
+gone-sends : (s : State) (c : Call) (d : ℕ) (a : ℕ → Account) (l : List Group) {r : Result} {lead : List Event} {k : List Group} → Gone s d l r lead k → (i : ℕ) →
+    (noteAnswers c (r .answers) a i .sends ≡ a i .sends) × (r .state .nextId ≡ s .nextId)
+unfolding abort leave
+gone-sends s c d a l (nobody q) i = (refl, refl)
+gone-sends s c d a l (somebody ga g gb e q) i = (put-sends a (g .member .id) _ i refl, refl)
+
+attach-nextId : (j : ℕ) (e : ℕ → Option ℤ) (s : State) → attach j e s .nextId ≡ s .nextId
+unfolding attach
+attach-nextId j e s = byIf (λ (q : State). q .nextId ≡ s .nextId) (eqb j 0) (λ _. refl) (λ _. refl)
+
+abbrev pub Unsent : State → (ℕ → Account) → Type 0
+Unsent s a = (i : ℕ) → s .nextId ≤ i → a i .sends ≡ 0
+
+pub unsent-moves : (s : State) (a : ℕ → Account) (l : List Group) {c : Call} {r : Result} {lead : List Event} {k : List Group} → HubOk s l → Unsent s a → Moves s l c r lead k →
+    Unsent (r .state) (noteAnswers c (r .answers) a)
+unfolding place commitTurn sendTurn skipTurn doneReport skippedState skipReport abort leave
+unsent-moves s a l h u (places cs ga gb q f v p n) i e = byIf (λ (x : Account). x .sends ≡ 0) (eqb i (s .nextId)) (λ _. refl) (λ _. u i (omega arith))
+unsent-moves s a l h u (commits j ga g gb f n r k q) i e = put-sends a (g .member .id) _ i refl ∙ u i e
+unsent-moves s a l h u (sends j ga g gb c f n r k q x v) i e = ap (λ (y : Account). y .sends) (put-other a (g .member .id) _ i (λ z. given z)) ∙ u i e
+  where
+    below : g .member .id < s .nextId
+    below = ids-right (s .nextId) (ids ga) (g .member .id ∷ ids gb) (subst (λ m. IdsOk (s .nextId) m) (ap ids f ∙ ids-++ ga (g ∷ gb)) (h .ids-ok)) .1
+
+    given : i ≡ g .member .id → ⊥
+    given z = let b = below in omega arith
+unsent-moves s a l h u (skips j ga g gb c f n r k q x v) i e = put-answered a (g .member .id) not-sent i ∙ u i e
+unsent-moves s a l h u (dones j code ga g gb x f n r k q) i e = put-answered a (g .member .id) reported-done i ∙ u i e
+unsent-moves s a l h u (misses j code ga g gb x f n r k q) i e = put-answered a (g .member .id) reported-failed i ∙ u i e
+unsent-moves s a l h u (aborts c ga g gb f r k) i e = put-sends a (g .member .id) _ i refl ∙ u i e
+unsent-moves s a l h u (fails d r lead k n v g) i e =
+    ap (λ f. f i .sends) (note-++ (failure d) (r .answers) (down d (r .state .mark d)) a) ∙ gone-sends _ (failure d) d a l g i .0 ∙ u i (subst (λ m. m ≤ i) (gone-sends _ (failure d) d a l g i .1) e)
+unsent-moves s a l h u (restarts d v r lead k n w g) i e =
+    ap (λ f. f i .sends) (note-++ (restart d v) (r .answers) (up d (r .state .mark d)) a) ∙ gone-sends s (restart d v) d a l g i .0
+    ∙ u i (subst (λ m. m ≤ i) (attach-nextId (r .state .mark d) (oneRestart d v) (r .state) ∙ gone-sends s (restart d v) d a l g i .1) e)
 
 -- ---- a device works exactly if the hub has it up
 

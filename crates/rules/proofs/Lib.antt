@@ -13,6 +13,7 @@ pub mod Ordered
 pub mod Accounts
 pub mod Stands
 pub mod Devices
+pub mod DeviceAborts
 pub mod DeviceKept
 pub mod Theorem
 pub mod Worlds

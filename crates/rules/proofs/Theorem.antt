@@ -4,7 +4,7 @@ use mathlib.Core.Logic.{_≢_}
 use mathlib.Core.Bool.{Bool, true, false, not, _||_, or-true}
 use mathlib.Core.List.{List, [], _∷_, _++_, append-assoc, append-nil}
 use mathlib.Core.Option.{Option}
-use Prim.Native.Nat.{ℕ, _<_}
+use Prim.Native.Nat.{ℕ, _<_, _≤_}
 use native.Mathlib.Omega.{arith}
 use borrow.Author.Tests.{eqb-true, eqb-false}
 use lib.Dec.{ltb, eqb}
@@ -35,12 +35,12 @@ use Rattle.rules.proofs.Lists.{byIf, t≠f, Each, anyOf-++}
 use Rattle.rules.proofs.Groups.{Group, unsettled}
 use Rattle.rules.proofs.Invariant.{unmarked, HubOk, FliesUp, FirstRuns, upAfter, setAfter, OrderOk, Tells, backTo, Comes, has, goes-back, OneFlies, DeviceAt, dead, free, busy, DeviceOk, Honest}
 use Rattle.rules.proofs.View.{Gone, nobody, somebody, Moves, places, commits, sends, skips, dones, misses, aborts, fails, restarts, Seen, is-refused, waits, moves, see}
-use Rattle.rules.proofs.Settled.{settle-up, settle-devices}
+use Rattle.rules.proofs.Settled.{settle-up, settle-devices, settle-nextId}
 use Rattle.rules.proofs.Moved.{hub-settles}
 use Rattle.rules.proofs.Kept.{hub-moves, flies-moves, flies-settles}
 use Rattle.rules.proofs.Serial.{serial-setting, serial-up, order-due, order-settles, bar-entries, bar-stays, first-runs}
 use Rattle.rules.proofs.Ordered.{order-moves}
-use Rattle.rules.proofs.Accounts.{accounts-moves, accounts-settles, working-moves}
+use Rattle.rules.proofs.Accounts.{accounts-moves, accounts-settles, Unsent, unsent-moves, working-moves}
 use Rattle.rules.proofs.Stands.{stands-moves}
 use Rattle.rules.proofs.Devices.{device-takes, device-settles}
 use Rattle.rules.proofs.DeviceKept.{device-moves}
@@ -53,6 +53,7 @@ record Holds (P : Type 0) (w : World) : Type 0 where
   order : OrderOk (w .state) (orderIn w) [] groups
   first : FirstRuns groups
   tells : Each (Tells (accounts w)) groups
+  unsent : Unsent (w .state) (accounts w)
   works : (d : ℕ) → workingOf (w .history) d ≡ w .state .up d
   stands : CommandsStand (accounts w) (entries (orderIn w)) allUp
   devices : P → (d : ℕ) → d < w .state .devices → DeviceOk d (w .state) (accounts w) groups (w .devices d)
@@ -143,6 +144,7 @@ untold P Q w c x h a k o = record {
     order = subst (λ q. OrderOk (w .state) q [] (h .groups)) (sym same) (h .order);
     first = h .first;
     tells = subst (λ q. Each (Tells q) (h .groups)) (sym a) (h .tells);
+    unsent = subst (λ q. Unsent (w .state) q) (sym a) (h .unsent);
     works = λ d. ap (λ f. f d) k ∙ h .works d;
     stands = subst (λ q. CommandsStand q (entries (moveBar (orderAfter c (accounts w) x (orderIn w)))) allUp) (sym a) (subst (λ q. CommandsStand (accounts w) (entries q) allUp) (sym same) (h .stands));
     devices = λ p d n. subst (λ q. DeviceOk d (w .state) q (h .groups) (w .devices d)) (sym a) (h .devices (p .0) d n);
@@ -165,12 +167,13 @@ told P w c v h {r = r} {lead = lead} {k = k} m = record {
     order = settled .0;
     first = first-runs k;
     tells = accounts-settles _ k (accounts-moves s a l (h .hub) (h .tells) m);
+    unsent = λ i e. unsent-moves s a l (h .hub) (h .unsent) m i (subst (λ q. q ≤ i) (settle-nextId (r .state)) e);
     works = λ d. working-moves s (workingOf (w .history)) l (h .works) m d ∙ ap (λ f. f d) (sym (settle-up (r .state)));
     stands = subst (λ q. CommandsStand (noteAnswers c (r .answers) a) q allUp) (sym (bar-entries (orderAfterAll c a (r .answers) (orderIn w))))
         (stands-moves s (orderIn w) a l (h .hub) (h .flies) (h .order) (h .tells) (h .stands) m);
     devices = λ p d n. device-settles d (r .state) _ k _ hub
         (device-moves d s a l (w .devices) v (subst (λ q. d < q) same n) (h .hub) (h .order .events-ok) (h .tells)
-        (h .devices (p .0) d (subst (λ q. d < q) same n)) (honest w c (p .1 (moves-accepted s l m))) m);
+        (h .devices (p .0) d (subst (λ q. d < q) same n)) (h .unsent (s .nextId) (omega arith)) (h .flies) (honest w c (p .1 (moves-accepted s l m))) m);
   };
   grows = subst (λ q. Begins q (moveBar (orderAfterAll c a (r .answers) (orderIn w)) .settled)) (moved .1) (settled .1);
   same-devices = same;
@@ -215,6 +218,7 @@ acted P w (takes-one d k) h = record {
     order = h .order;
     first = h .first;
     tells = h .tells;
+    unsent = h .unsent;
     works = h .works;
     stands = h .stands;
     devices = λ p e n. byIf (DeviceOk e (w .state) (accounts w) (h .groups)) (eqb e d)
@@ -235,6 +239,7 @@ stronger P Q w f h = record {
   order = h .order;
   first = h .first;
   tells = h .tells;
+  unsent = h .unsent;
   works = h .works;
   stands = h .stands;
   devices = λ q. h .devices (f q);
@@ -274,6 +279,7 @@ opened-holds n k first p = record {
   order = record { open-is = refl; settled-is = λ d. refl; up-is = λ d. refl; events-ok = tt; ids-ok = tt; barred = refl };
   first = tt;
   tells = tt;
+  unsent = λ i e. refl;
   works = λ d. refl;
   stands = tt;
   devices = λ q d m. record { old-sent = tt; old-took = tt; device-at = free refl tt (has refl refl) };

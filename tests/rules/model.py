@@ -1,0 +1,209 @@
+"""Document 01's hub, written from the document alone: the whole order is kept as a list, and everything is read off it.
+
+A call is a tuple: ("submit", [(device, tag, setting), ..]), ("turn", id), ("report", id, code), ("failure", device),
+("restart", device, setting), ("cancel", id). An answer is a tuple that begins with the word that the document prints.
+"""
+
+LAST_ID = 4294967295
+
+
+class Refused(Exception):
+    def __init__(self, number, index=None):
+        super().__init__(number, index)
+        self.answer = ("refused", number) if index is None else ("refused", number, index)
+
+
+class Routine:
+    def __init__(self, rid, commands):
+        self.id = rid
+        self.commands = commands
+        self.answers = []  # "done" or "skipped", in turn
+        self.flight = None  # the due setting when the command now in flight was sent
+        self.committed = False
+        self.passed = 0
+        self.events = []  # ("failure", device) or ("restart", device, setting)
+
+    def begun(self, device):
+        reached = len(self.answers) + (self.flight is not None)
+        return any(c[0] == device for c in self.commands[:reached])
+
+    def finished(self, device):
+        return all(c[0] != device for c in self.commands[len(self.answers):])
+
+    def on_its_way(self, device):
+        return self.flight is not None and self.commands[len(self.answers)][0] == device
+
+    def effects(self):
+        done = [(c[0], c[2]) for c, a in zip(self.commands, self.answers) if a == "done"]
+        return done + restarts(self.events)
+
+
+def restarts(events):
+    return [(e[1], e[2]) for e in events if e[0] == "restart"]
+
+
+class Hub:
+    def __init__(self, n, k, first):
+        if not 1 <= n <= 32:
+            raise Refused(1)
+        if k > 8:
+            raise Refused(2)
+        if first == 0:
+            raise Refused(3)
+        self.n, self.k, self.next_id = n, k, first
+        self.settled = []  # (device, setting) of the settled part, in order
+        self.sequence = []
+        self.up = [True] * n
+        self.mark = [0] * n
+
+    # ---- what is read off the order
+
+    def due(self, device):
+        setting = 0
+        for d, s in self.settled + [e for r in self.sequence for e in r.effects()]:
+            if d == device:
+                setting = s
+        return setting
+
+    def lines(self):
+        return [self.due(d) if self.up[d] else None for d in range(self.n)]
+
+    def running(self, rid):
+        for r in self.sequence:
+            if r.id == rid and not r.committed:
+                return r
+        raise Refused(10)
+
+    # ---- changes that several calls share
+
+    def attach(self, rid, events):
+        if rid == 0:
+            self.settled += restarts(events)
+        else:
+            next(r for r in self.sequence if r.id == rid).events += events
+
+    def abort(self, r):
+        before = [self.due(d) for d in range(self.n)]
+        at = self.sequence.index(r)
+        heir = self.sequence[at - 1].id if at > 0 else 0
+        self.sequence.remove(r)
+        self.mark = [heir if m == r.id else m for m in self.mark]
+        self.attach(heir, r.events)
+        back = []
+        for d in range(self.n):
+            others = any(o.on_its_way(d) for o in self.sequence)
+            if self.up[d] and not others and (self.due(d) != before[d] or r.on_its_way(d)):
+                back.append((d, self.due(d)))
+        return ("aborted", r.id, back)
+
+    def settle(self):
+        while self.sequence and self.sequence[0].committed:
+            r = self.sequence.pop(0)
+            self.settled += r.effects()
+            self.mark = [0 if m == r.id else m for m in self.mark]
+
+    # ---- the calls
+
+    def call(self, call):
+        try:
+            answers = getattr(self, call[0])(*call[1:])
+        except Refused as refusal:
+            return [refusal.answer]
+        self.settle()
+        return answers
+
+    def submit(self, commands):
+        if not 1 <= len(commands) <= 8:
+            raise Refused(4)
+        for i, (device, tag, setting) in enumerate(commands):
+            if device >= self.n:
+                raise Refused(5, i)
+            if not -1000 <= setting <= 1000:
+                raise Refused(6, i)
+            if tag > 1:
+                raise Refused(7, i)
+        if len(self.sequence) >= 16:
+            raise Refused(8)
+        if self.next_id > LAST_ID:
+            raise Refused(9)
+        new = Routine(self.next_id, commands)
+        self.next_id += 1
+        marks = {self.mark[c[0]] for c in commands}
+        at = 0
+        for i, r in enumerate(self.sequence):
+            if r.id in marks or (not r.committed and r.passed >= self.k):
+                at = i + 1
+        after = self.sequence[at - 1].id if at > 0 else 0
+        self.sequence.insert(at, new)
+        for r in self.sequence[at + 1:]:
+            if not r.committed:
+                r.passed += 1
+        return [("placed", new.id, after)]
+
+    def turn(self, rid):
+        r = self.running(rid)
+        if r.flight is not None:
+            raise Refused(11)
+        if len(r.answers) == len(r.commands):
+            r.committed = True
+            return [("committed", r.id)]
+        device, tag, setting = r.commands[len(r.answers)]
+        for o in self.sequence[:self.sequence.index(r)]:
+            if not o.committed and not o.finished(device):
+                return [("wait", r.id, o.id)]
+        if not self.up[device] and tag == 0:
+            return [self.abort(r)]
+        if not r.begun(device):
+            self.mark[device] = r.id
+        if not self.up[device]:
+            r.answers.append("skipped")
+            return [("skipped", r.id, [])]
+        r.flight = self.due(device)
+        return [("send", r.id, (device, tag, setting))]
+
+    def report(self, rid, code):
+        r = self.running(rid)
+        if r.flight is None:
+            raise Refused(12)
+        if code > 1:
+            raise Refused(13)
+        device, tag, setting = r.commands[len(r.answers)]
+        if code == 0:
+            r.answers.append("done")
+            r.flight = None
+            return [("done", r.id)]
+        if tag == 0:
+            return [self.abort(r)]
+        then = r.flight
+        r.answers.append("skipped")
+        r.flight = None
+        back = [] if self.due(device) == then else [(device, self.due(device))]
+        return [("skipped", r.id, back)]
+
+    def cancel(self, rid):
+        return [self.abort(self.running(rid))]
+
+    def event(self, device, event, word):
+        answers = [self.abort(r) for r in list(self.sequence) if not r.committed and r.begun(device) and not r.finished(device)]
+        after = self.mark[device]
+        self.attach(after, [event])
+        return answers + [(word, device, after)]
+
+    def failure(self, device):
+        if device >= self.n:
+            raise Refused(14)
+        if not self.up[device]:
+            raise Refused(15)
+        self.up[device] = False
+        return self.event(device, ("failure", device), "down")
+
+    def restart(self, device, setting):
+        if device >= self.n:
+            raise Refused(14)
+        if self.up[device]:
+            raise Refused(16)
+        if not -1000 <= setting <= 1000:
+            raise Refused(17)
+        answers = self.event(device, ("restart", device, setting), "up")
+        self.up[device] = True
+        return answers
