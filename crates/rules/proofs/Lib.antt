@@ -17,3 +17,4 @@ pub mod DeviceAborts
 pub mod DeviceKept
 pub mod Theorem
 pub mod Worlds
+pub mod Controls

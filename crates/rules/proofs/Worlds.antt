@@ -17,12 +17,12 @@ use Rattle.rules.specs.History.{Told, Account, workingOf}
 use Rattle.rules.specs.Order.{putAfter, moveBar, entries}
 use Rattle.rules.specs.Serial.{Condition, allUp, serialRun}
 use Rattle.rules.specs.World.{sent-for, put-back, Message, Device, World, Act, calls, takes-one, accounts, worldAfterAll, taken, PremiseAll, openedWorld}
-use Rattle.rules.specs.Demand3.{orderIn, NoneRuns, isBack}
+use Rattle.rules.specs.Demand3.{orderIn, NoneRuns, isBack, CommandsStand}
 use Rattle.rules.specs.Examples.{calc, must, best, back}
 use Rattle.rules.proofs.Lists.{t≠f}
 
 -- all that a computation with worlds opens
-unfoldable calcWorld : Unit {0}
+unfoldable pub calcWorld : Unit {0}
 unfolding calc putAfter moveBar taken openedWorld
 calcWorld = tt
 
@@ -61,13 +61,14 @@ pub record Passes (p : Passage) : Type 0 where
   pub ready : readyFrom (endOf p) 0 (p .devices) ≡ true
   pub settings-are : settingsFrom (endOf p) 0 (p .devices) ≡ p .settings
   pub serial-is : conditionsFrom (endOf p) 0 (p .devices) ≡ upAt (p .settings)
+  pub stands : CommandsStand (accounts (endOf p)) (entries (orderIn (endOf p))) allUp
 
 -- a call that leaves no device at another setting
 abbrev pub call : Call → Act
 call c = calls c (pos 0)
 
 -- a table looked at in one place and in the others
-elsewhere : (f : ℕ → Account) (k : ℕ) → f k .running ≡ false → (i : ℕ) → (eqb i k ≡ false → f i .running ≡ false) → f i .running ≡ false
+pub elsewhere : (f : ℕ → Account) (k : ℕ) → f k .running ≡ false → (i : ℕ) → (eqb i k ≡ false → f i .running ≡ false) → f i .running ≡ false
 elsewhere f k e i g = go (eqb i k) refl
   where
     go : (b : Bool) → eqb i k ≡ b → f i .running ≡ false
@@ -92,6 +93,7 @@ taken-late = record {
   ready = refl;
   settings-are = refl;
   serial-is = refl;
+  stands = tt;
 }
 
 -- What puts a device back is overtaken by a later send, which was done.
@@ -113,6 +115,7 @@ overtaken-passes = record {
   ready = refl;
   settings-are = refl;
   serial-is = refl;
+  stands = (refl, (refl, tt), tt);
 }
 
 -- A failure with a command in flight leaves another setting, 33, which no command gave; the restart reports it.
@@ -133,6 +136,7 @@ failed-in-flight = record {
   ready = refl;
   settings-are = refl;
   serial-is = refl;
+  stands = tt;
 }
 
 -- A restart at a setting that no command gave, behind a committed routine and ahead of another; refused calls in between, whatever they say.
@@ -154,6 +158,7 @@ restarted-elsewhere = record {
   ready = refl;
   settings-are = refl;
   serial-is = refl;
+  stands = (refl, (refl, tt), tt);
 }
 
 -- A best-effort command is reported failed after the due setting changed under it.
@@ -175,6 +180,7 @@ failed-after-change = record {
   ready = refl;
   settings-are = refl;
   serial-is = refl;
+  stands = (refl, (tt, tt), tt);
 }
 
 -- the world after the first n acts

@@ -1,0 +1,141 @@
+-- Worlds in which a wrong rule shows: each is computed, and one of the three parts of demand 3 fails in it as soon as the rule is changed as the edit of the same name
+-- in `must-fail/` does. (`failed_never_puts_back` shows in `failedAfterChange` of `Worlds.antt`.) Assumes nothing.
+use mathlib.Core.Path.{refl}
+use mathlib.Core.List.{List, [], _∷_}
+use Prim.Native.Nat.{ℕ}
+use lib.IntN.{pos}
+use Rattle.rules.specs.Answers.{submit, turn, report, failure, restart, cancel}
+use Rattle.rules.specs.Order.{entries}
+use Rattle.rules.specs.Serial.{allUp}
+use Rattle.rules.specs.World.{Act, calls, takes-one, accounts, worldAfterAll, openedWorld}
+use Rattle.rules.specs.Demand3.{orderIn, CommandsStand}
+use Rattle.rules.specs.Examples.{must, best}
+use Rattle.rules.proofs.Worlds.{calcWorld, Passage, Passes, endOf, call, elsewhere}
+
+-- commit_leaves_at_once: 2 is committed behind 1, which runs; 3 follows 2. If 2 were gone, 3 would be placed ahead of both, and the serial run would end with 2's 70.
+abbrev pub committedStays : Passage
+committedStays = record {
+  devices = 2;
+  passLimit = 8;
+  acts = call (submit (must 0 (pos 50) ∷ must 1 (pos 20) ∷ [])) ∷ call (turn 1) ∷ takes-one 0 0 ∷ call (report 1 0) ∷ call (submit (must 0 (pos 70) ∷ [])) ∷ call (turn 2) ∷ takes-one 0 0
+      ∷ call (report 2 0) ∷ call (turn 2) ∷ call (submit (must 0 (pos 9) ∷ [])) ∷ call (turn 3) ∷ takes-one 0 0 ∷ call (report 3 0) ∷ call (turn 3) ∷ call (cancel 1) ∷ [];
+  settings = pos 9 ∷ pos 0 ∷ [];
+}
+
+pub committed-stays : Passes committedStays
+unfolding calcWorld
+committed-stays = record {
+  accepted = refl;
+  premise = ((λ _. tt), ((λ _. tt), (tt, ((λ _. refl), ((λ _. tt), ((λ _. tt), (tt, ((λ _. refl), ((λ _. tt), ((λ _. tt), ((λ _. tt), (tt, ((λ _. refl), ((λ _. tt), ((λ _. tt), tt)))))))))))))));
+  none-runs = λ i. elsewhere (accounts (endOf committedStays)) 1 refl i
+      (λ n. elsewhere (accounts (endOf committedStays)) 2 refl i (λ m. elsewhere (accounts (endOf committedStays)) 3 refl i (λ k. rw (n, m, k) refl)));
+  ready = refl;
+  settings-are = refl;
+  serial-is = refl;
+  stands = (refl, (refl, tt), (refl, (refl, tt), tt));
+}
+
+-- event_to_old_mark: the failure of 0 aborts 1 and stands where 1 stood, ahead of 2. Attached to 1, it would come last, behind the restart.
+abbrev pub eventAfterAbort : Passage
+eventAfterAbort = record {
+  devices = 2;
+  passLimit = 0;
+  acts = call (submit (must 0 (pos 50) ∷ must 0 (pos 60) ∷ [])) ∷ call (turn 1) ∷ takes-one 0 0 ∷ call (report 1 0) ∷ call (submit (must 1 (pos 5) ∷ [])) ∷ calls (failure 0) (pos 33)
+      ∷ call (restart 0 (pos 33)) ∷ call (turn 2) ∷ takes-one 1 0 ∷ call (report 2 0) ∷ call (turn 2) ∷ [];
+  settings = pos 33 ∷ pos 5 ∷ [];
+}
+
+pub event-after-abort : Passes eventAfterAbort
+unfolding calcWorld
+event-after-abort = record {
+  accepted = refl;
+  premise = ((λ _. tt), ((λ _. tt), (tt, ((λ _. refl), ((λ _. tt), ((λ _. tt), ((λ _. refl), ((λ _. tt), (tt, ((λ _. refl), ((λ _. tt), tt)))))))))));
+  none-runs = λ i. elsewhere (accounts (endOf eventAfterAbort)) 1 refl i (λ n. elsewhere (accounts (endOf eventAfterAbort)) 2 refl i (λ m. rw (n, m) refl));
+  ready = refl;
+  settings-are = refl;
+  serial-is = refl;
+  stands = (refl, (refl, tt), tt);
+}
+
+-- back_to_before_the_routine: 2's 70 stands behind 1, which is cancelled: nothing is put back.
+abbrev pub laterStands : Passage
+laterStands = record {
+  devices = 2;
+  passLimit = 8;
+  acts = call (submit (must 0 (pos 50) ∷ must 1 (pos 20) ∷ [])) ∷ call (turn 1) ∷ takes-one 0 0 ∷ call (report 1 0) ∷ call (submit (must 0 (pos 70) ∷ [])) ∷ call (turn 2) ∷ takes-one 0 0
+      ∷ call (report 2 0) ∷ call (turn 2) ∷ call (cancel 1) ∷ takes-one 0 0 ∷ [];
+  settings = pos 70 ∷ pos 0 ∷ [];
+}
+
+pub later-stands : Passes laterStands
+unfolding calcWorld
+later-stands = record {
+  accepted = refl;
+  premise = ((λ _. tt), ((λ _. tt), (tt, ((λ _. refl), ((λ _. tt), ((λ _. tt), (tt, ((λ _. refl), ((λ _. tt), ((λ _. tt), (tt, tt)))))))))));
+  none-runs = λ i. elsewhere (accounts (endOf laterStands)) 1 refl i (λ n. elsewhere (accounts (endOf laterStands)) 2 refl i (λ m. rw (n, m) refl));
+  ready = refl;
+  settings-are = refl;
+  serial-is = refl;
+  stands = (refl, (refl, tt), tt);
+}
+
+-- mark_becomes_zero: 2 is cancelled and the mark of 0 goes back to 1, which did 0: the failure and the restart stand behind it.
+abbrev pub markGoesBack : Passage
+markGoesBack = record {
+  devices = 2;
+  passLimit = 8;
+  acts = call (submit (must 0 (pos 50) ∷ must 1 (pos 1) ∷ [])) ∷ call (turn 1) ∷ takes-one 0 0 ∷ call (report 1 0) ∷ call (submit (must 0 (pos 60) ∷ must 0 (pos 61) ∷ [])) ∷ call (turn 2)
+      ∷ takes-one 0 0 ∷ call (report 2 0) ∷ call (cancel 2) ∷ takes-one 0 0 ∷ calls (failure 0) (pos 33) ∷ call (restart 0 (pos 33)) ∷ call (turn 1) ∷ takes-one 1 0 ∷ call (report 1 0)
+      ∷ call (turn 1) ∷ [];
+  settings = pos 33 ∷ pos 1 ∷ [];
+}
+
+pub mark-goes-back : Passes markGoesBack
+unfolding calcWorld
+mark-goes-back = record {
+  accepted = refl;
+  premise = ((λ _. tt), ((λ _. tt), (tt, ((λ _. refl), ((λ _. tt), ((λ _. tt), (tt, ((λ _. refl), ((λ _. tt), (tt, ((λ _. tt), ((λ _. refl), ((λ _. tt), (tt, ((λ _. refl), ((λ _. tt), tt))))))))))))))));
+  none-runs = λ i. elsewhere (accounts (endOf markGoesBack)) 1 refl i (λ n. elsewhere (accounts (endOf markGoesBack)) 2 refl i (λ m. rw (n, m) refl));
+  ready = refl;
+  settings-are = refl;
+  serial-is = refl;
+  stands = (refl, (refl, (refl, tt)), tt);
+}
+
+-- events_dropped: the restart of 0 is attached to 2, which is cancelled: it moves to 1, and 0 stays at 33.
+abbrev pub eventsStay : Passage
+eventsStay = record {
+  devices = 2;
+  passLimit = 8;
+  acts = call (submit (must 0 (pos 50) ∷ must 1 (pos 1) ∷ [])) ∷ call (turn 1) ∷ takes-one 0 0 ∷ call (report 1 0) ∷ call (submit (must 0 (pos 60) ∷ must 1 (pos 2) ∷ [])) ∷ call (turn 2)
+      ∷ takes-one 0 0 ∷ call (report 2 0) ∷ calls (failure 0) (pos 33) ∷ call (restart 0 (pos 33)) ∷ call (cancel 2) ∷ takes-one 0 0 ∷ call (turn 1) ∷ takes-one 1 0 ∷ call (report 1 0)
+      ∷ call (turn 1) ∷ [];
+  settings = pos 33 ∷ pos 1 ∷ [];
+}
+
+pub events-stay : Passes eventsStay
+unfolding calcWorld
+events-stay = record {
+  accepted = refl;
+  premise = ((λ _. tt), ((λ _. tt), (tt, ((λ _. refl), ((λ _. tt), ((λ _. tt), (tt, ((λ _. refl), ((λ _. tt), ((λ _. refl), ((λ _. tt), (tt, ((λ _. tt), (tt, ((λ _. refl), ((λ _. tt), tt))))))))))))))));
+  none-runs = λ i. elsewhere (accounts (endOf eventsStay)) 1 refl i (λ n. elsewhere (accounts (endOf eventsStay)) 2 refl i (λ m. rw (n, m) refl));
+  ready = refl;
+  settings-are = refl;
+  serial-is = refl;
+  stands = (refl, (refl, (refl, tt)), tt);
+}
+
+-- where the commands stand after these acts, with one device and K = 0
+abbrev pub Stands : List Act → Type 0
+Stands acts = let w = worldAfterAll (openedWorld 1 0 1) acts in CommandsStand (accounts w) (entries (orderIn w)) allUp
+
+-- restart_aborts_nobody: 1 has skipped 0 as down and has 0 left: the restart aborts it. Else it would do 0 ahead of the restart, where 0 is down.
+pub restart-aborts :
+    Stands (call (failure 0) ∷ call (submit (best 0 (pos 5) ∷ best 0 (pos 6) ∷ [])) ∷ call (turn 1) ∷ call (restart 0 (pos 0)) ∷ call (turn 1) ∷ takes-one 0 0 ∷ call (report 1 0) ∷ [])
+unfolding calcWorld
+restart-aborts = tt
+
+-- skip_sets_no_mark: 1 has skipped 0 as down: the restart stands behind it. Ahead of it, the skipped command would find 0 up.
+pub skip-begins : Stands (call (failure 0) ∷ call (submit (best 0 (pos 5) ∷ [])) ∷ call (turn 1) ∷ call (restart 0 (pos 0)) ∷ [])
+unfolding calcWorld
+skip-begins = (refl, (refl, tt), tt)
