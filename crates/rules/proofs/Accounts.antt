@@ -25,7 +25,7 @@ use Rattle.rules.specs.History.{Outcome, reported-done, reported-failed,
 use Rattle.rules.specs.Order.{Event, failed, restarted}
 use Rattle.rules.specs.Demand3.{doneOnes}
 use Rattle.rules.proofs.Lists.{byIf, put-same, put-other, Each, each-++, each-left, each-right, each-mid, NotIn, IdsOk, notIn-left, notIn-right, ids-fresh, ids-right, ids-front, ids-behind}
-use Rattle.rules.proofs.Groups.{Group, ids, doneSteps, alone, with, passAll, addToLast, without, addEvent, attachEvent, unsettled, ids-++}
+use Rattle.rules.proofs.Groups.{Group, ids, doneSteps, alone, with, passAll, addToLast, without, addEvent, attachEvent, stillHeld, ids-++}
 use Rattle.rules.proofs.Steps.{InTurn, leftSteps, answeredSteps, Sent, Skipped, AnsweredOne, send-step, skip-step, done-step, done-gains, fail-step, fail-done, Fresh, fresh-newcomer}
 use Rattle.rules.proofs.Invariant.{Turns, HubOk, commandsIn, Tells}
 use Rattle.rules.proofs.View.{sentMember, skippedMember, doneMember, failedMember, Gone, nobody, somebody, Moves, places, commits, sends, skips, dones, misses, aborts, fails, restarts}
@@ -229,7 +229,7 @@ accounts-moves s a l h t (restarts d v r lead k n u w) =
     subst (λ b. Each (Tells b) (attachEvent (r .state .mark d) (restarted d v) k)) (sym (note-++ (restart d v) (r .answers) (up d (r .state .mark d)) a))
     (attach-tells _ (r .state .mark d) (restarted d v) k (gone-tells s _ (restart d v) d a l h t w))
 
-pub accounts-settles : (a : ℕ → Account) (l : List Group) → Each (Tells a) l → Each (Tells a) (unsettled l)
+pub accounts-settles : (a : ℕ → Account) (l : List Group) → Each (Tells a) l → Each (Tells a) (stillHeld l)
 accounts-settles a [] t = tt
 accounts-settles a (g ∷ l) t = byIf (λ k. Each (Tells a) k) (g .member .committed) (λ _. accounts-settles a l (t .1)) (λ _. t)
 

@@ -5,9 +5,10 @@ use mathlib.Core.List.{List, [], _∷_}
 use Prim.Native.Nat.{ℕ}
 use lib.IntN.{pos}
 use Rattle.rules.specs.Answers.{submit, turn, report, failure, restart, cancel}
+use Rattle.rules.specs.Open.{newHub}
 use Rattle.rules.specs.Order.{entries}
 use Rattle.rules.specs.Serial.{allUp}
-use Rattle.rules.specs.World.{Act, calls, takes-one, accounts, worldAfterAll, openedWorld}
+use Rattle.rules.specs.World.{Act, calls, takes-one, accounts, worldAfterAll, newWorld}
 use Rattle.rules.specs.Demand3.{orderIn, CommandsStand}
 use Rattle.rules.specs.Examples.{must, best}
 use Rattle.rules.proofs.Worlds.{calcWorld, Passage, Passes, endOf, call, elsewhere}
@@ -127,7 +128,7 @@ events-stay = record {
 
 -- where the commands stand after these acts, with one device and K = 0
 abbrev pub Stands : List Act → Type 0
-Stands acts = let w = worldAfterAll (openedWorld 1 0 1) acts in CommandsStand (accounts w) (entries (orderIn w)) allUp
+Stands acts = let w = worldAfterAll (newWorld (newHub 1 0 1)) acts in CommandsStand (accounts w) (entries (orderIn w)) allUp
 
 -- restart_aborts_nobody: 1 has skipped 0 as down and has 0 left: the restart aborts it. Else it would do 0 ahead of the restart, where 0 is down.
 pub restart-aborts :

@@ -25,7 +25,7 @@ use Rattle.rules.specs.Submit.{submitCheck, blocks, upToLast, pastLast, 
 use Rattle.rules.specs.History.{Outcome, reported-done, reported-failed, not-sent, Account, placedAccount, sentAccount, answeredAccount, endedAccount, noteAnswers}
 use Rattle.rules.specs.World.{Origin, put-back, sent-for, sameOrigin, Message, Device, takes, receives, putAllBack, without, drops, devicesAfterAll}
 use Rattle.rules.proofs.Lists.{t≠f, byIf, put-same, put-other, Each, each-++, each-left, each-right, each-mid, each-map, each-drop, NotIn, In, IdsOk, ids-fresh, notIn-right, not-both}
-use Rattle.rules.proofs.Groups.{Group, members, ids, alone, with, passAll, foundAt, unsettled, members-++, ids-++}
+use Rattle.rules.proofs.Groups.{Group, members, ids, alone, with, passAll, foundAt, stillHeld, members-++, ids-++}
 use Rattle.rules.proofs.Steps.{send-step, skip-step, done-step, done-after, fail-step, fail-after, left-grounded, idle-flight, grounded, finished-grounded, unbegun-grounded, unbegun-after, fresh-newcomer}
 use Rattle.rules.proofs.Invariant.{Quiet, Fin, Shut, Turns, HubOk, FliesUp, EventsOk, Tells, Old, OldMessage, backTo, Comes, has, goes-back, flightOrigin, NotOrigin, Flying, arrived, going, Still, OneFlies, first-flies, later-flies, DeviceAt, dead, free, busy, DeviceOk, Honest}
 use Rattle.rules.proofs.View.{sentMember, skippedMember, doneMember, failedMember}
@@ -131,15 +131,15 @@ ok-list d s a l m w f g h = record { old-sent = h .old-sent; old-took = h .old-t
     go (free u t c) = free u (f t) c
     go (busy u o) = busy u (g o)
 
-pub device-settles : (d : ℕ) (s : State) (a : ℕ → Account) (l : List Group) (w : Device) → HubOk s l → DeviceOk d s a l w → DeviceOk d (settle s) a (unsettled l) w
-device-settles d s a l w h k = ok-state d s (settle s) a (unsettled l) w (ap (λ u. u d) (settle-up s)) (settle-due s d) (ok-list d s a l (unsettled l) w (stills l) (one l (h .shuts)) k)
+pub device-settles : (d : ℕ) (s : State) (a : ℕ → Account) (l : List Group) (w : Device) → HubOk s l → DeviceOk d s a l w → DeviceOk d (settle s) a (stillHeld l) w
+device-settles d s a l w h k = ok-state d s (settle s) a (stillHeld l) w (ap (λ u. u d) (settle-up s)) (settle-due s d) (ok-list d s a l (stillHeld l) w (stills l) (one l (h .shuts)) k)
   where
-    stills : (l : List Group) → Each (Still d) l → Each (Still d) (unsettled l)
+    stills : (l : List Group) → Each (Still d) l → Each (Still d) (stillHeld l)
     stills [] t = tt
     stills (g ∷ l) t = byIf (λ m. Each (Still d) m) (g .member .committed) (λ _. stills l (t .1)) (λ _. t)
 
     -- what is committed has nothing in flight
-    one : (l : List Group) → Each Shut l → OneFlies d a w l → OneFlies d a w (unsettled l)
+    one : (l : List Group) → Each Shut l → OneFlies d a w l → OneFlies d a w (stillHeld l)
     one (g ∷ l) c (first-flies x e o f t) =
         byIf (λ m. OneFlies d a w m) (g .member .committed) (λ y. absurd (Option·none-ne-some x (sym (left-grounded (g .member) (c .0 .shut y)) ∙ e))) (λ _. first-flies x e o f t)
     one (g ∷ l) c (later-flies t o) = byIf (λ m. OneFlies d a w m) (g .member .committed) (λ _. one l (c .1) o) (λ _. later-flies t o)

@@ -105,9 +105,9 @@ abbrev pub leadWith : ℕ → Event → List Event → List Event
 leadWith j e lead = if eqb j 0 then lead ++ (e ∷ []) else lead
 
 -- the committed ones at the front settle
-abbrev pub unsettled : List Group → List Group
-unsettled [] = []
-unsettled (g ∷ l) = if g .member .committed then unsettled l else g ∷ l
+abbrev pub stillHeld : List Group → List Group
+stillHeld [] = []
+stillHeld (g ∷ l) = if g .member .committed then stillHeld l else g ∷ l
 
 -- ---- parts of lists
 

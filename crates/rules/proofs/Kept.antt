@@ -23,7 +23,7 @@ use Rattle.rules.specs.Report.{doneReport, skippedState, skipReport}
 use Rattle.rules.specs.Events.{isHalfway, attach, oneRestart}
 use Rattle.rules.specs.Order.{Event, failed, restarted}
 use Rattle.rules.proofs.Lists.{t≠f, byIf, put-other, Each, each-++, each-left, each-right, each-mid, each-swap, each-map}
-use Rattle.rules.proofs.Groups.{Group, alone, with, passAll, foundAt, addEvents, addToLast, without, addEvent, attachEvent, unsettled}
+use Rattle.rules.proofs.Groups.{Group, alone, with, passAll, foundAt, addEvents, addToLast, without, addEvent, attachEvent, stillHeld}
 use Rattle.rules.proofs.Steps.{send-step, skip-step, done-step, fail-step, flight-on, left-grounded, grounded, fresh-newcomer}
 use Rattle.rules.proofs.Invariant.{Shut, Turns, HubOk, FliesUp, Calm, Still}
 use Rattle.rules.proofs.View.{Gone, nobody, somebody, Moves, places, commits, sends, skips, dones, misses, aborts, fails, restarts, sentMember, skippedMember, doneMember, failedMember}
@@ -176,9 +176,9 @@ flies-moves s l h f (restarts d v r lead k _ _ g) =
     (λ e y. byIf (λ p. p ≡ true) (eqb e d) (λ _. refl) (λ _. ap (λ p. p e) (attach-up i (oneRestart d v) (r .state) ∙ gone-up s d l g) ∙ y))
     (attachEvent i (restarted d v) k) (flies-event s i (restarted d v) k (flies-gone s s d l f g))
 
-pub flies-settles : (s : State) (l : List Group) → Each (FliesUp s) l → Each (FliesUp (settle s)) (unsettled l)
-flies-settles s l f = still-up s (settle s) (λ d e. ap (λ p. p d) (settle-up s) ∙ e) (unsettled l) (rest l f)
+pub flies-settles : (s : State) (l : List Group) → Each (FliesUp s) l → Each (FliesUp (settle s)) (stillHeld l)
+flies-settles s l f = still-up s (settle s) (λ d e. ap (λ p. p d) (settle-up s) ∙ e) (stillHeld l) (rest l f)
   where
-    rest : (k : List Group) → Each (FliesUp s) k → Each (FliesUp s) (unsettled k)
+    rest : (k : List Group) → Each (FliesUp s) k → Each (FliesUp s) (stillHeld k)
     rest [] q = tt
     rest (g ∷ k) q = byIf (Each (FliesUp s)) (g .member .committed) (λ _. rest k (q .1)) (λ _. q)

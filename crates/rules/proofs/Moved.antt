@@ -22,7 +22,7 @@ use Rattle.rules.specs.Submit.{blocks, upToLast, pastLast, pass, stepOf,
 use Rattle.rules.specs.Events.{isHalfway, attachAt, attach, oneRestart}
 use Rattle.rules.specs.Order.{Event, failed, restarted}
 use Rattle.rules.proofs.Lists.{t≠f, byIf, or-left, or-right, Each, each-++, each-left, each-right, each-map, anyOf-++, NotIn, In, IdsOk, ids-drop, ids-insert, ids-right, ids-front, ids-behind, not-both}
-use Rattle.rules.proofs.Groups.{Group, members, ids, isOf, alone, with, passAll, foundAt, addEvents, addToLast, without, addEvent, attachEvent, unsettled, members-++, ids-++}
+use Rattle.rules.proofs.Groups.{Group, members, ids, isOf, alone, with, passAll, foundAt, addEvents, addToLast, without, addEvent, attachEvent, stillHeld, members-++, ids-++}
 use Rattle.rules.proofs.Steps.{InTurn, leftSteps, left-finished, fresh-newcomer}
 use Rattle.rules.proofs.Invariant.{Quiet, Fin, AtMark, whole, part, Upto, here, there, MarkOk, unmarked, marked, Shut, Turns, HubOk, Calm}
 use Rattle.rules.proofs.View.{Gone, nobody, somebody}
@@ -402,7 +402,7 @@ hub-up s u l h = record { sequence-is = h .sequence-is; ids-ok = h .ids-ok; mark
 -- ---- routines settle
 
 -- a first one that settles leaves as any other; l is what is left of the sequence
-from-ok : (l : List Group) (s : State) → HubOk (withSequence s (members l)) l → HubOk (settleFrom s (members l)) (unsettled l)
+from-ok : (l : List Group) (s : State) → HubOk (withSequence s (members l)) l → HubOk (settleFrom s (members l)) (stillHeld l)
 unfolding joinSettled clearMarks
 from-ok [] s h = h
 from-ok (g ∷ l) s h = go (from-ok l (joinSettled s (g .member)) rest) (g .member .committed)
@@ -417,11 +417,11 @@ from-ok (g ∷ l) s h = go (from-ok l (joinSettled s (g .member)) rest) (g .memb
       some-id = h .some-id;
     }
 
-    go : HubOk (settleFrom (joinSettled s (g .member)) (members l)) (unsettled l) → (b : Bool) →
-        HubOk (if b then settleFrom (joinSettled s (g .member)) (members l) else withSequence s (members (g ∷ l))) (if b then unsettled l else g ∷ l)
+    go : HubOk (settleFrom (joinSettled s (g .member)) (members l)) (stillHeld l) → (b : Bool) →
+        HubOk (if b then settleFrom (joinSettled s (g .member)) (members l) else withSequence s (members (g ∷ l))) (if b then stillHeld l else g ∷ l)
     go ih true = ih
     go ih false = h
 
-pub hub-settles : (s : State) (l : List Group) → HubOk s l → HubOk (settle s) (unsettled l)
+pub hub-settles : (s : State) (l : List Group) → HubOk s l → HubOk (settle s) (stillHeld l)
 unfolding settle
-hub-settles s l h = subst (λ q. HubOk (settleFrom s q) (unsettled l)) (sym (h .sequence-is)) (from-ok l s (subst (λ q. HubOk (withSequence s q) l) (h .sequence-is) h))
+hub-settles s l h = subst (λ q. HubOk (settleFrom s q) (stillHeld l)) (sym (h .sequence-is)) (from-ok l s (subst (λ q. HubOk (withSequence s q) l) (h .sequence-is) h))

@@ -36,20 +36,20 @@ use Rattle.rules.proofs.Moved.{hub-gone, hub-up}
 abbrev Kept : State → Order → Order → List Event → List Group → Type 0
 Kept s o o′ lead l = OrderOk s o′ lead l × (o′ .settled ≡ o .settled)
 
-abbrev withOpen : Order → List Entry → Order
-withOpen o l = record { settled = o .settled; open-part = l }
+abbrev withUnsettled : Order → List Entry → Order
+withUnsettled o l = record { settled = o .settled; unsettled = l }
 
--- it is enough to show it of a new open part
-kept : (s : State) (o o′ : Order) (lead : List Event) (l : List Group) (e : List Entry) → o′ ≡ withOpen o e → OrderOk s (withOpen o e) lead l → Kept s o o′ lead l
+-- it is enough to show it of a new part behind the bar
+kept : (s : State) (o o′ : Order) (lead : List Event) (l : List Group) (e : List Entry) → o′ ≡ withUnsettled o e → OrderOk s (withUnsettled o e) lead l → Kept s o o′ lead l
 kept s o o′ lead l e i h = subst (λ q. Kept s o q lead l) (sym i) (h, refl)
 
--- what a new end of the open part does to whether d is up, it does in the whole order
-up-open : (d : ℕ) (f : Bool → Bool) (o : Order) (pre x y : List Entry) → o .open-part ≡ pre ++ y → ((u : Bool) → upAfter d x u ≡ f (upAfter d y u)) →
-    upAfter d (entries (withOpen o (pre ++ x))) true ≡ f (upAfter d (entries o) true)
-up-open d f o pre x y e h =
+-- what a new end of the part behind the bar does to whether d is up, it does in the whole order
+up-end : (d : ℕ) (f : Bool → Bool) (o : Order) (pre x y : List Entry) → o .unsettled ≡ pre ++ y → ((u : Bool) → upAfter d x u ≡ f (upAfter d y u)) →
+    upAfter d (entries (withUnsettled o (pre ++ x))) true ≡ f (upAfter d (entries o) true)
+up-end d f o pre x y e h =
     let u = upAfter d (o .settled) true in
     up-++ d (o .settled) (pre ++ x) true ∙ up-++ d pre x u ∙ h _
-    ∙ ap f (sym (up-++ d (o .settled) (o .open-part) true ∙ ap (λ l. upAfter d l u) e ∙ up-++ d pre y u))
+    ∙ ap f (sym (up-++ d (o .settled) (o .unsettled) true ∙ ap (λ l. upAfter d l u) e ∙ up-++ d pre y u))
 
 -- ---- the routine with an id, in the order
 
@@ -86,8 +86,8 @@ module _ (s : State) (o : Order) (lead : List Event) (a : List Group) (g : Group
   unmet : NotIn (g .member .id) (entryIds (o .settled) ++ ids a)
   unmet = ids-front (s .nextId) (entryIds (o .settled) ++ ids a) (g .member .id) (ids b) parted
 
-  unmet-open : NotIn (g .member .id) (ids a)
-  unmet-open = notIn-right (g .member .id) (entryIds (o .settled)) (ids a) unmet
+  unmet-behind : NotIn (g .member .id) (ids a)
+  unmet-behind = notIn-right (g .member .id) (entryIds (o .settled)) (ids a) unmet
 
   not-zero : g .member .id ≢ 0
   not-zero e = let p = ids-right (s .nextId) (entryIds (o .settled) ++ ids a) (g .member .id ∷ ids b) parted .0 in omega arith
@@ -100,21 +100,21 @@ renewed m l c = record { id = m .id; steps = l; passed = m .passed; committed = 
 -- a routine of the sequence, between calls
 module _ (s : State) (o : Order) (a : List Group) (g : Group) (b : List Group) (k : OrderOk s o [] (a ++ (g ∷ b))) where
   edit-is : (f : List Command → Bool → List Entry) →
-      editOrder (g .member .id) f o ≡ withOpen o (flat a ++ (f (doneSteps (g .member .steps)) (g .member .committed) ++ (map event (g .events) ++ flat b)))
+      editOrder (g .member .id) f o ≡ withUnsettled o (flat a ++ (f (doneSteps (g .member .steps)) (g .member .committed) ++ (map event (g .events) ++ flat b)))
   edit-is f = λ i. record {
     settled = edit-miss (g .member .id) f (o .settled) (notIn-left (g .member .id) (entryIds (o .settled)) (ids a) (unmet s o [] a g b k)) i;
-    open-part = (ap (λ l. edit (g .member .id) f l) (k .open-is) ∙ edit-hit f a g b (unmet-open s o [] a g b k)) i;
+    unsettled = (ap (λ l. edit (g .member .id) f l) (k .unsettled-is) ∙ edit-hit f a g b (unmet-behind s o [] a g b k)) i;
   }
 
   order-changes : (l : List Step) (c : Bool) (q : List Member) (mark : ℕ → ℕ) (o′ : Order) →
-      o′ ≡ withOpen o (flat a ++ (routine (g .member .id) (doneSteps l) c ∷ (map event (g .events) ++ flat b))) →
+      o′ ≡ withUnsettled o (flat a ++ (routine (g .member .id) (doneSteps l) c ∷ (map event (g .events) ++ flat b))) →
       Kept (withMark (withSequence s q) mark) o o′ [] (a ++ (with g (renewed (g .member) l c) ∷ b))
   order-changes l c q mark o′ i =
       kept (withMark (withSequence s q) mark) o o′ [] (a ++ (h ∷ b)) _ i
       (record {
-        open-is = sym (flat-++ a (h ∷ b));
+        unsettled-is = sym (flat-++ a (h ∷ b));
         settled-is = k .settled-is;
-        up-is = λ d. up-open d (λ u. u) o (flat a) (flat (h ∷ b)) (flat (g ∷ b)) (k .open-is ∙ flat-++ a (g ∷ b)) (λ u. refl) ∙ k .up-is d;
+        up-is = λ d. up-end d (λ u. u) o (flat a) (flat (h ∷ b)) (flat (g ∷ b)) (k .unsettled-is ∙ flat-++ a (g ∷ b)) (λ u. refl) ∙ k .up-is d;
         events-ok = each-swap EventsOk a g h b (k .events-ok) (record { events-ok = each-mid EventsOk a g b (k .events-ok) .events-ok });
         ids-ok = subst (λ m. IdsOk (s .nextId) (entryIds (o .settled) ++ m)) (sym (ids-swap a g h b refl)) (k .ids-ok);
         barred = k .barred;
@@ -128,7 +128,7 @@ module _ (s : State) (o : Order) (a : List Group) (g : Group) (b : List Group) (
       Kept (withMark (withSequence s q) mark) o o [] (a ++ (with g (renewed (g .member) l (g .member .committed)) ∷ b))
   order-untouched l q mark e =
       order-changes l (g .member .committed) q mark o
-      (ap (λ m. withOpen o m) (k .open-is ∙ flat-++ a (g ∷ b) ∙ ap (λ cs. flat a ++ (routine (g .member .id) cs (g .member .committed) ∷ (map event (g .events) ++ flat b))) (sym e)))
+      (ap (λ m. withUnsettled o m) (k .unsettled-is ∙ flat-++ a (g ∷ b) ∙ ap (λ cs. flat a ++ (routine (g .member .id) cs (g .member .committed) ∷ (map event (g .events) ++ flat b))) (sym e)))
 
   order-commits : (q : List Member) → Kept (withSequence s q) o (editOrder (g .member .id) (noted (g .member .id)) o) [] (a ++ (with g (commit (g .member)) ∷ b))
   unfolding commit
@@ -138,7 +138,7 @@ module _ (s : State) (o : Order) (a : List Group) (g : Group) (b : List Group) (
       Kept (withSequence s q) o (editOrder (g .member .id) (gains (g .member .id) c) o) [] (a ++ (with g (renewed (g .member) l (g .member .committed)) ∷ b))
   order-dones c l q e =
       order-changes l (g .member .committed) q (s .mark) _
-      (edit-is (gains (g .member .id) c) ∙ ap (λ cs. withOpen o (flat a ++ (routine (g .member .id) cs (g .member .committed) ∷ (map event (g .events) ++ flat b)))) (sym e))
+      (edit-is (gains (g .member .id) c) ∙ ap (λ cs. withUnsettled o (flat a ++ (routine (g .member .id) cs (g .member .committed) ∷ (map event (g .events) ++ flat b)))) (sym e))
 
 -- ---- an entry is put behind a routine, or before the first
 
@@ -166,22 +166,22 @@ behind-flat x (y ∷ a) g b h =
 
 -- an entry put after j comes behind `pre` and before b
 record Slot (o : Order) (j : ℕ) (pre : List Entry) (b : List Group) : Type 0 where
-  open-is : o .open-part ≡ pre ++ flat b
-  put-is : (x : Entry) → putAfter x j o ≡ withOpen o (pre ++ (x ∷ flat b))
+  unsettled-is : o .unsettled ≡ pre ++ flat b
+  put-is : (x : Entry) → putAfter x j o ≡ withUnsettled o (pre ++ (x ∷ flat b))
 
 slot-first : (s : State) (o : Order) (lead : List Event) (b : List Group) → OrderOk s o lead b → Slot o 0 (map event lead) b
 unfolding putAfter
-slot-first s o lead b k = record { open-is = k .open-is; put-is = λ x. ap (λ l. withOpen o l) (ap (λ l. beforeNext x l) (k .open-is) ∙ next-flat x lead b) }
+slot-first s o lead b k = record { unsettled-is = k .unsettled-is; put-is = λ x. ap (λ l. withUnsettled o l) (ap (λ l. beforeNext x l) (k .unsettled-is) ∙ next-flat x lead b) }
 
 slot-behind : (s : State) (o : Order) (lead : List Event) (a : List Group) (g : Group) (b : List Group) → OrderOk s o lead (a ++ (g ∷ b)) →
     Slot o (g .member .id) (map event lead ++ flat (a ++ (g ∷ []))) b
 unfolding putAfter
 slot-behind s o lead a g b k = record {
-  open-is = k .open-is ∙ ap (λ l. map event lead ++ l) (ap (λ l. flat l) (sym (append-assoc a (g ∷ []) b)) ∙ flat-++ (a ++ (g ∷ [])) b)
+  unsettled-is = k .unsettled-is ∙ ap (λ l. map event lead ++ l) (ap (λ l. flat l) (sym (append-assoc a (g ∷ []) b)) ∙ flat-++ (a ++ (g ∷ [])) b)
       ∙ sym (append-assoc (map event lead) (flat (a ++ (g ∷ []))) (flat b));
-  put-is = λ x. ap (λ l. withOpen o l) (rw (ne-eqb (g .member .id) 0 (not-zero s o lead a g b k))
-      (ap (λ l. behindRoutine x (g .member .id) l) (k .open-is) ∙ behind-events x (g .member .id) lead (flat (a ++ (g ∷ b)))
-      ∙ ap (λ l. map event lead ++ l) (behind-flat x a g b (unmet-open s o lead a g b k)) ∙ sym (append-assoc (map event lead) (flat (a ++ (g ∷ []))) (x ∷ flat b))));
+  put-is = λ x. ap (λ l. withUnsettled o l) (rw (ne-eqb (g .member .id) 0 (not-zero s o lead a g b k))
+      (ap (λ l. behindRoutine x (g .member .id) l) (k .unsettled-is) ∙ behind-events x (g .member .id) lead (flat (a ++ (g ∷ b)))
+      ∙ ap (λ l. map event lead ++ l) (behind-flat x a g b (unmet-behind s o lead a g b k)) ∙ sym (append-assoc (map event lead) (flat (a ++ (g ∷ []))) (x ∷ flat b))));
 }
 
 -- ---- a routine is placed
@@ -226,10 +226,10 @@ unfolding place newcomer
 order-places s o cs a b h k =
     kept (place s cs) o _ [] (a ++ (n ∷ passAll b)) (flat a ++ (routine (s .nextId) [] false ∷ flat b)) (p .put-is _)
     (record {
-      open-is = sym (flat-++ a (n ∷ passAll b) ∙ ap (λ l. flat a ++ (entryOf (n .member) ∷ l)) (flat-pass b)
+      unsettled-is = sym (flat-++ a (n ∷ passAll b) ∙ ap (λ l. flat a ++ (entryOf (n .member) ∷ l)) (flat-pass b)
           ∙ ap (λ ds. flat a ++ (routine (s .nextId) ds false ∷ flat b)) (fresh-newcomer (s .nextId) cs .done-is));
       settled-is = k .settled-is;
-      up-is = λ d. up-open d (λ u. u) o (flat a) (routine (s .nextId) [] false ∷ flat b) (flat b) (p .open-is) (λ u. refl) ∙ k .up-is d;
+      up-is = λ d. up-end d (λ u. u) o (flat a) (routine (s .nextId) [] false ∷ flat b) (flat b) (p .unsettled-is) (λ u. refl) ∙ k .up-is d;
       events-ok = each-++ EventsOk a (n ∷ passAll b) (each-left EventsOk a b (k .events-ok)) (record { events-ok = λ d. refl }, events-pass b (each-right EventsOk a b (k .events-ok)));
       ids-ok = subst (λ l. IdsOk (suc (s .nextId)) l) ids-is (ids-insert (s .nextId) (entryIds (o .settled) ++ ids a) (ids b) (h .some-id) (subst (λ l. IdsOk (s .nextId) l) ids-were (k .ids-ok)));
       barred = k .barred;
@@ -285,9 +285,9 @@ unfolding abort leave settleRestarts
 order-leaves s o a g b k =
     kept (abort s (foundAt a g b) .state) o _ (leadOf a g) (without a g b) _ (edit-is s o a g b k goes)
     (record {
-      open-is = open-flat a;
+      unsettled-is = flat-left a;
       settled-is = settled a k;
-      up-is = λ d. up-open d (λ u. u) o (flat a) (map event (g .events) ++ flat b) (flat (g ∷ b)) (k .open-is ∙ flat-++ a (g ∷ b)) (λ u. refl) ∙ k .up-is d;
+      up-is = λ d. up-end d (λ u. u) o (flat a) (map event (g .events) ++ flat b) (flat (g ∷ b)) (k .unsettled-is ∙ flat-++ a (g ∷ b)) (λ u. refl) ∙ k .up-is d;
       events-ok = each-++ EventsOk (addToLast (g .events) (g .member .restarts) a) b
           (events-last (g .events) (g .member .restarts) a (each-mid EventsOk a g b (k .events-ok) .events-ok) (each-left EventsOk a (g ∷ b) (k .events-ok)))
           (each-right EventsOk a (g ∷ b) (k .events-ok) .1);
@@ -295,9 +295,9 @@ order-leaves s o a g b k =
       barred = k .barred;
     })
   where
-    open-flat : (c : List Group) → flat c ++ (map event (g .events) ++ flat b) ≡ map event (leadOf c g) ++ flat (without c g b)
-    open-flat [] = refl
-    open-flat (x ∷ c) =
+    flat-left : (c : List Group) → flat c ++ (map event (g .events) ++ flat b) ≡ map event (leadOf c g) ++ flat (without c g b)
+    flat-left [] = refl
+    flat-left (x ∷ c) =
         sym (flat-++ (addToLast (g .events) (g .member .restarts) (x ∷ c)) b ∙ ap (λ l. l ++ flat b) (flat-last (g .events) (g .member .restarts) x c)
         ∙ append-assoc (flat (x ∷ c)) (map event (g .events)) (flat b))
 
@@ -363,9 +363,9 @@ record Attached (x : Event) (first : Bool) (s t : State) : Type 0 where
 
 module _ (x : Event) (s t : State) (o : Order) (lead : List Event) where
   up-attached : (first : Bool) (j : ℕ) (pre : List Entry) (b : List Group) → Attached x first s t → Slot o j pre b → Each (Quiet (deviceOf x)) b →
-      ((d : ℕ) → upAfter d (entries o) true ≡ s .up d) → (d : ℕ) → upAfter d (entries (withOpen o (pre ++ (event x ∷ flat b)))) true ≡ t .up d
+      ((d : ℕ) → upAfter d (entries o) true ≡ s .up d) → (d : ℕ) → upAfter d (entries (withUnsettled o (pre ++ (event x ∷ flat b)))) true ≡ t .up d
   up-attached first j pre b f p q h d =
-      up-open d (λ u. if eqb d (deviceOf x) then bringsUp x else u) o pre (event x ∷ flat b) (flat b) (p .open-is) (up-behind d x b q)
+      up-end d (λ u. if eqb d (deviceOf x) then bringsUp x else u) o pre (event x ∷ flat b) (flat b) (p .unsettled-is) (up-behind d x b q)
       ∙ ap (λ u. if eqb d (deviceOf x) then bringsUp x else u) (h d) ∙ sym (f .up-is d)
 
   attach-first : (l : List Group) → OrderOk s o lead l → Each (Quiet (deviceOf x)) l → Attached x true s t → Kept t o (putAfter (event x) 0 o) (lead ++ (x ∷ [])) (attachEvent 0 x l)
@@ -373,7 +373,7 @@ module _ (x : Event) (s t : State) (o : Order) (lead : List Event) where
       subst (λ m. Kept t o (putAfter (event x) 0 o) (lead ++ (x ∷ [])) m) (sym (attach-miss 0 x l (no-zero (s .nextId) (ids l) (ids-right (s .nextId) (entryIds (o .settled)) (ids l) (k .ids-ok)))))
       (kept t o _ (lead ++ (x ∷ [])) l (map event lead ++ (event x ∷ flat l)) (p .put-is (event x))
       (record {
-        open-is = sym (ap (λ m. m ++ flat l) (map-append event lead (x ∷ [])) ∙ append-assoc (map event lead) (event x ∷ []) (flat l));
+        unsettled-is = sym (ap (λ m. m ++ flat l) (map-append event lead (x ∷ [])) ∙ append-assoc (map event lead) (event x ∷ []) (flat l));
         settled-is = λ d.
             ap (λ m. setAfter d m (pos 0)) (ap (λ m. o .settled ++ m) (map-append event lead (x ∷ [])) ∙ sym (append-assoc (o .settled) (map event lead) (event x ∷ [])))
             ∙ set-++ d (o .settled ++ map event lead) (event x ∷ []) (pos 0) ∙ set-events d (x ∷ []) _
@@ -391,10 +391,10 @@ module _ (x : Event) (s t : State) (o : Order) (lead : List Event) where
       Kept t o (putAfter (event x) (g .member .id) o) lead (attachEvent (g .member .id) x (a ++ (g ∷ b)))
   unfolding attachTo
   attach-behind a g b k q f =
-      subst (λ m. Kept t o (putAfter (event x) (g .member .id) o) lead m) (sym (attach-hit x a g b (unmet-open s o lead a g b k) ∙ ap (λ m. a ++ (m ∷ b)) (added-is x g)))
+      subst (λ m. Kept t o (putAfter (event x) (g .member .id) o) lead m) (sym (attach-hit x a g b (unmet-behind s o lead a g b k) ∙ ap (λ m. a ++ (m ∷ b)) (added-is x g)))
       (kept t o _ lead (a ++ (h ∷ b)) (pre ++ (event x ∷ flat b)) (p .put-is (event x))
       (record {
-        open-is = append-assoc (map event lead) (flat (a ++ (g ∷ []))) (event x ∷ flat b) ∙ ap (λ m. map event lead ++ m) (sym (flat-added (x ∷ []) e a g b));
+        unsettled-is = append-assoc (map event lead) (flat (a ++ (g ∷ []))) (event x ∷ flat b) ∙ ap (λ m. map event lead ++ m) (sym (flat-added (x ∷ []) e a g b));
         settled-is = λ d. k .settled-is d ∙ sym (f .settled-is d);
         up-is = up-attached false (g .member .id) pre b f p q (k .up-is);
         events-ok = each-swap EventsOk a g h b (k .events-ok) (events-added (x ∷ []) e g (λ d. refl) (each-mid EventsOk a g b (k .events-ok)));

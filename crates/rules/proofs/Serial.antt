@@ -17,7 +17,7 @@ use Rattle.rules.specs.Order.{Event, failed, restarted, Entry, routine, 
 use Rattle.rules.specs.Serial.{Condition, runCommand, runCommands, serialRun}
 use Rattle.rules.specs.Demand3.{Begins}
 use Rattle.rules.proofs.Lists.{byIf, put-same, put-other, Each, IdsOk}
-use Rattle.rules.proofs.Groups.{Group, members, ids, doneSteps, entryOf, flat, entryIds, unsettled, entryIds-++, entryIds-events}
+use Rattle.rules.proofs.Groups.{Group, members, ids, doneSteps, entryOf, flat, entryIds, stillHeld, entryIds-++, entryIds-events}
 use Rattle.rules.proofs.Invariant.{HubOk, FirstRuns, setCommands, setAfter, upAfter, EventsOk, OrderOk}
 use Rattle.rules.proofs.Runs.{set-++, set-flat}
 
@@ -68,8 +68,8 @@ settled-alone s o l k d = ap (λ q. setAfter d q (pos 0)) (sym (append-nil (o .s
 pub order-due : (s : State) (o : Order) (l : List Group) → HubOk s l → OrderOk s o [] l → (d : ℕ) → setAfter d (entries o) (pos 0) ≡ due s d
 unfolding due
 order-due s o l h k d =
-    set-++ d (o .settled) (o .open-part) (pos 0)
-    ∙ ap (λ q. setAfter d q (setAfter d (o .settled) (pos 0))) (k .open-is)
+    set-++ d (o .settled) (o .unsettled) (pos 0)
+    ∙ ap (λ q. setAfter d q (setAfter d (o .settled) (pos 0))) (k .unsettled-is)
     ∙ set-flat d l _ (k .events-ok)
     ∙ ap (λ v. afterMembers d (members l) v) (settled-alone s o l k d)
     ∙ ap (λ q. afterMembers d q (s .settled d)) (sym (h .sequence-is))
@@ -116,11 +116,11 @@ behind-flat (g ∷ l) f = rw f refl
 pub bar-stays : (s : State) (o : Order) (l : List Group) → OrderOk s o [] l → FirstRuns l → moveBar o ≡ o
 unfolding moveBar
 bar-stays s o l k f =
-    let a : beforeBar (entries o) ≡ o .settled = before-++ (o .settled) (o .open-part) (k .barred) ∙ ap (λ q. o .settled ++ q) (ap beforeBar (k .open-is) ∙ before-flat l f) ∙ append-nil (o .settled) in
-    let b : behindBar (entries o) ≡ o .open-part = behind-++ (o .settled) (o .open-part) (k .barred) ∙ ap behindBar (k .open-is) ∙ behind-flat l f ∙ sym (k .open-is) in
-    ap (λ q. record { settled = q; open-part = behindBar (entries o) }) a ∙ ap (λ q. record { settled = o .settled; open-part = q }) b
+    let a : beforeBar (entries o) ≡ o .settled = before-++ (o .settled) (o .unsettled) (k .barred) ∙ ap (λ q. o .settled ++ q) (ap beforeBar (k .unsettled-is) ∙ before-flat l f) ∙ append-nil (o .settled) in
+    let b : behindBar (entries o) ≡ o .unsettled = behind-++ (o .settled) (o .unsettled) (k .barred) ∙ ap behindBar (k .unsettled-is) ∙ behind-flat l f ∙ sym (k .unsettled-is) in
+    ap (λ q. record { settled = q; unsettled = behindBar (entries o) }) a ∙ ap (λ q. record { settled = o .settled; unsettled = q }) b
 
-pub first-runs : (l : List Group) → FirstRuns (unsettled l)
+pub first-runs : (l : List Group) → FirstRuns (stillHeld l)
 first-runs [] = tt
 first-runs (g ∷ l) = byIf FirstRuns (g .member .committed) (λ _. first-runs l) (λ e. e)
 
@@ -129,17 +129,17 @@ first-runs (g ∷ l) = byIf FirstRuns (g .member .committed) (λ _. first-runs l
 -- where the bar goes depends on the whole list alone
 bar-same : (o q : Order) → entries o ≡ entries q → moveBar o ≡ moveBar q
 unfolding moveBar
-bar-same o q e = ap (λ l. record { settled = beforeBar l; open-part = behindBar l }) e
+bar-same o q e = ap (λ l. record { settled = beforeBar l; unsettled = behindBar l }) e
 
 -- the bar between p and the groups' entries
 abbrev barAt : List Entry → List Group → Order
-barAt p l = record { settled = p; open-part = flat l }
+barAt p l = record { settled = p; unsettled = flat l }
 
 -- the bar behind p goes over r, where the groups begin
 bar-over : (s : State) (p r : List Entry) (l : List Group) → beforeBar p ≡ p → beforeBar r ≡ r → ((d : ℕ) → setAfter d (p ++ r) (pos 0) ≡ s .settled d) →
     ((d : ℕ) → upAfter d (p ++ (r ++ flat l)) true ≡ s .up d) → Each EventsOk l → IdsOk (s .nextId) (entryIds p ++ (entryIds r ++ ids l)) → OrderOk s (barAt (p ++ r) l) [] l
 bar-over s p r l before-p before-r set up eo io = record {
-  open-is = refl;
+  unsettled-is = refl;
   settled-is = λ d. ap (λ q. setAfter d q (pos 0)) (append-nil (p ++ r)) ∙ set d;
   up-is = λ d. ap (λ q. upAfter d q true) (append-assoc p r (flat l)) ∙ up d;
   events-ok = eo;
@@ -150,7 +150,7 @@ bar-over s p r l before-p before-r set up eo io = record {
 -- over the events attached to 0
 lead-settles : (s : State) (o : Order) (lead : List Event) (l : List Group) → OrderOk s o lead l → OrderOk s (barAt (o .settled ++ map event lead) l) [] l
 lead-settles s o lead l k =
-    bar-over s (o .settled) (map event lead) l (k .barred) (before-events lead) (k .settled-is) (λ d. ap (λ q. upAfter d (o .settled ++ q) true) (sym (k .open-is)) ∙ k .up-is d)
+    bar-over s (o .settled) (map event lead) l (k .barred) (before-events lead) (k .settled-is) (λ d. ap (λ q. upAfter d (o .settled ++ q) true) (sym (k .unsettled-is)) ∙ k .up-is d)
     (k .events-ok) (rw (entryIds-events lead) (k .ids-ok))
 
 -- over a committed routine and its events
@@ -174,7 +174,7 @@ member-settles s p g l t k =
 -- at a routine that runs, or at the end, neither the bar nor the hub goes on
 rest-stays : (s : State) (p : List Entry) (l : List Group) → FirstRuns l → OrderOk s (barAt p l) [] l → OrderOk (withSequence s (members l)) (moveBar (barAt p l)) [] l
 rest-stays s p l f k = subst (λ o. OrderOk (withSequence s (members l)) o [] l) (sym (bar-stays s (barAt p l) l k f)) record {
-  open-is = k .open-is;
+  unsettled-is = k .unsettled-is;
   settled-is = k .settled-is;
   up-is = k .up-is;
   events-ok = k .events-ok;
@@ -182,7 +182,7 @@ rest-stays s p l f k = subst (λ o. OrderOk (withSequence s (members l)) o [] l)
   barred = k .barred;
 }
 
-members-settle : (l : List Group) (s : State) (p : List Entry) → OrderOk s (barAt p l) [] l → OrderOk (settleFrom s (members l)) (moveBar (barAt p l)) [] (unsettled l)
+members-settle : (l : List Group) (s : State) (p : List Entry) → OrderOk s (barAt p l) [] l → OrderOk (settleFrom s (members l)) (moveBar (barAt p l)) [] (stillHeld l)
 members-settle [] s p k = rest-stays s p [] tt k
 members-settle (g ∷ l) s p k = go (members-settle l t (p ++ entriesOf g)) (g .member .committed) refl
   where
@@ -192,17 +192,17 @@ members-settle (g ∷ l) s p k = go (members-settle l t (p ++ entriesOf g)) (g .
     q : Order
     q = barAt (p ++ entriesOf g) l
 
-    go : (OrderOk t q [] l → OrderOk (settleFrom t (members l)) (moveBar q) [] (unsettled l)) → (b : Bool) → g .member .committed ≡ b →
-        OrderOk (if b then settleFrom t (members l) else withSequence s (members (g ∷ l))) (moveBar (barAt p (g ∷ l))) [] (if b then unsettled l else g ∷ l)
+    go : (OrderOk t q [] l → OrderOk (settleFrom t (members l)) (moveBar q) [] (stillHeld l)) → (b : Bool) → g .member .committed ≡ b →
+        OrderOk (if b then settleFrom t (members l) else withSequence s (members (g ∷ l))) (moveBar (barAt p (g ∷ l))) [] (if b then stillHeld l else g ∷ l)
     go ih true e =
-        subst (λ o. OrderOk (settleFrom t (members l)) o [] (unsettled l)) (bar-same q (barAt p (g ∷ l)) (append-assoc p (entriesOf g) (flat l))) (ih (member-settles s p g l e k))
+        subst (λ o. OrderOk (settleFrom t (members l)) o [] (stillHeld l)) (bar-same q (barAt p (g ∷ l)) (append-assoc p (entriesOf g) (flat l))) (ih (member-settles s p g l e k))
     go ih false e = rest-stays s p (g ∷ l) e k
 
 pub order-settles : (s : State) (o : Order) (lead : List Event) (l : List Group) → HubOk s l → OrderOk s o lead l →
-    OrderOk (settle s) (moveBar o) [] (unsettled l) × Begins (o .settled) (moveBar o .settled)
+    OrderOk (settle s) (moveBar o) [] (stillHeld l) × Begins (o .settled) (moveBar o .settled)
 unfolding settle moveBar
 order-settles s o lead l h k =
     let p = o .settled ++ map event lead in
-    let same : moveBar (barAt p l) ≡ moveBar o = bar-same (barAt p l) o (append-assoc (o .settled) (map event lead) (flat l) ∙ ap (λ q. o .settled ++ q) (sym (k .open-is))) in
-    let ok : OrderOk (settleFrom s (members l)) (moveBar o) [] (unsettled l) = subst (λ q. OrderOk (settleFrom s (members l)) q [] (unsettled l)) same (members-settle l s p (lead-settles s o lead l k)) in
-    (subst (λ q. OrderOk (settleFrom s q) (moveBar o) [] (unsettled l)) (sym (h .sequence-is)) ok, (beforeBar (o .open-part), before-++ (o .settled) (o .open-part) (k .barred)))
+    let same : moveBar (barAt p l) ≡ moveBar o = bar-same (barAt p l) o (append-assoc (o .settled) (map event lead) (flat l) ∙ ap (λ q. o .settled ++ q) (sym (k .unsettled-is))) in
+    let ok : OrderOk (settleFrom s (members l)) (moveBar o) [] (stillHeld l) = subst (λ q. OrderOk (settleFrom s (members l)) q [] (stillHeld l)) same (members-settle l s p (lead-settles s o lead l k)) in
+    (subst (λ q. OrderOk (settleFrom s q) (moveBar o) [] (stillHeld l)) (sym (h .sequence-is)) ok, (beforeBar (o .unsettled), before-++ (o .settled) (o .unsettled) (k .barred)))

@@ -9,7 +9,7 @@ use Rattle.rules.specs.Sequence.{withSequence}
 use Rattle.rules.specs.Due.{afterMembers, due}
 use Rattle.rules.specs.Settle.{joinSettled, settleFrom, settle}
 use Rattle.rules.proofs.Lists.{byIf}
-use Rattle.rules.proofs.Groups.{Group, members, unsettled}
+use Rattle.rules.proofs.Groups.{Group, members, stillHeld}
 
 -- a field that settling does not touch
 from-same : {A : Type 0} (f : State → A) → ((s : State) (m : Member) → f (joinSettled s m) ≡ f s) →
@@ -29,18 +29,18 @@ pub settle-nextId : (s : State) → settle s .nextId ≡ s .nextId
 unfolding settle joinSettled
 settle-nextId s = from-same (λ t. t .nextId) (λ t m. refl) (λ t l. refl) (s .sequence) s
 
-from-sequence : (l : List Group) (s : State) → settleFrom s (members l) .sequence ≡ members (unsettled l)
+from-sequence : (l : List Group) (s : State) → settleFrom s (members l) .sequence ≡ members (stillHeld l)
 from-sequence [] s = refl
 from-sequence (g ∷ l) s = go (from-sequence l (joinSettled s (g .member))) (g .member .committed)
   where
-    go : settleFrom (joinSettled s (g .member)) (members l) .sequence ≡ members (unsettled l) → (b : Bool) →
-        (if b then settleFrom (joinSettled s (g .member)) (members l) else withSequence s (members (g ∷ l))) .sequence ≡ members (if b then unsettled l else g ∷ l)
+    go : settleFrom (joinSettled s (g .member)) (members l) .sequence ≡ members (stillHeld l) → (b : Bool) →
+        (if b then settleFrom (joinSettled s (g .member)) (members l) else withSequence s (members (g ∷ l))) .sequence ≡ members (if b then stillHeld l else g ∷ l)
     go ih true = ih
     go ih false = refl
 
-pub settle-sequence : (s : State) (l : List Group) → s .sequence ≡ members l → settle s .sequence ≡ members (unsettled l)
+pub settle-sequence : (s : State) (l : List Group) → s .sequence ≡ members l → settle s .sequence ≡ members (stillHeld l)
 unfolding settle
-settle-sequence s l e = subst (λ q. settleFrom s q .sequence ≡ members (unsettled l)) (sym e) (from-sequence l s)
+settle-sequence s l e = subst (λ q. settleFrom s q .sequence ≡ members (stillHeld l)) (sym e) (from-sequence l s)
 
 from-due : (d : ℕ) (l : List Member) (s : State) → due (settleFrom s l) d ≡ afterMembers d l (s .settled d)
 unfolding due joinSettled

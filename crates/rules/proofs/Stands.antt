@@ -273,7 +273,7 @@ module _ (s : State) (o : Order) (a : ℕ → Account) (x : List Group) (g : Gro
   up-before d c =
       let p = o .settled ++ flat x in
       let u = upPast (o .settled) x d in
-      let whole : entries o ≡ p ++ flat (g ∷ y) = ap (λ l. o .settled ++ l) (f .order .open-is) ∙ flat-at (o .settled) x (g ∷ y) in
+      let whole : entries o ≡ p ++ flat (g ∷ y) = ap (λ l. o .settled ++ l) (f .order .unsettled-is) ∙ flat-at (o .settled) x (g ∷ y) in
       let same : upAfter d (flat (g ∷ y)) u ≡ u = up-++ d (map event (g .events)) (flat y) u ∙ up-flat-quiet d y _ (c .behind-quiet) ∙ up-quiet d (g .events) u (c .no-event) in
       sym (ap (λ l. upAfter d l true) whole ∙ up-++ d p (flat (g ∷ y)) true ∙ same) ∙ f .order .up-is d
 
@@ -402,7 +402,7 @@ pub stands-moves : (s : State) (o : Order) (a : ℕ → Account) (l : List Group
 stands-moves s o a l {c = c} {r = r} h f k t w m =
     let b = noteAnswers c (r .answers) a in
     let n = order-moves s o a l h k t m in
-    let v = subst (λ p. Standing a (o .settled ++ p)) (k .open-is) (transport (stand-is a (entries o) allUp) w) in
+    let v = subst (λ p. Standing a (o .settled ++ p)) (k .unsettled-is) (transport (stand-is a (entries o) allUp) w) in
     transport (sym (stand-is b (entries (orderAfterAll c a (r .answers) o)) allUp))
-    (subst (λ p. Standing b p) (sym (ap₂ (λ x y. x ++ y) (n .1) (n .0 .open-is)))
+    (subst (λ p. Standing b p) (sym (ap₂ (λ x y. x ++ y) (n .1) (n .0 .unsettled-is)))
     (stand-moves s o a l (record { hub = h; flies = f; order = k; tells = t; stand = v }) m (accounts-moves s a l h t m)))

@@ -12,7 +12,8 @@ use lib.IntN.{ℤ, pos}
 use Rattle.routine.specs.Choice.{if_then_else_}
 use Rattle.routine.specs.Routine.{maxDevices}
 use Rattle.routine.specs.Refusals.{devices-out-of-range, pass-limit-out-of-range, first-id-0, refuse_when_, _andThen_}
-use Rattle.routine.specs.declared.Verdict.the-variants.{Accepted}
+use Rattle.routine.specs.declared.Verdict.{Verdict}
+use Rattle.routine.specs.declared.Verdict.the-variants.{Accepted, Refused}
 use Rattle.routine.proofs.Laws.{both-accept, not-refused}
 use Rattle.rules.specs.Tables.{anyOf, put}
 use Rattle.rules.specs.State.{highestPassLimit, State}
@@ -20,7 +21,7 @@ use Rattle.rules.specs.Answers.{Call, submit, turn, report, failure, res
 use Rattle.rules.specs.Due.{due}
 use Rattle.rules.specs.Settle.{settle, settling}
 use Rattle.rules.specs.Abort.{leave, abort}
-use Rattle.rules.specs.Open.{openCheck, opened}
+use Rattle.rules.specs.Open.{opened, openCheck, newHub, openIf, openOf}
 use Rattle.rules.specs.Submit.{place}
 use Rattle.rules.specs.Turn.{commitTurn, sendTurn, skipTurn}
 use Rattle.rules.specs.Report.{doneReport, skippedState, skipReport}
@@ -29,10 +30,10 @@ use Rattle.rules.specs.Calls.{resultOf}
 use Rattle.rules.specs.History.{Account, noteAnswer, noteAnswers, accountsOf, workingAfter, workingOf}
 use Rattle.rules.specs.Order.{Event, Entry, Order, orderAfter, orderAfterAll, entries, moveBar, orderOf}
 use Rattle.rules.specs.Serial.{Condition, allUp, serialRun}
-use Rattle.rules.specs.World.{Message, Device, takes, devicesAfterAll, World, Act, calls, takes-one, accounts, tell, worldAfter, worldAfterAll, taken, isAccepted, Truthful, Premise, PremiseAll, openedWorld}
+use Rattle.rules.specs.World.{Message, Device, takes, devicesAfterAll, World, Act, calls, takes-one, accounts, tell, worldAfter, worldAfterAll, taken, isAccepted, Truthful, Premise, PremiseAll, newWorld}
 use Rattle.rules.specs.Demand3.{orderIn, NoneRuns, isBack, EndState, Begins, SettledStands, CommandsStand, Demand3, Statement}
 use Rattle.rules.proofs.Lists.{byIf, t≠f, Each, anyOf-++}
-use Rattle.rules.proofs.Groups.{Group, unsettled}
+use Rattle.rules.proofs.Groups.{Group, stillHeld}
 use Rattle.rules.proofs.Invariant.{unmarked, HubOk, FliesUp, FirstRuns, upAfter, setAfter, OrderOk, Tells, backTo, Comes, has, goes-back, OneFlies, DeviceAt, dead, free, busy, DeviceOk, Honest}
 use Rattle.rules.proofs.View.{Gone, nobody, somebody, Moves, places, commits, sends, skips, dones, misses, aborts, fails, restarts, Seen, is-refused, waits, moves, see}
 use Rattle.rules.proofs.Settled.{settle-up, settle-devices, settle-nextId}
@@ -161,7 +162,7 @@ told : (P : Type 0) (w : World) (c : Call) (v : ℤ) (h : Holds P w) {r : Result
     Next (P × Premised w c r) w (afterCall w c v (settling r))
 told P w c v h {r = r} {lead = lead} {k = k} m = record {
   next = record {
-    groups = unsettled k;
+    groups = stillHeld k;
     hub = hub-settles (r .state) k hub;
     flies = flies-settles (r .state) k (flies-moves s l (h .hub) (h .flies) m);
     order = settled .0;
@@ -197,7 +198,7 @@ told P w c v h {r = r} {lead = lead} {k = k} m = record {
     moved : OrderOk (r .state) (orderAfterAll c a (r .answers) (orderIn w)) lead k × (orderAfterAll c a (r .answers) (orderIn w) .settled ≡ orderIn w .settled)
     moved = order-moves s (orderIn w) a l (h .hub) (h .order) (h .tells) m
 
-    settled : OrderOk (settle (r .state)) (moveBar (orderAfterAll c a (r .answers) (orderIn w))) [] (unsettled k)
+    settled : OrderOk (settle (r .state)) (moveBar (orderAfterAll c a (r .answers) (orderIn w))) [] (stillHeld k)
         × Begins (orderAfterAll c a (r .answers) (orderIn w) .settled) (moveBar (orderAfterAll c a (r .answers) (orderIn w)) .settled)
     settled = order-settles (r .state) (orderAfterAll c a (r .answers) (orderIn w)) lead k hub (moved .0)
 
@@ -259,24 +260,28 @@ acts-hold P w (x ∷ l) h =
 
 -- ---- the opening
 
-opens : (n k first : ℕ) → openCheck n k first ≡ Accepted → 0 < first
-unfolding openCheck
-opens n k first e =
-    let p = both-accept (refuse devices-out-of-range when (eqb n 0 || ltb maxDevices n)) _ e .1 in
-    let q = both-accept (refuse pass-limit-out-of-range when ltb highestPassLimit k) _ p .1 in
-    let r = eqb-false first 0 (not-refused first-id-0 (eqb first 0) q) in
-    positive first r
+-- the hub of an accepted opening
+opening : (n k first : ℕ) (s : State) → openOf n k first ≡ opened s → (newHub n k first ≡ s) × (0 < first)
+unfolding openCheck openOf
+opening n k first s e = go (openCheck n k first) refl e
   where
     positive : (i : ℕ) → i ≢ 0 → 0 < i
     positive i z = omega arith
 
-opened-holds : (n k first : ℕ) → 0 < first → Holds (Unit {0}) (openedWorld n k first)
-unfolding openedWorld opened due
-opened-holds n k first p = record {
+    go : (v : Verdict) → openCheck n k first ≡ v → openIf v (newHub n k first) ≡ opened s → (newHub n k first ≡ s) × (0 < first)
+    go Accepted q f =
+        let p = both-accept (refuse devices-out-of-range when (eqb n 0 || ltb maxDevices n)) _ q .1 in
+        let r = both-accept (refuse pass-limit-out-of-range when ltb highestPassLimit k) _ p .1 in
+        (cc, positive first (eqb-false first 0 (not-refused first-id-0 (eqb first 0) r)))
+    go (Refused r) q f = let z : _≡_ {A = ℕ} 0 1 = cc in absurd (omega arith)
+
+new-holds : (n k first : ℕ) → 0 < first → Holds (Unit {0}) (newWorld (newHub n k first))
+unfolding newHub due
+new-holds n k first p = record {
   groups = [];
   hub = record { sequence-is = refl; ids-ok = tt; marks = λ d. unmarked refl tt; shuts = tt; turns = tt; some-id = p };
   flies = tt;
-  order = record { open-is = refl; settled-is = λ d. refl; up-is = λ d. refl; events-ok = tt; ids-ok = tt; barred = refl };
+  order = record { unsettled-is = refl; settled-is = λ d. refl; up-is = λ d. refl; events-ok = tt; ids-ok = tt; barred = refl };
   first = tt;
   tells = tt;
   unsent = λ i e. refl;
@@ -284,10 +289,6 @@ opened-holds n k first p = record {
   stands = tt;
   devices = λ q d m. record { old-sent = tt; old-took = tt; device-at = free refl tt (has refl refl) };
 }
-
-opened-devices : (n k first : ℕ) → openedWorld n k first .state .devices ≡ n
-unfolding openedWorld opened
-opened-devices n k first = refl
 
 -- ---- the three parts
 
@@ -325,28 +326,26 @@ acts-++ w [] b = refl
 acts-++ w (x ∷ a) b = acts-++ (worldAfter w x) a b
 
 pub demand-3 : Statement
-demand-3 n k first e acts = record {
-  end-state = λ p. subst (λ m. EndState m w) (devices-of (all .same-devices)) (end-state (Unit {0} × PremiseAll o acts) w (all .next) (tt, p));
+demand-3 n k first s e acts = record {
+  end-state = λ p. subst (λ m. EndState m w) (all .same-devices) (end-state (Unit {0} × PremiseAll o acts) w (all .next) (tt, p));
   settled-part = λ before rest q.
       let b = acts-hold (Unit {0}) o before start in
-      let r = acts-hold (Unit {0} × PremiseAll o before) (worldAfterAll o before) rest (b .next) in
-      let same : worldAfterAll o acts ≡ worldAfterAll (worldAfterAll o before) rest = ap (worldAfterAll o) q ∙ acts-++ o before rest in
-      subst (λ t. Begins (orderIn (worldAfterAll o before) .settled) (entries (orderIn t))) (sym same)
-      (begins-trans (orderIn (worldAfterAll o before) .settled) (orderIn (worldAfterAll (worldAfterAll o before) rest) .settled) (entries (orderIn (worldAfterAll (worldAfterAll o before) rest))) (r .grows) (orderIn (worldAfterAll (worldAfterAll o before) rest) .open-part, refl));
+      let t = worldAfterAll o before in
+      let r = acts-hold (Unit {0} × PremiseAll o before) t rest (b .next) in
+      let same : w ≡ worldAfterAll t rest = ap (worldAfterAll o) q ∙ acts-++ o before rest in
+      subst (λ z. Begins (orderIn t .settled) (entries (orderIn z))) (sym same)
+      (begins-trans (orderIn t .settled) (orderIn (worldAfterAll t rest) .settled) (entries (orderIn (worldAfterAll t rest))) (r .grows) (orderIn (worldAfterAll t rest) .unsettled, refl));
   commands-stand = all .next .stands;
 }
   where
     o : World
-    o = openedWorld n k first
+    o = newWorld s
 
     w : World
     w = worldAfterAll o acts
 
     start : Holds (Unit {0}) o
-    start = opened-holds n k first (opens n k first e)
+    start = let h = opening n k first s e in subst (λ t. Holds (Unit {0}) (newWorld t)) (h .0) (new-holds n k first (h .1))
 
     all : Next (Unit {0} × PremiseAll o acts) o w
     all = acts-hold (Unit {0}) o acts start
-
-    devices-of : w .state .devices ≡ o .state .devices → w .state .devices ≡ n
-    devices-of q = q ∙ opened-devices n k first

@@ -9,21 +9,20 @@ use lib.Dec.{eqb}
 use lib.IntN.{ℤ, pos, negsuc}
 use lib.ListN.{take}
 use Rattle.routine.specs.Choice.{if_then_else_}
-use Rattle.routine.specs.declared.Verdict.the-variants.{Accepted}
 use Rattle.rules.specs.Tables.{anyOf}
 use Rattle.rules.specs.Answers.{Call, submit, turn, report, failure, restart, cancel, Answer, done, skipped, aborted, down, up}
-use Rattle.rules.specs.Open.{openCheck}
+use Rattle.rules.specs.Open.{opened, newHub, openOf}
 use Rattle.rules.specs.History.{Told, Account, workingOf}
 use Rattle.rules.specs.Order.{putAfter, moveBar, entries}
 use Rattle.rules.specs.Serial.{Condition, allUp, serialRun}
-use Rattle.rules.specs.World.{sent-for, put-back, Message, Device, World, Act, calls, takes-one, accounts, worldAfterAll, taken, PremiseAll, openedWorld}
+use Rattle.rules.specs.World.{sent-for, put-back, Message, Device, World, Act, calls, takes-one, accounts, worldAfterAll, taken, PremiseAll, newWorld}
 use Rattle.rules.specs.Demand3.{orderIn, NoneRuns, isBack, CommandsStand}
 use Rattle.rules.specs.Examples.{calc, must, best, back}
 use Rattle.rules.proofs.Lists.{t≠f}
 
 -- all that a computation with worlds opens
 unfoldable pub calcWorld : Unit {0}
-unfolding calc putAfter moveBar taken openedWorld
+unfolding calc putAfter moveBar taken
 calcWorld = tt
 
 -- an opening and what happens; the settings that the devices have in the end
@@ -34,7 +33,7 @@ pub record Passage : Type 0 where
   pub settings : List ℤ
 
 abbrev pub endOf : Passage → World
-endOf p = worldAfterAll (openedWorld (p .devices) (p .passLimit) 1) (p .acts)
+endOf p = worldAfterAll (newWorld (newHub (p .devices) (p .passLimit) 1)) (p .acts)
 
 -- of the `left` devices from d on: does it work, with nothing left that puts it back? its setting; what the serial run gives it
 abbrev pub readyFrom : World → ℕ → ℕ → Bool
@@ -55,8 +54,8 @@ upAt (v ∷ l) = record { up = true; setting = v } ∷ upAt l
 
 -- everything that the theorem asks of it holds, and what the theorem says of it
 pub record Passes (p : Passage) : Type 0 where
-  pub accepted : openCheck (p .devices) (p .passLimit) 1 ≡ Accepted
-  pub premise : PremiseAll (openedWorld (p .devices) (p .passLimit) 1) (p .acts)
+  pub accepted : openOf (p .devices) (p .passLimit) 1 ≡ opened (newHub (p .devices) (p .passLimit) 1)
+  pub premise : PremiseAll (newWorld (newHub (p .devices) (p .passLimit) 1)) (p .acts)
   pub none-runs : NoneRuns (endOf p)
   pub ready : readyFrom (endOf p) 0 (p .devices) ≡ true
   pub settings-are : settingsFrom (endOf p) 0 (p .devices) ≡ p .settings
@@ -185,7 +184,7 @@ failed-after-change = record {
 
 -- the world after the first n acts
 abbrev pub after : ℕ → Passage → World
-after n p = worldAfterAll (openedWorld (p .devices) (p .passLimit) 1) (take n (p .acts))
+after n p = worldAfterAll (newWorld (newHub (p .devices) (p .passLimit) 1)) (take n (p .acts))
 
 abbrev lastAnswers : List Told → List Answer
 lastAnswers [] = []

@@ -5,13 +5,13 @@ use mathlib.Core.List.{List, [], _∷_, _++_}
 use Prim.Native.Nat.{ℕ, _<_}
 use Rattle.routine.specs.Choice.{if_then_else_}
 use Rattle.routine.specs.declared.Command.{Command}
-use Rattle.routine.specs.declared.Verdict.the-variants.{Accepted}
 use Rattle.rules.specs.Tables.{anyOf}
-use Rattle.rules.specs.Open.{openCheck}
+use Rattle.rules.specs.State.{State}
+use Rattle.rules.specs.Open.{opened, openOf}
 use Rattle.rules.specs.History.{Outcome, reported-done, reported-failed, not-sent, Answered, Account, workingOf}
 use Rattle.rules.specs.Order.{Entry, routine, event, Order, entries, orderOf}
 use Rattle.rules.specs.Serial.{Condition, allUp, runCommand, runEntry, serialRun}
-use Rattle.rules.specs.World.{Origin, put-back, sent-for, Message, World, accounts, Act, worldAfterAll, PremiseAll, openedWorld}
+use Rattle.rules.specs.World.{Origin, put-back, sent-for, Message, World, accounts, Act, worldAfterAll, PremiseAll, newWorld}
 
 -- The order of a world: built from its calls and answers.
 abbrev pub orderIn : World → Order
@@ -73,14 +73,14 @@ CommandsStand a [] t = Unit {0}
 CommandsStand a (routine i cs b ∷ l) t = (cs ≡ doneOnes (a i .answered)) × AllFind (a i .answered) t × CommandsStand a l (runEntry (routine i cs b) t)
 CommandsStand a (event e ∷ l) t = CommandsStand a l (runEntry (event e) t)
 
--- The three parts, for a list of calls and device steps from an opening. Only the first needs the premise on the devices.
-pub record Demand3 (n k first : ℕ) (acts : List Act) : Type 0 where
-  pub end-state : PremiseAll (openedWorld n k first) acts → EndState n (worldAfterAll (openedWorld n k first) acts)
-  pub settled-part : SettledStands (openedWorld n k first) acts
+-- The three parts, for a list of calls and device steps from the hub s, just opened. Only the first needs the premise on the devices.
+pub record Demand3 (s : State) (acts : List Act) : Type 0 where
+  pub end-state : PremiseAll (newWorld s) acts → EndState (s .devices) (worldAfterAll (newWorld s) acts)
+  pub settled-part : SettledStands (newWorld s) acts
   pub commands-stand :
-      let w = worldAfterAll (openedWorld n k first) acts in
+      let w = worldAfterAll (newWorld s) acts in
       CommandsStand (accounts w) (entries (orderIn w)) allUp
 
 -- Demand 3: for every accepted opening and every list.
 abbrev pub Statement : Type 0
-Statement = (n k first : ℕ) → openCheck n k first ≡ Accepted → (acts : List Act) → Demand3 n k first acts
+Statement = (n k first : ℕ) (s : State) → openOf n k first ≡ opened s → (acts : List Act) → Demand3 s acts

@@ -13,7 +13,6 @@ use Rattle.routine.specs.Refusals.{refusalOf}
 use Rattle.routine.specs.Routine.{commandCheck, commandsCheck, routineCheck}
 use Rattle.routine.specs.declared.Command.{Command}
 use Rattle.routine.specs.declared.Refusal.the-variants.{Number, Indexed}
-use Rattle.routine.specs.declared.Verdict.the-variants.{Accepted}
 use Rattle.rules.specs.State.{State}
 use Rattle.rules.specs.Answers.{Call, submit, turn, report, failure, restart, cancel, Back, Answer, refused, placed, wait, send, done, skipped, committed, aborted, down, up}
 use Rattle.rules.specs.Progress.{begun, finished, inFlightOn, inFlight}
@@ -21,7 +20,7 @@ use Rattle.rules.specs.Due.{afterMember, due}
 use Rattle.rules.specs.Sequence.{isRunning, runs}
 use Rattle.rules.specs.Settle.{clearMarks, joinSettled, settle}
 use Rattle.rules.specs.Abort.{attachTo, settleRestarts, moveMarks, leave, isPutBack, putBacks, abort}
-use Rattle.rules.specs.Open.{openCheck, opened}
+use Rattle.rules.specs.Open.{opened, openCheck, newHub, openOf}
 use Rattle.rules.specs.Submit.{submitCheck, blocks, pass, newcomer, place, submitOf}
 use Rattle.rules.specs.Turn.{holds, markBegun, commit, commitTurn, sendTurn, skipTurn, turnOf}
 use Rattle.rules.specs.Report.{doneReport, backUnless, skippedState, skipReport, reportOf}
@@ -31,7 +30,7 @@ use Rattle.rules.specs.Calls.{resultOf}
 
 -- All that a computation with the rules opens.
 unfoldable pub calc : Unit {0}
-unfolding inRange refusalOf commandCheck commandsCheck routineCheck begun finished inFlightOn inFlight afterMember due isRunning runs clearMarks joinSettled settle attachTo settleRestarts moveMarks leave isPutBack putBacks abort openCheck opened submitCheck blocks pass newcomer place submitOf holds markBegun commit commitTurn sendTurn skipTurn turnOf doneReport backUnless skippedState skipReport reportOf isHalfway abortHalfway attach oneRestart failed restarted failureOf restartOf cancelOf
+unfolding inRange refusalOf commandCheck commandsCheck routineCheck begun finished inFlightOn inFlight afterMember due isRunning runs clearMarks joinSettled settle attachTo settleRestarts moveMarks leave isPutBack putBacks abort openCheck newHub openOf submitCheck blocks pass newcomer place submitOf holds markBegun commit commitTurn sendTurn skipTurn turnOf doneReport backUnless skippedState skipReport reportOf isHalfway abortHalfway attach oneRestart failed restarted failureOf restartOf cancelOf
 calc = tt
 
 -- An opening, calls, what each answers, and the device lines at the end: the due setting of a device that is up, none of one that is down.
@@ -58,8 +57,8 @@ deviceLines s d (suc left) = (if s .up d then some (due s d) else none) ∷ devi
 
 abbrev pub Holds : Example → Type 0
 Holds e =
-    let s = opened (e .devices) (e .passLimit) (e .firstId) in
-    (openCheck (e .devices) (e .passLimit) (e .firstId) ≡ Accepted) × (answersOf s (e .calls) ≡ e .answers)
+    let s = newHub (e .devices) (e .passLimit) (e .firstId) in
+    (openOf (e .devices) (e .passLimit) (e .firstId) ≡ opened s) × (answersOf s (e .calls) ≡ e .answers)
     × (deviceLines (stateAfter s (e .calls)) 0 (e .devices) ≡ e .settings)
 
 abbrev pub AllHold : List Example → Type 0

@@ -6,8 +6,15 @@ use lib.Dec.{ltb, eqb}
 use lib.IntN.{pos}
 use Rattle.routine.specs.Routine.{maxDevices}
 use Rattle.routine.specs.Refusals.{devices-out-of-range, pass-limit-out-of-range, first-id-0, refuse_when_, _andThen_}
+use Rattle.routine.specs.declared.Refusal.{Refusal}
 use Rattle.routine.specs.declared.Verdict.{Verdict}
+use Rattle.routine.specs.declared.Verdict.the-variants.{Accepted, Refused}
 use Rattle.rules.specs.State.{highestPassLimit, State}
+
+-- What an opening gives: a hub; or a refusal, and no hub is made.
+pub data Opening : Type 0 where
+  opened : State → Opening
+  not-opened : Refusal → Opening
 
 unfoldable pub openCheck : ℕ → ℕ → ℕ → Verdict
 openCheck n k first =
@@ -15,6 +22,13 @@ openCheck n k first =
     andThen refuse pass-limit-out-of-range when ltb highestPassLimit k
     andThen refuse first-id-0 when eqb first 0
 
--- The hub that an accepted opening makes.
-unfoldable pub opened : ℕ → ℕ → ℕ → State
-opened n k first = record { devices = n; passLimit = k; nextId = first; sequence = []; settled = λ d. pos 0; up = λ d. true; mark = λ d. 0 }
+-- A hub just opened.
+unfoldable pub newHub : ℕ → ℕ → ℕ → State
+newHub n k first = record { devices = n; passLimit = k; nextId = first; sequence = []; settled = λ d. pos 0; up = λ d. true; mark = λ d. 0 }
+
+abbrev pub openIf : Verdict → State → Opening
+openIf Accepted s = opened s
+openIf (Refused r) s = not-opened r
+
+unfoldable pub openOf : ℕ → ℕ → ℕ → Opening
+openOf n k first = openIf (openCheck n k first) (newHub n k first)

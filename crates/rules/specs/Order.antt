@@ -22,10 +22,10 @@ pub data Entry : Type 0 where
 -- The list, cut at the bar.
 pub record Order : Type 0 where
   pub settled : List Entry
-  pub open-part : List Entry
+  pub unsettled : List Entry
 
 abbrev pub emptyOrder : Order
-emptyOrder = record { settled = []; open-part = [] }
+emptyOrder = record { settled = []; unsettled = [] }
 
 -- "it goes before the next routine .., or last"
 abbrev pub beforeNext : Entry → List Entry → List Entry
@@ -41,7 +41,7 @@ behindRoutine x j (event e ∷ l) = event e ∷ behindRoutine x j l
 -- "Placed, or an event, after X: it goes before the next routine behind X, or last; after 0, before the first routine behind the bar, or last."
 -- Every X but 0 stands behind the bar.
 unfoldable pub putAfter : Entry → ℕ → Order → Order
-putAfter x j o = record { settled = o .settled; open-part = if eqb j 0 then beforeNext x (o .open-part) else behindRoutine x j (o .open-part) }
+putAfter x j o = record { settled = o .settled; unsettled = if eqb j 0 then beforeNext x (o .unsettled) else behindRoutine x j (o .unsettled) }
 
 -- The routine R, wherever it stands, becomes what f makes of its done commands and its commit.
 abbrev pub edit : ℕ → (List Command → Bool → List Entry) → List Entry → List Entry
@@ -50,7 +50,7 @@ edit r f (routine i cs b ∷ l) = if eqb i r then f cs b ++ l else routine i cs 
 edit r f (event e ∷ l) = event e ∷ edit r f l
 
 abbrev pub editOrder : ℕ → (List Command → Bool → List Entry) → Order → Order
-editOrder r f o = record { settled = edit r f (o .settled); open-part = edit r f (o .open-part) }
+editOrder r f o = record { settled = edit r f (o .settled); unsettled = edit r f (o .unsettled) }
 
 -- "R goes, its events stay."
 abbrev pub goes : List Command → Bool → List Entry
@@ -106,10 +106,10 @@ behindBar (routine i cs false ∷ l) = routine i cs false ∷ l
 
 -- The whole list.
 abbrev pub entries : Order → List Entry
-entries o = o .settled ++ o .open-part
+entries o = o .settled ++ o .unsettled
 
 unfoldable pub moveBar : Order → Order
-moveBar o = record { settled = beforeBar (entries o); open-part = behindBar (entries o) }
+moveBar o = record { settled = beforeBar (entries o); unsettled = behindBar (entries o) }
 
 -- The order after a history.
 abbrev pub orderOf : List Told → Order

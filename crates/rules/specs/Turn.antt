@@ -7,7 +7,7 @@ use Rattle.routine.specs.Choice.{if_then_else_}
 use Rattle.routine.specs.Refusals.{not-running, turn-in-flight, refuse_when_}
 use Rattle.routine.specs.declared.Command.{Command}
 use Rattle.rules.specs.Tables.{put}
-use Rattle.rules.specs.State.{in-flight, was-skipped, Member, State}
+use Rattle.rules.specs.State.{Status, in-flight, was-skipped, Member, State}
 use Rattle.rules.specs.Answers.{Result, wait, send, skipped, committed, refusedFor, unlessRefused}
 use Rattle.rules.specs.Progress.{isMust, begun, finished, inFlight, next, advance, withSteps}
 use Rattle.rules.specs.Due.{due}
@@ -35,19 +35,17 @@ commit m = record { id = m .id; steps = m .steps; passed = m .passed; committed 
 unfoldable pub commitTurn : State → Found → Result
 commitTurn s f = record { state = change s f (commit (f .it)); answers = committed (f .it .id) ∷ [] }
 
--- "Otherwise the command is sent and is in flight."
+-- The next command, c, gets this status, and its device the mark if R begins it by that.
+abbrev pub begin : State → Found → Command → Status → State
+begin s f c st = withMark (change s f (withSteps (f .it) (advance st (f .it .steps)))) (markBegun (f .it) (c .device) (s .mark))
+
+-- "Otherwise the command is sent and is in flight." It keeps its device's due setting of now.
 unfoldable pub sendTurn : State → Found → Command → Result
-sendTurn s f c = record {
-  state = withMark (change s f (withSteps (f .it) (advance (in-flight (due s (c .device))) (f .it .steps)))) (markBegun (f .it) (c .device) (s .mark));
-  answers = send (f .it .id) c ∷ [];
-}
+sendTurn s f c = record { state = begin s f c (in-flight (due s (c .device))); answers = send (f .it .id) c ∷ [] }
 
 -- "a best-effort is skipped"
 unfoldable pub skipTurn : State → Found → Command → Result
-skipTurn s f c = record {
-  state = withMark (change s f (withSteps (f .it) (advance was-skipped (f .it .steps)))) (markBegun (f .it) (c .device) (s .mark));
-  answers = skipped (f .it .id) [] ∷ [];
-}
+skipTurn s f c = record { state = begin s f c was-skipped; answers = skipped (f .it .id) [] ∷ [] }
 
 -- "If D is down, a must aborts R and a best-effort is skipped. Otherwise the command is sent and is in flight."
 abbrev pub proceed : State → Found → Command → Result

@@ -10,7 +10,6 @@ use Rattle.routine.specs.Choice.{if_then_else_}
 use Rattle.rules.specs.Tables.{anyOf, put}
 use Rattle.rules.specs.State.{State}
 use Rattle.rules.specs.Answers.{Call, submit, turn, report, failure, restart, cancel, Back, Answer, refused, placed, wait, send, done, skipped, committed, aborted, down, up}
-use Rattle.rules.specs.Open.{opened}
 use Rattle.rules.specs.Report.{codeDone}
 use Rattle.rules.specs.Calls.{resultOf}
 use Rattle.rules.specs.History.{Told, Account, accountsOf}
@@ -161,6 +160,6 @@ PremiseAll w (x ∷ l) = Premise w x × PremiseAll (worldAfter w x) l
 abbrev pub newDevice : Device
 newDevice = record { setting = pos 0; sent = []; took = [] }
 
--- The world of an accepted opening.
-unfoldable pub openedWorld : ℕ → ℕ → ℕ → World
-openedWorld n k first = record { state = opened n k first; history = []; devices = λ d. newDevice }
+-- The world around a hub just opened.
+abbrev pub newWorld : State → World
+newWorld s = record { state = s; history = []; devices = λ d. newDevice }
