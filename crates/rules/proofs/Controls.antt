@@ -2,7 +2,6 @@
 -- in `must-fail/` does. (`failed_never_puts_back` shows in `failedAfterChange` of `Worlds.antt`.) Assumes nothing.
 use mathlib.Core.Path.{refl}
 use mathlib.Core.List.{List, [], _∷_}
-use Prim.Native.Nat.{ℕ}
 use lib.IntN.{pos}
 use Rattle.rules.specs.Answers.{submit, turn, report, failure, restart, cancel}
 use Rattle.rules.specs.Open.{newHub}
@@ -11,7 +10,7 @@ use Rattle.rules.specs.Serial.{allUp}
 use Rattle.rules.specs.World.{Act, calls, takes-one, accounts, worldAfterAll, newWorld}
 use Rattle.rules.specs.Demand3.{orderIn, CommandsStand}
 use Rattle.rules.specs.Examples.{must, best}
-use Rattle.rules.proofs.Worlds.{calcWorld, Passage, Passes, endOf, call, elsewhere}
+use Rattle.rules.proofs.Worlds.{calcWorld, Passage, endOf, Passes, call, elsewhere}
 
 -- commit_leaves_at_once: 2 is committed behind 1, which runs; 3 follows 2. If 2 were gone, 3 would be placed ahead of both, and the serial run would end with 2's 70.
 abbrev pub committedStays : Passage

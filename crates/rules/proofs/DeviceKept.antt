@@ -1,30 +1,49 @@
 -- Every call keeps what holds of each device. Assumes nothing.
-use mathlib.Core.Path.{_≡_}
-use mathlib.Core.List.{List}
+use mathlib.Core.Path.{_≡_, refl, sym, _∙_, subst}
+use mathlib.Core.List.{List, _∷_, _++_}
+use mathlib.Core.Option.{some}
 use Prim.Native.Nat.{ℕ, _<_}
+use lib.Dec.{eqb}
 use lib.IntN.{ℤ}
+use Rattle.routine.specs.declared.Command.{Command}
 use Rattle.rules.specs.State.{State}
-use Rattle.rules.specs.Answers.{Call, Result}
+use Rattle.rules.specs.Answers.{Call, report, Result}
+use Rattle.rules.specs.Progress.{Flight, flight}
+use Rattle.rules.specs.Report.{codeDone, skipReport}
 use Rattle.rules.specs.History.{Account}
 use Rattle.rules.specs.Order.{Event}
 use Rattle.rules.specs.World.{Device}
-use Rattle.rules.proofs.Lists.{Each}
-use Rattle.rules.proofs.Groups.{Group}
+use Rattle.rules.proofs.Lists.{Each, each-mid}
+use Rattle.rules.proofs.Groups.{Group, with, foundAt}
 use Rattle.rules.proofs.Invariant.{HubOk, FliesUp, EventsOk, Tells, DeviceOk, Honest}
-use Rattle.rules.proofs.View.{Moves, places, commits, sends, skips, dones, misses, aborts, fails, restarts}
-use Rattle.rules.proofs.Devices.{AfterCall, device-places, device-commits, device-sends, device-skips, device-dones, device-misses}
+use Rattle.rules.proofs.View.{failedMember, Moves, places, commits, sends, skips, dones, misses, aborts, fails, restarts}
+use Rattle.rules.proofs.Marks.{in-turn}
+use Rattle.rules.proofs.Messages.{tookLast, flies-there, AfterCall}
+use Rattle.rules.proofs.Devices.{device-commits, device-skips, device-sends, device-dones, device-misses, device-places}
 use Rattle.rules.proofs.DeviceAborts.{device-aborts, device-fails, device-restarts}
+
+-- what the premise says of the command in flight
+reported-took : (a : ℕ → Account) (ds : ℕ → Device) (i code : ℕ) (g : Group) (x : Flight) → Tells a g → Honest a ds (report i code) → g .member .id ≡ i → flight (g .member .steps) ≡ some x →
+    tookLast a (g .member .id) (ds (x .command .device)) ≡ eqb code codeDone
+reported-took a ds i code g x t p e f =
+    subst (λ (c : Command). tookLast a (g .member .id) (ds (c .device)) ≡ eqb code codeDone) (t .sent-is x f) (subst (λ i. Honest a ds (report i code)) (sym e) p)
 
 -- `a`: the accounts before the call; v: what a failing device is left at
 pub device-moves : (d : ℕ) (s : State) (a : ℕ → Account) (l : List Group) (ds : ℕ → Device) (v : ℤ) {c : Call} {r : Result} {lead : List Event} {k : List Group} →
     d < s .devices → HubOk s l → Each EventsOk l → Each (Tells a) l → DeviceOk d s a l (ds d) → a (s .nextId) .sends ≡ 0 → Each (FliesUp s) l → Honest a ds c → Moves s l c r lead k →
     AfterCall d a ds v c r k
-device-moves d s a l ds v n h e t w z f p (places cs x y q1 q2 q3 q4 q5) = device-places d s a l ds v n h e t w z cs x y q1 q2 q3 q4 q5
-device-moves d s a l ds v n h e t w z f p (commits i x g y q1 q2 q3 q4 q5) = device-commits d s a l ds v n h e t w i x g y q1 q2 q3 q4 q5
-device-moves d s a l ds v n h e t w z f p (sends i x g y c q1 q2 q3 q4 q5 q6 q7) = device-sends d s a l ds v n h e t w i x g y c q1 q2 q3 q4 q5 q6 q7
-device-moves d s a l ds v n h e t w z f p (skips i x g y c q1 q2 q3 q4 q5 q6 q7) = device-skips d s a l ds v n h e t w i x g y c q1 q2 q3 q4 q5 q6 q7
-device-moves d s a l ds v n h e t w z f p (dones i code x g y m q1 q2 q3 q4 q5) = device-dones d s a l ds v n h e t w i code p x g y m q1 q2 q3 q4 q5
-device-moves d s a l ds v n h e t w z f p (misses i code x g y m q1 q2 q3 q4 q5) = device-misses d s a l ds v n h e t w f i code p x g y m q1 q2 q3 q4 q5
-device-moves d s a l ds v n h e t w z f p (aborts c x g y q1 q2 q3) = device-aborts d s a l ds v n h e w c x g y q1 q2 q3
-device-moves d s a l ds v n h e t w z f p (fails b r lead k q1 q2 q3) = device-fails d s a l ds v n h e w b r lead k q1 q2 q3
-device-moves d s a l ds v n h e t w z f p (restarts b u r lead k q1 q2 q3) = device-restarts d s a l ds v n h e w b u p r lead k q1 q2 q3
+device-moves d s a l ds v n h e t w z f p (places cs x y _ q u b _) = device-places d s cs x y (subst (HubOk s) q h) a ds v z u b (subst (λ m. DeviceOk d s a m (ds d)) q w)
+device-moves d s a l ds v n h e t w z f p (commits i x g y q _ _ u _) = device-commits s a x g y ds v (subst (HubOk s) q h) d i u (subst (λ m. DeviceOk d s a m (ds d)) q w)
+device-moves d s a l ds v n h e t w z f p (sends i x g y c q _ _ u b j k) = device-sends s a x g y ds v (subst (HubOk s) q h) d i c b u j k (subst (λ m. DeviceOk d s a m (ds d)) q w)
+device-moves d s a l ds v n h e t w z f p (skips i x g y c q _ _ u b _ _) = device-skips s a x g y ds v (subst (HubOk s) q h) d i c b u (subst (λ m. DeviceOk d s a m (ds d)) q w)
+device-moves d s a l ds v n h e t w z f p (dones i code x g y m q j _ u b) =
+    device-dones s a x g y ds v (subst (HubOk s) q h) m u d i code (subst (Each EventsOk) q e)
+    (reported-took a ds i code g m (each-mid (Tells a) x g y (subst (Each (Tells a)) q t)) p j u ∙ b) (subst (λ m. DeviceOk d s a m (ds d)) q w)
+device-moves d s a l ds v n h e t w z f p (misses i code x g y m q j _ u b) =
+    let o = subst (HubOk s) q h in
+    let up = each-mid (FliesUp s) x g y (subst (Each (FliesUp s)) q f) .flies-up (m .command .device) (flies-there (m .command .device) g (in-turn s x g y o) m u refl) in
+    subst (λ i. AfterCall d a ds v (report i code) (skipReport s (foundAt x g y) m) (x ++ (with g (failedMember g) ∷ y))) j
+    (device-misses s a x g y ds v o m u d code up (reported-took a ds i code g m (each-mid (Tells a) x g y (subst (Each (Tells a)) q t)) p j u ∙ b) (subst (λ m. DeviceOk d s a m (ds d)) q w))
+device-moves d s a l ds v n h e t w z f p (aborts c x g y q _ u) = device-aborts d s a ds v c x g y n (subst (HubOk s) q h) (subst (λ m. DeviceOk d s a m (ds d)) q w) u
+device-moves d s a l ds v n h e t w z f p (fails b r lead k _ _ g) = device-fails d s a l ds v n h w b r lead k g
+device-moves d s a l ds v n h e t w z f p (restarts b u r lead k _ j g) = device-restarts d s a l ds v n h e w b u p r lead k j g

@@ -1,15 +1,15 @@
 -- Each routine of the sequence together with all events attached to it: the hub's sequence and the order behind the bar are read off this list, which
--- only the proofs keep. Assumes nothing.
-use mathlib.Core.Path.{_≡_, refl, sym, ap, _∙_}
-use mathlib.Core.Bool.{Bool, true, false}
-use mathlib.Core.List.{List, [], _∷_, _++_, map, append-assoc, tail-eq-of-cons-eq, nil≢cons}
-use mathlib.Core.Option.{Option, none, some}
+-- only the proofs keep. What the calls do to the list, and what is then read off it. Assumes nothing.
+use mathlib.Core.Path.{_≡_, refl, sym, ap, _∙_, subst}
+use mathlib.Core.Bool.{Bool}
+use mathlib.Core.List.{List, [], _∷_, _++_, map, append-assoc, append-nil, map-append}
+use mathlib.Core.Option.{Option, none}
 use Prim.Native.Nat.{ℕ}
+use borrow.Author.Tests.{eq-eqb, ne-eqb}
 use lib.Dec.{eqb}
 use lib.IntN.{ℤ}
 use Rattle.routine.specs.Choice.{if_then_else_}
 use Rattle.routine.specs.declared.Command.{Command}
-use Rattle.rules.specs.Tables.{anyOf}
 use Rattle.rules.specs.State.{Step, Member}
 use Rattle.rules.specs.Progress.{isDone}
 use Rattle.rules.specs.Sequence.{Found}
@@ -17,6 +17,7 @@ use Rattle.rules.specs.Abort.{later, attachTo}
 use Rattle.rules.specs.Submit.{pass}
 use Rattle.rules.specs.Events.{oneRestart}
 use Rattle.rules.specs.Order.{Event, failed, restarted, Entry, routine, event}
+use Rattle.rules.proofs.Lists.{byIf, Each, NotIn, IdsOk, ids-other}
 
 pub record Group : Type 0 where
   pub member : Member
@@ -48,9 +49,12 @@ entryIds [] = []
 entryIds (routine i cs b ∷ l) = i ∷ entryIds l
 entryIds (event e ∷ l) = entryIds l
 
+abbrev pub deviceOf : Event → ℕ
+deviceOf (failed d) = d
+deviceOf (restarted d v) = d
+
 abbrev pub isOf : ℕ → Event → Bool
-isOf d (failed e) = eqb e d
-isOf d (restarted e v) = eqb e d
+isOf d x = eqb (deviceOf x) d
 
 -- the last restart of d
 abbrev pub lastRestart : ℕ → List Event → Option ℤ
@@ -65,6 +69,10 @@ alone m = record { member = m; events = [] }
 
 abbrev pub with : Group → Member → Group
 with g m = record { member = m; events = g .events }
+
+-- the routine with other steps, or committed
+abbrev pub changed : Group → List Step → Bool → Group
+changed g l c = with g (record { id = g .member .id; steps = l; passed = g .member .passed; committed = c; restarts = g .member .restarts })
 
 abbrev pub passAll : List Group → List Group
 passAll [] = []
@@ -83,8 +91,8 @@ addToLast f e (g ∷ []) = addEvents f e g ∷ []
 addToLast f e (g ∷ (h ∷ l)) = g ∷ addToLast f e (h ∷ l)
 
 -- g leaves; its events move to the last ahead of it
-abbrev pub without : List Group → Group → List Group → List Group
-without a g b = addToLast (g .events) (g .member .restarts) a ++ b
+abbrev pub leaving : List Group → Group → List Group → List Group
+leaving a g b = addToLast (g .events) (g .member .restarts) a ++ b
 
 -- or, if none is ahead, to the settled part: they then stand first behind the bar, until it moves
 abbrev pub leadOf : List Group → Group → List Event
@@ -136,21 +144,71 @@ pub entryIds-flat : (l : List Group) → entryIds (flat l) ≡ ids l
 entryIds-flat [] = refl
 entryIds-flat (g ∷ l) = ap (λ m. g .member .id ∷ m) (entryIds-++ (map event (g .events)) (flat l) ∙ ap (λ m. m ++ entryIds (flat l)) (entryIds-events (g .events)) ∙ entryIds-flat l)
 
--- ---- groups taken apart as the sequence is
+-- ---- ids
 
-pub record Cut (l : List Group) (a : List Member) (m : Member) (b : List Member) : Type 0 where
-  pub ahead : List Group
-  pub it : Group
-  pub behind : List Group
-  pub whole : l ≡ ahead ++ (it ∷ behind)
-  pub ahead-is : members ahead ≡ a
-  pub it-is : it .member ≡ m
-  pub behind-is : members behind ≡ b
+-- a routine keeps its id when it changes
+pub ids-swap : (a : List Group) (g h : Group) (b : List Group) → h .member .id ≡ g .member .id → ids (a ++ (h ∷ b)) ≡ ids (a ++ (g ∷ b))
+ids-swap a g h b e = ids-++ a (h ∷ b) ∙ ap (λ i. ids a ++ (i ∷ ids b)) e ∙ sym (ids-++ a (g ∷ b))
 
-pub cut : (l : List Group) (a : List Member) (m : Member) (b : List Member) → members l ≡ a ++ (m ∷ b) → Cut l a m b
-cut [] [] m b e = absurd (nil≢cons e)
-cut [] (x ∷ a) m b e = absurd (nil≢cons e)
-cut (g ∷ l) [] m b e = record { ahead = []; it = g; behind = l; whole = refl; ahead-is = refl; it-is = cc; behind-is = cc }
-cut (g ∷ l) (x ∷ a) m b e =
-    let c = cut l a m b (tail-eq-of-cons-eq e) in
-    record { ahead = g ∷ c .ahead; it = c .it; behind = c .behind; whole = ap (λ k. g ∷ k) (c .whole); ahead-is = cc; it-is = c .it-is; behind-is = c .behind-is }
+-- the ids of all but g are others than g's
+pub other-ids : (n : ℕ) (a : List Group) (g : Group) (b : List Group) → IdsOk n (ids (a ++ (g ∷ b))) → NotIn (g .member .id) (ids (a ++ b))
+other-ids n a g b h = subst (NotIn (g .member .id)) (sym (ids-++ a b)) (ids-other n (ids a) (g .member .id) (ids b) (subst (IdsOk n) (ids-++ a (g ∷ b)) h))
+
+-- ---- a routine is placed
+
+pub members-pass : (l : List Group) → members (passAll l) ≡ map pass (members l)
+members-pass [] = refl
+members-pass (g ∷ l) = ap (λ m. pass (g .member) ∷ m) (members-pass l)
+
+pub flat-pass : (l : List Group) → flat (passAll l) ≡ flat l
+unfolding pass
+flat-pass [] = refl
+flat-pass (g ∷ l) = ap (λ m. entryOf (g .member) ∷ (map event (g .events) ++ m)) (flat-pass l)
+
+-- ---- a routine leaves, or an event is attached
+
+pub events-++ : (f h : List Event) (l : List Entry) → map event (f ++ h) ++ l ≡ map event f ++ (map event h ++ l)
+events-++ f h l = ap (λ m. m ++ l) (map-append event f h) ∙ append-assoc (map event f) (map event h) l
+
+flat-last : (f : List Event) (e : ℕ → Option ℤ) (g : Group) (a b : List Group) → flat (addToLast f e (g ∷ a) ++ b) ≡ flat (g ∷ a) ++ (map event f ++ flat b)
+unfolding attachTo
+flat-last f e g [] b =
+    ap (λ m. entryOf (g .member) ∷ m) (events-++ (g .events) f (flat b) ∙ ap (λ m. m ++ (map event f ++ flat b)) (sym (append-nil (map event (g .events)))))
+flat-last f e g (h ∷ a) b =
+    ap (λ m. entryOf (g .member) ∷ m) (ap (λ m. map event (g .events) ++ m) (flat-last f e h a b) ∙ sym (append-assoc (map event (g .events)) (flat (h ∷ a)) (map event f ++ flat b)))
+
+-- the routine goes, its events stay
+pub flat-leaving : (a : List Group) (g : Group) (b : List Group) → map event (leadOf a g) ++ flat (leaving a g b) ≡ flat a ++ (map event (g .events) ++ flat b)
+flat-leaving [] g b = refl
+flat-leaving (x ∷ a) g b = flat-last (g .events) (g .member .restarts) x a b
+
+-- the entries up to the events of g, and those behind them
+pub flat-cut : (a : List Group) (g : Group) (b : List Group) → flat (a ++ (g ∷ b)) ≡ flat (a ++ (g ∷ [])) ++ flat b
+flat-cut a g b = ap flat (sym (append-assoc a (g ∷ []) b)) ∙ flat-++ (a ++ (g ∷ [])) b
+
+pub added-is : (x : Event) (g : Group) → addEvent x g ≡ addEvents (x ∷ []) (λ d. lastRestart d (x ∷ [])) g
+unfolding attachTo
+added-is (failed d) g = refl
+added-is (restarted d v) g = refl
+
+pub flat-added : (x : Event) (a : List Group) (g : Group) (b : List Group) → flat (a ++ (addEvent x g ∷ b)) ≡ flat (a ++ (g ∷ [])) ++ (event x ∷ flat b)
+unfolding attachTo
+flat-added x [] g b =
+    ap (λ h. flat (h ∷ b)) (added-is x g) ∙ ap (λ m. entryOf (g .member) ∷ m) (rw (append-nil (map event (g .events))) (events-++ (g .events) (x ∷ []) (flat b)))
+flat-added x (y ∷ a) g b =
+    ap (λ m. entryOf (y .member) ∷ m) (rw (flat-added x a g b) (sym (append-assoc (map event (y .events)) (flat (a ++ (g ∷ []))) (event x ∷ flat b))))
+
+-- nobody has the id, or g has
+pub attach-miss : (j : ℕ) (x : Event) (l : List Group) → NotIn j (ids l) → attachEvent j x l ≡ l
+attach-miss j x [] h = refl
+attach-miss j x (g ∷ l) h = rw (ne-eqb (g .member .id) j (h .0), attach-miss j x l (h .1)) refl
+
+pub attach-hit : (j : ℕ) (x : Event) (a : List Group) (g : Group) (b : List Group) → NotIn j (ids a) → g .member .id ≡ j → attachEvent j x (a ++ (g ∷ b)) ≡ a ++ (addEvent x g ∷ b)
+attach-hit j x [] g b n e = rw (eq-eqb (g .member .id) j e) refl
+attach-hit j x (y ∷ a) g b n e = rw (ne-eqb (y .member .id) j (n .0), attach-hit j x a g b (n .1) e) refl
+
+-- ---- routines settle
+
+pub each-held : (P : Group → Type 0) (l : List Group) → Each P l → Each P (stillHeld l)
+each-held P [] h = tt
+each-held P (g ∷ l) h = byIf (Each P) (g .member .committed) (λ _. each-held P l (h .1)) (λ _. h)

@@ -1,16 +1,15 @@
 -- What holds between calls, of the hub, its order, the accounts and each device. Assumes nothing.
 use mathlib.Core.Path.{_≡_}
-use mathlib.Core.Logic.{_⊎_, inl, inr}
 use mathlib.Core.Bool.{Bool, true, false, not}
 use mathlib.Core.List.{List, [], _∷_, _++_, map}
-use mathlib.Core.Option.{Option, none, some}
+use mathlib.Core.Option.{some}
 use Prim.Native.Nat.{ℕ, _<_, _≤_}
 use lib.Dec.{eqb}
 use lib.IntN.{ℤ, pos}
 use Rattle.routine.specs.Choice.{if_then_else_}
 use Rattle.routine.specs.declared.Command.{Command}
 use Rattle.rules.specs.Tables.{anyOf}
-use Rattle.rules.specs.State.{Member, State}
+use Rattle.rules.specs.State.{State}
 use Rattle.rules.specs.Answers.{Call, submit, turn, report, failure, restart, cancel}
 use Rattle.rules.specs.Progress.{begun, finished, inFlightOn, Flight, flight}
 use Rattle.rules.specs.Due.{due}
@@ -69,7 +68,7 @@ pub record HubOk (s : State) (l : List Group) : Type 0 where
 pub record FliesUp (s : State) (g : Group) : Type 0 where
   pub flies-up : (d : ℕ) → inFlightOn d (g .member) ≡ true → s .up d ≡ true
 
--- not begun and unfinished
+-- a routine that is not running, begun and unfinished with d
 pub record Calm (d : ℕ) (g : Group) : Type 0 where
   pub calm : isHalfway d (g .member) ≡ false
 

@@ -3,45 +3,39 @@ use mathlib.Core.Path.{_≡_, refl, sym, ap, _∙_, subst}
 use mathlib.Core.Logic.{_≢_}
 use mathlib.Core.Bool.{Bool, true, false}
 use mathlib.Core.List.{List, [], _∷_, _++_}
-use mathlib.Core.Option.{Option, some}
 use Prim.Native.Nat.{ℕ}
-use native.Mathlib.Omega.{arith}
 use borrow.Author.Tests.{eqb-true}
 use lib.Dec.{eqb}
-use lib.IntN.{ℤ}
 use Rattle.rules.specs.Tables.{put}
 use Rattle.rules.specs.State.{Member, State}
 use Rattle.rules.specs.Answers.{Call, Result}
-use Rattle.rules.specs.Progress.{begun, finished, inFlightOn, Flight, flight}
+use Rattle.rules.specs.Progress.{begun, finished, inFlightOn}
 use Rattle.rules.specs.Due.{due}
 use Rattle.rules.specs.Sequence.{isRunning, withUp}
 use Rattle.rules.specs.Settle.{settle}
-use Rattle.rules.specs.Abort.{attachTo, leave, abort}
-use Rattle.rules.specs.Submit.{pass, newcomer, place}
+use Rattle.rules.specs.Abort.{leave, abort}
+use Rattle.rules.specs.Submit.{newcomer, place}
 use Rattle.rules.specs.Turn.{commit, commitTurn, sendTurn, skipTurn}
 use Rattle.rules.specs.Report.{doneReport, skippedState, skipReport}
 use Rattle.rules.specs.Events.{isHalfway, attach, oneRestart}
 use Rattle.rules.specs.Order.{Event, failed, restarted}
-use Rattle.rules.proofs.Lists.{t≠f, byIf, put-other, Each, each-++, each-left, each-right, each-mid, each-swap, each-map}
-use Rattle.rules.proofs.Groups.{Group, alone, with, passAll, foundAt, addEvents, addToLast, without, addEvent, attachEvent, stillHeld}
-use Rattle.rules.proofs.Steps.{send-step, skip-step, done-step, fail-step, flight-on, left-grounded, grounded, fresh-newcomer}
+use Rattle.rules.proofs.Lists.{byIf, t≠f, put-other, Each, each-mid, each-drop, each-insert, each-swap, each-map}
+use Rattle.rules.proofs.Groups.{Group, alone, with, passAll, foundAt, leaving, attachEvent, stillHeld, each-held}
+use Rattle.rules.proofs.Same.{Same, same-placed, same-leaving, same-attached, same-each}
+use Rattle.rules.proofs.Steps.{send-step, skip-step, done-step, fail-step, flight-on, grounded, fresh-newcomer}
 use Rattle.rules.proofs.Invariant.{Shut, Turns, HubOk, FliesUp, Calm, Still}
-use Rattle.rules.proofs.View.{Gone, nobody, somebody, Moves, places, commits, sends, skips, dones, misses, aborts, fails, restarts, sentMember, skippedMember, doneMember, failedMember}
-use Rattle.rules.proofs.Settled.{settle-up}
-use Rattle.rules.proofs.Marks.{in-turn, hub-commits, hub-sends, hub-skips, hub-dones, hub-misses}
+use Rattle.rules.proofs.View.{sentMember, skippedMember, doneMember, failedMember, Gone, nobody, somebody, Moves, places, commits, sends, skips, dones, misses, aborts, fails, restarts}
+use Rattle.rules.proofs.Fields.{Fixed, gone-fixed, attach-fixed, settle-fixed}
+use Rattle.rules.proofs.Marks.{flight-runs, in-turn, hub-commits, hub-sends, hub-skips, hub-dones, hub-misses}
 use Rattle.rules.proofs.Moved.{hub-places, hub-leaves, hub-gone, hub-fails, hub-restarts, hub-up}
 
 -- a routine that is not halfway with d has no command in flight on it
-pub calm-still : (d : ℕ) (g : Group) → Turns g → Shut g → Calm d g → Still d g
+calm-still : (d : ℕ) (g : Group) → Turns g → Shut g → Calm d g → Still d g
 unfolding isHalfway isRunning
-calm-still d g t s c = record { still = go (inFlightOn d (g .member)) refl }
+calm-still d g t s c = record { still = go (inFlightOn d m) refl }
   where
     m : Member
     m = g .member
-
-    runs : (x : Flight) → flight (m .steps) ≡ some x → (q : Bool) → m .committed ≡ q → q ≡ false
-    runs x e true q = let n = left-grounded m (s .shut q) in let z : _≡_ {A = ℕ} 0 1 = cc in absurd (omega arith)
-    runs x e false q = refl
 
     go : (q : Bool) → inFlightOn d m ≡ q → q ≡ false
     go true e =
@@ -49,8 +43,12 @@ calm-still d g t s c = record { still = go (inFlightOn d (g .member)) refl }
         let x = done-step m (t .turns) (f .0) (f .1) in
         let y = ap (λ j. begun j m) (sym (f .2)) ∙ x .had-begun in
         let n = ap (λ j. finished j m) (sym (f .2)) ∙ x .unfinished in
-        t≠f (sym (rw (y, n, runs (f .0) (f .1) (m .committed) refl) refl) ∙ c .calm)
+        t≠f (sym (rw (y, n, flight-runs g (f .0) s (f .1)) refl) ∙ c .calm)
     go false e = refl
+
+pub all-still : (d : ℕ) (l : List Group) → Each Turns l → Each Shut l → Each (Calm d) l → Each (Still d) l
+all-still d [] t s c = tt
+all-still d (g ∷ l) t s c = (calm-still d g (t .0) (s .0) (c .0), all-still d l (t .1) (s .1) (c .1))
 
 -- ---- the hub's invariant
 
@@ -73,59 +71,29 @@ hub-moves s l h (restarts d v r lead k _ _ g) = let j = hub-gone s d l h g in hu
 still-up : (s t : State) → ((d : ℕ) → s .up d ≡ true → t .up d ≡ true) → (l : List Group) → Each (FliesUp s) l → Each (FliesUp t) l
 still-up s t u l f = each-map (FliesUp s) (FliesUp t) (λ g q. record { flies-up = λ d e. u d (q .flies-up d e) }) l f
 
--- the other routines keep their commands when one is placed, one leaves, or an event is attached
-flies-pass : (s : State) (l : List Group) → Each (FliesUp s) l → Each (FliesUp s) (passAll l)
-unfolding pass inFlightOn
-flies-pass s [] f = tt
-flies-pass s (g ∷ l) f = (record { flies-up = f .0 .flies-up }, flies-pass s l (f .1))
+-- it looks at the commands alone
+same-flies : (s : State) (g h : Group) → Same g h → FliesUp s g → FliesUp s h
+unfolding inFlightOn
+same-flies s g h e f = record { flies-up = λ d y. f .flies-up d (rw (e .same-steps) at y) }
 
-flies-attach : (s : State) (r : ℕ → Option ℤ) (e : List Event) (g : Group) → FliesUp s g → FliesUp s (addEvents e r g)
-unfolding attachTo inFlightOn
-flies-attach s r e g f = record { flies-up = f .flies-up }
+flies-leaving : (s : State) (a : List Group) (g : Group) (b : List Group) → Each (FliesUp s) (a ++ (g ∷ b)) → Each (FliesUp s) (leaving a g b)
+flies-leaving s a g b f = same-each (FliesUp s) (same-flies s) (same-leaving a g b) (each-drop (FliesUp s) a g b f)
 
-flies-last : (s : State) (r : ℕ → Option ℤ) (e : List Event) (l : List Group) → Each (FliesUp s) l → Each (FliesUp s) (addToLast e r l)
-flies-last s r e [] f = tt
-flies-last s r e (g ∷ []) f = (flies-attach s r e g (f .0), tt)
-flies-last s r e (g ∷ (x ∷ l)) f = (f .0, flies-last s r e (x ∷ l) (f .1))
-
-flies-without : (s : State) (a : List Group) (g : Group) (b : List Group) → Each (FliesUp s) (a ++ (g ∷ b)) → Each (FliesUp s) (without a g b)
-flies-without s a g b f =
-    let e = g .member .restarts in
-    each-++ (FliesUp s) (addToLast (g .events) e a) b (flies-last s e (g .events) a (each-left (FliesUp s) a (g ∷ b) f)) (each-right (FliesUp s) a (g ∷ b) f .1)
-
-flies-event : (s : State) (j : ℕ) (e : Event) (l : List Group) → Each (FliesUp s) l → Each (FliesUp s) (attachEvent j e l)
-flies-event s j e [] f = tt
-flies-event s j e (g ∷ l) f = byIf (Each (FliesUp s)) (eqb (g .member .id) j) (λ _. (one e, f .1)) (λ _. (f .0, flies-event s j e l (f .1)))
-  where
-    one : (e : Event) → FliesUp s (addEvent e g)
-    one (failed d) = record { flies-up = f .0 .flies-up }
-    one (restarted d v) = flies-attach s (oneRestart d v) (restarted d v ∷ []) g (f .0)
+flies-event : (s : State) (j : ℕ) (x : Event) (l : List Group) → Each (FliesUp s) l → Each (FliesUp s) (attachEvent j x l)
+flies-event s j x l = same-each (FliesUp s) (same-flies s) (same-attached j x l)
 
 -- the abort ahead of an event
 flies-gone : (s t : State) (d : ℕ) (l : List Group) {r : Result} {lead : List Event} {k : List Group} → Each (FliesUp s) l → Gone t d l r lead k → Each (FliesUp s) k
 flies-gone s t d l f (nobody _) = f
-flies-gone s t d l f (somebody a g b e _) = flies-without s a g b (subst (Each (FliesUp s)) e f)
-
-gone-up : (s : State) (d : ℕ) (l : List Group) {r : Result} {lead : List Event} {k : List Group} → Gone s d l r lead k → r .state .up ≡ s .up
-unfolding abort leave
-gone-up s d l (nobody _) = refl
-gone-up s d l (somebody a g b _ _) = refl
+flies-gone s t d l f (somebody a g b e _) = flies-leaving s a g b (subst (Each (FliesUp s)) e f)
 
 -- where nobody flies on d, d may go down
-flies-down : (s t : State) (d : ℕ) → t .up ≡ put (s .up) d false → (l : List Group) → Each (FliesUp s) l → Each (Still d) l → Each (FliesUp t) l
+flies-down : (s t : State) (d : ℕ) → ((e : ℕ) → t .up e ≡ put (s .up) d false e) → (l : List Group) → Each (FliesUp s) l → Each (Still d) l → Each (FliesUp t) l
 flies-down s t d u [] f c = tt
-flies-down s t d u (g ∷ l) f c = (record { flies-up = λ e y. ap (λ p. p e) u ∙ put-other (s .up) d false e (other e y) ∙ f .0 .flies-up e y }, flies-down s t d u l (f .1) (c .1))
+flies-down s t d u (g ∷ l) f c = (record { flies-up = λ e y. u e ∙ put-other (s .up) d false e (other e y) ∙ f .0 .flies-up e y }, flies-down s t d u l (f .1) (c .1))
   where
     other : (e : ℕ) → inFlightOn e (g .member) ≡ true → e ≢ d
     other e y q = t≠f (sym y ∙ ap (λ x. inFlightOn x (g .member)) q ∙ c .0 .still)
-
-all-still : (d : ℕ) (l : List Group) → Each Turns l → Each Shut l → Each (Calm d) l → Each (Still d) l
-all-still d [] t s c = tt
-all-still d (g ∷ l) t s c = (calm-still d g (t .0) (s .0) (c .0), all-still d l (t .1) (s .1) (c .1))
-
-attach-up : (i : ℕ) (e : ℕ → Option ℤ) (s : State) → attach i e s .up ≡ s .up
-unfolding attach
-attach-up i e s = byIf (λ (t : State). t .up ≡ s .up) (eqb i 0) (λ _. refl) (λ _. refl)
 
 module _ (s : State) (a : List Group) (g : Group) (b : List Group) (f : Each (FliesUp s) (a ++ (g ∷ b))) where
   -- g becomes n
@@ -144,8 +112,7 @@ flies-moves s l h f (places cs a b _ e _ _ _) =
     let w = subst (Each (FliesUp s)) e f in
     let n = newcomer (s .nextId) cs in
     let x : FliesUp s (alone n) = record { flies-up = λ d y. t≠f (sym y ∙ grounded n d (fresh-newcomer (s .nextId) cs .flight-is)) } in
-    still-up s (place s cs) (λ d y. y) (a ++ (alone n ∷ passAll b))
-    (each-++ (FliesUp s) a (alone n ∷ passAll b) (each-left (FliesUp s) a b w) (x, flies-pass s b (each-right (FliesUp s) a b w)))
+    still-up s (place s cs) (λ d y. y) (a ++ (alone n ∷ passAll b)) (same-each (FliesUp s) (same-flies s) (same-placed a (alone n) b) (each-insert (FliesUp s) a (alone n) b w x))
 flies-moves s l h f (commits i a g b e _ _ _ _) =
     let w = subst (Each (FliesUp s)) e f in
     flies-changes s a g b w (commitTurn s (foundAt a g b) .state) refl (commit (g .member)) (each-mid (FliesUp s) a g b w .flies-up)
@@ -163,22 +130,18 @@ flies-moves s l h f (misses i code a g b x e _ _ q _) =
     lands s a g b (subst (Each (FliesUp s)) e f) (skipReport s (foundAt a g b) x .state) refl (failedMember g)
     (fail-step (g .member) (in-turn s a g b (subst (HubOk s) e h)) x q .flies)
 flies-moves s l h f (aborts c a g b e _ _) =
-    still-up s (abort s (foundAt a g b) .state) (λ d y. y) (without a g b) (flies-without s a g b (subst (Each (FliesUp s)) e f))
+    still-up s (abort s (foundAt a g b) .state) (λ d y. y) (leaving a g b) (flies-leaving s a g b (subst (Each (FliesUp s)) e f))
 flies-moves s l h f (fails d r lead k _ _ g) =
     let t = withUp s (put (s .up) d false) in
     let j = hub-gone t d l (hub-up s (put (s .up) d false) l h) g in
     flies-event (r .state) (r .state .mark d) (failed d) k
-    (flies-down s (r .state) d (gone-up t d l g) k (flies-gone s t d l f g) (all-still d k (j .0 .turns) (j .0 .shuts) (j .1)))
+    (flies-down s (r .state) d (λ e. ap (λ (x : Fixed). x .up e) (gone-fixed t d l g)) k (flies-gone s t d l f g) (all-still d k (j .0 .turns) (j .0 .shuts) (j .1)))
 flies-moves s l h f (restarts d v r lead k _ _ g) =
     let i = r .state .mark d in
     let t = attach i (oneRestart d v) (r .state) in
     still-up s (withUp t (put (t .up) d true))
-    (λ e y. byIf (λ p. p ≡ true) (eqb e d) (λ _. refl) (λ _. ap (λ p. p e) (attach-up i (oneRestart d v) (r .state) ∙ gone-up s d l g) ∙ y))
+    (λ e y. byIf (λ p. p ≡ true) (eqb e d) (λ _. refl) (λ _. ap (λ (x : Fixed). x .up e) (attach-fixed i (oneRestart d v) (r .state) ∙ gone-fixed s d l g) ∙ y))
     (attachEvent i (restarted d v) k) (flies-event s i (restarted d v) k (flies-gone s s d l f g))
 
 pub flies-settles : (s : State) (l : List Group) → Each (FliesUp s) l → Each (FliesUp (settle s)) (stillHeld l)
-flies-settles s l f = still-up s (settle s) (λ d e. ap (λ p. p d) (settle-up s) ∙ e) (stillHeld l) (rest l f)
-  where
-    rest : (k : List Group) → Each (FliesUp s) k → Each (FliesUp s) (stillHeld k)
-    rest [] q = tt
-    rest (g ∷ k) q = byIf (Each (FliesUp s)) (g .member .committed) (λ _. rest k (q .1)) (λ _. q)
+flies-settles s l f = still-up s (settle s) (λ d e. ap (λ (x : Fixed). x .up d) (settle-fixed s) ∙ e) (stillHeld l) (each-held (FliesUp s) l f)

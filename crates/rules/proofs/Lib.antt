@@ -1,10 +1,11 @@
 pub mod Lists
 pub mod Groups
+pub mod Same
 pub mod Steps
 pub mod Invariant
 pub mod View
 pub mod Runs
-pub mod Settled
+pub mod Fields
 pub mod Marks
 pub mod Moved
 pub mod Kept
@@ -12,6 +13,7 @@ pub mod Serial
 pub mod Ordered
 pub mod Accounts
 pub mod Stands
+pub mod Messages
 pub mod Devices
 pub mod DeviceAborts
 pub mod DeviceKept

@@ -1,14 +1,15 @@
--- Tests, lists of ids, and predicates over lists. Assumes nothing.
-use mathlib.Core.Path.{_≡_, refl, sym, ap, _∙_}
+-- Laws of tests, of tables, of predicates over lists, and of lists of ids. Assumes nothing.
+use mathlib.Core.Path.{_≡_, refl, sym, ap, _∙_, subst}
 use mathlib.Core.Logic.{_≢_, _⊎_, inl, inr}
-use mathlib.Core.Bool.{Bool, true, false, not, _&&_, _||_}
+use mathlib.Core.Bool.{Bool, true, false, _&&_, _||_, or-assoc}
 use mathlib.Core.List.{List, [], _∷_, _++_}
 use Prim.Native.Nat.{ℕ, suc, _<_}
 use native.Mathlib.Omega.{arith}
-use borrow.Author.Tests.{eq-eqb, ne-eqb}
+use borrow.Author.Tests.{eqb-true, eqb-false, eq-eqb, ne-eqb}
 use lib.Dec.{eqb}
+use lib.IntN.{ℤ, pos, negsuc}
 use Rattle.routine.specs.Choice.{if_then_else_}
-use Rattle.rules.specs.Tables.{anyOf, put}
+use Rattle.rules.specs.Tables.{anyOf, put, sameSetting}
 
 -- ---- tests
 
@@ -36,6 +37,27 @@ pub and-right : (s t : Bool) → s && t ≡ true → t ≡ true
 and-right true t e = e
 and-right false t e = t≠f (sym e)
 
+pub eqb-sym : (i j : ℕ) → eqb i j ≡ eqb j i
+eqb-sym i j = go (eqb j i) refl
+  where
+    go : (t : Bool) → eqb j i ≡ t → eqb i j ≡ t
+    go true t = eq-eqb i j (sym (eqb-true j i t))
+    go false t = ne-eqb i j (λ e. eqb-false j i t (sym e))
+
+-- j is i, or another
+pub this-or-other {ℓ} : (P : ℕ → Type ℓ) (i j : ℕ) → P i → (i ≢ j → P j) → P j
+this-or-other P i j h k = go (eqb i j) refl
+  where
+    go : (t : Bool) → eqb i j ≡ t → P j
+    go true t = subst P (eqb-true i j t) h
+    go false t = k (eqb-false i j t)
+
+pub same-setting : (u v : ℤ) → sameSetting u v ≡ true → u ≡ v
+same-setting (pos m) (pos n) e = ap pos (eqb-true m n e)
+same-setting (pos m) (negsuc n) e = t≠f (sym e)
+same-setting (negsuc m) (pos n) e = t≠f (sym e)
+same-setting (negsuc m) (negsuc n) e = ap negsuc (eqb-true m n e)
+
 -- ---- tables
 
 pub put-same {ℓ} : {A : Type ℓ} (f : ℕ → A) (i : ℕ) (v : A) → put f i v i ≡ v
@@ -43,6 +65,17 @@ put-same f i v = ap (λ t. if t then v else f i) (eq-eqb i i refl)
 
 pub put-other {ℓ} : {A : Type ℓ} (f : ℕ → A) (i : ℕ) (v : A) (j : ℕ) → j ≢ i → put f i v j ≡ f j
 put-other f i v j n = ap (λ t. if t then v else f j) (ne-eqb j i n)
+
+-- a part that the new value has from the old one
+pub put-keeps {ℓ κ} : {A : Type ℓ} {B : Type κ} (part : A → B) (f : ℕ → A) (i : ℕ) (v : A) → part v ≡ part (f i) → (j : ℕ) → part (put f i v j) ≡ part (f j)
+put-keeps part f i v e j = byIf (λ x. part x ≡ part (f j)) (eqb j i) (λ t. e ∙ ap (λ k. part (f k)) (sym (eqb-true j i t))) (λ _. refl)
+
+-- ---- a thing done for each of a list in turn
+
+pub fold-++ {ℓ κ} : {X : Type ℓ} {A : Type κ} (all : List X → A → A) → ((a : A) → all [] a ≡ a) → ((x : X) (l : List X) (a : A) → all (x ∷ l) a ≡ all l (all (x ∷ []) a)) →
+    (k l : List X) (a : A) → all (k ++ l) a ≡ all l (all k a)
+fold-++ all n c [] l a = ap (all l) (sym (n a))
+fold-++ all n c (x ∷ k) l a = c x (k ++ l) a ∙ fold-++ all n c k l (all (x ∷ []) a) ∙ ap (all l) (sym (c x k a))
 
 -- ---- predicates over lists
 
@@ -65,14 +98,16 @@ each-right P (x ∷ a) b h = each-right P a b (h .1)
 pub each-mid {ℓ} : {A : Type ℓ} (P : A → Type 0) (a : List A) (x : A) (b : List A) → Each P (a ++ (x ∷ b)) → P x
 each-mid P a x b h = each-right P a (x ∷ b) h .0
 
--- one element replaced
-pub each-swap {ℓ} : {A : Type ℓ} (P : A → Type 0) (a : List A) (x y : A) (b : List A) → Each P (a ++ (x ∷ b)) → P y → Each P (a ++ (y ∷ b))
-each-swap P [] x y b h k = (k, h .1)
-each-swap P (z ∷ a) x y b h k = (h .0, each-swap P a x y b (h .1) k)
-
 pub each-drop {ℓ} : {A : Type ℓ} (P : A → Type 0) (a : List A) (x : A) (b : List A) → Each P (a ++ (x ∷ b)) → Each P (a ++ b)
 each-drop P [] x b h = h .1
 each-drop P (z ∷ a) x b h = (h .0, each-drop P a x b (h .1))
+
+pub each-insert {ℓ} : {A : Type ℓ} (P : A → Type 0) (a : List A) (x : A) (b : List A) → Each P (a ++ b) → P x → Each P (a ++ (x ∷ b))
+each-insert P a x b h k = each-++ P a (x ∷ b) (each-left P a b h) (k, each-right P a b h)
+
+-- one element replaced
+pub each-swap {ℓ} : {A : Type ℓ} (P : A → Type 0) (a : List A) (x y : A) (b : List A) → Each P (a ++ (x ∷ b)) → P y → Each P (a ++ (y ∷ b))
+each-swap P a x y b h k = each-insert P a y b (each-drop P a x b h) k
 
 pub each-map {ℓ} : {A : Type ℓ} (P Q : A → Type 0) → ((x : A) → P x → Q x) → (l : List A) → Each P l → Each Q l
 each-map P Q f [] h = tt
@@ -80,17 +115,15 @@ each-map P Q f (x ∷ l) h = (f x (h .0), each-map P Q f l (h .1))
 
 pub anyOf-++ {ℓ} : {A : Type ℓ} (p : A → Bool) (a b : List A) → anyOf p (a ++ b) ≡ (anyOf p a || anyOf p b)
 anyOf-++ p [] b = refl
-anyOf-++ p (x ∷ a) b = rw (anyOf-++ p a b) (assoc (p x) (anyOf p a) (anyOf p b))
-  where
-    assoc : (s t u : Bool) → (s || (t || u)) ≡ ((s || t) || u)
-    assoc true t u = refl
-    assoc false t u = refl
+anyOf-++ p (x ∷ a) b = rw (anyOf-++ p a b) (sym (or-assoc (p x) (anyOf p a) (anyOf p b)))
 
 -- ---- ids: distinct, not zero, below the next one
 
+abbrev pub IsNot : ℕ → ℕ → Type 0
+IsNot i x = x ≢ i
+
 abbrev pub NotIn : ℕ → List ℕ → Type 0
-NotIn i [] = Unit {0}
-NotIn i (x ∷ l) = (x ≢ i) × NotIn i l
+NotIn i l = Each (IsNot i) l
 
 abbrev pub In : ℕ → List ℕ → Type 0
 In i [] = ⊥
@@ -100,25 +133,9 @@ abbrev pub IdsOk : ℕ → List ℕ → Type 0
 IdsOk n [] = Unit {0}
 IdsOk n (x ∷ l) = (0 < x) × (x < n) × NotIn x l × IdsOk n l
 
-pub notIn-drop : (y : ℕ) (a : List ℕ) (x : ℕ) (b : List ℕ) → NotIn y (a ++ (x ∷ b)) → NotIn y (a ++ b)
-notIn-drop y [] x b h = h .1
-notIn-drop y (z ∷ a) x b h = (h .0, notIn-drop y a x b (h .1))
-
-pub notIn-insert : (y : ℕ) (a : List ℕ) (x : ℕ) (b : List ℕ) → x ≢ y → NotIn y (a ++ b) → NotIn y (a ++ (x ∷ b))
-notIn-insert y [] x b e h = (e, h)
-notIn-insert y (z ∷ a) x b e h = (h .0, notIn-insert y a x b e (h .1))
-
-pub notIn-left : (y : ℕ) (a b : List ℕ) → NotIn y (a ++ b) → NotIn y a
-notIn-left y [] b h = tt
-notIn-left y (z ∷ a) b h = (h .0, notIn-left y a b (h .1))
-
-pub notIn-right : (y : ℕ) (a b : List ℕ) → NotIn y (a ++ b) → NotIn y b
-notIn-right y [] b h = h
-notIn-right y (z ∷ a) b h = notIn-right y a b (h .1)
-
 pub ids-drop : (n : ℕ) (a : List ℕ) (x : ℕ) (b : List ℕ) → IdsOk n (a ++ (x ∷ b)) → IdsOk n (a ++ b)
 ids-drop n [] x b h = h .3
-ids-drop n (z ∷ a) x b h = (h .0, h .1, notIn-drop z a x b (h .2), ids-drop n a x b (h .3))
+ids-drop n (z ∷ a) x b h = (h .0, h .1, each-drop (IsNot z) a x b (h .2), ids-drop n a x b (h .3))
 
 pub ids-fresh : (n : ℕ) (l : List ℕ) → IdsOk n l → NotIn n l
 ids-fresh n [] h = tt
@@ -130,26 +147,22 @@ ids-insert n [] b p h = (p, omega arith, ids-fresh n b h, wider b h)
     wider : (l : List ℕ) → IdsOk n l → IdsOk (suc n) l
     wider [] k = tt
     wider (x ∷ l) k = (k .0, omega arith, k .2, wider l (k .3))
-ids-insert n (z ∷ a) b p h = (h .0, omega arith, notIn-insert z a n b (omega arith) (h .2), ids-insert n a b p (h .3))
+ids-insert n (z ∷ a) b p h = (h .0, omega arith, each-insert (IsNot z) a n b (h .2) (omega arith), ids-insert n a b p (h .3))
 
 pub ids-right : (n : ℕ) (a b : List ℕ) → IdsOk n (a ++ b) → IdsOk n b
 ids-right n [] b h = h
 ids-right n (z ∷ a) b h = ids-right n a b (h .3)
 
--- the id in the middle is nowhere in front, nor behind
-pub ids-front : (n : ℕ) (a : List ℕ) (x : ℕ) (b : List ℕ) → IdsOk n (a ++ (x ∷ b)) → NotIn x a
-ids-front n [] x b h = tt
-ids-front n (z ∷ a) x b h = (λ e. notIn-right z a (x ∷ b) (h .2) .0 (sym e), ids-front n a x b (h .3))
+-- the id in the middle is no other's
+pub ids-other : (n : ℕ) (a : List ℕ) (x : ℕ) (b : List ℕ) → IdsOk n (a ++ (x ∷ b)) → NotIn x (a ++ b)
+ids-other n [] x b h = h .2
+ids-other n (z ∷ a) x b h = (λ e. each-mid (IsNot z) a x b (h .2) (sym e), ids-other n a x b (h .3))
 
-pub ids-behind : (n : ℕ) (a : List ℕ) (x : ℕ) (b : List ℕ) → IdsOk n (a ++ (x ∷ b)) → NotIn x b
-ids-behind n a x b h = ids-right n a (x ∷ b) h .2
+pub ids-not-zero : (n : ℕ) (l : List ℕ) → IdsOk n l → NotIn 0 l
+ids-not-zero n [] h = tt
+ids-not-zero n (x ∷ l) h = (let p = h .0 in omega arith, ids-not-zero n l (h .3))
 
-pub not-both : (i : ℕ) (l : List ℕ) → NotIn i l → In i l → ⊥
-not-both i [] h k = k
-not-both i (x ∷ l) h (inl e) = h .0 e
-not-both i (x ∷ l) h (inr k) = not-both i l (h .1) k
-
-pub in-not-zero : (n i : ℕ) (l : List ℕ) → IdsOk n l → In i l → i ≢ 0
-in-not-zero n i [] h k = absurd k
-in-not-zero n i (x ∷ l) h (inl e) = let p = h .0 in omega arith
-in-not-zero n i (x ∷ l) h (inr k) = in-not-zero n i l (h .3) k
+pub in-other : (i j : ℕ) (l : List ℕ) → NotIn i l → In j l → j ≢ i
+in-other i j [] n h e = h
+in-other i j (x ∷ l) n (inl p) e = n .0 (p ∙ e)
+in-other i j (x ∷ l) n (inr h) e = in-other i j l (n .1) h e

@@ -1,13 +1,13 @@
--- Where the routines stand to a device's mark: those ahead of it have finished the device, those behind it have not begun it. Assumes nothing.
+-- Where the routines stand to a device's mark: those ahead of it have finished the device, those behind it have not begun it. By that a turn and a report
+-- keep the hub's invariant. Assumes nothing.
 use mathlib.Core.Path.{_≡_, refl, sym, ap, _∙_, subst}
 use mathlib.Core.Logic.{_≢_, inl, inr}
 use mathlib.Core.Bool.{Bool, true, false, not, _&&_}
 use mathlib.Core.List.{List, [], _∷_, _++_}
-use mathlib.Core.Option.{none, some}
+use mathlib.Core.Option.{none, some, Option·none-ne-some}
 use Prim.Native.Nat.{ℕ}
 use native.Mathlib.Omega.{arith}
-use borrow.Author.Tests.{eqb-true, eqb-false, not-true, not-false}
-use lib.Dec.{eqb}
+use borrow.Author.Tests.{not-true, not-false}
 use Rattle.routine.specs.Choice.{if_then_else_}
 use Rattle.routine.specs.declared.Command.{Command}
 use Rattle.rules.specs.Tables.{anyOf}
@@ -18,9 +18,9 @@ use Rattle.rules.specs.Sequence.{isRunning, withMark, change}
 use Rattle.rules.specs.Turn.{holds, firstHolding, markBegun, commit, commitTurn, sendTurn, skipTurn}
 use Rattle.rules.specs.Report.{doneReport, skippedState, skipReport}
 use Rattle.rules.specs.Events.{isHalfway}
-use Rattle.rules.proofs.Lists.{t≠f, byIf, and-left, and-right, put-same, put-other, Each, each-++, each-left, each-right, each-mid, each-swap, In}
-use Rattle.rules.proofs.Groups.{Group, members, ids, isOf, with, foundAt, members-++}
-use Rattle.rules.proofs.Steps.{InTurn, AnsweredOne, send-step, skip-step, done-step, fail-step, none-left, left-finished}
+use Rattle.rules.proofs.Lists.{byIf, t≠f, and-left, and-right, this-or-other, put-same, put-other, Each, each-++, each-left, each-right, each-mid, each-swap, IsNot, NotIn, In, IdsOk, ids-other, ids-not-zero}
+use Rattle.rules.proofs.Groups.{Group, members, ids, isOf, with, foundAt, members-++, ids-++, ids-swap}
+use Rattle.rules.proofs.Steps.{InTurn, AnsweredOne, send-step, skip-step, done-step, fail-step, none-left, left-finished, left-grounded}
 use Rattle.rules.proofs.Invariant.{Quiet, Fin, AtMark, whole, part, Upto, here, there, MarkOk, unmarked, marked, Shut, Turns, HubOk}
 use Rattle.rules.proofs.View.{sentMember, skippedMember, doneMember, failedMember}
 
@@ -31,9 +31,9 @@ pub data Near (d i : ℕ) (a : List Group) (g : Group) (b : List Group) : Type 0
   mark-here : Each (Fin d) a → g .member .id ≡ i → AtMark d g → Each (Quiet d) b → Near d i a g b
   mark-behind : Each (Fin d) a → Fin d g → Upto d i b → Near d i a g b
 
-pub data Seen (d i : ℕ) (a : List Group) (g : Group) (b : List Group) : Type 0 where
-  nowhere : i ≡ 0 → Each (Quiet d) a → Quiet d g → Each (Quiet d) b → Seen d i a g b
-  near : Near d i a g b → Seen d i a g b
+pub data MarkSeen (d i : ℕ) (a : List Group) (g : Group) (b : List Group) : Type 0 where
+  nowhere : i ≡ 0 → Each (Quiet d) a → Quiet d g → Each (Quiet d) b → MarkSeen d i a g b
+  near : Near d i a g b → MarkSeen d i a g b
 
 nearer : (d i : ℕ) (x : Group) (a : List Group) (g : Group) (b : List Group) → Fin d x → Near d i a g b → Near d i (x ∷ a) g b
 nearer d i x a g b f (mark-ahead u q s) = mark-ahead (there f u) q s
@@ -48,9 +48,9 @@ see-upto d i (x ∷ a) g b (here e h q) =
     mark-ahead (here e h (each-left (Quiet d) a (g ∷ b) q)) (r .0) (r .1)
 see-upto d i (x ∷ a) g b (there f u) = nearer d i x a g b f (see-upto d i a g b u)
 
-pub see : (d i : ℕ) (a : List Group) (g : Group) (b : List Group) → MarkOk d i (a ++ (g ∷ b)) → Seen d i a g b
-see d i a g b (unmarked z q) = let r = each-right (Quiet d) a (g ∷ b) q in nowhere z (each-left (Quiet d) a (g ∷ b) q) (r .0) (r .1)
-see d i a g b (marked u) = near (see-upto d i a g b u)
+pub see-mark : (d i : ℕ) (a : List Group) (g : Group) (b : List Group) → MarkOk d i (a ++ (g ∷ b)) → MarkSeen d i a g b
+see-mark d i a g b (unmarked z q) = let r = each-right (Quiet d) a (g ∷ b) q in nowhere z (each-left (Quiet d) a (g ∷ b) q) (r .0) (r .1)
+see-mark d i a g b (marked u) = near (see-upto d i a g b u)
 
 pub upto-right : (d i : ℕ) (a b : List Group) → Upto d i a → Each (Quiet d) b → Upto d i (a ++ b)
 upto-right d i (x ∷ a) b (here e h s) q = here e h (each-++ (Quiet d) a b s q)
@@ -61,7 +61,7 @@ upto-left d i [] b f u = u
 upto-left d i (x ∷ a) b f u = there (f .0) (upto-left d i a b (f .1) u)
 
 -- and back
-pub seen-back : (d i : ℕ) (a : List Group) (g : Group) (b : List Group) → Seen d i a g b → MarkOk d i (a ++ (g ∷ b))
+seen-back : (d i : ℕ) (a : List Group) (g : Group) (b : List Group) → MarkSeen d i a g b → MarkOk d i (a ++ (g ∷ b))
 seen-back d i a g b (nowhere z p q s) = unmarked z (each-++ (Quiet d) a (g ∷ b) p (q, s))
 seen-back d i a g b (near (mark-ahead u q s)) = marked (upto-right d i a (g ∷ b) u (q, s))
 seen-back d i a g b (near (mark-here f e h s)) = marked (upto-left d i a (g ∷ b) f (here e h s))
@@ -83,9 +83,9 @@ pub record Clear (d : ℕ) (a : List Group) (g : Group) (b : List Group) : Type 
 -- a routine that has begun d and not finished it is at the mark
 at-mark : (d i : ℕ) (a : List Group) (g : Group) (b : List Group) → begun d (g .member) ≡ true → finished d (g .member) ≡ false → MarkOk d i (a ++ (g ∷ b)) →
     Clear d a g b × (g .member .id ≡ i)
-at-mark d i a g b y n k = go (see d i a g b k)
+at-mark d i a g b y n k = go (see-mark d i a g b k)
   where
-    go : Seen d i a g b → Clear d a g b × (g .member .id ≡ i)
+    go : MarkSeen d i a g b → Clear d a g b × (g .member .id ≡ i)
     go (nowhere z p q s) = t≠f (sym y ∙ q .idle)
     go (near (mark-ahead u q s)) = t≠f (sym y ∙ q .idle)
     go (near (mark-here f e (whole w) s)) = t≠f (sym (w .fin) ∙ n)
@@ -94,23 +94,34 @@ at-mark d i a g b y n k = go (see d i a g b k)
 
 -- if everyone ahead has finished d and g has not, d's mark is not behind g
 not-behind : (d i : ℕ) (a : List Group) (g : Group) (b : List Group) → Each (Fin d) a → finished d (g .member) ≡ false → MarkOk d i (a ++ (g ∷ b)) → Clear d a g b
-not-behind d i a g b f n k = go (see d i a g b k)
+not-behind d i a g b f n k = go (see-mark d i a g b k)
   where
-    go : Seen d i a g b → Clear d a g b
+    go : MarkSeen d i a g b → Clear d a g b
     go (nowhere z p q s) = record { ahead-fin = f; no-event = q .bare; behind-quiet = s }
     go (near (mark-ahead u q s)) = record { ahead-fin = f; no-event = q .bare; behind-quiet = s }
     go (near (mark-here p e (whole w) s)) = t≠f (sym (w .fin) ∙ n)
     go (near (mark-here p e (part x z) s)) = record { ahead-fin = f; no-event = z; behind-quiet = s }
     go (near (mark-behind p w u)) = t≠f (sym (w .fin) ∙ n)
 
+-- what is committed has finished every device, and has no command in flight
+pub shut-fin : (d : ℕ) (g : Group) → Shut g → (g .member .committed ≡ false → finished d (g .member) ≡ true) → Fin d g
+shut-fin d g s f = record { fin = go (g .member .committed) refl }
+  where
+    go : (t : Bool) → g .member .committed ≡ t → finished d (g .member) ≡ true
+    go true e = left-finished (g .member) d (s .shut e)
+    go false e = f e
+
+pub flight-runs : (g : Group) (x : Flight) → Shut g → flight (g .member .steps) ≡ some x → g .member .committed ≡ false
+flight-runs g x s f = go (g .member .committed) refl
+  where
+    go : (t : Bool) → g .member .committed ≡ t → t ≡ false
+    go true e = absurd (Option·none-ne-some x (sym (left-grounded (g .member) (s .shut e)) ∙ f))
+    go false e = refl
+
 -- who does not hold d has finished it
 unheld : (d : ℕ) (g : Group) → Shut g → holds d (g .member) ≡ false → Fin d g
-unfolding holds isRunning
-unheld d g s h = record { fin = go (g .member .committed) refl h }
-  where
-    go : (t : Bool) → g .member .committed ≡ t → not t && not (finished d (g .member)) ≡ false → finished d (g .member) ≡ true
-    go true q n = left-finished (g .member) d (s .shut q)
-    go false q n = not-false (finished d (g .member)) n
+unfolding holds isRunning finished
+unheld d g s h = shut-fin d g s (λ e. not-false (finished d (g .member)) (rw e at h))
 
 -- the wait search finds nobody
 none-holds : (d : ℕ) (a : List Group) → Each Shut a → firstHolding d (members a) ≡ none → Each (Fin d) a
@@ -124,6 +135,9 @@ none-holds d (g ∷ a) s e = go (none-holds d a (s .1)) (holds d (g .member)) re
 
 pub in-turn : (s : State) (a : List Group) (g : Group) (b : List Group) → HubOk s (a ++ (g ∷ b)) → InTurn (g .member .steps)
 in-turn s a g b h = each-mid Turns a g b (h .turns) .turns
+
+pub ids-at : (s : State) (a : List Group) (g : Group) (b : List Group) → HubOk s (a ++ (g ∷ b)) → IdsOk (s .nextId) (ids a ++ (g .member .id ∷ ids b))
+ids-at s a g b h = subst (IdsOk (s .nextId)) (ids-++ a (g ∷ b)) (h .ids-ok)
 
 -- the device of the next command, when nobody ahead holds it
 pub turn-clear : (s : State) (a : List Group) (g : Group) (b : List Group) (c : Command) → HubOk s (a ++ (g ∷ b)) →
@@ -149,8 +163,8 @@ halfway-clear s d a g b h e =
 
 -- the mark in the list
 pub data MarkPlace (d i : ℕ) (l : List Group) : Type 0 where
-  at-zero : i ≡ 0 → Each (Quiet d) l → MarkPlace d i l
-  at-group : (a : List Group) (g : Group) (b : List Group) → l ≡ a ++ (g ∷ b) → g .member .id ≡ i → Each (Quiet d) b → MarkPlace d i l
+  at-zero : i ≡ 0 → NotIn i (ids l) → Each (Quiet d) l → MarkPlace d i l
+  at-group : (a : List Group) (g : Group) (b : List Group) → l ≡ a ++ (g ∷ b) → g .member .id ≡ i → i ≢ 0 → NotIn i (ids a) → Each (Quiet d) b → MarkPlace d i l
 
 upto-place : (d i : ℕ) (l : List Group) → Upto d i l →
     (a : List Group) × (g : Group) × (b : List Group) × (l ≡ a ++ (g ∷ b)) × (g .member .id ≡ i) × Each (Quiet d) b
@@ -161,15 +175,21 @@ pub mark-place : (s : State) (l : List Group) → HubOk s l → (d : ℕ) → Ma
 mark-place s l h d = go (h .marks d)
   where
     go : MarkOk d (s .mark d) l → MarkPlace d (s .mark d) l
-    go (unmarked z q) = at-zero z q
-    go (marked u) = let r = upto-place d (s .mark d) l u in at-group (r .0) (r .1) (r .2) (r .3) (r .4) (r .5)
+    go (unmarked z q) = at-zero z (subst (λ i. NotIn i (ids l)) (sym z) (ids-not-zero (s .nextId) (ids l) (h .ids-ok))) q
+    go (marked u) =
+        let r = upto-place d (s .mark d) l u in
+        let i = r .1 .member .id in
+        let k = ids-at s (r .0) (r .1) (r .2) (subst (HubOk s) (r .3) h) in
+        let ahead = each-left (IsNot i) (ids (r .0)) (ids (r .2)) (ids-other (s .nextId) (ids (r .0)) i (ids (r .2)) k) in
+        at-group (r .0) (r .1) (r .2) (r .3) (r .4) (λ z. each-mid (IsNot 0) (ids (r .0)) i (ids (r .2)) (ids-not-zero (s .nextId) (ids (r .0) ++ (i ∷ ids (r .2))) k) (r .4 ∙ z))
+        (subst (λ j. NotIn j (ids (r .0))) (r .4) ahead) (r .5)
 
 -- ---- a routine changes in its place
 
 -- a change of g that keeps which devices it has begun and those it has finished
 swap-mark : (d i : ℕ) (a : List Group) (g : Group) (b : List Group) (n : Member) → n .id ≡ g .member .id → begun d n ≡ begun d (g .member) →
     (finished d (g .member) ≡ true → finished d n ≡ true) → MarkOk d i (a ++ (g ∷ b)) → MarkOk d i (a ++ (with g n ∷ b))
-swap-mark d i a g b n e y f k = seen-back d i a (with g n) b (go (see d i a g b k))
+swap-mark d i a g b n e y f k = seen-back d i a (with g n) b (go (see-mark d i a g b k))
   where
     quiet : Quiet d g → Quiet d (with g n)
     quiet q = record { idle = y ∙ q .idle; bare = q .bare }
@@ -181,15 +201,11 @@ swap-mark d i a g b n e y f k = seen-back d i a (with g n) b (go (see d i a g b 
     mark (whole q) = whole (done q)
     mark (part q z) = part (y ∙ q) z
 
-    go : Seen d i a g b → Seen d i a (with g n) b
+    go : MarkSeen d i a g b → MarkSeen d i a (with g n) b
     go (nowhere z p q s) = nowhere z p (quiet q) s
     go (near (mark-ahead u q s)) = near (mark-ahead u (quiet q) s)
     go (near (mark-here p q w s)) = near (mark-here p (e ∙ q) (mark w) s)
     go (near (mark-behind p w u)) = near (mark-behind p (done w) u)
-
-same-ids : (a : List Group) (g : Group) (b : List Group) (n : Member) → n .id ≡ g .member .id → ids (a ++ (with g n ∷ b)) ≡ ids (a ++ (g ∷ b))
-same-ids [] g b n e = ap (λ i. i ∷ ids b) e
-same-ids (x ∷ a) g b n e = ap (λ l. x .member .id ∷ l) (same-ids a g b n e)
 
 -- nothing is asked of a routine that runs
 running : (g : Group) (n : Member) → n .committed ≡ false → Shut (with g n)
@@ -201,7 +217,7 @@ module _ (s : State) (a : List Group) (g : Group) (b : List Group) (h : HubOk s 
       HubOk (withMark (change s (foundAt a g b) n) mark) (a ++ (with g n ∷ b))
   hub-changes n mark e c t k = record {
     sequence-is = sym (members-++ a (with g n ∷ b));
-    ids-ok = rw (same-ids a g b n e) (h .ids-ok);
+    ids-ok = rw (ids-swap a g (with g n) b e) (h .ids-ok);
     marks = k;
     shuts = each-swap Shut a g (with g n) b (h .shuts) c;
     turns = each-swap Turns a g (with g n) b (h .turns) (record { turns = t });
@@ -213,7 +229,10 @@ module _ (s : State) (a : List Group) (g : Group) (b : List Group) (h : HubOk s 
       ((d : ℕ) → e ≢ d → begun d n ≡ begun d (g .member)) → ((d : ℕ) → finished d (g .member) ≡ true → finished d n ≡ true) →
       (d : ℕ) → MarkOk d (markBegun (g .member) e (s .mark) d) (a ++ (with g n ∷ b))
   unfolding markBegun
-  begin-marks e n i c u y o f d = go (eqb d e) refl
+  begin-marks e n i c u y o f d = this-or-other (λ x. Ok x (markBegun (g .member) e (s .mark))) e d
+      (byIf (Ok e) (begun e (g .member)) (λ p. subst (λ j. MarkOk e j (a ++ (with g n ∷ b))) (at-mark e (s .mark e) a g b p u (h .marks e) .1) mine)
+      (λ _. rw (put-same (s .mark) e (g .member .id)) mine))
+      (λ q. byIf (Ok d) (begun e (g .member)) (λ _. other q) (λ _. rw (put-other (s .mark) e (g .member .id) d (λ p. q (sym p))) (other q)))
     where
       Ok : ℕ → (ℕ → ℕ) → Type 0
       Ok x mark = MarkOk x (mark x) (a ++ (with g n ∷ b))
@@ -223,16 +242,6 @@ module _ (s : State) (a : List Group) (g : Group) (b : List Group) (h : HubOk s 
 
       other : e ≢ d → MarkOk d (s .mark d) (a ++ (with g n ∷ b))
       other q = swap-mark d (s .mark d) a g b n i (o d q) (f d) (h .marks d)
-
-      go : (t : Bool) → eqb d e ≡ t → Ok d (markBegun (g .member) e (s .mark))
-      go true t =
-          subst (λ x. Ok x (markBegun (g .member) e (s .mark))) (sym (eqb-true d e t))
-          (byIf (Ok e) (begun e (g .member))
-          (λ p. subst (λ j. MarkOk e j (a ++ (with g n ∷ b))) (at-mark e (s .mark e) a g b p u (h .marks e) .1) mine)
-          (λ _. rw (put-same (s .mark) e (g .member .id)) mine))
-      go false t =
-          let q : d ≢ e = eqb-false d e t in
-          byIf (Ok d) (begun e (g .member)) (λ _. other (λ p. q (sym p))) (λ _. rw (put-other (s .mark) e (g .member .id) d q) (other (λ p. q (sym p))))
 
 -- the five changes of a turn or a report keep the hub's invariant
 pub hub-commits : (s : State) (a : List Group) (g : Group) (b : List Group) → HubOk s (a ++ (g ∷ b)) → inFlight (g .member) ≡ false → next (g .member .steps) ≡ none →

@@ -1,24 +1,26 @@
--- Laws of the serial run for one device, and of the due setting. Assumes nothing.
-use mathlib.Core.Path.{_≡_, refl, sym, ap, _∙_}
-use mathlib.Core.Bool.{Bool, true, false, _&&_, _||_, and-true, and-false}
-use mathlib.Core.List.{List, [], _∷_, _++_, map}
+-- What entries, events and groups do to one device: the setting that they leave it at, and whether it is up. Assumes nothing.
+use mathlib.Core.Path.{_≡_, refl, sym, ap, _∙_, subst}
+use mathlib.Core.Bool.{Bool, true, false, _&&_, and-true, and-false}
+use mathlib.Core.List.{List, [], _∷_, _++_, map, append-nil}
 use mathlib.Core.Option.{Option, none, some}
 use Prim.Native.Nat.{ℕ}
-use borrow.Author.Tests.{eqb-true, eqb-false, eq-eqb, ne-eqb}
+use borrow.Author.Tests.{eq-eqb}
 use lib.Dec.{eqb}
-use lib.IntN.{ℤ}
+use lib.IntN.{ℤ, pos}
 use Rattle.routine.specs.Choice.{if_then_else_}
 use Rattle.rules.specs.Tables.{anyOf}
-use Rattle.rules.specs.State.{Step, Member}
-use Rattle.rules.specs.Progress.{isOn, isDone, begun}
+use Rattle.rules.specs.State.{Step, Member, State}
+use Rattle.rules.specs.Progress.{isOn, isDone}
 use Rattle.rules.specs.Due.{afterSteps, afterRestart, afterMember, afterMembers}
-use Rattle.rules.specs.Abort.{later}
+use Rattle.rules.specs.Abort.{later, attachTo}
 use Rattle.rules.specs.Events.{oneRestart}
-use Rattle.rules.specs.Order.{Event, failed, restarted, Entry, routine, event}
-use Rattle.rules.proofs.Lists.{or-left, or-right, Each}
-use Rattle.rules.proofs.Groups.{Group, members, doneSteps, flat, isOf, lastRestart}
+use Rattle.rules.specs.Order.{Event, failed, restarted, Entry, routine, event, Order}
+use Rattle.rules.specs.Submit.{pass}
+use Rattle.rules.proofs.Lists.{or-left, or-right, eqb-sym, fold-++, Each, each-mid, each-drop}
+use Rattle.rules.proofs.Groups.{Group, members, doneSteps, flat, isOf, lastRestart, passAll, addEvents, leaving, addEvent, attachEvent, added-is}
+use Rattle.rules.proofs.Same.{Pairwise, pairs-each, pairs-placed, pairs-last, pairs-attached}
 use Rattle.rules.proofs.Steps.{unbegun-after}
-use Rattle.rules.proofs.Invariant.{Quiet, setEvent, setCommands, setAfter, upEvent, upAfter, EventsOk}
+use Rattle.rules.proofs.Invariant.{Quiet, setEvent, setCommands, setAfter, upEvent, upAfter, EventsOk, OrderOk}
 
 -- ---- parts of lists
 
@@ -33,8 +35,7 @@ up-++ d (routine i cs c ∷ a) b u = up-++ d a b u
 up-++ d (event e ∷ a) b u = up-++ d a b (upEvent d e u)
 
 pub members-after-++ : (d : ℕ) (a b : List Member) (v : ℤ) → afterMembers d (a ++ b) v ≡ afterMembers d b (afterMembers d a v)
-members-after-++ d [] b v = refl
-members-after-++ d (m ∷ a) b v = members-after-++ d a b (afterMember d m v)
+members-after-++ d = fold-++ (afterMembers d) (λ v. refl) (λ m l v. refl)
 
 -- ---- events
 
@@ -50,17 +51,10 @@ later-none : (x : Option ℤ) → later none x ≡ x
 later-none none = refl
 later-none (some v) = refl
 
-pub lastRestart-++ : (d : ℕ) (a b : List Event) → lastRestart d (a ++ b) ≡ later (lastRestart d a) (lastRestart d b)
+lastRestart-++ : (d : ℕ) (a b : List Event) → lastRestart d (a ++ b) ≡ later (lastRestart d a) (lastRestart d b)
 lastRestart-++ d [] b = sym (later-none (lastRestart d b))
 lastRestart-++ d (failed e ∷ a) b = lastRestart-++ d a b
 lastRestart-++ d (restarted e v ∷ a) b = ap (λ x. later (oneRestart e v d) x) (lastRestart-++ d a b) ∙ later-assoc (oneRestart e v d) (lastRestart d a) (lastRestart d b)
-
-eqb-sym : (a b : ℕ) → eqb a b ≡ eqb b a
-eqb-sym a b = go (eqb b a) refl
-  where
-    go : (t : Bool) → eqb b a ≡ t → eqb a b ≡ t
-    go true t = eq-eqb a b (sym (eqb-true b a t))
-    go false t = ne-eqb a b (λ e. eqb-false b a t (sym e))
 
 set-one : (d e : ℕ) (w v : ℤ) → setEvent d (restarted e w) v ≡ afterRestart (oneRestart e w d) v
 unfolding oneRestart
@@ -74,23 +68,37 @@ set-one d e w v = ap (λ t. if t then w else v) (eqb-sym e d) ∙ go (eqb d e)
 pub set-events : (d : ℕ) (l : List Event) (v : ℤ) → setAfter d (map event l) v ≡ afterRestart (lastRestart d l) v
 set-events d [] v = refl
 set-events d (failed e ∷ l) v = set-events d l v
-set-events d (restarted e w ∷ l) v = set-events d l (setEvent d (restarted e w) v) ∙ ap (λ x. afterRestart (lastRestart d l) x) (set-one d e w v) ∙ sym (restart-later (oneRestart e w d) (lastRestart d l) v)
+set-events d (restarted e w ∷ l) v =
+    set-events d l (setEvent d (restarted e w) v) ∙ ap (λ x. afterRestart (lastRestart d l) x) (set-one d e w v) ∙ sym (restart-later (oneRestart e w d) (lastRestart d l) v)
 
--- events of other devices
-one-other : (d e : ℕ) (w : ℤ) → eqb e d ≡ false → oneRestart e w d ≡ none
+-- one restart, of its own device and of others
+pub one-here : (e : ℕ) (w : ℤ) → oneRestart e w e ≡ some w
 unfolding oneRestart
-one-other d e w n = ap (λ t. if t then some w else none) (eqb-sym d e ∙ n)
+one-here e w = ap (λ t. if t then some w else none) (eq-eqb e e refl)
+
+pub one-other : (d e : ℕ) (w : ℤ) → eqb d e ≡ false → oneRestart e w d ≡ none
+unfolding oneRestart
+one-other d e w n = ap (λ t. if t then some w else none) n
 
 pub lastRestart-quiet : (d : ℕ) (l : List Event) → anyOf (isOf d) l ≡ false → lastRestart d l ≡ none
 lastRestart-quiet d [] n = refl
 lastRestart-quiet d (failed e ∷ l) n = lastRestart-quiet d l (or-right (eqb e d) (anyOf (isOf d) l) n)
 lastRestart-quiet d (restarted e w ∷ l) n =
-    ap (λ x. later x (lastRestart d l)) (one-other d e w (or-left (eqb e d) (anyOf (isOf d) l) n)) ∙ later-none (lastRestart d l) ∙ lastRestart-quiet d l (or-right (eqb e d) (anyOf (isOf d) l) n)
+    ap (λ x. later x (lastRestart d l)) (one-other d e w (eqb-sym d e ∙ or-left (eqb e d) (anyOf (isOf d) l) n)) ∙ later-none (lastRestart d l)
+    ∙ lastRestart-quiet d l (or-right (eqb e d) (anyOf (isOf d) l) n)
+
+abbrev pub bringsUp : Event → Bool
+bringsUp (failed d) = false
+bringsUp (restarted d v) = true
+
+pub up-event : (d : ℕ) (x : Event) (u : Bool) → upEvent d x u ≡ (if isOf d x then bringsUp x else u)
+up-event d (failed e) u = refl
+up-event d (restarted e v) u = refl
 
 pub up-quiet : (d : ℕ) (l : List Event) (u : Bool) → anyOf (isOf d) l ≡ false → upAfter d (map event l) u ≡ u
 up-quiet d [] u n = refl
-up-quiet d (failed e ∷ l) u n = ap (λ t. upAfter d (map event l) (if t then false else u)) (or-left (eqb e d) (anyOf (isOf d) l) n) ∙ up-quiet d l u (or-right (eqb e d) (anyOf (isOf d) l) n)
-up-quiet d (restarted e w ∷ l) u n = ap (λ t. upAfter d (map event l) (if t then true else u)) (or-left (eqb e d) (anyOf (isOf d) l) n) ∙ up-quiet d l u (or-right (eqb e d) (anyOf (isOf d) l) n)
+up-quiet d (e ∷ l) u n =
+    ap (upAfter d (map event l)) (up-event d e u ∙ ap (λ t. if t then bringsUp e else u) (or-left (isOf d e) (anyOf (isOf d) l) n)) ∙ up-quiet d l u (or-right (isOf d e) (anyOf (isOf d) l) n)
 
 -- ---- groups
 
@@ -98,7 +106,7 @@ pub up-flat-quiet : (d : ℕ) (l : List Group) (u : Bool) → Each (Quiet d) l �
 up-flat-quiet d [] u q = refl
 up-flat-quiet d (g ∷ l) u q = up-++ d (map event (g .events)) (flat l) u ∙ ap (λ x. upAfter d (flat l) x) (up-quiet d (g .events) u (q .0 .bare)) ∙ up-flat-quiet d l u (q .1)
 
-pub set-done : (d : ℕ) (l : List Step) (v : ℤ) → setCommands d (doneSteps l) v ≡ afterSteps d l v
+set-done : (d : ℕ) (l : List Step) (v : ℤ) → setCommands d (doneSteps l) v ≡ afterSteps d l v
 set-done d [] v = refl
 set-done d (x ∷ l) v = go (λ w. set-done d l w) (isDone (x .status))
   where
@@ -112,15 +120,48 @@ pub set-flat : (d : ℕ) (l : List Group) (v : ℤ) → Each EventsOk l → setA
 unfolding afterMember
 set-flat d [] v h = refl
 set-flat d (g ∷ l) v h =
-    set-++ d (map event (g .events)) (flat l) (setCommands d (doneSteps (g .member .steps)) v)
-    ∙ ap (λ x. setAfter d (flat l) x) (set-events d (g .events) _ ∙ ap (λ x. afterRestart x (setCommands d (doneSteps (g .member .steps)) v)) (sym (h .0 .events-ok d)) ∙ ap (λ x. afterRestart (g .member .restarts d) x) (set-done d (g .member .steps) v))
+    let u = setCommands d (doneSteps (g .member .steps)) v in
+    set-++ d (map event (g .events)) (flat l) u
+    ∙ ap (λ x. setAfter d (flat l) x)
+    (set-events d (g .events) u ∙ ap (λ x. afterRestart x u) (sym (h .0 .events-ok d)) ∙ ap (λ x. afterRestart (g .member .restarts d) x) (set-done d (g .member .steps) v))
     ∙ set-flat d l _ (h .1)
 
+-- with no lead, the settled part alone leaves what the hub keeps of it
+pub settled-alone : (s : State) (o : Order) (l : List Group) → OrderOk s o [] l → (d : ℕ) → setAfter d (o .settled) (pos 0) ≡ s .settled d
+settled-alone s o l k d = ap (λ q. setAfter d q (pos 0)) (sym (append-nil (o .settled))) ∙ k .settled-is d
+
 -- a quiet routine leaves d as it was
-pub quiet-after : (d : ℕ) (g : Group) (v : ℤ) → EventsOk g → Quiet d g → afterMember d (g .member) v ≡ v
+quiet-after : (d : ℕ) (g : Group) (v : ℤ) → EventsOk g → Quiet d g → afterMember d (g .member) v ≡ v
 unfolding afterMember
 quiet-after d g v h q = ap (λ x. afterRestart x (afterSteps d (g .member .steps) v)) (h .events-ok d ∙ lastRestart-quiet d (g .events) (q .bare)) ∙ unbegun-after (g .member) d v (q .idle)
 
 pub quiet-members : (d : ℕ) (l : List Group) (v : ℤ) → Each EventsOk l → Each (Quiet d) l → afterMembers d (members l) v ≡ v
 quiet-members d [] v h q = refl
 quiet-members d (g ∷ l) v h q = ap (λ x. afterMembers d (members l) x) (quiet-after d g v (h .0) (q .0)) ∙ quiet-members d l v (h .1) (q .1)
+
+-- ---- the restarts that routines keep stay the last ones among their events
+
+abbrev EventsStay : Group → Group → Type 0
+EventsStay g h = EventsOk g → EventsOk h
+
+events-stay : {l k : List Group} → Pairwise EventsStay l k → Each EventsOk l → Each EventsOk k
+events-stay = pairs-each EventsStay EventsOk (λ g h f. f)
+
+events-moved : (f : List Event) (e : ℕ → Option ℤ) → ((d : ℕ) → e d ≡ lastRestart d f) → (g : Group) → EventsStay g (addEvents f e g)
+unfolding attachTo
+events-moved f e c g h = record { events-ok = λ d. ap (λ x. later x (e d)) (h .events-ok d) ∙ ap (λ x. later (lastRestart d (g .events)) x) (c d) ∙ sym (lastRestart-++ d (g .events) f) }
+
+events-added : (x : Event) (g : Group) → EventsStay g (addEvent x g)
+events-added x g h = subst EventsOk (sym (added-is x g)) (events-moved (x ∷ []) (λ d. lastRestart d (x ∷ [])) (λ d. refl) g h)
+
+pub events-placed : (a : List Group) (x : Group) (b : List Group) → Each EventsOk (a ++ (x ∷ b)) → Each EventsOk (a ++ (x ∷ passAll b))
+unfolding pass
+events-placed a x b = events-stay (pairs-placed EventsStay (λ g h. h) (λ g h. record { events-ok = h .events-ok }) a x b)
+
+pub events-leaving : (a : List Group) (g : Group) (b : List Group) → Each EventsOk (a ++ (g ∷ b)) → Each EventsOk (leaving a g b)
+events-leaving a g b h =
+    events-stay (pairs-last EventsStay (λ x k. k) (g .events) (g .member .restarts) (events-moved (g .events) (g .member .restarts) (each-mid EventsOk a g b h .events-ok)) a b)
+    (each-drop EventsOk a g b h)
+
+pub events-attached : (j : ℕ) (x : Event) (l : List Group) → Each EventsOk l → Each EventsOk (attachEvent j x l)
+events-attached j x l = events-stay (pairs-attached EventsStay (λ g h. h) j x (events-added x) l)

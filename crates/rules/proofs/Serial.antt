@@ -1,9 +1,8 @@
--- The serial run device by device, the due setting, and the bar. Assumes nothing.
+-- The serial run, device by device, leaves what is due; and settling keeps order and hub together, the bar moving over what settles. Assumes nothing.
 use mathlib.Core.Path.{_≡_, refl, sym, ap, _∙_, subst}
 use mathlib.Core.Bool.{Bool, true, false}
 use mathlib.Core.List.{List, [], _∷_, _++_, map, append-assoc, append-nil, tail-eq-of-cons-eq, nil≢cons}
 use Prim.Native.Nat.{ℕ}
-use borrow.Author.Tests.{eqb-true, eqb-false}
 use lib.Dec.{eqb}
 use lib.IntN.{ℤ, pos}
 use Rattle.routine.specs.Choice.{if_then_else_}
@@ -12,32 +11,25 @@ use Rattle.rules.specs.Tables.{put}
 use Rattle.rules.specs.State.{State}
 use Rattle.rules.specs.Sequence.{withSequence}
 use Rattle.rules.specs.Due.{afterMember, afterMembers, due}
-use Rattle.rules.specs.Settle.{joinSettled, settleFrom, settle}
+use Rattle.rules.specs.Settle.{joinSettled, settle}
 use Rattle.rules.specs.Order.{Event, failed, restarted, Entry, routine, event, Order, beforeBar, behindBar, entries, moveBar}
 use Rattle.rules.specs.Serial.{Condition, runCommand, runCommands, serialRun}
 use Rattle.rules.specs.Demand3.{Begins}
-use Rattle.rules.proofs.Lists.{byIf, put-same, put-other, Each, IdsOk}
+use Rattle.rules.proofs.Lists.{byIf, eqb-sym, put-keeps, Each, IdsOk}
 use Rattle.rules.proofs.Groups.{Group, members, ids, doneSteps, entryOf, flat, entryIds, stillHeld, entryIds-++, entryIds-events}
 use Rattle.rules.proofs.Invariant.{HubOk, FirstRuns, setCommands, setAfter, upAfter, EventsOk, OrderOk}
-use Rattle.rules.proofs.Runs.{set-++, set-flat}
+use Rattle.rules.proofs.Runs.{set-++, set-flat, settled-alone}
+use Rattle.rules.proofs.Fields.{settles}
 
 -- ---- the serial run, device by device
 
 -- a field of the changed table, with the test turned round as in setAfter and upAfter
 put-field : {A : Type 0} (f : Condition → A) (t : ℕ → Condition) (e : ℕ) (c : Condition) (d : ℕ) → f (put t e c d) ≡ (if eqb e d then f c else f (t d))
-put-field f t e c d = go (eqb e d) refl
+put-field f t e c d = go (eqb d e) ∙ ap (λ b. if b then f c else f (t d)) (eqb-sym d e)
   where
-    go : (b : Bool) → eqb e d ≡ b → f (put t e c d) ≡ (if b then f c else f (t d))
-    go true q = subst (λ x. f (put t e c x) ≡ f c) (eqb-true e d q) (ap f (put-same t e c))
-    go false q = ap f (put-other t e c d (λ p. eqb-false e d q (sym p)))
-
--- a field that the new condition has from the old one
-put-keeps : {A : Type 0} (f : Condition → A) (t : ℕ → Condition) (e : ℕ) (c : Condition) (d : ℕ) → f c ≡ f (t e) → f (put t e c d) ≡ f (t d)
-put-keeps f t e c d k = put-field f t e c d ∙ go (eqb e d) refl
-  where
-    go : (b : Bool) → eqb e d ≡ b → (if b then f c else f (t d)) ≡ f (t d)
-    go true q = k ∙ ap (λ x. f (t x)) (eqb-true e d q)
-    go false q = refl
+    go : (b : Bool) → f (if b then c else t d) ≡ (if b then f c else f (t d))
+    go true = refl
+    go false = refl
 
 commands-setting : (d : ℕ) (l : List Command) (t : ℕ → Condition) → runCommands l t d .setting ≡ setCommands d l (t d .setting)
 commands-setting d [] t = refl
@@ -46,12 +38,12 @@ commands-setting d (c ∷ l) t = commands-setting d l (runCommand c t) ∙ ap (�
 pub serial-setting : (d : ℕ) (l : List Entry) (t : ℕ → Condition) → serialRun l t d .setting ≡ setAfter d l (t d .setting)
 serial-setting d [] t = refl
 serial-setting d (routine i cs b ∷ l) t = serial-setting d l _ ∙ ap (λ v. setAfter d l v) (commands-setting d cs t)
-serial-setting d (event (failed e) ∷ l) t = serial-setting d l _ ∙ ap (λ v. setAfter d l v) (put-keeps (λ x. x .setting) t e _ d refl)
+serial-setting d (event (failed e) ∷ l) t = serial-setting d l _ ∙ ap (λ v. setAfter d l v) (put-keeps (λ (x : Condition). x .setting) t e _ refl d)
 serial-setting d (event (restarted e v) ∷ l) t = serial-setting d l _ ∙ ap (λ v. setAfter d l v) (put-field (λ x. x .setting) t e _ d)
 
 commands-up : (d : ℕ) (l : List Command) (t : ℕ → Condition) → runCommands l t d .up ≡ t d .up
 commands-up d [] t = refl
-commands-up d (c ∷ l) t = commands-up d l (runCommand c t) ∙ put-keeps (λ x. x .up) t (c .device) _ d refl
+commands-up d (c ∷ l) t = commands-up d l (runCommand c t) ∙ put-keeps (λ (x : Condition). x .up) t (c .device) _ refl d
 
 pub serial-up : (d : ℕ) (l : List Entry) (t : ℕ → Condition) → serialRun l t d .up ≡ upAfter d l (t d .up)
 serial-up d [] t = refl
@@ -60,10 +52,6 @@ serial-up d (event (failed e) ∷ l) t = serial-up d l _ ∙ ap (λ u. upAfter d
 serial-up d (event (restarted e v) ∷ l) t = serial-up d l _ ∙ ap (λ u. upAfter d l u) (put-field (λ x. x .up) t e _ d)
 
 -- ---- the due setting is that of the serial run
-
--- with no lead, the settled part alone leaves what the hub keeps of it
-settled-alone : (s : State) (o : Order) (l : List Group) → OrderOk s o [] l → (d : ℕ) → setAfter d (o .settled) (pos 0) ≡ s .settled d
-settled-alone s o l k d = ap (λ q. setAfter d q (pos 0)) (sym (append-nil (o .settled))) ∙ k .settled-is d
 
 pub order-due : (s : State) (o : Order) (l : List Group) → HubOk s l → OrderOk s o [] l → (d : ℕ) → setAfter d (entries o) (pos 0) ≡ due s d
 unfolding due
@@ -116,7 +104,8 @@ behind-flat (g ∷ l) f = rw f refl
 pub bar-stays : (s : State) (o : Order) (l : List Group) → OrderOk s o [] l → FirstRuns l → moveBar o ≡ o
 unfolding moveBar
 bar-stays s o l k f =
-    let a : beforeBar (entries o) ≡ o .settled = before-++ (o .settled) (o .unsettled) (k .barred) ∙ ap (λ q. o .settled ++ q) (ap beforeBar (k .unsettled-is) ∙ before-flat l f) ∙ append-nil (o .settled) in
+    let a : beforeBar (entries o) ≡ o .settled =
+    before-++ (o .settled) (o .unsettled) (k .barred) ∙ ap (λ q. o .settled ++ q) (ap beforeBar (k .unsettled-is) ∙ before-flat l f) ∙ append-nil (o .settled) in
     let b : behindBar (entries o) ≡ o .unsettled = behind-++ (o .settled) (o .unsettled) (k .barred) ∙ ap behindBar (k .unsettled-is) ∙ behind-flat l f ∙ sym (k .unsettled-is) in
     ap (λ q. record { settled = q; unsettled = behindBar (entries o) }) a ∙ ap (λ q. record { settled = o .settled; unsettled = q }) b
 
@@ -182,27 +171,24 @@ rest-stays s p l f k = subst (λ o. OrderOk (withSequence s (members l)) o [] l)
   barred = k .barred;
 }
 
-members-settle : (l : List Group) (s : State) (p : List Entry) → OrderOk s (barAt p l) [] l → OrderOk (settleFrom s (members l)) (moveBar (barAt p l)) [] (stillHeld l)
-members-settle [] s p k = rest-stays s p [] tt k
-members-settle (g ∷ l) s p k = go (members-settle l t (p ++ entriesOf g)) (g .member .committed) refl
-  where
-    t : State
-    t = joinSettled s (g .member)
-
-    q : Order
-    q = barAt (p ++ entriesOf g) l
-
-    go : (OrderOk t q [] l → OrderOk (settleFrom t (members l)) (moveBar q) [] (stillHeld l)) → (b : Bool) → g .member .committed ≡ b →
-        OrderOk (if b then settleFrom t (members l) else withSequence s (members (g ∷ l))) (moveBar (barAt p (g ∷ l))) [] (if b then stillHeld l else g ∷ l)
-    go ih true e =
-        subst (λ o. OrderOk (settleFrom t (members l)) o [] (stillHeld l)) (bar-same q (barAt p (g ∷ l)) (append-assoc p (entriesOf g) (flat l))) (ih (member-settles s p g l e k))
-    go ih false e = rest-stays s p (g ∷ l) e k
+-- the bar moves over o where it moves over the entries of the groups left
+abbrev Settling : Order → State → List Group → Type 0
+Settling o s l = (p : List Entry) × (moveBar (barAt p l) ≡ moveBar o) × OrderOk s (barAt p l) [] l
 
 pub order-settles : (s : State) (o : Order) (lead : List Event) (l : List Group) → HubOk s l → OrderOk s o lead l →
     OrderOk (settle s) (moveBar o) [] (stillHeld l) × Begins (o .settled) (moveBar o .settled)
-unfolding settle moveBar
+unfolding moveBar
 order-settles s o lead l h k =
     let p = o .settled ++ map event lead in
-    let same : moveBar (barAt p l) ≡ moveBar o = bar-same (barAt p l) o (append-assoc (o .settled) (map event lead) (flat l) ∙ ap (λ q. o .settled ++ q) (sym (k .unsettled-is))) in
-    let ok : OrderOk (settleFrom s (members l)) (moveBar o) [] (stillHeld l) = subst (λ q. OrderOk (settleFrom s (members l)) q [] (stillHeld l)) same (members-settle l s p (lead-settles s o lead l k)) in
-    (subst (λ q. OrderOk (settleFrom s q) (moveBar o) [] (stillHeld l)) (sym (h .sequence-is)) ok, (beforeBar (o .unsettled), before-++ (o .settled) (o .unsettled) (k .barred)))
+    let same : moveBar (barAt p l) ≡ moveBar o = bar-same (barAt p l) o (append-assoc (o .settled) (map event lead) (flat l) ∙ ap (λ q. o .settled ++ q) (sym (k .unsettled-is))) in (
+      settles (Settling o) (λ s l. OrderOk s (moveBar o) [] l) joins (λ s l f q. subst (λ o. OrderOk (withSequence s (members l)) o [] l) (q .1) (rest-stays s (q .0) l f (q .2))) s l
+          (h .sequence-is) (p, same, lead-settles s o lead l k),
+      (beforeBar (o .unsettled), before-++ (o .settled) (o .unsettled) (k .barred)),
+    )
+  where
+    joins : (s : State) (g : Group) (l : List Group) → g .member .committed ≡ true → Settling o s (g ∷ l) → Settling o (joinSettled s (g .member)) l
+    joins s g l t q = (
+      q .0 ++ entriesOf g,
+      bar-same (barAt (q .0 ++ entriesOf g) l) (barAt (q .0) (g ∷ l)) (append-assoc (q .0) (entriesOf g) (flat l)) ∙ q .1,
+      member-settles s (q .0) g l t (q .2),
+    )

@@ -2,38 +2,35 @@
 use mathlib.Core.Path.{_≡_, refl, sym, ap, ap₂, _∙_, subst, transport, fun-ext}
 use mathlib.Core.Logic.{_≢_}
 use mathlib.Core.Bool.{Bool, true, false}
-use mathlib.Core.List.{List, [], _∷_, _++_, map, append-assoc, append-nil}
-use mathlib.Core.Option.{Option}
+use mathlib.Core.List.{List, [], _∷_, _++_, map, append-assoc}
 use Prim.Native.Nat.{ℕ}
-use native.Mathlib.Omega.{arith}
-use borrow.Author.Tests.{eqb-true, eqb-false, eq-eqb, ne-eqb}
+use borrow.Author.Tests.{eqb-false, eq-eqb, ne-eqb}
 use lib.Dec.{eqb}
-use lib.IntN.{ℤ}
 use Rattle.routine.specs.Choice.{if_then_else_}
 use Rattle.routine.specs.declared.Command.{Command}
 use Rattle.rules.specs.Tables.{anyOf, put}
 use Rattle.rules.specs.State.{Step, State}
 use Rattle.rules.specs.Answers.{Call, failure, restart, Answer, down, up, Result}
 use Rattle.rules.specs.Sequence.{withUp}
-use Rattle.rules.specs.Abort.{attachTo, abort}
-use Rattle.rules.specs.Submit.{pass, newcomer}
+use Rattle.rules.specs.Abort.{abort}
+use Rattle.rules.specs.Submit.{newcomer}
 use Rattle.rules.specs.Turn.{commit, commitTurn, sendTurn, skipTurn}
 use Rattle.rules.specs.Report.{doneReport, skipReport}
 use Rattle.rules.specs.History.{Outcome, reported-done, reported-failed, not-sent, Answered, Account, placedAccount, sentAccount, answeredAccount, endedAccount, noteAnswer, noteAnswers}
 use Rattle.rules.specs.Order.{Event, failed, restarted, Entry, routine, event, Order, orderAfterAll, entries}
 use Rattle.rules.specs.Serial.{Condition, allUp, runEntry}
 use Rattle.rules.specs.Demand3.{Finds, afterAnswered, AllFind, doneOnes, CommandsStand}
-use Rattle.rules.proofs.Lists.{byIf, or-left, or-right, put-same, put-other, Each, each-++, each-right, each-mid, NotIn, IdsOk, notIn-left, notIn-right, ids-fresh, ids-right, ids-front, ids-behind}
-use Rattle.rules.proofs.Groups.{Group, ids, doneSteps, entryOf, flat, entryIds, isOf, alone, with, passAll, addToLast, without, leadOf, addEvent, attachEvent, leadWith, ids-++, flat-++, entryIds-++, entryIds-flat}
+use Rattle.rules.proofs.Lists.{or-left, or-right, put-same, put-other, put-keeps, Each, each-++, each-left, each-right, each-mid, IsNot, NotIn, IdsOk, ids-fresh, ids-other}
+use Rattle.rules.proofs.Groups.{Group, ids, doneSteps, flat, entryIds, deviceOf, alone, changed, passAll, leaving, leadOf, attachEvent, leadWith, flat-++, entryIds-++, entryIds-flat, flat-pass, flat-leaving}
 use Rattle.rules.proofs.Steps.{leftSteps, skip-step, done-step, fail-step, unbegun-answered}
-use Rattle.rules.proofs.Invariant.{Quiet, Turns, HubOk, FliesUp, upEvent, upAfter, OrderOk, commandsIn, Tells}
+use Rattle.rules.proofs.Invariant.{Quiet, HubOk, FliesUp, upEvent, upAfter, OrderOk, commandsIn, Tells}
 use Rattle.rules.proofs.View.{sentMember, skippedMember, doneMember, failedMember, Gone, nobody, somebody, Moves, places, commits, sends, skips, dones, misses, aborts, fails, restarts}
-use Rattle.rules.proofs.Runs.{up-++, up-quiet, up-flat-quiet}
-use Rattle.rules.proofs.Marks.{Clear, turn-clear, flight-clear, MarkPlace, at-zero, at-group, mark-place}
+use Rattle.rules.proofs.Runs.{up-++, bringsUp, up-event, up-quiet, up-flat-quiet}
+use Rattle.rules.proofs.Marks.{Clear, in-turn, turn-clear, flight-clear, mark-place}
 use Rattle.rules.proofs.Moved.{hub-gone, hub-up}
 use Rattle.rules.proofs.Serial.{serial-up}
 use Rattle.rules.proofs.Accounts.{accounts-moves}
-use Rattle.rules.proofs.Ordered.{order-moves}
+use Rattle.rules.proofs.Ordered.{order-ids, cut-at, order-moves}
 
 -- ---- where commands stand, told by the devices that are up alone
 
@@ -131,52 +128,25 @@ stand-spared d q [] u w e n h = tt
 stand-spared d q (routine i cs b ∷ l) u w e n h = (h .0, fits-spared d u w e (q i) (n .0) (h .1), stand-spared d q l u w e (n .1) (h .2))
 stand-spared d q (event x ∷ l) u w e n h = stand-spared d q l (λ y. upEvent y x (u y)) (λ y. upEvent y x (w y)) (λ y m. ap (upEvent y x) (e y m)) n h
 
-event-other : (d : ℕ) (e : Event) → isOf d e ≡ true → (u : ℕ → Bool) → SameBut d u (λ x. upEvent x e (u x))
-event-other d (failed y) t u x n = ap (λ b. if b then false else u x) (sym (ne-eqb y x (λ z. n (sym z ∙ eqb-true y d t))))
-event-other d (restarted y v) t u x n = ap (λ b. if b then true else u x) (sym (ne-eqb y x (λ z. n (sym z ∙ eqb-true y d t))))
+event-other : (e : Event) (u : ℕ → Bool) → SameBut (deviceOf e) u (λ x. upEvent x e (u x))
+event-other e u x n = sym (up-event x e (u x) ∙ ap (λ b. if b then bringsUp e else u x) (ne-eqb (deviceOf e) x (λ z. n (sym z))))
 
 spared-groups : (d : ℕ) (a : ℕ → Account) (l : List Group) → Each (Quiet d) l → Each (Tells a) l → Each (Spared d (answeredIn a)) (ids l)
 spared-groups d a [] q t = tt
 spared-groups d a (g ∷ l) q t =
     (ap (anyOf (onDevice d)) (t .0 .answered-is) ∙ unbegun-answered (g .member) d (q .0 .idle), spared-groups d a l (q .1) (t .1))
 
--- those that are quiet with d do not see an event of it
-stand-event : (d : ℕ) (e : Event) → isOf d e ≡ true → (a : ℕ → Account) (l : List Group) → Each (Quiet d) l → Each (Tells a) l → (u : ℕ → Bool) →
+-- those that are quiet with its device do not see an event
+stand-event : (e : Event) (a : ℕ → Account) (l : List Group) → Each (Quiet (deviceOf e)) l → Each (Tells a) l → (u : ℕ → Bool) →
     Stand (answeredIn a) (flat l) u → Stand (answeredIn a) (event e ∷ flat l) u
-stand-event d e t a l q k u h =
-    stand-spared d (answeredIn a) (flat l) u (λ x. upEvent x e (u x)) (event-other d e t u) (rw (entryIds-flat l) (spared-groups d a l q k)) h
+stand-event e a l q k u h =
+    stand-spared (deviceOf e) (answeredIn a) (flat l) u (λ x. upEvent x e (u x)) (event-other e u) (rw (entryIds-flat l) (spared-groups (deviceOf e) a l q k)) h
 
 -- ---- the entries of groups
 
 -- f: the events attached to 0
 abbrev openPart : List Event → List Group → List Entry
 openPart f l = map event f ++ flat l
-
-map-events : (f h : List Event) (r : List Entry) → map event (f ++ h) ++ r ≡ map event f ++ (map event h ++ r)
-map-events [] h r = refl
-map-events (e ∷ f) h r = ap (λ l. event e ∷ l) (map-events f h r)
-
-flat-pass : (l : List Group) → flat (passAll l) ≡ flat l
-unfolding pass
-flat-pass [] = refl
-flat-pass (g ∷ l) = ap (λ k. entryOf (g .member) ∷ (map event (g .events) ++ k)) (flat-pass l)
-
-flat-last : (f : List Event) (e : ℕ → Option ℤ) (g : Group) (a b : List Group) → flat (addToLast f e (g ∷ a) ++ b) ≡ flat (g ∷ a) ++ (map event f ++ flat b)
-unfolding attachTo
-flat-last f e g [] b =
-    ap (λ k. entryOf (g .member) ∷ k) (map-events (g .events) f (flat b) ∙ ap (λ k. k ++ (map event f ++ flat b)) (sym (append-nil (map event (g .events)))))
-flat-last f e g (h ∷ a) b =
-    ap (λ k. entryOf (g .member) ∷ k) (ap (λ k. map event (g .events) ++ k) (flat-last f e h a b) ∙ sym (append-assoc (map event (g .events)) (flat (h ∷ a)) (map event f ++ flat b)))
-
--- a routine goes, its events stay
-flat-without : (a : List Group) (g : Group) (b : List Group) → openPart (leadOf a g) (without a g b) ≡ flat a ++ (map event (g .events) ++ flat b)
-flat-without [] g b = refl
-flat-without (x ∷ a) g b = flat-last (g .events) (g .member .restarts) x a b
-
-flat-added : (e : Event) (g : Group) (b : List Group) → flat (addEvent e g ∷ b) ≡ entryOf (g .member) ∷ (map event (g .events) ++ (event e ∷ flat b))
-unfolding attachTo
-flat-added (failed d) g b = ap (λ k. entryOf (g .member) ∷ k) (map-events (g .events) (failed d ∷ []) (flat b))
-flat-added (restarted d v) g b = ap (λ k. entryOf (g .member) ∷ k) (map-events (g .events) (restarted d v ∷ []) (flat b))
 
 -- ---- the accounts' answered commands
 
@@ -189,7 +159,7 @@ put-answered a i z = fun-ext (λ j. go j (eqb j i))
 
 -- a routine that ends keeps them
 ended-answered : (a : ℕ → Account) (i : ℕ) → answeredIn (put a i (endedAccount (a i))) ≡ answeredIn a
-ended-answered a i = fun-ext (λ j. byIf (λ (z : Account). z .answered ≡ a j .answered) (eqb j i) (λ e. ap (λ x. a x .answered) (sym (eqb-true j i e))) (λ _. refl))
+ended-answered a i = fun-ext (put-keeps (λ (z : Account). z .answered) a i (endedAccount (a i)) refl)
 
 -- ---- a routine is placed, or changes in its place
 
@@ -204,9 +174,8 @@ record Before (s : State) (o : Order) (a : ℕ → Account) (l : List Group) : T
 flat-at : (p : List Entry) (a b : List Group) → p ++ flat (a ++ b) ≡ (p ++ flat a) ++ flat b
 flat-at p a b = ap (λ k. p ++ k) (flat-++ a b) ∙ sym (append-assoc p (flat a) (flat b))
 
-order-ids : (s : State) (o : Order) (a b : List Group) → OrderOk s o [] (a ++ b) → IdsOk (s .nextId) (entryIds (o .settled ++ flat a) ++ entryIds (flat b))
-order-ids s o a b k =
-    rw (entryIds-++ (o .settled) (flat a), entryIds-flat a, entryIds-flat b, append-assoc (entryIds (o .settled)) (ids a) (ids b), ← ids-++ a b) (k .ids-ok)
+entry-ids : (s : State) (o : Order) (a b : List Group) → OrderOk s o [] (a ++ b) → IdsOk (s .nextId) (entryIds (o .settled ++ flat a) ++ entryIds (flat b))
+entry-ids s o a b k = rw (entryIds-++ (o .settled) (flat a), entryIds-flat a, entryIds-flat b) (order-ids s o [] a b k)
 
 -- and behind p and these groups, from all devices up
 abbrev upPast : List Entry → List Group → ℕ → Bool
@@ -235,15 +204,11 @@ stand-places s o a cs x y f t =
     let i = s .nextId in
     let p = entryIds (o .settled ++ flat x) in
     let r = entryIds (flat y) in
-    let n = ids-fresh i (p ++ r) (order-ids s o x y (f .order)) in
+    let n = ids-fresh i (p ++ r) (entry-ids s o x y (f .order)) in
     let h = stand-at a (o .settled) x y (f .stand) in
-    stand-put a (o .settled) x (alone (newcomer i cs)) (passAll y) (placedAccount cs) (notIn-left i p r n)
-    (subst (λ l. NotIn i (entryIds l)) (sym (flat-pass y)) (notIn-right i p r n)) (h .0)
+    stand-put a (o .settled) x (alone (newcomer i cs)) (passAll y) (placedAccount cs) (each-left (IsNot i) p r n)
+    (subst (λ l. NotIn i (entryIds l)) (sym (flat-pass y)) (each-right (IsNot i) p r n)) (h .0)
     (subst (λ l. Stand (answeredIn a) l (upPast (o .settled) x)) (sym (flat-pass y)) (h .1)) t tt
-
--- the routine with these steps
-abbrev changed : Group → List Step → Bool → Group
-changed g l b = with g (record { id = g .member .id; steps = l; passed = g .member .passed; committed = b; restarts = g .member .restarts })
 
 module _ (s : State) (o : Order) (a : ℕ → Account) (x : List Group) (g : Group) (y : List Group) (f : Before s o a (x ++ (g ∷ y))) where
   stand-changes : (l : List Step) (b : Bool) (z : Account) →
@@ -253,9 +218,9 @@ module _ (s : State) (o : Order) (a : ℕ → Account) (x : List Group) (g : Gro
       let i = g .member .id in
       let p = entryIds (o .settled ++ flat x) in
       let r = entryIds (map event (g .events) ++ flat y) in
-      let n = order-ids s o x (g ∷ y) (f .order) in
+      let n = ids-other (s .nextId) p i r (entry-ids s o x (g ∷ y) (f .order)) in
       let h = stand-at a (o .settled) x (g ∷ y) (f .stand) in
-      stand-put a (o .settled) x (changed g l b) y z (ids-front (s .nextId) p i r n) (ids-behind (s .nextId) p i r n) (h .0) (h .1 .2) t (m (h .1 .1))
+      stand-put a (o .settled) x (changed g l b) y z (each-left (IsNot i) p r n) (each-right (IsNot i) p r n) (h .0) (h .1 .2) t (m (h .1 .1))
 
   -- its first command that is left, c, is answered
   stand-answers : (l : List Step) (b : Bool) (c : Command) (cs : List Command) (v : Outcome) → leftSteps (g .member .steps) ≡ c ∷ cs →
@@ -280,65 +245,25 @@ module _ (s : State) (o : Order) (a : ℕ → Account) (x : List Group) (g : Gro
 -- ---- a routine leaves
 
 stand-leaves : (a : ℕ → Account) (p : List Entry) (x : List Group) (g : Group) (y : List Group) → Standing a (p ++ flat (x ++ (g ∷ y))) →
-    Standing a (p ++ openPart (leadOf x g) (without x g y))
+    Standing a (p ++ openPart (leadOf x g) (leaving x g y))
 stand-leaves a p x g y w =
     let h = stand-at a p x (g ∷ y) w in
     let r = map event (g .events) ++ flat y in
-    subst (λ l. Standing a l) (append-assoc p (flat x) r ∙ ap (λ l. p ++ l) (sym (flat-without x g y)))
+    subst (λ l. Standing a l) (append-assoc p (flat x) r ∙ ap (λ l. p ++ l) (sym (flat-leaving x g y)))
     (stand-join (answeredIn a) (p ++ flat x) r (λ d. true) (h .0) (h .1 .2))
 
 -- ---- an event is attached to its device's mark
 
-attach-past : (j : ℕ) (e : Event) (a b : List Group) → NotIn j (ids a) → attachEvent j e (a ++ b) ≡ a ++ attachEvent j e b
-attach-past j e [] b n = refl
-attach-past j e (g ∷ a) b n =
-    ap (λ t. if t then addEvent e g ∷ (a ++ b) else g ∷ attachEvent j e (a ++ b)) (ne-eqb (g .member .id) j (n .0)) ∙ ap (λ k. g ∷ k) (attach-past j e a b (n .1))
-
-attach-none : (j : ℕ) (e : Event) (l : List Group) → NotIn j (ids l) → attachEvent j e l ≡ l
-attach-none j e l n = subst (λ b. attachEvent j e b ≡ b) (append-nil l) (attach-past j e l [] n)
-
-attach-at : (j : ℕ) (e : Event) (a : List Group) (g : Group) (b : List Group) → NotIn j (ids a) → g .member .id ≡ j → attachEvent j e (a ++ (g ∷ b)) ≡ a ++ (addEvent e g ∷ b)
-attach-at j e a g b n i = attach-past j e a (g ∷ b) n ∙ ap (λ t. a ++ (if t then addEvent e g ∷ b else g ∷ attachEvent j e b)) (eq-eqb (g .member .id) j i)
-
-zero-not-in : (n : ℕ) (l : List ℕ) → IdsOk n l → NotIn 0 l
-zero-not-in n [] h = tt
-zero-not-in n (x ∷ l) h = (let p = h .0 in omega arith, zero-not-in n l (h .3))
-
--- everyone behind the mark is quiet
-stand-attached : (s : State) (d : ℕ) (e : Event) → isOf d e ≡ true → (a : ℕ → Account) (p : List Entry) (lead : List Event) (l : List Group) → HubOk s l →
-    Each (Tells a) (attachEvent (s .mark d) e l) → Standing a (p ++ openPart lead l) → Standing a (p ++ openPart (leadWith (s .mark d) e lead) (attachEvent (s .mark d) e l))
-stand-attached s d e t a p lead l h k w = go (mark-place s l h d)
-  where
-    j : ℕ
-    j = s .mark d
-
-    q : ℕ → List Answered
-    q = answeredIn a
-
-    leads : (b : Bool) → eqb j 0 ≡ b → leadWith j e lead ≡ (if b then lead ++ (e ∷ []) else lead)
-    leads b = ap (λ c. if c then lead ++ (e ∷ []) else lead)
-
-    go : MarkPlace d j l → Standing a (p ++ openPart (leadWith j e lead) (attachEvent j e l))
-    go (at-zero z n) =
-        let past : attachEvent j e l ≡ l = attach-none j e l (subst (λ i. NotIn i (ids l)) (sym z) (zero-not-in (s .nextId) (ids l) (h .ids-ok))) in
-        let told : Each (Tells a) l = subst (λ b. Each (Tells a) b) past k in
-        subst (λ r. Standing a (p ++ r)) (sym (ap₂ openPart (leads true (eq-eqb j 0 z)) past ∙ map-events lead (e ∷ []) (flat l)))
-        (stand-behind q p (openPart lead l) (map event lead ++ (event e ∷ flat l))
-        (stand-behind q (map event lead) (flat l) (event e ∷ flat l) (stand-event d e t a l n told)) (λ d. true) w)
-    go (at-group x g y c i n) =
-        let ok : IdsOk (s .nextId) (ids x ++ (g .member .id ∷ ids y)) = subst (λ b. IdsOk (s .nextId) b) (ap ids c ∙ ids-++ x (g ∷ y)) (h .ids-ok) in
-        let front : NotIn j (ids x) = subst (λ m. NotIn m (ids x)) i (ids-front (s .nextId) (ids x) (g .member .id) (ids y) ok) in
-        let past : attachEvent j e l ≡ x ++ (addEvent e g ∷ y) = ap (attachEvent j e) c ∙ attach-at j e x g y front i in
-        let told : Each (Tells a) y = each-right (Tells a) x (addEvent e g ∷ y) (subst (λ b. Each (Tells a) b) past k) .1 in
-        let not-zero : j ≢ 0 = λ z. zero-not-in (s .nextId) (g .member .id ∷ ids y) (ids-right (s .nextId) (ids x) (g .member .id ∷ ids y) ok) .0 (i ∙ z) in
-        let r = entryOf (g .member) ∷ map event (g .events) in
-        let new = flat x ++ (r ++ (event e ∷ flat y)) in
-        let new-is : flat (attachEvent j e l) ≡ new = ap flat past ∙ flat-++ x (addEvent e g ∷ y) ∙ ap (λ b. flat x ++ b) (flat-added e g y) in
-        subst (λ v. Standing a (p ++ v)) (sym (ap₂ (λ f b. map event f ++ b) (leads false (ne-eqb j 0 not-zero)) new-is))
-        (stand-behind q p (openPart lead l) (map event lead ++ new)
-        (stand-behind q (map event lead) (flat l) new
-        (λ v m. stand-behind q (flat x) (flat (g ∷ y)) (r ++ (event e ∷ flat y)) (stand-behind q r (flat y) (event e ∷ flat y) (stand-event d e t a y n told)) v
-        (subst (λ b. Stand q b v) (ap flat c ∙ flat-++ x (g ∷ y)) m))) (λ d. true) w)
+stand-attached : (s : State) (e : Event) (a : ℕ → Account) (p : List Entry) (lead : List Event) (l : List Group) → HubOk s l →
+    let j = s .mark (deviceOf e) in
+    Each (Tells a) (attachEvent j e l) → Standing a (p ++ openPart lead l) → Standing a (p ++ openPart (leadWith j e lead) (attachEvent j e l))
+stand-attached s e a p lead l h k w =
+    let c = cut-at e (s .mark (deviceOf e)) lead l (mark-place s l h (deviceOf e)) in
+    let old = flat (c .behind) in
+    let told = each-right (Tells a) (c .ahead) (c .behind) (subst (Each (Tells a)) (c .attached) k) in
+    subst (λ r. Standing a (p ++ r)) (sym (c .becomes))
+    (stand-behind (answeredIn a) p (c .before ++ old) (c .before ++ (event e ∷ old))
+    (stand-behind (answeredIn a) (c .before) old (event e ∷ old) (stand-event e a (c .behind) (c .quiet) told)) (λ d. true) (subst (λ r. Standing a (p ++ r)) (c .was) w))
 
 -- the abort ahead of the event
 stand-gone : (s : State) (d : ℕ) (l : List Group) {r : Result} {lead : List Event} {k : List Group} → Gone s d l r lead k → (a : ℕ → Account) (p : List Entry) →
@@ -353,20 +278,22 @@ unfolding abort
 gone-answered s d l (nobody n) c v same a = ap answeredIn (same a)
 gone-answered s d l (somebody x g y e n) c v same a = ap answeredIn (same _) ∙ ended-answered a (g .member .id)
 
-stand-happens : (s : State) (d : ℕ) (e : Event) → isOf d e ≡ true → (a : ℕ → Account) (p : List Entry) (l : List Group) (r : Result) (lead : List Event) (k : List Group) →
-    HubOk s l → Gone s d l r lead k → (c : Call) (v : Answer) → ((b : ℕ → Account) → noteAnswer c v b ≡ b) → Standing a (p ++ flat l) →
-    Each (Tells (noteAnswers c (r .answers ++ (v ∷ [])) a)) (attachEvent (r .state .mark d) e k) →
-    Standing (noteAnswers c (r .answers ++ (v ∷ [])) a) (p ++ openPart (leadWith (r .state .mark d) e lead) (attachEvent (r .state .mark d) e k))
-stand-happens s d e t a p l r lead k h g c v same w n =
+stand-happens : (s : State) (e : Event) (a : ℕ → Account) (p : List Entry) (l : List Group) (r : Result) (lead : List Event) (k : List Group) →
+    HubOk s l → Gone s (deviceOf e) l r lead k → (c : Call) (v : Answer) → ((b : ℕ → Account) → noteAnswer c v b ≡ b) → Standing a (p ++ flat l) →
+    let j = r .state .mark (deviceOf e) in
     let b = noteAnswers c (r .answers ++ (v ∷ [])) a in
-    stand-attached (r .state) d e t b p lead k (hub-gone s d l h g .0) n
+    Each (Tells b) (attachEvent j e k) → Standing b (p ++ openPart (leadWith j e lead) (attachEvent j e k))
+stand-happens s e a p l r lead k h g c v same w n =
+    let d = deviceOf e in
+    let b = noteAnswers c (r .answers ++ (v ∷ [])) a in
+    stand-attached (r .state) e b p lead k (hub-gone s d l h g .0) n
     (stand-gone s d l g b p (subst (λ q. Stand q (p ++ flat l) (λ d. true)) (sym (gone-answered s d l g c v same a)) w))
 
 -- ---- every call
 
 stand-moves : (s : State) (o : Order) (a : ℕ → Account) (l : List Group) {c : Call} {r : Result} {lead : List Event} {k : List Group} → Before s o a l → Moves s l c r lead k →
     Each (Tells (noteAnswers c (r .answers) a)) k → Standing (noteAnswers c (r .answers) a) (o .settled ++ openPart lead k)
-unfolding abort newcomer commit commitTurn sendTurn skipTurn doneReport skipReport
+unfolding abort commit commitTurn sendTurn skipTurn doneReport skipReport
 stand-moves s o a l f (places cs x y v e m n b) = stand-places s o a cs x y (subst (λ l. Before s o a l) e f)
 stand-moves s o a l f (commits i x g y e j r n b) =
     stand-changes s o a x g y (subst (λ l. Before s o a l) e f) (g .member .steps) true (endedAccount (a (g .member .id))) (λ h. h)
@@ -374,27 +301,27 @@ stand-moves s o a l f (sends i x g y c e j r n b m u) =
     stand-changes s o a x g y (subst (λ l. Before s o a l) e f) (sentMember s g c .steps) (g .member .committed) (sentAccount c (a (g .member .id))) (λ h. h)
 stand-moves s o a l f (skips i x g y c e j r n b m u) =
     let w = subst (λ l. Before s o a l) e f in
-    let k = skip-step (g .member) (each-mid Turns x g y (w .hub .turns) .turns) c b n in
+    let k = skip-step (g .member) (in-turn s x g y (w .hub)) c b n in
     stand-answers s o a x g y w (skippedMember g .steps) (g .member .committed) c (leftSteps (skippedMember g .steps)) not-sent (k .left-is)
     (up-before s o a x g y w (c .device) (turn-clear s x g y c (w .hub) b n m) ∙ u)
 stand-moves s o a l f (dones i code x g y v e j r n b) =
     let w = subst (λ l. Before s o a l) e f in
-    let k = done-step (g .member) (each-mid Turns x g y (w .hub .turns) .turns) v n in
+    let k = done-step (g .member) (in-turn s x g y (w .hub)) v n in
     let d = v .command .device in
     stand-answers s o a x g y w (doneMember g .steps) (g .member .committed) (v .command) (leftSteps (doneMember g .steps)) reported-done (k .left-is)
     (up-before s o a x g y w d (flight-clear s x g y v (w .hub) n) ∙ each-mid (FliesUp s) x g y (w .flies) .flies-up d (k .flew d ∙ eq-eqb d d refl))
 stand-moves s o a l f (misses i code x g y v e j r n b) =
     let w = subst (λ l. Before s o a l) e f in
-    let k = fail-step (g .member) (each-mid Turns x g y (w .hub .turns) .turns) v n in
+    let k = fail-step (g .member) (in-turn s x g y (w .hub)) v n in
     stand-answers s o a x g y w (failedMember g .steps) (g .member .committed) (v .command) (leftSteps (failedMember g .steps)) reported-failed (k .left-is) tt
 stand-moves s o a l f (aborts c x g y e j n) = λ _.
-    subst (λ q. Stand q (o .settled ++ openPart (leadOf x g) (without x g y)) (λ d. true)) (sym (ended-answered a (g .member .id)))
+    subst (λ q. Stand q (o .settled ++ openPart (leadOf x g) (leaving x g y)) (λ d. true)) (sym (ended-answered a (g .member .id)))
     (stand-leaves a (o .settled) x g y (subst (λ l. Standing a (o .settled ++ flat l)) e (f .stand)))
 stand-moves s o a l f (fails d r lead b n u g) =
-    stand-happens (withUp s (put (s .up) d false)) d (failed d) (eq-eqb d d refl) a (o .settled) l r lead b (hub-up s (put (s .up) d false) l (f .hub)) g
+    stand-happens (withUp s (put (s .up) d false)) (failed d) a (o .settled) l r lead b (hub-up s (put (s .up) d false) l (f .hub)) g
     (failure d) (down d (r .state .mark d)) (λ b. refl) (f .stand)
 stand-moves s o a l f (restarts d v r lead b n u g) =
-    stand-happens s d (restarted d v) (eq-eqb d d refl) a (o .settled) l r lead b (f .hub) g (restart d v) (up d (r .state .mark d)) (λ b. refl) (f .stand)
+    stand-happens s (restarted d v) a (o .settled) l r lead b (f .hub) g (restart d v) (up d (r .state .mark d)) (λ b. refl) (f .stand)
 
 pub stands-moves : (s : State) (o : Order) (a : ℕ → Account) (l : List Group) {c : Call} {r : Result} {lead : List Event} {k : List Group} →
     HubOk s l → Each (FliesUp s) l → OrderOk s o [] l → Each (Tells a) l → CommandsStand a (entries o) allUp → Moves s l c r lead k →

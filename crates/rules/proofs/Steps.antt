@@ -15,7 +15,7 @@ use Rattle.rules.specs.State.{Status, to-do, in-flight, was-done, was-sk
 use Rattle.rules.specs.Progress.{isOn, isToDo, isInFlight, isDone, isAnswered, begun, finished, inFlightOn, inFlight, next, Flight, flightOr, flight, advance, answer, withSteps}
 use Rattle.rules.specs.Due.{afterSteps}
 use Rattle.rules.specs.Submit.{stepOf, newcomer}
-use Rattle.rules.proofs.Lists.{t≠f, byIf, or-left, or-right, and-left, anyOf-++}
+use Rattle.rules.proofs.Lists.{byIf, t≠f, or-left, or-right, and-left, fold-++, anyOf-++}
 use Rattle.rules.proofs.Groups.{doneSteps}
 
 abbrev pub AllToDo : List Step → Type 0
@@ -208,8 +208,7 @@ module _ (t : Step → Bool) (p : List Step) (x : Step) (q : List Step) where
 -- ---- one command goes from status to status
 
 after-++ : (d : ℕ) (a b : List Step) (v : ℤ) → afterSteps d (a ++ b) v ≡ afterSteps d b (afterSteps d a v)
-after-++ d [] b v = refl
-after-++ d (x ∷ a) b v = after-++ d a b (if on d isDone x then x .command .setting else v)
+after-++ d = fold-++ (afterSteps d) (λ v. refl) (λ x l v. refl)
 
 undone-after : (d : ℕ) (l : List Step) (v : ℤ) → anyOf (on d isDone) l ≡ false → afterSteps d l v ≡ v
 undone-after d [] v e = refl
@@ -428,7 +427,7 @@ pub left-grounded : (m : Member) → leftSteps (m .steps) ≡ [] → flight (m .
 left-grounded m e =
     by-status (λ l. leftSteps l ≡ [] → flight l ≡ none) (λ e. refl) (λ c l h e. absurd (cons≢nil e)) (λ c u l h e. absurd (cons≢nil e)) (λ c l h. h) (λ c l h. h) (m .steps) e
 
-pub no-flight : (m : Member) → flight (m .steps) ≡ none → inFlight m ≡ false
+no-flight : (m : Member) → flight (m .steps) ≡ none → inFlight m ≡ false
 unfolding inFlight
 no-flight m e =
     by-status (λ l. flight l ≡ none → anyOf (λ x. isInFlight (x .status)) l ≡ false) (λ e. refl)

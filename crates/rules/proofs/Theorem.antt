@@ -3,19 +3,17 @@ use mathlib.Core.Path.{_≡_, refl, sym, ap, _∙_, subst}
 use mathlib.Core.Logic.{_≢_}
 use mathlib.Core.Bool.{Bool, true, false, not, _||_, or-true}
 use mathlib.Core.List.{List, [], _∷_, _++_, append-assoc, append-nil}
-use mathlib.Core.Option.{Option}
 use Prim.Native.Nat.{ℕ, _<_, _≤_}
 use native.Mathlib.Omega.{arith}
 use borrow.Author.Tests.{eqb-true, eqb-false}
 use lib.Dec.{ltb, eqb}
-use lib.IntN.{ℤ, pos}
-use Rattle.routine.specs.Choice.{if_then_else_}
+use lib.IntN.{ℤ}
 use Rattle.routine.specs.Routine.{maxDevices}
-use Rattle.routine.specs.Refusals.{devices-out-of-range, pass-limit-out-of-range, first-id-0, refuse_when_, _andThen_}
+use Rattle.routine.specs.Refusals.{devices-out-of-range, pass-limit-out-of-range, first-id-0, refuse_when_}
 use Rattle.routine.specs.declared.Verdict.{Verdict}
 use Rattle.routine.specs.declared.Verdict.the-variants.{Accepted, Refused}
 use Rattle.routine.proofs.Laws.{both-accept, not-refused}
-use Rattle.rules.specs.Tables.{anyOf, put}
+use Rattle.rules.specs.Tables.{anyOf}
 use Rattle.rules.specs.State.{highestPassLimit, State}
 use Rattle.rules.specs.Answers.{Call, submit, turn, report, failure, restart, cancel, Answer, refused, wait, Result}
 use Rattle.rules.specs.Due.{due}
@@ -25,38 +23,41 @@ use Rattle.rules.specs.Open.{opened, openCheck, newHub, openIf, openOf}
 use Rattle.rules.specs.Submit.{place}
 use Rattle.rules.specs.Turn.{commitTurn, sendTurn, skipTurn}
 use Rattle.rules.specs.Report.{doneReport, skippedState, skipReport}
-use Rattle.rules.specs.Events.{attach, oneRestart}
-use Rattle.rules.specs.Calls.{resultOf}
+use Rattle.rules.specs.Events.{oneRestart}
 use Rattle.rules.specs.History.{Account, noteAnswer, noteAnswers, accountsOf, workingAfter, workingOf}
-use Rattle.rules.specs.Order.{Event, Entry, Order, orderAfter, orderAfterAll, entries, moveBar, orderOf}
-use Rattle.rules.specs.Serial.{Condition, allUp, serialRun}
-use Rattle.rules.specs.World.{Message, Device, takes, devicesAfterAll, World, Act, calls, takes-one, accounts, tell, worldAfter, worldAfterAll, taken, isAccepted, Truthful, Premise, PremiseAll, newWorld}
-use Rattle.rules.specs.Demand3.{orderIn, NoneRuns, isBack, EndState, Begins, SettledStands, CommandsStand, Demand3, Statement}
-use Rattle.rules.proofs.Lists.{byIf, t≠f, Each, anyOf-++}
-use Rattle.rules.proofs.Groups.{Group, stillHeld}
-use Rattle.rules.proofs.Invariant.{unmarked, HubOk, FliesUp, FirstRuns, upAfter, setAfter, OrderOk, Tells, backTo, Comes, has, goes-back, OneFlies, DeviceAt, dead, free, busy, DeviceOk, Honest}
+use Rattle.rules.specs.Order.{Event, Entry, Order, orderAfter, orderAfterAll, entries, moveBar}
+use Rattle.rules.specs.Serial.{allUp, serialRun}
+use Rattle.rules.specs.World.{Message, Device, takes, devicesAfterAll, World, Act, calls, takes-one, accounts, worldAfter, worldAfterAll, taken, isAccepted, Truthful, Premise, PremiseAll, newWorld}
+use Rattle.rules.specs.Demand3.{orderIn, NoneRuns, isBack, EndState, Begins, CommandsStand, Statement}
+use Rattle.rules.proofs.Lists.{byIf, t≠f, fold-++, Each, anyOf-++}
+use Rattle.rules.proofs.Groups.{Group, stillHeld, each-held}
+use Rattle.rules.proofs.Invariant.{unmarked, HubOk, FliesUp, FirstRuns, OrderOk, Tells, backTo, Comes, has, goes-back, OneFlies, DeviceAt, dead, free, busy, DeviceOk, Honest}
 use Rattle.rules.proofs.View.{Gone, nobody, somebody, Moves, places, commits, sends, skips, dones, misses, aborts, fails, restarts, Seen, is-refused, waits, moves, see}
-use Rattle.rules.proofs.Settled.{settle-up, settle-devices, settle-nextId}
+use Rattle.rules.proofs.Fields.{Fixed, gone-fixed, attach-fixed, settle-fixed}
 use Rattle.rules.proofs.Moved.{hub-settles}
 use Rattle.rules.proofs.Kept.{hub-moves, flies-moves, flies-settles}
-use Rattle.rules.proofs.Serial.{serial-setting, serial-up, order-due, order-settles, bar-entries, bar-stays, first-runs}
+use Rattle.rules.proofs.Serial.{serial-setting, serial-up, order-due, bar-entries, bar-stays, first-runs, order-settles}
 use Rattle.rules.proofs.Ordered.{order-moves}
-use Rattle.rules.proofs.Accounts.{accounts-moves, accounts-settles, Unsent, unsent-moves, working-moves}
+use Rattle.rules.proofs.Accounts.{accounts-moves, Unsent, unsent-moves, working-moves}
 use Rattle.rules.proofs.Stands.{stands-moves}
-use Rattle.rules.proofs.Devices.{device-takes, device-settles}
+use Rattle.rules.proofs.Messages.{device-takes, device-settles}
 use Rattle.rules.proofs.DeviceKept.{device-moves}
 
--- what holds between calls; P: the premise so far, on which only the devices depend
+-- what holds between calls of the state, the order, the accounts, which devices work, and the groups
+record Known (s : State) (o : Order) (a : ℕ → Account) (k : ℕ → Bool) (l : List Group) : Type 0 where
+  hub : HubOk s l
+  flies : Each (FliesUp s) l
+  order : OrderOk s o [] l
+  first : FirstRuns l
+  tells : Each (Tells a) l
+  unsent : Unsent s a
+  works : (d : ℕ) → k d ≡ s .up d
+  stands : CommandsStand a (entries o) allUp
+
+-- and of the devices, if the premise so far, P, holds
 record Holds (P : Type 0) (w : World) : Type 0 where
   groups : List Group
-  hub : HubOk (w .state) groups
-  flies : Each (FliesUp (w .state)) groups
-  order : OrderOk (w .state) (orderIn w) [] groups
-  first : FirstRuns groups
-  tells : Each (Tells (accounts w)) groups
-  unsent : Unsent (w .state) (accounts w)
-  works : (d : ℕ) → workingOf (w .history) d ≡ w .state .up d
-  stands : CommandsStand (accounts w) (entries (orderIn w)) allUp
+  known : Known (w .state) (orderIn w) (accounts w) (workingOf (w .history)) groups
   devices : P → (d : ℕ) → d < w .state .devices → DeviceOk d (w .state) (accounts w) groups (w .devices d)
 
 -- ---- what begins a list
@@ -90,43 +91,26 @@ honest w (failure d) t = t
 honest w (restart d v) t = t
 honest w (cancel i) t = t
 
-gone-accepted : (s : State) (d : ℕ) (l : List Group) (x : Answer) {r : Result} {lead : List Event} {k : List Group} → isAccepted (x ∷ []) ≡ true → Gone s d l r lead k → isAccepted (r .answers ++ (x ∷ [])) ≡ true
+gone-accepted : (s : State) (d : ℕ) (l : List Group) (x : Answer) {r : Result} {lead : List Event} {k : List Group} → isAccepted (x ∷ []) ≡ true →
+    Gone s d l r lead k → isAccepted (r .answers ++ (x ∷ [])) ≡ true
 unfolding abort
 gone-accepted s d l x e (nobody q) = e
 gone-accepted s d l x e (somebody a g b q f) = refl
 
-moves-accepted : (s : State) (l : List Group) {c : Call} {r : Result} {lead : List Event} {k : List Group} → Moves s l c r lead k → isAccepted (r .answers) ≡ true
-unfolding commitTurn sendTurn skipTurn doneReport skipReport abort
-moves-accepted s l (places cs a b q e u p n) = refl
-moves-accepted s l (commits i a g b e n r f q) = refl
-moves-accepted s l (sends i a g b c e n r f q w u) = refl
-moves-accepted s l (skips i a g b c e n r f q w u) = refl
-moves-accepted s l (dones i code a g b x e n r f q) = refl
-moves-accepted s l (misses i code a g b x e n r f q) = refl
-moves-accepted s l (aborts c a g b e r q) = refl
-moves-accepted s l (fails d r lead k n u g) = gone-accepted _ d l _ refl g
-moves-accepted s l (restarts d v r lead k n u g) = gone-accepted s d l _ refl g
-
-gone-devices : (s : State) (d : ℕ) (l : List Group) {r : Result} {lead : List Event} {k : List Group} → Gone s d l r lead k → r .state .devices ≡ s .devices
-unfolding abort leave
-gone-devices s d l (nobody q) = refl
-gone-devices s d l (somebody a g b q f) = refl
-
-attach-devices : (j : ℕ) (e : ℕ → Option ℤ) (s : State) → attach j e s .devices ≡ s .devices
-unfolding attach
-attach-devices j e s = byIf (λ (t : State). t .devices ≡ s .devices) (eqb j 0) (λ _. refl) (λ _. refl)
-
-moves-devices : (s : State) (l : List Group) {c : Call} {r : Result} {lead : List Event} {k : List Group} → Moves s l c r lead k → r .state .devices ≡ s .devices
+-- it is accepted, and the devices are as many as before
+moves-same : (s : State) (l : List Group) {c : Call} {r : Result} {lead : List Event} {k : List Group} → Moves s l c r lead k →
+    (isAccepted (r .answers) ≡ true) × (r .state .devices ≡ s .devices)
 unfolding place commitTurn sendTurn skipTurn doneReport skippedState skipReport abort leave
-moves-devices s l (places cs a b q e u p n) = refl
-moves-devices s l (commits i a g b e n r f q) = refl
-moves-devices s l (sends i a g b c e n r f q w u) = refl
-moves-devices s l (skips i a g b c e n r f q w u) = refl
-moves-devices s l (dones i code a g b x e n r f q) = refl
-moves-devices s l (misses i code a g b x e n r f q) = refl
-moves-devices s l (aborts c a g b e r q) = refl
-moves-devices s l (fails d r lead k n u g) = gone-devices _ d l g
-moves-devices s l (restarts d v r lead k n u g) = attach-devices (r .state .mark d) (oneRestart d v) (r .state) ∙ gone-devices s d l g
+moves-same s l (places cs a b q e u p n) = (refl, refl)
+moves-same s l (commits i a g b e n r f q) = (refl, refl)
+moves-same s l (sends i a g b c e n r f q w u) = (refl, refl)
+moves-same s l (skips i a g b c e n r f q w u) = (refl, refl)
+moves-same s l (dones i code a g b x e n r f q) = (refl, refl)
+moves-same s l (misses i code a g b x e n r f q) = (refl, refl)
+moves-same s l (aborts c a g b e r q) = (refl, refl)
+moves-same s l (fails d r lead k n u g) = (gone-accepted _ d l _ refl g, ap (λ (x : Fixed). x .devices) (gone-fixed _ d l g))
+moves-same s l (restarts d v r lead k n u g) =
+    (gone-accepted s d l _ refl g, ap (λ (x : Fixed). x .devices) (attach-fixed (r .state .mark d) (oneRestart d v) (r .state) ∙ gone-fixed s d l g))
 
 -- what holds after a call, and the settled part has only grown
 record Next (P : Type 0) (w t : World) : Type 0 where
@@ -140,14 +124,9 @@ untold : (P Q : Type 0) (w : World) (c : Call) (x : Answer) → Holds P w → no
 untold P Q w c x h a k o = record {
   next = record {
     groups = h .groups;
-    hub = h .hub;
-    flies = h .flies;
-    order = subst (λ q. OrderOk (w .state) q [] (h .groups)) (sym same) (h .order);
-    first = h .first;
-    tells = subst (λ q. Each (Tells q) (h .groups)) (sym a) (h .tells);
-    unsent = subst (λ q. Unsent (w .state) q) (sym a) (h .unsent);
-    works = λ d. ap (λ f. f d) k ∙ h .works d;
-    stands = subst (λ q. CommandsStand q (entries (moveBar (orderAfter c (accounts w) x (orderIn w)))) allUp) (sym a) (subst (λ q. CommandsStand (accounts w) (entries q) allUp) (sym same) (h .stands));
+    known = subst (λ q. Known (w .state) q (noteAnswer c x (accounts w)) (workingAfter x (workingOf (w .history))) (h .groups)) (sym same)
+        (subst (λ q. Known (w .state) (orderIn w) q (workingAfter x (workingOf (w .history))) (h .groups)) (sym a)
+        (subst (λ q. Known (w .state) (orderIn w) (accounts w) q (h .groups)) (sym k) (h .known)));
     devices = λ p d n. subst (λ q. DeviceOk d (w .state) q (h .groups) (w .devices d)) (sym a) (h .devices (p .0) d n);
   };
   grows = subst (λ (q : Order). Begins (orderIn w .settled) (q .settled)) (sym same) (begins-refl (orderIn w .settled));
@@ -155,7 +134,7 @@ untold P Q w c x h a k o = record {
 }
   where
     same : moveBar (orderAfter c (accounts w) x (orderIn w)) ≡ orderIn w
-    same = ap moveBar o ∙ bar-stays (w .state) (orderIn w) (h .groups) (h .order) (h .first)
+    same = ap moveBar o ∙ bar-stays (w .state) (orderIn w) (h .groups) (h .known .order) (h .known .first)
 
 -- a call that changes something
 told : (P : Type 0) (w : World) (c : Call) (v : ℤ) (h : Holds P w) {r : Result} {lead : List Event} {k : List Group} → Moves (w .state) (h .groups) c r lead k →
@@ -163,18 +142,20 @@ told : (P : Type 0) (w : World) (c : Call) (v : ℤ) (h : Holds P w) {r : Result
 told P w c v h {r = r} {lead = lead} {k = k} m = record {
   next = record {
     groups = stillHeld k;
-    hub = hub-settles (r .state) k hub;
-    flies = flies-settles (r .state) k (flies-moves s l (h .hub) (h .flies) m);
-    order = settled .0;
-    first = first-runs k;
-    tells = accounts-settles _ k (accounts-moves s a l (h .hub) (h .tells) m);
-    unsent = λ i e. unsent-moves s a l (h .hub) (h .unsent) m i (subst (λ q. q ≤ i) (settle-nextId (r .state)) e);
-    works = λ d. working-moves s (workingOf (w .history)) l (h .works) m d ∙ ap (λ f. f d) (sym (settle-up (r .state)));
-    stands = subst (λ q. CommandsStand (noteAnswers c (r .answers) a) q allUp) (sym (bar-entries (orderAfterAll c a (r .answers) (orderIn w))))
-        (stands-moves s (orderIn w) a l (h .hub) (h .flies) (h .order) (h .tells) (h .stands) m);
+    known = record {
+      hub = hub-settles (r .state) k hub;
+      flies = flies-settles (r .state) k (flies-moves s l (j .hub) (j .flies) m);
+      order = settled .0;
+      first = first-runs k;
+      tells = each-held (Tells (noteAnswers c (r .answers) a)) k (accounts-moves s a l (j .hub) (j .tells) m);
+      unsent = λ i e. unsent-moves s a l (j .hub) (j .unsent) m i (subst (λ (q : Fixed). q .nextId ≤ i) (settle-fixed (r .state)) e);
+      works = λ d. working-moves s (workingOf (w .history)) l (j .works) m d ∙ ap (λ (q : Fixed). q .up d) (sym (settle-fixed (r .state)));
+      stands = subst (λ q. CommandsStand (noteAnswers c (r .answers) a) q allUp) (sym (bar-entries (orderAfterAll c a (r .answers) (orderIn w))))
+          (stands-moves s (orderIn w) a l (j .hub) (j .flies) (j .order) (j .tells) (j .stands) m);
+    };
     devices = λ p d n. device-settles d (r .state) _ k _ hub
-        (device-moves d s a l (w .devices) v (subst (λ q. d < q) same n) (h .hub) (h .order .events-ok) (h .tells)
-        (h .devices (p .0) d (subst (λ q. d < q) same n)) (h .unsent (s .nextId) (omega arith)) (h .flies) (honest w c (p .1 (moves-accepted s l m))) m);
+        (device-moves d s a l (w .devices) v (subst (λ q. d < q) same n) (j .hub) (j .order .events-ok) (j .tells)
+        (h .devices (p .0) d (subst (λ q. d < q) same n)) (j .unsent (s .nextId) (omega arith)) (j .flies) (honest w c (p .1 (moves-same s l m .0))) m);
   };
   grows = subst (λ q. Begins q (moveBar (orderAfterAll c a (r .answers) (orderIn w)) .settled)) (moved .1) (settled .1);
   same-devices = same;
@@ -189,14 +170,17 @@ told P w c v h {r = r} {lead = lead} {k = k} m = record {
     a : ℕ → Account
     a = accounts w
 
+    j : Known s (orderIn w) a (workingOf (w .history)) l
+    j = h .known
+
     same : settle (r .state) .devices ≡ s .devices
-    same = settle-devices (r .state) ∙ moves-devices s l m
+    same = ap (λ (q : Fixed). q .devices) (settle-fixed (r .state)) ∙ moves-same s l m .1
 
     hub : HubOk (r .state) k
-    hub = hub-moves s l (h .hub) m
+    hub = hub-moves s l (j .hub) m
 
     moved : OrderOk (r .state) (orderAfterAll c a (r .answers) (orderIn w)) lead k × (orderAfterAll c a (r .answers) (orderIn w) .settled ≡ orderIn w .settled)
-    moved = order-moves s (orderIn w) a l (h .hub) (h .order) (h .tells) m
+    moved = order-moves s (orderIn w) a l (j .hub) (j .order) (j .tells) m
 
     settled : OrderOk (settle (r .state)) (moveBar (orderAfterAll c a (r .answers) (orderIn w))) [] (stillHeld k)
         × Begins (orderAfterAll c a (r .answers) (orderIn w) .settled) (moveBar (orderAfterAll c a (r .answers) (orderIn w)) .settled)
@@ -210,18 +194,11 @@ seen P w c v h (moves m) = told P w c v h m
 -- ---- any act
 
 acted : (P : Type 0) (w : World) (x : Act) → Holds P w → Next (P × Premise w x) w (worldAfter w x)
-acted P w (calls c v) h = seen P w c v h (see (w .state) (h .groups) (h .hub .sequence-is) c)
+acted P w (calls c v) h = seen P w c v h (see (w .state) (h .groups) (h .known .hub .sequence-is) c)
 acted P w (takes-one d k) h = record {
   next = record {
     groups = h .groups;
-    hub = h .hub;
-    flies = h .flies;
-    order = h .order;
-    first = h .first;
-    tells = h .tells;
-    unsent = h .unsent;
-    works = h .works;
-    stands = h .stands;
+    known = h .known;
     devices = λ p e n. byIf (DeviceOk e (w .state) (accounts w) (h .groups)) (eqb e d)
         (λ t. subst (λ x. DeviceOk x (w .state) (accounts w) (h .groups) (takes k (w .devices d .sent) (w .devices d))) (sym (eqb-true e d t))
         (device-takes d (w .state) (accounts w) (h .groups) (w .devices d) k (h .devices (p .0) d (subst (λ x. x < w .state .devices) (eqb-true e d t) n))))
@@ -233,18 +210,7 @@ acted P w (takes-one d k) h = record {
 
 -- the premise may be stronger
 stronger : (P Q : Type 0) (w : World) → (Q → P) → Holds P w → Holds Q w
-stronger P Q w f h = record {
-  groups = h .groups;
-  hub = h .hub;
-  flies = h .flies;
-  order = h .order;
-  first = h .first;
-  tells = h .tells;
-  unsent = h .unsent;
-  works = h .works;
-  stands = h .stands;
-  devices = λ q. h .devices (f q);
-}
+stronger P Q w f h = record { groups = h .groups; known = h .known; devices = λ q. h .devices (f q) }
 
 -- a list of acts
 acts-hold : (P : Type 0) (w : World) (l : List Act) → Holds P w → Next (P × PremiseAll w l) w (worldAfterAll w l)
@@ -279,23 +245,25 @@ new-holds : (n k first : ℕ) → 0 < first → Holds (Unit {0}) (newWorld (newH
 unfolding newHub due
 new-holds n k first p = record {
   groups = [];
-  hub = record { sequence-is = refl; ids-ok = tt; marks = λ d. unmarked refl tt; shuts = tt; turns = tt; some-id = p };
-  flies = tt;
-  order = record { unsettled-is = refl; settled-is = λ d. refl; up-is = λ d. refl; events-ok = tt; ids-ok = tt; barred = refl };
-  first = tt;
-  tells = tt;
-  unsent = λ i e. refl;
-  works = λ d. refl;
-  stands = tt;
+  known = record {
+    hub = record { sequence-is = refl; ids-ok = tt; marks = λ d. unmarked refl tt; shuts = tt; turns = tt; some-id = p };
+    flies = tt;
+    order = record { unsettled-is = refl; settled-is = λ d. refl; up-is = λ d. refl; events-ok = tt; ids-ok = tt; barred = refl };
+    first = tt;
+    tells = tt;
+    unsent = λ i e. refl;
+    works = λ d. refl;
+    stands = tt;
+  };
   devices = λ q d m. record { old-sent = tt; old-took = tt; device-at = free refl tt (has refl refl) };
 }
 
 -- ---- the three parts
 
 -- the first of the sequence runs, so that if none does there is none
-none-left : (w : World) (l : List Group) → NoneRuns w → FirstRuns l → Each (Tells (accounts w)) l → l ≡ []
-none-left w [] n f t = refl
-none-left w (g ∷ l) n f t = t≠f (sym (t .0 .runs ∙ ap not f) ∙ n (g .member .id))
+nobody-left : (w : World) (l : List Group) → NoneRuns w → FirstRuns l → Each (Tells (accounts w)) l → l ≡ []
+nobody-left w [] n f t = refl
+nobody-left w (g ∷ l) n f t = t≠f (sym (t .0 .runs ∙ ap not f) ∙ n (g .member .id))
 
 -- what puts a device back is the last of what was sent to it, and none is left
 comes-to : (u v : ℤ) (l : List Message) → anyOf isBack l ≡ false → Comes u v l → u ≡ v
@@ -312,18 +280,16 @@ settles-at d s a w u n (busy e f) = absurd (nobody-flies f)
 
 end-state : (P : Type 0) (w : World) → Holds P w → P → EndState (w .state .devices) w
 end-state P w h p none-runs d n works no-back =
-    ap (λ u. record { up = u; setting = serialRun (entries (orderIn w)) allUp d .setting }) (serial-up d (entries (orderIn w)) allUp ∙ h .order .up-is d ∙ up)
+    ap (λ u. record { up = u; setting = serialRun (entries (orderIn w)) allUp d .setting }) (serial-up d (entries (orderIn w)) allUp ∙ k .order .up-is d ∙ up)
     ∙ ap (λ v. record { up = true; setting = v })
-    (serial-setting d (entries (orderIn w)) allUp ∙ order-due (w .state) (orderIn w) (h .groups) (h .hub) (h .order) d
-    ∙ settles-at d (w .state) (accounts w) (w .devices d) up no-back (subst (λ l. DeviceAt d (w .state .up d) (due (w .state) d) (accounts w) l (w .devices d)) (none-left w (h .groups) none-runs (h .first) (h .tells)) (h .devices p d n .device-at)))
+    (serial-setting d (entries (orderIn w)) allUp ∙ order-due (w .state) (orderIn w) (h .groups) (k .hub) (k .order) d ∙ settles-at d (w .state) (accounts w) (w .devices d) up no-back
+    (subst (λ l. DeviceAt d (w .state .up d) (due (w .state) d) (accounts w) l (w .devices d)) (nobody-left w (h .groups) none-runs (k .first) (k .tells)) (h .devices p d n .device-at)))
   where
-    up : w .state .up d ≡ true
-    up = sym (h .works d) ∙ works
+    k : Known (w .state) (orderIn w) (accounts w) (workingOf (w .history)) (h .groups)
+    k = h .known
 
--- acts in two parts
-acts-++ : (w : World) (a b : List Act) → worldAfterAll w (a ++ b) ≡ worldAfterAll (worldAfterAll w a) b
-acts-++ w [] b = refl
-acts-++ w (x ∷ a) b = acts-++ (worldAfter w x) a b
+    up : w .state .up d ≡ true
+    up = sym (k .works d) ∙ works
 
 pub demand-3 : Statement
 demand-3 n k first s e acts = record {
@@ -332,10 +298,10 @@ demand-3 n k first s e acts = record {
       let b = acts-hold (Unit {0}) o before start in
       let t = worldAfterAll o before in
       let r = acts-hold (Unit {0} × PremiseAll o before) t rest (b .next) in
-      let same : w ≡ worldAfterAll t rest = ap (worldAfterAll o) q ∙ acts-++ o before rest in
+      let same : w ≡ worldAfterAll t rest = ap (worldAfterAll o) q ∙ fold-++ (λ l v. worldAfterAll v l) (λ v. refl) (λ x l v. refl) before rest o in
       subst (λ z. Begins (orderIn t .settled) (entries (orderIn z))) (sym same)
       (begins-trans (orderIn t .settled) (orderIn (worldAfterAll t rest) .settled) (entries (orderIn (worldAfterAll t rest))) (r .grows) (orderIn (worldAfterAll t rest) .unsettled, refl));
-  commands-stand = all .next .stands;
+  commands-stand = all .next .known .stands;
 }
   where
     o : World

@@ -29,7 +29,7 @@ use Rattle.rules.specs.Cancel.{cancelFound, cancelOf}
 use Rattle.rules.specs.Calls.{resultOf}
 use Rattle.rules.specs.Order.{Event, failed as failed-event, restarted as restarted-event}
 use Rattle.rules.proofs.Lists.{byIf, and-left, and-right, Each, each-map}
-use Rattle.rules.proofs.Groups.{Group, members, alone, with, passAll, foundAt, without, leadOf, attachEvent, leadWith}
+use Rattle.rules.proofs.Groups.{Group, members, alone, with, passAll, foundAt, leaving, leadOf, attachEvent, leadWith}
 use Rattle.rules.proofs.Invariant.{Calm}
 
 -- the changed routine of a turn or a report, from the result's text
@@ -54,7 +54,7 @@ pub data Aborts (g : Group) : Call → Type 0 where
 -- the abort ahead of an event of d
 pub data Gone (s : State) (d : ℕ) (l : List Group) : Result → List Event → List Group → Type 0 where
   nobody : Each (Calm d) l → Gone s d l (record { state = s; answers = [] }) [] l
-  somebody : (a : List Group) (g : Group) (b : List Group) → l ≡ a ++ (g ∷ b) → isHalfway d (g .member) ≡ true → Gone s d l (abort s (foundAt a g b)) (leadOf a g) (without a g b)
+  somebody : (a : List Group) (g : Group) (b : List Group) → l ≡ a ++ (g ∷ b) → isHalfway d (g .member) ≡ true → Gone s d l (abort s (foundAt a g b)) (leadOf a g) (leaving a g b)
 
 -- a call that changes something, before it settles: the result, the events attached to 0, the groups
 pub data Moves (s : State) (l : List Group) : Call → Result → List Event → List Group → Type 0 where
@@ -78,7 +78,7 @@ pub data Moves (s : State) (l : List Group) : Call → Result → List Event →
       flight (g .member .steps) ≡ some x → eqb code codeDone ≡ false →
       Moves s l (report i code) (skipReport s (foundAt a g b) x) [] (a ++ (with g (failedMember g) ∷ b))
   aborts : (c : Call) (a : List Group) (g : Group) (b : List Group) → l ≡ a ++ (g ∷ b) → g .member .committed ≡ false → Aborts g c →
-      Moves s l c (abort s (foundAt a g b)) (leadOf a g) (without a g b)
+      Moves s l c (abort s (foundAt a g b)) (leadOf a g) (leaving a g b)
   fails : (d : ℕ) (r : Result) (lead : List Event) (k : List Group) → leb (s .devices) d ≡ false → s .up d ≡ true →
       Gone (withUp s (put (s .up) d false)) d l r lead k →
       Moves s l (failure d) (record { state = r .state; answers = r .answers ++ (down d (r .state .mark d) ∷ []) })
@@ -156,7 +156,7 @@ gone d s l e = go (find-group (isHalfway d) s l e)
   where
     go : {o : Option Found} → Finding (isHalfway d) l o → (lead : List Event) × (k : List Group) × Gone s d l (abortIfAny s o) lead k
     go (missing n) = ([], l, nobody (each-map _ _ (λ g t. record { calm = t }) l n))
-    go (located a g b w t) = (leadOf a g, without a g b, somebody a g b w t)
+    go (located a g b w t) = (leadOf a g, leaving a g b, somebody a g b w t)
 
 -- ---- the calls
 

@@ -1,24 +1,23 @@
 -- The theorem is not empty: worlds that meet the premise, end with no routine running and nothing left to put back, and pass through what is hard.
 -- Each is computed; the theorem is not used. Assumes nothing.
-use mathlib.Core.Path.{_≡_, refl, sym, ap, _∙_, subst}
+use mathlib.Core.Path.{_≡_, refl, sym}
 use mathlib.Core.Bool.{Bool, true, false, not, _&&_}
-use mathlib.Core.List.{List, [], _∷_, _++_}
+use mathlib.Core.List.{List, [], _∷_}
 use Prim.Native.Nat.{ℕ, zero, suc}
-use borrow.Author.Tests.{eqb-true}
+use borrow.Author.Tests.{ne-eqb}
 use lib.Dec.{eqb}
 use lib.IntN.{ℤ, pos, negsuc}
 use lib.ListN.{take}
-use Rattle.routine.specs.Choice.{if_then_else_}
 use Rattle.rules.specs.Tables.{anyOf}
 use Rattle.rules.specs.Answers.{Call, submit, turn, report, failure, restart, cancel, Answer, done, skipped, aborted, down, up}
 use Rattle.rules.specs.Open.{opened, newHub, openOf}
 use Rattle.rules.specs.History.{Told, Account, workingOf}
-use Rattle.rules.specs.Order.{putAfter, moveBar, entries}
+use Rattle.rules.specs.Order.{putAfter, entries, moveBar}
 use Rattle.rules.specs.Serial.{Condition, allUp, serialRun}
-use Rattle.rules.specs.World.{sent-for, put-back, Message, Device, World, Act, calls, takes-one, accounts, worldAfterAll, taken, PremiseAll, newWorld}
+use Rattle.rules.specs.World.{put-back, sent-for, World, Act, calls, takes-one, accounts, worldAfterAll, taken, PremiseAll, newWorld}
 use Rattle.rules.specs.Demand3.{orderIn, NoneRuns, isBack, CommandsStand}
 use Rattle.rules.specs.Examples.{calc, must, best, back}
-use Rattle.rules.proofs.Lists.{t≠f}
+use Rattle.rules.proofs.Lists.{t≠f, this-or-other}
 
 -- all that a computation with worlds opens
 unfoldable pub calcWorld : Unit {0}
@@ -68,11 +67,7 @@ call c = calls c (pos 0)
 
 -- a table looked at in one place and in the others
 pub elsewhere : (f : ℕ → Account) (k : ℕ) → f k .running ≡ false → (i : ℕ) → (eqb i k ≡ false → f i .running ≡ false) → f i .running ≡ false
-elsewhere f k e i g = go (eqb i k) refl
-  where
-    go : (b : Bool) → eqb i k ≡ b → f i .running ≡ false
-    go true t = ap (λ j. f j .running) (eqb-true i k t) ∙ e
-    go false t = g t
+elsewhere f k e i g = this-or-other (λ j. f j .running ≡ false) k i e (λ n. g (ne-eqb i k (λ z. n (sym z))))
 
 -- A send is taken only after its routine was cancelled; then what puts the device back is taken.
 abbrev pub takenLate : Passage
