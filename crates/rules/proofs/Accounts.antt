@@ -20,7 +20,7 @@ use Rattle.rules.specs.Turn.{commit, commitTurn, sendTurn, skipTurn}
 use Rattle.rules.specs.Report.{doneReport, skippedState, skipReport}
 use Rattle.rules.specs.Events.{attach, oneRestart}
 use Rattle.rules.specs.History.{Outcome, reported-done, reported-failed, not-sent, Answered, Account, placedAccount, sentAccount, answeredAccount, endedAccount, noteAnswers, workingAfterAll}
-use Rattle.rules.specs.Order.{Event, failed, restarted}
+use Rattle.rules.specs.Order.{Event, failure-of, restart-of}
 use Rattle.rules.specs.Demand3.{doneOnes}
 use Rattle.rules.proofs.Lists.{byIf, put-same, put-other, put-keeps, fold-++, Each, each-mid, each-drop, each-insert, NotIn, ids-fresh, ids-right}
 use Rattle.rules.proofs.Groups.{Group, ids, doneSteps, alone, with, leaving, attachEvent, other-ids}
@@ -188,11 +188,11 @@ accounts-moves s a l h t (misses i code ga g gb x e n r f q) =
     (fail-done (g .member) (in-turn s ga g gb w) x f ∙ sym (append-nil (doneSteps (g .member .steps)))) (each-mid (Tells a) ga g gb v))
 accounts-moves s a l h t (aborts c ga g gb e r k) = leave-tells s a (endedAccount (a (g .member .id))) ga g gb (subst (HubOk s) e h) (subst (Each (Tells a)) e t)
 accounts-moves s a l h t (fails d r lead k n u w) =
-    subst (λ b. Each (Tells b) (attachEvent (r .state .mark d) (failed d) k)) (sym (note-++ (failure d) (r .answers) (down d (r .state .mark d) ∷ []) a))
-    (same-tells _ (same-attached (r .state .mark d) (failed d) k) (gone-tells s _ (failure d) d a l h t w))
+    subst (λ b. Each (Tells b) (attachEvent (r .state .mark d) (failure-of d) k)) (sym (note-++ (failure d) (r .answers) (down d (r .state .mark d) ∷ []) a))
+    (same-tells _ (same-attached (r .state .mark d) (failure-of d) k) (gone-tells s _ (failure d) d a l h t w))
 accounts-moves s a l h t (restarts d v r lead k n u w) =
-    subst (λ b. Each (Tells b) (attachEvent (r .state .mark d) (restarted d v) k)) (sym (note-++ (restart d v) (r .answers) (up d (r .state .mark d) ∷ []) a))
-    (same-tells _ (same-attached (r .state .mark d) (restarted d v) k) (gone-tells s _ (restart d v) d a l h t w))
+    subst (λ b. Each (Tells b) (attachEvent (r .state .mark d) (restart-of d v) k)) (sym (note-++ (restart d v) (r .answers) (up d (r .state .mark d) ∷ []) a))
+    (same-tells _ (same-attached (r .state .mark d) (restart-of d v) k) (gone-tells s _ (restart d v) d a l h t w))
 
 -- ---- for an id that is not given yet nothing was sent
 

@@ -18,7 +18,7 @@ use Rattle.rules.specs.Sequence.{withUp}
 use Rattle.rules.specs.Abort.{attachTo, settleRestarts, leave, isPutBack, putBacks, abort}
 use Rattle.rules.specs.Events.{attachAt, attach, oneRestart}
 use Rattle.rules.specs.History.{Account, noteAnswer, noteAnswers}
-use Rattle.rules.specs.Order.{Event, failed, restarted}
+use Rattle.rules.specs.Order.{Event, failure-of, restart-of}
 use Rattle.rules.specs.World.{sent-for, Message, Device, receives, putBack, putAllBack, drops, dropReported, devicesAfter, devicesAfterAll}
 use Rattle.rules.proofs.Lists.{byIf, t≠f, this-or-other, same-setting, put-same, put-other, put-keeps, fold-++, Each, each-++, each-right, each-mid, each-drop, NotIn}
 use Rattle.rules.proofs.Groups.{Group, members, ids, foundAt, leaving, attachEvent, other-ids}
@@ -212,7 +212,7 @@ due-up s u d = refl
 
 pub device-fails : (d : ℕ) (s : State) (a : ℕ → Account) (l : List Group) (ds : ℕ → Device) (v : ℤ) → d < s .devices → HubOk s l → DeviceOk d s a l (ds d) →
     (e : ℕ) (r : Result) (lead : List Event) (k : List Group) → Gone (withUp s (put (s .up) e false)) e l r lead k →
-    AfterCall d a ds v (failure e) (record { state = r .state; answers = r .answers ++ (down e (r .state .mark e) ∷ []) }) (attachEvent (r .state .mark e) (failed e) k)
+    AfterCall d a ds v (failure e) (record { state = r .state; answers = r .answers ++ (down e (r .state .mark e) ∷ []) }) (attachEvent (r .state .mark e) (failure-of e) k)
 device-fails d s a l ds v n h o e r lead k gone =
     answer-last d a ds v (failure e) (r .answers) (down e (r .state .mark e)) (r .state) j (byIf (λ w. DeviceOk d (r .state) b j w) (eqb d e) this other)
   where
@@ -226,7 +226,7 @@ device-fails d s a l ds v n h o e r lead k gone =
     fs = devicesAfterAll (failure e) b v (r .answers) ds
 
     j : List Group
-    j = attachEvent (r .state .mark e) (failed e) k
+    j = attachEvent (r .state .mark e) (failure-of e) k
 
     this : eqb d e ≡ true → DeviceOk d (r .state) b j (record { setting = v; sent = []; took = fs e .took })
     this i = record {
@@ -237,7 +237,7 @@ device-fails d s a l ds v n h o e r lead k gone =
     }
 
     other : eqb d e ≡ false → DeviceOk d (r .state) b j (fs d)
-    other i = ok-same d (r .state) b k j (fs d) (same-attached (r .state .mark e) (failed e) k)
+    other i = ok-same d (r .state) b k j (fs d) (same-attached (r .state .mark e) (failure-of e) k)
         (gone-device t e l d a ds v (failure e) (λ b ds. refl) n (hub-up s (put (s .up) e false) l h) (ok-state d s t a l (ds d) (rw i refl) (due-up s (put (s .up) e false) d) o) gone)
 
 -- ---- a restart is attached
@@ -290,7 +290,7 @@ dead-empty d t v a l w e (busy p o) = t≠f (sym p ∙ e)
 pub device-restarts : (d : ℕ) (s : State) (a : ℕ → Account) (l : List Group) (ds : ℕ → Device) (v : ℤ) → d < s .devices → HubOk s l → Each EventsOk l → DeviceOk d s a l (ds d) →
     (e : ℕ) (w : ℤ) → Honest a ds (restart e w) → (r : Result) (lead : List Event) (k : List Group) → s .up e ≡ false → Gone s e l r lead k →
     let t = attach (r .state .mark e) (oneRestart e w) (r .state) in
-    AfterCall d a ds v (restart e w) (record { state = withUp t (put (t .up) e true); answers = r .answers ++ (up e (r .state .mark e) ∷ []) }) (attachEvent (r .state .mark e) (restarted e w) k)
+    AfterCall d a ds v (restart e w) (record { state = withUp t (put (t .up) e true); answers = r .answers ++ (up e (r .state .mark e) ∷ []) }) (attachEvent (r .state .mark e) (restart-of e w) k)
 device-restarts d s a l ds v n h p o e w z r lead k q gone =
     answer-last d a ds v (restart e w) (r .answers) (up e (r .state .mark e)) (withUp t (put (t .up) e true)) j (go (eqb d e) refl)
   where
@@ -304,7 +304,7 @@ device-restarts d s a l ds v n h p o e w z r lead k q gone =
     fs = devicesAfterAll (restart e w) b v (r .answers) ds
 
     j : List Group
-    j = attachEvent (r .state .mark e) (restarted e w) k
+    j = attachEvent (r .state .mark e) (restart-of e w) k
 
     gone-ok : DeviceOk d (r .state) b k (fs d)
     gone-ok = gone-device s e l d a ds v (restart e w) (λ b ds. refl) n h o gone
@@ -313,7 +313,7 @@ device-restarts d s a l ds v n h p o e w z r lead k q gone =
     gone-hub = hub-gone s e l h gone
 
     as-before : Pairwise Same k j
-    as-before = same-attached (r .state .mark e) (restarted e w) k
+    as-before = same-attached (r .state .mark e) (restart-of e w) k
 
     go : (c : Bool) → eqb d e ≡ c → DeviceOk d (withUp t (put (t .up) e true)) b j (fs d)
     go true i = record {

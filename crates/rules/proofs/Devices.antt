@@ -17,7 +17,7 @@ use Rattle.rules.specs.Progress.{inFlightOn, inFlight, next, Flight, fli
 use Rattle.rules.specs.Due.{afterSteps, afterRestart, afterMember, afterMembers, due}
 use Rattle.rules.specs.Sequence.{lastIdOr, change}
 use Rattle.rules.specs.Turn.{firstHolding, commit, commitTurn, sendTurn, skipTurn}
-use Rattle.rules.specs.Report.{doneReport, backUnless, skippedState, skipReport}
+use Rattle.rules.specs.Report.{doneReport, backIfChanged, skippedState, skipReport}
 use Rattle.rules.specs.Submit.{blocks, upToLast, pastLast, pass, newcomer, place}
 use Rattle.rules.specs.History.{reported-done, reported-failed, not-sent, Account, placedAccount, sentAccount, answeredAccount}
 use Rattle.rules.specs.World.{Origin, sent-for, Message, Device, receives, putAllBack, without, drops}
@@ -235,19 +235,19 @@ module _ (s : State) (a : ℕ → Account) (p : List Group) (g : Group) (q : Lis
     alike-dropped d = alike-drops (g .member .id) (missedAccounts (g .member .id) .sends) a missedAccounts (ds d) (ds d) (alike-answered reported-failed (g .member .id) a (ds d))
 
     misses-other : (d code : ℕ) → x .command .device ≢ d → Keeps d (report (g .member .id) code) (skipReport s (foundAt p g q) x) (failedMember g)
-    unfolding skipReport skippedState backUnless
+    unfolding skipReport skippedState backIfChanged
     misses-other d code n k =
         subst (λ u. DeviceOk d missedState missedAccounts (p ++ (with g (failedMember g) ∷ q)) u) (sym not-back)
         (swaps d (failedMember g) missedState missedAccounts (dropped d) (flew-elsewhere d n) (record { still = fail-step (g .member) steps-ok x e .flies d }) refl
         (due-missed d) (alike-dropped d) k)
       where
-        not-back : putAllBack (backUnless (x .command .device) (due missedState (x .command .device)) (x .dueThen)) dropped d ≡ dropped d
+        not-back : putAllBack (backIfChanged (x .command .device) (due missedState (x .command .device)) (x .dueThen)) dropped d ≡ dropped d
         not-back = byIf (λ l. putAllBack l dropped d ≡ dropped d) (sameSetting (due missedState (x .command .device)) (x .dueThen)) (λ _. refl)
             (λ _. put-other dropped (x .command .device) _ d (λ z. n (sym z)))
 
     misses-here : (code : ℕ) → s .up (x .command .device) ≡ true → tookLast a (g .member .id) (ds (x .command .device)) ≡ false →
         Keeps (x .command .device) (report (g .member .id) code) (skipReport s (foundAt p g q) x) (failedMember g)
-    unfolding skipReport skippedState backUnless
+    unfolding skipReport skippedState backIfChanged
     misses-here code y r k =
         byIf (λ l. DeviceOk d missedState missedAccounts (p ++ (with g (failedMember g) ∷ q)) (putAllBack l dropped d)) (sameSetting (due missedState d) (x .dueThen))
         (λ z. comes (dropped d) old took (λ f. subst (λ m. Comes (ds d .setting) m (dropped d .sent)) (sym (same-setting (due missedState d) (x .dueThen) z)) (left f)))

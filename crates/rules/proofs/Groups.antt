@@ -16,7 +16,7 @@ use Rattle.rules.specs.Sequence.{Found}
 use Rattle.rules.specs.Abort.{later, attachTo}
 use Rattle.rules.specs.Submit.{pass}
 use Rattle.rules.specs.Events.{oneRestart}
-use Rattle.rules.specs.Order.{Event, failed, restarted, Entry, routine, event}
+use Rattle.rules.specs.Order.{Event, failure-of, restart-of, Entry, routine, event}
 use Rattle.rules.proofs.Lists.{byIf, Each, NotIn, IdsOk, ids-other}
 
 pub record Group : Type 0 where
@@ -50,8 +50,8 @@ entryIds (routine i cs b ∷ l) = i ∷ entryIds l
 entryIds (event e ∷ l) = entryIds l
 
 abbrev pub deviceOf : Event → ℕ
-deviceOf (failed d) = d
-deviceOf (restarted d v) = d
+deviceOf (failure-of d) = d
+deviceOf (restart-of d v) = d
 
 abbrev pub isOf : ℕ → Event → Bool
 isOf d x = eqb (deviceOf x) d
@@ -59,8 +59,8 @@ isOf d x = eqb (deviceOf x) d
 -- the last restart of d
 abbrev pub lastRestart : ℕ → List Event → Option ℤ
 lastRestart d [] = none
-lastRestart d (failed e ∷ l) = lastRestart d l
-lastRestart d (restarted e v ∷ l) = later (oneRestart e v d) (lastRestart d l)
+lastRestart d (failure-of e ∷ l) = lastRestart d l
+lastRestart d (restart-of e v ∷ l) = later (oneRestart e v d) (lastRestart d l)
 
 -- ---- what the calls do to the groups
 
@@ -100,8 +100,8 @@ leadOf [] g = g .events
 leadOf (x ∷ a) g = []
 
 abbrev pub addEvent : Event → Group → Group
-addEvent (failed d) g = record { member = g .member; events = g .events ++ (failed d ∷ []) }
-addEvent (restarted d v) g = addEvents (restarted d v ∷ []) (oneRestart d v) g
+addEvent (failure-of d) g = record { member = g .member; events = g .events ++ (failure-of d ∷ []) }
+addEvent (restart-of d v) g = addEvents (restart-of d v ∷ []) (oneRestart d v) g
 
 -- an event attached to the routine j
 abbrev pub attachEvent : ℕ → Event → List Group → List Group
@@ -188,8 +188,8 @@ flat-cut a g b = ap flat (sym (append-assoc a (g ∷ []) b)) ∙ flat-++ (a ++ (
 
 pub added-is : (x : Event) (g : Group) → addEvent x g ≡ addEvents (x ∷ []) (λ d. lastRestart d (x ∷ [])) g
 unfolding attachTo
-added-is (failed d) g = refl
-added-is (restarted d v) g = refl
+added-is (failure-of d) g = refl
+added-is (restart-of d v) g = refl
 
 pub flat-added : (x : Event) (a : List Group) (g : Group) (b : List Group) → flat (a ++ (addEvent x g ∷ b)) ≡ flat (a ++ (g ∷ [])) ++ (event x ∷ flat b)
 unfolding attachTo

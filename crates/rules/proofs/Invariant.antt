@@ -16,7 +16,7 @@ use Rattle.rules.specs.Due.{due}
 use Rattle.rules.specs.Report.{codeDone}
 use Rattle.rules.specs.Events.{isHalfway}
 use Rattle.rules.specs.History.{Answered, Account}
-use Rattle.rules.specs.Order.{Event, failed, restarted, Entry, routine, event, Order, beforeBar, entries}
+use Rattle.rules.specs.Order.{Event, failure-of, restart-of, Entry, routine, event, Order, beforeBar, entries}
 use Rattle.rules.specs.World.{Origin, put-back, sent-for, sameOrigin, Message, Device}
 use Rattle.rules.specs.Demand3.{doneOnes}
 use Rattle.rules.proofs.Lists.{Each, IdsOk}
@@ -80,8 +80,8 @@ FirstRuns (g ∷ l) = g .member .committed ≡ false
 -- ---- the serial run, for one device
 
 abbrev pub setEvent : ℕ → Event → ℤ → ℤ
-setEvent d (failed e) v = v
-setEvent d (restarted e w) v = if eqb e d then w else v
+setEvent d (failure-of e) v = v
+setEvent d (restart-of e w) v = if eqb e d then w else v
 
 abbrev pub setCommands : ℕ → List Command → ℤ → ℤ
 setCommands d [] v = v
@@ -94,8 +94,8 @@ setAfter d (routine i cs b ∷ l) v = setAfter d l (setCommands d cs v)
 setAfter d (event e ∷ l) v = setAfter d l (setEvent d e v)
 
 abbrev pub upEvent : ℕ → Event → Bool → Bool
-upEvent d (failed e) u = if eqb e d then false else u
-upEvent d (restarted e w) u = if eqb e d then true else u
+upEvent d (failure-of e) u = if eqb e d then false else u
+upEvent d (restart-of e w) u = if eqb e d then true else u
 
 -- and whether it is up
 abbrev pub upAfter : ℕ → List Entry → Bool → Bool

@@ -18,7 +18,7 @@ use Rattle.rules.specs.Submit.{newcomer, place}
 use Rattle.rules.specs.Turn.{commit, commitTurn, sendTurn, skipTurn}
 use Rattle.rules.specs.Report.{doneReport, skippedState, skipReport}
 use Rattle.rules.specs.Events.{isHalfway, attach, oneRestart}
-use Rattle.rules.specs.Order.{Event, failed, restarted}
+use Rattle.rules.specs.Order.{Event, failure-of, restart-of}
 use Rattle.rules.proofs.Lists.{byIf, t≠f, put-other, Each, each-mid, each-drop, each-insert, each-swap, each-map}
 use Rattle.rules.proofs.Groups.{Group, alone, with, passAll, foundAt, leaving, attachEvent, stillHeld, each-held}
 use Rattle.rules.proofs.Same.{Same, same-placed, same-leaving, same-attached, same-each}
@@ -134,14 +134,14 @@ flies-moves s l h f (aborts c a g b e _ _) =
 flies-moves s l h f (fails d r lead k _ _ g) =
     let t = withUp s (put (s .up) d false) in
     let j = hub-gone t d l (hub-up s (put (s .up) d false) l h) g in
-    flies-event (r .state) (r .state .mark d) (failed d) k
+    flies-event (r .state) (r .state .mark d) (failure-of d) k
     (flies-down s (r .state) d (λ e. ap (λ (x : Fixed). x .up e) (gone-fixed t d l g)) k (flies-gone s t d l f g) (all-still d k (j .0 .turns) (j .0 .shuts) (j .1)))
 flies-moves s l h f (restarts d v r lead k _ _ g) =
     let i = r .state .mark d in
     let t = attach i (oneRestart d v) (r .state) in
     still-up s (withUp t (put (t .up) d true))
     (λ e y. byIf (λ p. p ≡ true) (eqb e d) (λ _. refl) (λ _. ap (λ (x : Fixed). x .up e) (attach-fixed i (oneRestart d v) (r .state) ∙ gone-fixed s d l g) ∙ y))
-    (attachEvent i (restarted d v) k) (flies-event s i (restarted d v) k (flies-gone s s d l f g))
+    (attachEvent i (restart-of d v) k) (flies-event s i (restart-of d v) k (flies-gone s s d l f g))
 
 pub flies-settles : (s : State) (l : List Group) → Each (FliesUp s) l → Each (FliesUp (settle s)) (stillHeld l)
 flies-settles s l f = still-up s (settle s) (λ d e. ap (λ (x : Fixed). x .up d) (settle-fixed s) ∙ e) (stillHeld l) (each-held (FliesUp s) l f)

@@ -20,7 +20,7 @@ use Rattle.rules.specs.Settle.{clearMarks, joinSettled, settle}
 use Rattle.rules.specs.Abort.{attachTo, settleRestarts, attachToLast, moveMarks, leave, abort}
 use Rattle.rules.specs.Submit.{blocks, upToLast, pastLast, stepOf, newcomer, place}
 use Rattle.rules.specs.Events.{isHalfway, attachAt, attach, oneRestart}
-use Rattle.rules.specs.Order.{Event, failed, restarted}
+use Rattle.rules.specs.Order.{Event, failure-of, restart-of}
 use Rattle.rules.proofs.Lists.{byIf, t≠f, or-left, or-right, this-or-other, Each, each-++, each-left, each-right, each-mid, each-drop, each-insert, each-map, anyOf-++, IsNot, NotIn, IdsOk, ids-drop, ids-insert, ids-other, ids-not-zero, in-other}
 use Rattle.rules.proofs.Groups.{Group, members, ids, deviceOf, isOf, alone, passAll, foundAt, addEvents, addToLast, leaving, addEvent, attachEvent, stillHeld, members-++, ids-++, members-pass, added-is, attach-miss}
 use Rattle.rules.proofs.Same.{Pairwise, pair, pairs-each, pairs-placed, pairs-last, pairs-attached, Same, same-refl, same-pass, same-moved, same-added, same-placed, same-leaving, same-attached, same-each, same-ids}
@@ -263,15 +263,15 @@ event-ok s x l h c q w z = record {
         this-or-other (λ y. MarkOk y (s .mark y) k) d e (mine (s .mark d) (h .marks d))
         (λ n. pairs-mark e (s .mark e) l k (pairs-attached (SameOn e) (sameOn-refl e) (s .mark d) x (added e (ne-eqb d e n)) l) (h .marks e))
 
-pub hub-fails : (s : State) (d : ℕ) (l : List Group) → HubOk s l → Each (Calm d) l → HubOk s (attachEvent (s .mark d) (failed d) l)
-hub-fails s d l h c = event-ok s (failed d) l h c (s .sequence) (s .settled) (h .sequence-is ∙ same-members l)
+pub hub-fails : (s : State) (d : ℕ) (l : List Group) → HubOk s l → Each (Calm d) l → HubOk s (attachEvent (s .mark d) (failure-of d) l)
+hub-fails s d l h c = event-ok s (failure-of d) l h c (s .sequence) (s .settled) (h .sequence-is ∙ same-members l)
   where
-    same-members : (l : List Group) → members l ≡ members (attachEvent (s .mark d) (failed d) l)
+    same-members : (l : List Group) → members l ≡ members (attachEvent (s .mark d) (failure-of d) l)
     same-members [] = refl
     same-members (g ∷ l) = byIf (λ k. members (g ∷ l) ≡ members k) (eqb (g .member .id) (s .mark d)) (λ t. refl) (λ t. ap (λ k. g .member ∷ k) (same-members l))
 
 pub hub-restarts : (s : State) (d : ℕ) (v : ℤ) (l : List Group) → HubOk s l → Each (Calm d) l →
-    HubOk (attach (s .mark d) (oneRestart d v) s) (attachEvent (s .mark d) (restarted d v) l)
+    HubOk (attach (s .mark d) (oneRestart d v) s) (attachEvent (s .mark d) (restart-of d v) l)
 unfolding attach
 hub-restarts s d v l h c = byIf (λ t. HubOk t (attachEvent i x l)) (eqb i 0)
     (λ t. ok (s .sequence) (settleRestarts e (s .settled)) (h .sequence-is ∙ ap members (sym (attach-zero s l h i x (eqb-true i 0 t)))))
@@ -281,7 +281,7 @@ hub-restarts s d v l h c = byIf (λ t. HubOk t (attachEvent i x l)) (eqb i 0)
     i = s .mark d
 
     x : Event
-    x = restarted d v
+    x = restart-of d v
 
     e : ℕ → Option ℤ
     e = oneRestart d v

@@ -20,7 +20,7 @@ use Rattle.rules.specs.Turn.{commit, commitTurn, sendTurn, skipTurn}
 use Rattle.rules.specs.Report.{doneReport, skippedState, skipReport}
 use Rattle.rules.specs.Events.{attachAt, attach, oneRestart}
 use Rattle.rules.specs.History.{Account}
-use Rattle.rules.specs.Order.{Event, failed, restarted, Entry, routine, event, Order, beforeNext, behindRoutine, putAfter, edit, editOrder, goes, gains, noted, orderAfter, orderAfterAll, entries}
+use Rattle.rules.specs.Order.{Event, failure-of, restart-of, Entry, routine, event, Order, beforeNext, behindRoutine, putAfter, edit, editOrder, goes, gains, noted, orderAfter, orderAfterAll, entries}
 use Rattle.rules.proofs.Lists.{eqb-sym, fold-++, Each, each-left, each-right, each-mid, each-insert, each-swap, IsNot, NotIn, IdsOk, ids-drop, ids-insert, ids-other, ids-not-zero}
 use Rattle.rules.proofs.Groups.{Group, members, ids, doneSteps, entryOf, flat, entryIds, deviceOf, lastRestart, alone, with, changed, passAll, foundAt, leaving, leadOf, addEvent, attachEvent, leadWith, ids-++, flat-++, ids-swap, flat-pass, events-++, flat-leaving, flat-cut, flat-added, attach-miss, attach-hit}
 use Rattle.rules.proofs.Same.{same-placed, same-leaving, same-attached, same-ids}
@@ -365,7 +365,7 @@ order-happens s t u o c n x y l {r = r} {lead = lead} {k = k} h i g e f =
     subst (λ w. Kept t o w (leadWith j x lead) (attachEvent j x k)) (sym (fold-++ (orderAfterAll c n) (λ o. refl) (λ x l o. refl) (r .answers) (y ∷ []) o ∙ e q)) (z .0, z .1 ∙ p .1)
 
 -- no restart: the settings stand
-attached-failure : (d : ℕ) (first : Bool) (s t : State) → t .nextId ≡ s .nextId → t .settled ≡ s .settled → t .up ≡ put (s .up) d false → Attached (failed d) first s t
+attached-failure : (d : ℕ) (first : Bool) (s t : State) → t .nextId ≡ s .nextId → t .settled ≡ s .settled → t .up ≡ put (s .up) d false → Attached (failure-of d) first s t
 attached-failure d first s t n v u = record { next-is = n; settled-is = λ i. ap (λ f. f i) v ∙ go (s .settled i) first; up-is = λ i. ap (λ f. f i) u }
   where
     go : (v : ℤ) (b : Bool) → v ≡ (if b then v else v)
@@ -373,12 +373,12 @@ attached-failure d first s t n v u = record { next-is = n; settled-is = λ i. ap
     go v false = refl
 
 attached-restart : (d j : ℕ) (v : ℤ) (s : State) (u : ℕ → Bool) → s .up ≡ u →
-    Attached (restarted d v) (eqb j 0) (withUp s u) (withUp (attach j (oneRestart d v) s) (put (attach j (oneRestart d v) s .up) d true))
+    Attached (restart-of d v) (eqb j 0) (withUp s u) (withUp (attach j (oneRestart d v) s) (put (attach j (oneRestart d v) s .up) d true))
 unfolding attach settleRestarts
 attached-restart d j v s u e = go (eqb j 0)
   where
     go : (b : Bool) → let t = if b then withSettled s (settleRestarts (oneRestart d v) (s .settled)) else withSequence s (attachAt j (oneRestart d v) (s .sequence)) in
-        Attached (restarted d v) b (withUp s u) (withUp t (put (t .up) d true))
+        Attached (restart-of d v) b (withUp s u) (withUp t (put (t .up) d true))
     go true = record { next-is = refl; settled-is = λ i. refl; up-is = λ i. ap (λ f. put f d true i) e }
     go false = record { next-is = refl; settled-is = λ i. refl; up-is = λ i. ap (λ f. put f d true i) e }
 
@@ -405,8 +405,8 @@ order-moves s o n l h k t (misses i code a g b x e _ _ f _) =
     order-untouched s o a g b (subst (λ m. OrderOk s o [] m) e k) _ _ _ (fail-done (g .member) (in-turn s a g b (subst (HubOk s) e h)) x f)
 order-moves s o n l h k t (aborts c a g b e _ _) = order-leaves s o a g b (subst (λ m. OrderOk s o [] m) e k)
 order-moves s o n l h k t (fails d r lead b _ _ g) =
-    order-happens s (r .state) (put (s .up) d false) o (failure d) n (failed d) (down d (r .state .mark d)) l h k g (λ q. refl)
+    order-happens s (r .state) (put (s .up) d false) o (failure d) n (failure-of d) (down d (r .state .mark d)) l h k g (λ q. refl)
     (attached-failure d _ _ (r .state) refl refl (ap (λ (x : Fixed). x .up) (gone-fixed _ d l g)))
 order-moves s o n l h k t (restarts d v r lead b _ _ g) =
-    order-happens s _ (s .up) o (restart d v) n (restarted d v) (up d (r .state .mark d)) l h k g (λ q. refl)
+    order-happens s _ (s .up) o (restart d v) n (restart-of d v) (up d (r .state .mark d)) l h k g (λ q. refl)
     (attached-restart d _ v (r .state) (s .up) (ap (λ (x : Fixed). x .up) (gone-fixed s d l g)))

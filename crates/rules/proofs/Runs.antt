@@ -14,7 +14,7 @@ use Rattle.rules.specs.Progress.{isOn, isDone}
 use Rattle.rules.specs.Due.{afterSteps, afterRestart, afterMember, afterMembers}
 use Rattle.rules.specs.Abort.{later, attachTo}
 use Rattle.rules.specs.Events.{oneRestart}
-use Rattle.rules.specs.Order.{Event, failed, restarted, Entry, routine, event, Order}
+use Rattle.rules.specs.Order.{Event, failure-of, restart-of, Entry, routine, event, Order}
 use Rattle.rules.specs.Submit.{pass}
 use Rattle.rules.proofs.Lists.{or-left, or-right, eqb-sym, fold-++, Each, each-mid, each-drop}
 use Rattle.rules.proofs.Groups.{Group, members, doneSteps, flat, isOf, lastRestart, passAll, addEvents, leaving, addEvent, attachEvent, added-is}
@@ -53,10 +53,10 @@ later-none (some v) = refl
 
 lastRestart-++ : (d : ℕ) (a b : List Event) → lastRestart d (a ++ b) ≡ later (lastRestart d a) (lastRestart d b)
 lastRestart-++ d [] b = sym (later-none (lastRestart d b))
-lastRestart-++ d (failed e ∷ a) b = lastRestart-++ d a b
-lastRestart-++ d (restarted e v ∷ a) b = ap (λ x. later (oneRestart e v d) x) (lastRestart-++ d a b) ∙ later-assoc (oneRestart e v d) (lastRestart d a) (lastRestart d b)
+lastRestart-++ d (failure-of e ∷ a) b = lastRestart-++ d a b
+lastRestart-++ d (restart-of e v ∷ a) b = ap (λ x. later (oneRestart e v d) x) (lastRestart-++ d a b) ∙ later-assoc (oneRestart e v d) (lastRestart d a) (lastRestart d b)
 
-set-one : (d e : ℕ) (w v : ℤ) → setEvent d (restarted e w) v ≡ afterRestart (oneRestart e w d) v
+set-one : (d e : ℕ) (w v : ℤ) → setEvent d (restart-of e w) v ≡ afterRestart (oneRestart e w d) v
 unfolding oneRestart
 set-one d e w v = ap (λ t. if t then w else v) (eqb-sym e d) ∙ go (eqb d e)
   where
@@ -67,9 +67,9 @@ set-one d e w v = ap (λ t. if t then w else v) (eqb-sym e d) ∙ go (eqb d e)
 -- what events leave d at is their last restart of it
 pub set-events : (d : ℕ) (l : List Event) (v : ℤ) → setAfter d (map event l) v ≡ afterRestart (lastRestart d l) v
 set-events d [] v = refl
-set-events d (failed e ∷ l) v = set-events d l v
-set-events d (restarted e w ∷ l) v =
-    set-events d l (setEvent d (restarted e w) v) ∙ ap (λ x. afterRestart (lastRestart d l) x) (set-one d e w v) ∙ sym (restart-later (oneRestart e w d) (lastRestart d l) v)
+set-events d (failure-of e ∷ l) v = set-events d l v
+set-events d (restart-of e w ∷ l) v =
+    set-events d l (setEvent d (restart-of e w) v) ∙ ap (λ x. afterRestart (lastRestart d l) x) (set-one d e w v) ∙ sym (restart-later (oneRestart e w d) (lastRestart d l) v)
 
 -- one restart, of its own device and of others
 pub one-here : (e : ℕ) (w : ℤ) → oneRestart e w e ≡ some w
@@ -82,18 +82,18 @@ one-other d e w n = ap (λ t. if t then some w else none) n
 
 pub lastRestart-quiet : (d : ℕ) (l : List Event) → anyOf (isOf d) l ≡ false → lastRestart d l ≡ none
 lastRestart-quiet d [] n = refl
-lastRestart-quiet d (failed e ∷ l) n = lastRestart-quiet d l (or-right (eqb e d) (anyOf (isOf d) l) n)
-lastRestart-quiet d (restarted e w ∷ l) n =
+lastRestart-quiet d (failure-of e ∷ l) n = lastRestart-quiet d l (or-right (eqb e d) (anyOf (isOf d) l) n)
+lastRestart-quiet d (restart-of e w ∷ l) n =
     ap (λ x. later x (lastRestart d l)) (one-other d e w (eqb-sym d e ∙ or-left (eqb e d) (anyOf (isOf d) l) n)) ∙ later-none (lastRestart d l)
     ∙ lastRestart-quiet d l (or-right (eqb e d) (anyOf (isOf d) l) n)
 
 abbrev pub bringsUp : Event → Bool
-bringsUp (failed d) = false
-bringsUp (restarted d v) = true
+bringsUp (failure-of d) = false
+bringsUp (restart-of d v) = true
 
 pub up-event : (d : ℕ) (x : Event) (u : Bool) → upEvent d x u ≡ (if isOf d x then bringsUp x else u)
-up-event d (failed e) u = refl
-up-event d (restarted e v) u = refl
+up-event d (failure-of e) u = refl
+up-event d (restart-of e v) u = refl
 
 pub up-quiet : (d : ℕ) (l : List Event) (u : Bool) → anyOf (isOf d) l ≡ false → upAfter d (map event l) u ≡ u
 up-quiet d [] u n = refl

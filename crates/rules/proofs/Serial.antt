@@ -12,8 +12,8 @@ use Rattle.rules.specs.State.{State}
 use Rattle.rules.specs.Sequence.{withSequence}
 use Rattle.rules.specs.Due.{afterMember, afterMembers, due}
 use Rattle.rules.specs.Settle.{joinSettled, settle}
-use Rattle.rules.specs.Order.{Event, failed, restarted, Entry, routine, event, Order, beforeBar, behindBar, entries, moveBar}
-use Rattle.rules.specs.Serial.{Condition, runCommand, runCommands, serialRun}
+use Rattle.rules.specs.Order.{Event, failure-of, restart-of, Entry, routine, event, Order, beforeBar, behindBar, entries, moveBar}
+use Rattle.rules.specs.Serial.{DeviceState, runCommand, runCommands, serialRun}
 use Rattle.rules.specs.Demand3.{Begins}
 use Rattle.rules.proofs.Lists.{byIf, eqb-sym, put-keeps, Each, IdsOk}
 use Rattle.rules.proofs.Groups.{Group, members, ids, doneSteps, entryOf, flat, entryIds, stillHeld, entryIds-++, entryIds-events}
@@ -24,32 +24,32 @@ use Rattle.rules.proofs.Fields.{settles}
 -- ---- the serial run, device by device
 
 -- a field of the changed table, with the test turned round as in setAfter and upAfter
-put-field : {A : Type 0} (f : Condition → A) (t : ℕ → Condition) (e : ℕ) (c : Condition) (d : ℕ) → f (put t e c d) ≡ (if eqb e d then f c else f (t d))
+put-field : {A : Type 0} (f : DeviceState → A) (t : ℕ → DeviceState) (e : ℕ) (c : DeviceState) (d : ℕ) → f (put t e c d) ≡ (if eqb e d then f c else f (t d))
 put-field f t e c d = go (eqb d e) ∙ ap (λ b. if b then f c else f (t d)) (eqb-sym d e)
   where
     go : (b : Bool) → f (if b then c else t d) ≡ (if b then f c else f (t d))
     go true = refl
     go false = refl
 
-commands-setting : (d : ℕ) (l : List Command) (t : ℕ → Condition) → runCommands l t d .setting ≡ setCommands d l (t d .setting)
+commands-setting : (d : ℕ) (l : List Command) (t : ℕ → DeviceState) → runCommands l t d .setting ≡ setCommands d l (t d .setting)
 commands-setting d [] t = refl
 commands-setting d (c ∷ l) t = commands-setting d l (runCommand c t) ∙ ap (λ v. setCommands d l v) (put-field (λ x. x .setting) t (c .device) _ d)
 
-pub serial-setting : (d : ℕ) (l : List Entry) (t : ℕ → Condition) → serialRun l t d .setting ≡ setAfter d l (t d .setting)
+pub serial-setting : (d : ℕ) (l : List Entry) (t : ℕ → DeviceState) → serialRun l t d .setting ≡ setAfter d l (t d .setting)
 serial-setting d [] t = refl
 serial-setting d (routine i cs b ∷ l) t = serial-setting d l _ ∙ ap (λ v. setAfter d l v) (commands-setting d cs t)
-serial-setting d (event (failed e) ∷ l) t = serial-setting d l _ ∙ ap (λ v. setAfter d l v) (put-keeps (λ (x : Condition). x .setting) t e _ refl d)
-serial-setting d (event (restarted e v) ∷ l) t = serial-setting d l _ ∙ ap (λ v. setAfter d l v) (put-field (λ x. x .setting) t e _ d)
+serial-setting d (event (failure-of e) ∷ l) t = serial-setting d l _ ∙ ap (λ v. setAfter d l v) (put-keeps (λ (x : DeviceState). x .setting) t e _ refl d)
+serial-setting d (event (restart-of e v) ∷ l) t = serial-setting d l _ ∙ ap (λ v. setAfter d l v) (put-field (λ x. x .setting) t e _ d)
 
-commands-up : (d : ℕ) (l : List Command) (t : ℕ → Condition) → runCommands l t d .up ≡ t d .up
+commands-up : (d : ℕ) (l : List Command) (t : ℕ → DeviceState) → runCommands l t d .up ≡ t d .up
 commands-up d [] t = refl
-commands-up d (c ∷ l) t = commands-up d l (runCommand c t) ∙ put-keeps (λ (x : Condition). x .up) t (c .device) _ refl d
+commands-up d (c ∷ l) t = commands-up d l (runCommand c t) ∙ put-keeps (λ (x : DeviceState). x .up) t (c .device) _ refl d
 
-pub serial-up : (d : ℕ) (l : List Entry) (t : ℕ → Condition) → serialRun l t d .up ≡ upAfter d l (t d .up)
+pub serial-up : (d : ℕ) (l : List Entry) (t : ℕ → DeviceState) → serialRun l t d .up ≡ upAfter d l (t d .up)
 serial-up d [] t = refl
 serial-up d (routine i cs b ∷ l) t = serial-up d l _ ∙ ap (λ u. upAfter d l u) (commands-up d cs t)
-serial-up d (event (failed e) ∷ l) t = serial-up d l _ ∙ ap (λ u. upAfter d l u) (put-field (λ x. x .up) t e _ d)
-serial-up d (event (restarted e v) ∷ l) t = serial-up d l _ ∙ ap (λ u. upAfter d l u) (put-field (λ x. x .up) t e _ d)
+serial-up d (event (failure-of e) ∷ l) t = serial-up d l _ ∙ ap (λ u. upAfter d l u) (put-field (λ x. x .up) t e _ d)
+serial-up d (event (restart-of e v) ∷ l) t = serial-up d l _ ∙ ap (λ u. upAfter d l u) (put-field (λ x. x .up) t e _ d)
 
 -- ---- the due setting is that of the serial run
 

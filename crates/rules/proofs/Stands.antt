@@ -17,8 +17,8 @@ use Rattle.rules.specs.Submit.{newcomer}
 use Rattle.rules.specs.Turn.{commit, commitTurn, sendTurn, skipTurn}
 use Rattle.rules.specs.Report.{doneReport, skipReport}
 use Rattle.rules.specs.History.{Outcome, reported-done, reported-failed, not-sent, Answered, Account, placedAccount, sentAccount, answeredAccount, endedAccount, noteAnswer, noteAnswers}
-use Rattle.rules.specs.Order.{Event, failed, restarted, Entry, routine, event, Order, orderAfterAll, entries}
-use Rattle.rules.specs.Serial.{Condition, allUp, runEntry}
+use Rattle.rules.specs.Order.{Event, failure-of, restart-of, Entry, routine, event, Order, orderAfterAll, entries}
+use Rattle.rules.specs.Serial.{DeviceState, allUp, runEntry}
 use Rattle.rules.specs.Demand3.{Finds, afterAnswered, AllFind, doneOnes, CommandsStand}
 use Rattle.rules.proofs.Lists.{or-left, or-right, put-same, put-other, put-keeps, Each, each-++, each-left, each-right, each-mid, IsNot, NotIn, IdsOk, ids-fresh, ids-other}
 use Rattle.rules.proofs.Groups.{Group, ids, doneSteps, flat, entryIds, deviceOf, alone, changed, passAll, leaving, leadOf, attachEvent, leadWith, flat-++, entryIds-++, entryIds-flat, flat-pass, flat-leaving}
@@ -52,7 +52,7 @@ abbrev Standing : (ℕ → Account) → List Entry → Type 0
 Standing a l = Stand (answeredIn a) l (λ d. true)
 
 -- this is what the statement says: a run's commands leave the devices up or down as they were
-fits-is : (l : List Answered) (t : ℕ → Condition) → AllFind l t ≡ Each (Fits (λ d. t d .up)) l
+fits-is : (l : List Answered) (t : ℕ → DeviceState) → AllFind l t ≡ Each (Fits (λ d. t d .up)) l
 fits-is [] t = refl
 fits-is (x ∷ l) t = ap (λ A. Fits (λ d. t d .up) x × A) (fits-is l (afterAnswered (x .outcome) (x .command) t) ∙ ap (λ u. Each (Fits u) l) (same-up (x .outcome)))
   where
@@ -61,7 +61,7 @@ fits-is (x ∷ l) t = ap (λ A. Fits (λ d. t d .up) x × A) (fits-is l (afterAn
     same-up reported-failed = refl
     same-up not-sent = refl
 
-stand-is : (a : ℕ → Account) (l : List Entry) (t : ℕ → Condition) → CommandsStand a l t ≡ Stand (answeredIn a) l (λ d. t d .up)
+stand-is : (a : ℕ → Account) (l : List Entry) (t : ℕ → DeviceState) → CommandsStand a l t ≡ Stand (answeredIn a) l (λ d. t d .up)
 stand-is a [] t = refl
 stand-is a (routine i cs b ∷ l) t =
     ap₂ (λ A B. (cs ≡ doneOnes (a i .answered)) × A × B) (fits-is (a i .answered) t)
@@ -318,10 +318,10 @@ stand-moves s o a l f (aborts c x g y e j n) = λ _.
     subst (λ q. Stand q (o .settled ++ openPart (leadOf x g) (leaving x g y)) (λ d. true)) (sym (ended-answered a (g .member .id)))
     (stand-leaves a (o .settled) x g y (subst (λ l. Standing a (o .settled ++ flat l)) e (f .stand)))
 stand-moves s o a l f (fails d r lead b n u g) =
-    stand-happens (withUp s (put (s .up) d false)) (failed d) a (o .settled) l r lead b (hub-up s (put (s .up) d false) l (f .hub)) g
+    stand-happens (withUp s (put (s .up) d false)) (failure-of d) a (o .settled) l r lead b (hub-up s (put (s .up) d false) l (f .hub)) g
     (failure d) (down d (r .state .mark d)) (λ b. refl) (f .stand)
 stand-moves s o a l f (restarts d v r lead b n u g) =
-    stand-happens s (restarted d v) a (o .settled) l r lead b (f .hub) g (restart d v) (up d (r .state .mark d)) (λ b. refl) (f .stand)
+    stand-happens s (restart-of d v) a (o .settled) l r lead b (f .hub) g (restart d v) (up d (r .state .mark d)) (λ b. refl) (f .stand)
 
 pub stands-moves : (s : State) (o : Order) (a : ℕ → Account) (l : List Group) {c : Call} {r : Result} {lead : List Event} {k : List Group} →
     HubOk s l → Each (FliesUp s) l → OrderOk s o [] l → Each (Tells a) l → CommandsStand a (entries o) allUp → Moves s l c r lead k →

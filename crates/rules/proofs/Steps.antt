@@ -12,7 +12,7 @@ use Rattle.routine.specs.Choice.{if_then_else_}
 use Rattle.routine.specs.declared.Command.{Command}
 use Rattle.rules.specs.Tables.{anyOf}
 use Rattle.rules.specs.State.{Status, to-do, in-flight, was-done, was-skipped, Step, Member}
-use Rattle.rules.specs.Progress.{isOn, isToDo, isInFlight, isDone, isAnswered, begun, finished, inFlightOn, inFlight, next, Flight, flightOr, flight, advance, answer, withSteps}
+use Rattle.rules.specs.Progress.{isOn, isToDo, isInFlight, isDone, isAnswered, begun, finished, inFlightOn, inFlight, next, Flight, flightOr, flight, advance, answerFlight, withSteps}
 use Rattle.rules.specs.Due.{afterSteps}
 use Rattle.rules.specs.Submit.{stepOf, newcomer}
 use Rattle.rules.proofs.Lists.{byIf, t≠f, or-left, or-right, and-left, fold-++, anyOf-++}
@@ -350,13 +350,13 @@ at-next P c s h _ (flies p a b u cs) e f = t≠f (sym (any-here (λ x. isInFligh
 
 -- the command in flight is answered
 at-flight : (P : List Step → List Step → Type 0) (x : Flight) (s : Status) → Goes (x .command) (in-flight (x .dueThen)) s P →
-    (l : List Step) → Parts l → flight l ≡ some x → P l (answer s l)
+    (l : List Step) → Parts l → flight l ≡ some x → P l (answerFlight s l)
 at-flight P x s h _ (rests p a cs) e =
     absurd (Option·none-ne-some x (sym (over (λ p k. flight k ≡ none) (map stepOf cs) (to-do-over flight (λ b l. refl) cs) (λ b p k q. q) (λ b p k q. q) p a) ∙ e))
 at-flight P x s h _ (flies p a c u cs) e =
     let q : record { command = c; dueThen = u } ≡ x = Option·some-injective (record { command = c; dueThen = u }) x (sym (flight-at p a c cs (in-flight u)) ∙ e) in
     subst (λ k. P (at p c cs (in-flight u)) k)
-    (sym (over (λ p k. answer s k ≡ at p c cs s) (step c (in-flight u) ∷ map stepOf cs) refl (λ b p k. ap (λ n. step b was-done ∷ n)) (λ b p k. ap (λ n. step b was-skipped ∷ n)) p a))
+    (sym (over (λ p k. answerFlight s k ≡ at p c cs s) (step c (in-flight u) ∷ map stepOf cs) refl (λ b p k. ap (λ n. step b was-done ∷ n)) (λ b p k. ap (λ n. step b was-skipped ∷ n)) p a))
     (subst (λ y. P (at p (y .command) cs (in-flight (y .dueThen))) (at p (y .command) cs s)) (sym q) (h p a cs))
 
 module _ (m : Member) (t : InTurn (m .steps)) where
@@ -369,30 +369,30 @@ module _ (m : Member) (t : InTurn (m .steps)) where
   skip-step c e f = at-next (λ k l. Skipped c (withSteps m k) (withSteps m l)) c was-skipped (λ p a cs. skipped-at p a c cs m) (m .steps) (apart (m .steps) t) e f
 
   answers : (P : List Step → List Step → Type 0) (x : Flight) (s : Status) → Goes (x .command) (in-flight (x .dueThen)) s P →
-      flight (m .steps) ≡ some x → P (m .steps) (answer s (m .steps))
+      flight (m .steps) ≡ some x → P (m .steps) (answerFlight s (m .steps))
   answers P x s h = at-flight P x s h (m .steps) (apart (m .steps) t)
 
-  pub done-step : (x : Flight) → flight (m .steps) ≡ some x → AnsweredOne (x .command) m (withSteps m (answer was-done (m .steps)))
+  pub done-step : (x : Flight) → flight (m .steps) ≡ some x → AnsweredOne (x .command) m (withSteps m (answerFlight was-done (m .steps)))
   done-step x e = answers (λ k l. AnsweredOne (x .command) (withSteps m k) (withSteps m l)) x was-done (λ p a cs. answer-at p a (x .command) cs m (x .dueThen) was-done refl) e
 
   pub done-after : (x : Flight) → flight (m .steps) ≡ some x → (d : ℕ) (v : ℤ) →
-      afterSteps d (answer was-done (m .steps)) v ≡ (if eqb (x .command .device) d then x .command .setting else afterSteps d (m .steps) v)
+      afterSteps d (answerFlight was-done (m .steps)) v ≡ (if eqb (x .command .device) d then x .command .setting else afterSteps d (m .steps) v)
   done-after x e d v =
       answers (λ k l. afterSteps d l v ≡ (if eqb (x .command .device) d then x .command .setting else afterSteps d k v)) x was-done
       (λ p a cs. done-after-at p a (x .command) cs (x .dueThen) d v) e
 
-  pub done-gains : (x : Flight) → flight (m .steps) ≡ some x → doneSteps (answer was-done (m .steps)) ≡ doneSteps (m .steps) ++ (x .command ∷ [])
+  pub done-gains : (x : Flight) → flight (m .steps) ≡ some x → doneSteps (answerFlight was-done (m .steps)) ≡ doneSteps (m .steps) ++ (x .command ∷ [])
   done-gains x e = answers (λ k l. doneSteps l ≡ doneSteps k ++ (x .command ∷ [])) x was-done (λ p a cs. done-gains-at p a (x .command) cs (x .dueThen)) e
 
-  pub fail-step : (x : Flight) → flight (m .steps) ≡ some x → AnsweredOne (x .command) m (withSteps m (answer was-skipped (m .steps)))
+  pub fail-step : (x : Flight) → flight (m .steps) ≡ some x → AnsweredOne (x .command) m (withSteps m (answerFlight was-skipped (m .steps)))
   fail-step x e = answers (λ k l. AnsweredOne (x .command) (withSteps m k) (withSteps m l)) x was-skipped (λ p a cs. answer-at p a (x .command) cs m (x .dueThen) was-skipped refl) e
 
-  pub fail-after : (x : Flight) → flight (m .steps) ≡ some x → (d : ℕ) (v : ℤ) → afterSteps d (answer was-skipped (m .steps)) v ≡ afterSteps d (m .steps) v
+  pub fail-after : (x : Flight) → flight (m .steps) ≡ some x → (d : ℕ) (v : ℤ) → afterSteps d (answerFlight was-skipped (m .steps)) v ≡ afterSteps d (m .steps) v
   fail-after x e d v =
       answers (λ k l. afterSteps d l v ≡ afterSteps d k v) x was-skipped
       (λ p a cs. after-at p a (x .command) cs d v was-skipped ∙ sym (after-at p a (x .command) cs d v (in-flight (x .dueThen)))) e
 
-  pub fail-done : (x : Flight) → flight (m .steps) ≡ some x → doneSteps (answer was-skipped (m .steps)) ≡ doneSteps (m .steps)
+  pub fail-done : (x : Flight) → flight (m .steps) ≡ some x → doneSteps (answerFlight was-skipped (m .steps)) ≡ doneSteps (m .steps)
   fail-done x e = answers (λ k l. doneSteps l ≡ doneSteps k) x was-skipped (λ p a cs. done-at p a (x .command) cs was-skipped ∙ sym (done-at p a (x .command) cs (in-flight (x .dueThen)))) e
 
   -- a command in flight on d is the one in flight

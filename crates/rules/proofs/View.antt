@@ -16,7 +16,7 @@ use Rattle.routine.specs.declared.Verdict.the-variants.{Accepted, Refused}
 use Rattle.rules.specs.Tables.{anyOf, put}
 use Rattle.rules.specs.State.{in-flight, was-done, was-skipped, Member, State}
 use Rattle.rules.specs.Answers.{Call, submit, turn, report, failure, restart, cancel, refused, placed, wait, down, up, Result, unlessRefused}
-use Rattle.rules.specs.Progress.{isMust, inFlight, next, Flight, flight, advance, answer, withSteps}
+use Rattle.rules.specs.Progress.{isMust, inFlight, next, Flight, flight, advance, answerFlight, withSteps}
 use Rattle.rules.specs.Due.{due}
 use Rattle.rules.specs.Sequence.{Found, onto, find, isRunning, runs, lastIdOr, withUp}
 use Rattle.rules.specs.Settle.{settling}
@@ -24,10 +24,10 @@ use Rattle.rules.specs.Abort.{abort}
 use Rattle.rules.specs.Submit.{submitCheck, blocks, upToLast, pastLast, newcomer, place, submitOf}
 use Rattle.rules.specs.Turn.{firstHolding, commit, commitTurn, sendTurn, skipTurn, waitOr, turnNext, turnFound, turnOf}
 use Rattle.rules.specs.Report.{codeDone, codeFailed, doneReport, skipReport, reportFlight, reportFound, reportOf}
-use Rattle.rules.specs.Events.{isHalfway, abortIfAny, abortHalfway, attach, oneRestart, failed, restarted, failureOf, restartOf}
+use Rattle.rules.specs.Events.{isHalfway, abortIfAny, abortHalfway, attach, oneRestart, failureResult, restartResult, failureOf, restartOf}
 use Rattle.rules.specs.Cancel.{cancelFound, cancelOf}
 use Rattle.rules.specs.Calls.{resultOf}
-use Rattle.rules.specs.Order.{Event, failed as failed-event, restarted as restarted-event}
+use Rattle.rules.specs.Order.{Event, failure-of, restart-of}
 use Rattle.rules.proofs.Lists.{byIf, and-left, and-right, Each, each-map}
 use Rattle.rules.proofs.Groups.{Group, members, alone, with, passAll, foundAt, leaving, leadOf, attachEvent, leadWith}
 use Rattle.rules.proofs.Invariant.{Calm}
@@ -40,10 +40,10 @@ abbrev pub skippedMember : Group → Member
 skippedMember g = withSteps (g .member) (advance was-skipped (g .member .steps))
 
 abbrev pub doneMember : Group → Member
-doneMember g = withSteps (g .member) (answer was-done (g .member .steps))
+doneMember g = withSteps (g .member) (answerFlight was-done (g .member .steps))
 
 abbrev pub failedMember : Group → Member
-failedMember g = withSteps (g .member) (answer was-skipped (g .member .steps))
+failedMember g = withSteps (g .member) (answerFlight was-skipped (g .member .steps))
 
 -- why a routine aborts at a call of its own
 pub data Aborts (g : Group) : Call → Type 0 where
@@ -82,12 +82,12 @@ pub data Moves (s : State) (l : List Group) : Call → Result → List Event →
   fails : (d : ℕ) (r : Result) (lead : List Event) (k : List Group) → leb (s .devices) d ≡ false → s .up d ≡ true →
       Gone (withUp s (put (s .up) d false)) d l r lead k →
       Moves s l (failure d) (record { state = r .state; answers = r .answers ++ (down d (r .state .mark d) ∷ []) })
-      (leadWith (r .state .mark d) (failed-event d) lead) (attachEvent (r .state .mark d) (failed-event d) k)
+      (leadWith (r .state .mark d) (failure-of d) lead) (attachEvent (r .state .mark d) (failure-of d) k)
   restarts : (d : ℕ) (v : ℤ) (r : Result) (lead : List Event) (k : List Group) → leb (s .devices) d ≡ false → s .up d ≡ false →
       Gone s d l r lead k →
       Moves s l (restart d v)
       (let t = attach (r .state .mark d) (oneRestart d v) (r .state) in record { state = withUp t (put (t .up) d true); answers = r .answers ++ (up d (r .state .mark d) ∷ []) })
-      (leadWith (r .state .mark d) (restarted-event d v) lead) (attachEvent (r .state .mark d) (restarted-event d v) k)
+      (leadWith (r .state .mark d) (restart-of d v) lead) (attachEvent (r .state .mark d) (restart-of d v) k)
 
 pub data Seen (s : State) (l : List Group) (c : Call) : Result → Type 0 where
   is-refused : (r : Refusal) → Seen s l c (record { state = s; answers = refused r ∷ [] })
@@ -205,17 +205,17 @@ module _ (s : State) (l : List Group) (e : s .sequence ≡ members l) where
       running i s l e (λ o. Seen s l (report i code) (reportFound s code o)) (is-refused _) (λ a g b w n u. told s i a g b w n u code (flight (g .member .steps)) refl)
 
   see-failure : (d : ℕ) → Seen s l (failure d) (failureOf s d)
-  unfolding failureOf failed
+  unfolding failureOf failureResult
   see-failure d =
       let h = gone d (withUp s (put (s .up) d false)) l e in
       byIf (λ v. Checked (v andThen refuse failure-of-down when not (s .up d))) (leb (s .devices) d) (λ _. is-refused _)
       (λ t. byIf Checked (not (s .up d)) (λ _. is-refused _) (λ u. moves (fails d _ (h .0) (h .1) t (not-false _ u) (h .2))))
     where
       Checked : Verdict → Type 0
-      Checked v = Seen s l (failure d) (unlessRefused v s (settling (failed s d)))
+      Checked v = Seen s l (failure d) (unlessRefused v s (settling (failureResult s d)))
 
   see-restart : (d : ℕ) (v : ℤ) → Seen s l (restart d v) (restartOf s d v)
-  unfolding restartOf restarted
+  unfolding restartOf restartResult
   see-restart d v =
       let h = gone d s l e in
       let setting = refuse restart-setting when not (inRange v) in
@@ -224,7 +224,7 @@ module _ (s : State) (l : List Group) (e : s .sequence ≡ members l) where
       (λ u. unless s l (restart d v) setting (λ _. moves (restarts d v _ (h .0) (h .1) t u (h .2)))))
     where
       Checked : Verdict → Type 0
-      Checked x = Seen s l (restart d v) (unlessRefused x s (settling (restarted s d v)))
+      Checked x = Seen s l (restart d v) (unlessRefused x s (settling (restartResult s d v)))
 
   see-cancel : (i : ℕ) → Seen s l (cancel i) (cancelOf s i)
   unfolding cancelOf

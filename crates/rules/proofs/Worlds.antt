@@ -13,7 +13,7 @@ use Rattle.rules.specs.Answers.{Call, submit, turn, report, failure, res
 use Rattle.rules.specs.Open.{opened, newHub, openOf}
 use Rattle.rules.specs.History.{Told, Account, workingOf}
 use Rattle.rules.specs.Order.{putAfter, entries, moveBar}
-use Rattle.rules.specs.Serial.{Condition, allUp, serialRun}
+use Rattle.rules.specs.Serial.{DeviceState, allUp, serialRun}
 use Rattle.rules.specs.World.{put-back, sent-for, World, Act, calls, takes-one, accounts, worldAfterAll, taken, PremiseAll, newWorld}
 use Rattle.rules.specs.Demand3.{orderIn, NoneRuns, isBack, CommandsStand}
 use Rattle.rules.specs.Examples.{calc, must, best, back}
@@ -43,11 +43,11 @@ abbrev pub settingsFrom : World → ℕ → ℕ → List ℤ
 settingsFrom w d zero = []
 settingsFrom w d (suc left) = w .devices d .setting ∷ settingsFrom w (suc d) left
 
-abbrev pub conditionsFrom : World → ℕ → ℕ → List Condition
+abbrev pub conditionsFrom : World → ℕ → ℕ → List DeviceState
 conditionsFrom w d zero = []
 conditionsFrom w d (suc left) = serialRun (entries (orderIn w)) allUp d ∷ conditionsFrom w (suc d) left
 
-abbrev pub upAt : List ℤ → List Condition
+abbrev pub upAt : List ℤ → List DeviceState
 upAt [] = []
 upAt (v ∷ l) = record { up = true; setting = v } ∷ upAt l
 

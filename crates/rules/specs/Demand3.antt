@@ -10,7 +10,7 @@ use Rattle.rules.specs.State.{State}
 use Rattle.rules.specs.Open.{opened, openOf}
 use Rattle.rules.specs.History.{Outcome, reported-done, reported-failed, not-sent, Answered, Account, workingOf}
 use Rattle.rules.specs.Order.{Entry, routine, event, Order, entries, orderOf}
-use Rattle.rules.specs.Serial.{Condition, allUp, runCommand, runEntry, serialRun}
+use Rattle.rules.specs.Serial.{DeviceState, allUp, runCommand, runEntry, serialRun}
 use Rattle.rules.specs.World.{Origin, put-back, sent-for, Message, World, accounts, Act, worldAfterAll, PremiseAll, newWorld}
 
 -- The order of a world: built from its calls and answers.
@@ -49,12 +49,12 @@ Finds isUp reported-failed = Unit {0}
 Finds isUp not-sent = isUp ≡ false
 
 -- The answered commands of a routine, in turn.
-abbrev pub afterAnswered : Outcome → Command → (ℕ → Condition) → ℕ → Condition
+abbrev pub afterAnswered : Outcome → Command → (ℕ → DeviceState) → ℕ → DeviceState
 afterAnswered reported-done c t = runCommand c t
 afterAnswered reported-failed c t = t
 afterAnswered not-sent c t = t
 
-abbrev pub AllFind : List Answered → (ℕ → Condition) → Type 0
+abbrev pub AllFind : List Answered → (ℕ → DeviceState) → Type 0
 AllFind [] t = Unit {0}
 AllFind (x ∷ l) t = Finds (t (x .command .device) .up) (x .outcome) × AllFind l (afterAnswered (x .outcome) (x .command) t)
 
@@ -68,7 +68,7 @@ doneOnes (x ∷ l) = ifDone (x .outcome) (x .command) (doneOnes l)
     ifDone not-sent c cs = cs
 
 -- The routines of an order, run from t: each one's done commands are those that were answered done, and its answered commands find what they should.
-abbrev pub CommandsStand : (ℕ → Account) → List Entry → (ℕ → Condition) → Type 0
+abbrev pub CommandsStand : (ℕ → Account) → List Entry → (ℕ → DeviceState) → Type 0
 CommandsStand a [] t = Unit {0}
 CommandsStand a (routine i cs b ∷ l) t = (cs ≡ doneOnes (a i .answered)) × AllFind (a i .answered) t × CommandsStand a l (runEntry (routine i cs b) t)
 CommandsStand a (event e ∷ l) t = CommandsStand a l (runEntry (event e) t)

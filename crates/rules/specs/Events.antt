@@ -43,14 +43,14 @@ oneRestart d v e = if eqb e d then some v else none
 
 -- "On a failure D first becomes down." The abort; "Then the event is attached to D's mark": it changes no due setting, so the state keeps
 -- nothing of it but that D is down; the answer has the mark.
-unfoldable pub failed : State → ℕ → Result
-failed s d =
+unfoldable pub failureResult : State → ℕ → Result
+failureResult s d =
     let r = abortHalfway d (withUp s (put (s .up) d false)) in
     record { state = r .state; answers = r .answers ++ (down d (r .state .mark d) ∷ []) }
 
 -- The abort; the event is attached to D's mark; "On a restart D then becomes up at the setting it reports."
-unfoldable pub restarted : State → ℕ → ℤ → Result
-restarted s d v =
+unfoldable pub restartResult : State → ℕ → ℤ → Result
+restartResult s d v =
     let r = abortHalfway d s in
     let t = attach (r .state .mark d) (oneRestart d v) (r .state) in
     record { state = withUp t (put (t .up) d true); answers = r .answers ++ (up d (r .state .mark d) ∷ []) }
@@ -58,9 +58,9 @@ restarted s d v =
 unfoldable pub failureOf : State → ℕ → Result
 failureOf s d =
     unlessRefused (refuse event-device when leb (s .devices) d andThen refuse failure-of-down when not (s .up d)) s
-    (settling (failed s d))
+    (settling (failureResult s d))
 
 unfoldable pub restartOf : State → ℕ → ℤ → Result
 restartOf s d v =
     unlessRefused (refuse event-device when leb (s .devices) d andThen refuse restart-of-up when s .up d andThen refuse restart-setting when not (inRange v)) s
-    (settling (restarted s d v))
+    (settling (restartResult s d v))

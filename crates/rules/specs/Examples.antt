@@ -23,14 +23,14 @@ use Rattle.rules.specs.Abort.{attachTo, settleRestarts, moveMarks, leave
 use Rattle.rules.specs.Open.{opened, openCheck, newHub, openOf}
 use Rattle.rules.specs.Submit.{submitCheck, blocks, pass, newcomer, place, submitOf}
 use Rattle.rules.specs.Turn.{holds, markBegun, commit, commitTurn, sendTurn, skipTurn, turnOf}
-use Rattle.rules.specs.Report.{doneReport, backUnless, skippedState, skipReport, reportOf}
-use Rattle.rules.specs.Events.{isHalfway, abortHalfway, attach, oneRestart, failed, restarted, failureOf, restartOf}
+use Rattle.rules.specs.Report.{doneReport, backIfChanged, skippedState, skipReport, reportOf}
+use Rattle.rules.specs.Events.{isHalfway, abortHalfway, attach, oneRestart, failureResult, restartResult, failureOf, restartOf}
 use Rattle.rules.specs.Cancel.{cancelOf}
 use Rattle.rules.specs.Calls.{resultOf}
 
 -- All that a computation with the rules opens.
 unfoldable pub calc : Unit {0}
-unfolding inRange refusalOf commandCheck commandsCheck routineCheck begun finished inFlightOn inFlight afterMember due isRunning runs clearMarks joinSettled settle attachTo settleRestarts moveMarks leave isPutBack putBacks abort openCheck newHub openOf submitCheck blocks pass newcomer place submitOf holds markBegun commit commitTurn sendTurn skipTurn turnOf doneReport backUnless skippedState skipReport reportOf isHalfway abortHalfway attach oneRestart failed restarted failureOf restartOf cancelOf
+unfolding inRange refusalOf commandCheck commandsCheck routineCheck begun finished inFlightOn inFlight afterMember due isRunning runs clearMarks joinSettled settle attachTo settleRestarts moveMarks leave isPutBack putBacks abort openCheck newHub openOf submitCheck blocks pass newcomer place submitOf holds markBegun commit commitTurn sendTurn skipTurn turnOf doneReport backIfChanged skippedState skipReport reportOf isHalfway abortHalfway attach oneRestart failureResult restartResult failureOf restartOf cancelOf
 calc = tt
 
 -- An opening, calls, what each answers, and the device lines at the end: the due setting of a device that is up, none of one that is down.

@@ -11,8 +11,8 @@ use Rattle.rules.specs.Answers.{Call, submit, turn, report, failure, res
 use Rattle.rules.specs.History.{Told, Account, accountsOf}
 
 pub data Event : Type 0 where
-  failed : ℕ → Event  -- device
-  restarted : ℕ → ℤ → Event  -- device, the setting it reports
+  failure-of : ℕ → Event  -- device
+  restart-of : ℕ → ℤ → Event  -- device, the setting it reports
 
 -- A routine: its id, its done commands in turn, is it committed; or an event.
 pub data Entry : Type 0 where
@@ -65,13 +65,13 @@ abbrev pub noted : ℕ → List Command → Bool → List Entry
 noted r cs b = routine r cs true ∷ []
 
 -- The setting that a restart reports.
-abbrev pub reportedBy : Call → ℤ
-reportedBy (submit cs) = pos 0
-reportedBy (turn i) = pos 0
-reportedBy (report i code) = pos 0
-reportedBy (failure d) = pos 0
-reportedBy (restart d v) = v
-reportedBy (cancel i) = pos 0
+abbrev pub settingReported : Call → ℤ
+settingReported (submit cs) = pos 0
+settingReported (turn i) = pos 0
+settingReported (report i code) = pos 0
+settingReported (failure d) = pos 0
+settingReported (restart d v) = v
+settingReported (cancel i) = pos 0
 
 -- One answer. `a`: the accounts before the call.
 abbrev pub orderAfter : Call → (ℕ → Account) → Answer → Order → Order
@@ -83,8 +83,8 @@ orderAfter c a (done i) o = editOrder i (gains i (a i .lastSent)) o
 orderAfter c a (skipped i l) o = o
 orderAfter c a (committed i) o = editOrder i (noted i) o
 orderAfter c a (aborted i l) o = editOrder i goes o
-orderAfter c a (down d j) o = putAfter (event (failed d)) j o
-orderAfter c a (up d j) o = putAfter (event (restarted d (reportedBy c))) j o
+orderAfter c a (down d j) o = putAfter (event (failure-of d)) j o
+orderAfter c a (up d j) o = putAfter (event (restart-of d (settingReported c))) j o
 
 abbrev pub orderAfterAll : Call → (ℕ → Account) → List Answer → Order → Order
 orderAfterAll c a [] o = o

@@ -88,9 +88,9 @@ advance st [] = []
 advance st (x ∷ l) = if isToDo (x .status) then withStatus st x ∷ l else x ∷ advance st l
 
 -- The command in flight gets this status.
-abbrev pub answer : Status → List Step → List Step
-answer st [] = []
-answer st (x ∷ l) = if isInFlight (x .status) then withStatus st x ∷ l else x ∷ answer st l
+abbrev pub answerFlight : Status → List Step → List Step
+answerFlight st [] = []
+answerFlight st (x ∷ l) = if isInFlight (x .status) then withStatus st x ∷ l else x ∷ answerFlight st l
 
 abbrev pub withSteps : Member → List Step → Member
 withSteps m l = record { id = m .id; steps = l; passed = m .passed; committed = m .committed; restarts = m .restarts }

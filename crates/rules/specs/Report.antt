@@ -9,7 +9,7 @@ use Rattle.routine.specs.Refusals.{not-running, none-in-flight, report-code-out
 use Rattle.rules.specs.Tables.{sameSetting}
 use Rattle.rules.specs.State.{was-done, was-skipped, State}
 use Rattle.rules.specs.Answers.{Back, Result, done, skipped, refusedFor, unlessRefused}
-use Rattle.rules.specs.Progress.{isMust, Flight, flight, answer, withSteps}
+use Rattle.rules.specs.Progress.{isMust, Flight, flight, answerFlight, withSteps}
 use Rattle.rules.specs.Due.{due}
 use Rattle.rules.specs.Sequence.{Found, find, runs, change}
 use Rattle.rules.specs.Abort.{abort}
@@ -24,20 +24,20 @@ codeFailed = 1
 
 -- "Code 0, done: the setting stands."
 unfoldable pub doneReport : State → Found → Result
-doneReport s f = record { state = change s f (withSteps (f .it) (answer was-done (f .it .steps))); answers = done (f .it .id) ∷ [] }
+doneReport s f = record { state = change s f (withSteps (f .it) (answerFlight was-done (f .it .steps))); answers = done (f .it .id) ∷ [] }
 
 -- "its device is then sent its due setting if that is another than when the command was sent"
-unfoldable pub backUnless : ℕ → ℤ → ℤ → List Back
-backUnless d now before = if sameSetting now before then [] else record { device = d; setting = now } ∷ []
+unfoldable pub backIfChanged : ℕ → ℤ → ℤ → List Back
+backIfChanged d now before = if sameSetting now before then [] else record { device = d; setting = now } ∷ []
 
 -- "a best-effort is skipped"
 unfoldable pub skippedState : State → Found → State
-skippedState s f = change s f (withSteps (f .it) (answer was-skipped (f .it .steps)))
+skippedState s f = change s f (withSteps (f .it) (answerFlight was-skipped (f .it .steps)))
 
 unfoldable pub skipReport : State → Found → Flight → Result
 skipReport s f x = record {
   state = skippedState s f;
-  answers = skipped (f .it .id) (backUnless (x .command .device) (due (skippedState s f) (x .command .device)) (x .dueThen)) ∷ [];
+  answers = skipped (f .it .id) (backIfChanged (x .command .device) (due (skippedState s f) (x .command .device)) (x .dueThen)) ∷ [];
 }
 
 -- "Code 1, failed: a must aborts R, a best-effort is skipped"

@@ -6,27 +6,27 @@ use Prim.Native.Nat.{ℕ}
 use lib.IntN.{ℤ, pos}
 use Rattle.routine.specs.declared.Command.{Command}
 use Rattle.rules.specs.Tables.{put}
-use Rattle.rules.specs.Order.{Event, failed, restarted, Entry, routine, event}
+use Rattle.rules.specs.Order.{Event, failure-of, restart-of, Entry, routine, event}
 
-pub record Condition : Type 0 where
+pub record DeviceState : Type 0 where
   pub up : Bool
   pub setting : ℤ
 
-abbrev pub allUp : ℕ → Condition
+abbrev pub allUp : ℕ → DeviceState
 allUp d = record { up = true; setting = pos 0 }
 
-abbrev pub runCommand : Command → (ℕ → Condition) → ℕ → Condition
+abbrev pub runCommand : Command → (ℕ → DeviceState) → ℕ → DeviceState
 runCommand c t = put t (c .device) (record { up = t (c .device) .up; setting = c .setting })
 
-abbrev pub runCommands : List Command → (ℕ → Condition) → ℕ → Condition
+abbrev pub runCommands : List Command → (ℕ → DeviceState) → ℕ → DeviceState
 runCommands [] t = t
 runCommands (c ∷ l) t = runCommands l (runCommand c t)
 
-abbrev pub runEntry : Entry → (ℕ → Condition) → ℕ → Condition
+abbrev pub runEntry : Entry → (ℕ → DeviceState) → ℕ → DeviceState
 runEntry (routine i cs b) t = runCommands cs t
-runEntry (event (failed d)) t = put t d (record { up = false; setting = t d .setting })
-runEntry (event (restarted d v)) t = put t d (record { up = true; setting = v })
+runEntry (event (failure-of d)) t = put t d (record { up = false; setting = t d .setting })
+runEntry (event (restart-of d v)) t = put t d (record { up = true; setting = v })
 
-abbrev pub serialRun : List Entry → (ℕ → Condition) → ℕ → Condition
+abbrev pub serialRun : List Entry → (ℕ → DeviceState) → ℕ → DeviceState
 serialRun [] t = t
 serialRun (x ∷ l) t = serialRun l (runEntry x t)

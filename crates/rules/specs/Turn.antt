@@ -36,16 +36,16 @@ unfoldable pub commitTurn : State → Found → Result
 commitTurn s f = record { state = change s f (commit (f .it)); answers = committed (f .it .id) ∷ [] }
 
 -- The next command, c, gets this status, and its device the mark if R begins it by that.
-abbrev pub begin : State → Found → Command → Status → State
-begin s f c st = withMark (change s f (withSteps (f .it) (advance st (f .it .steps)))) (markBegun (f .it) (c .device) (s .mark))
+abbrev pub nextBecomes : State → Found → Command → Status → State
+nextBecomes s f c st = withMark (change s f (withSteps (f .it) (advance st (f .it .steps)))) (markBegun (f .it) (c .device) (s .mark))
 
 -- "Otherwise the command is sent and is in flight." It keeps its device's due setting of now.
 unfoldable pub sendTurn : State → Found → Command → Result
-sendTurn s f c = record { state = begin s f c (in-flight (due s (c .device))); answers = send (f .it .id) c ∷ [] }
+sendTurn s f c = record { state = nextBecomes s f c (in-flight (due s (c .device))); answers = send (f .it .id) c ∷ [] }
 
 -- "a best-effort is skipped"
 unfoldable pub skipTurn : State → Found → Command → Result
-skipTurn s f c = record { state = begin s f c was-skipped; answers = skipped (f .it .id) [] ∷ [] }
+skipTurn s f c = record { state = nextBecomes s f c was-skipped; answers = skipped (f .it .id) [] ∷ [] }
 
 -- "If D is down, a must aborts R and a best-effort is skipped. Otherwise the command is sent and is in flight."
 abbrev pub proceed : State → Found → Command → Result

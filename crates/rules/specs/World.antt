@@ -103,14 +103,14 @@ abbrev pub accounts : World → ℕ → Account
 accounts w = accountsOf (w .history)
 
 -- The history with one call more.
-abbrev pub tell : World → Call → List Told
-tell w c = record { call = c; answers = resultOf (w .state) c .answers } ∷ w .history
+abbrev pub historyAfter : World → Call → List Told
+historyAfter w c = record { call = c; answers = resultOf (w .state) c .answers } ∷ w .history
 
 abbrev pub worldAfter : World → Act → World
 worldAfter w (calls c v) = record {
   state = resultOf (w .state) c .state;
-  history = tell w c;
-  devices = devicesAfterAll c (accountsOf (tell w c)) v (resultOf (w .state) c .answers) (w .devices);
+  history = historyAfter w c;
+  devices = devicesAfterAll c (accountsOf (historyAfter w c)) v (resultOf (w .state) c .answers) (w .devices);
 }
 worldAfter w (takes-one d k) = record {
   state = w .state;
