@@ -22,8 +22,9 @@ use Rattle.rules.specs.Events.{attach, oneRestart}
 use Rattle.rules.specs.History.{Outcome, reported-done, reported-failed, not-sent, Answered, Account, placedAccount, sentAccount, answeredAccount, endedAccount, noteAnswers, workingAfterAll}
 use Rattle.rules.specs.Order.{Event, failure-of, restart-of}
 use Rattle.rules.specs.Demand3.{doneOnes}
+use Rattle.rules.specs.HubOrder.{doneSteps}
 use Rattle.rules.proofs.Lists.{byIf, put-same, put-other, put-keeps, fold-++, Each, each-mid, each-drop, each-insert, NotIn, ids-fresh, ids-right}
-use Rattle.rules.proofs.Groups.{Group, ids, doneSteps, alone, with, leaving, attachEvent, other-ids}
+use Rattle.rules.proofs.Groups.{Group, ids, alone, with, leaving, attachEvent, other-ids}
 use Rattle.rules.proofs.Same.{Pairwise, Same, same-refl, same-placed, same-leaving, same-attached, same-each}
 use Rattle.rules.proofs.Steps.{leftSteps, answeredSteps, send-step, skip-step, done-step, done-gains, fail-step, fail-done, Fresh, fresh-newcomer}
 use Rattle.rules.proofs.Invariant.{HubOk, commandsIn, Tells}

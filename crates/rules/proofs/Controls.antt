@@ -1,14 +1,14 @@
 -- Worlds in which a wrong rule shows: each is computed, and one of the three parts of demand 3 fails in it as soon as the rule is changed as the edit of the same name
 -- in `must-fail/` does. (`failed_never_puts_back` shows in `failedAfterChange` of `Worlds.antt`.) Assumes nothing.
 use mathlib.Core.Path.{refl}
-use mathlib.Core.List.{List, [], _∷_}
+use mathlib.Core.List.{List, [], _∷_, _++_}
 use lib.IntN.{pos}
 use Rattle.rules.specs.Answers.{submit, turn, report, failure, restart, cancel}
 use Rattle.rules.specs.Open.{newHub}
-use Rattle.rules.specs.Order.{entries}
+use Rattle.rules.specs.Order.{failure-of, event, entries}
 use Rattle.rules.specs.Serial.{allUp}
 use Rattle.rules.specs.World.{Act, calls, takes-one, accounts, worldAfterAll, newWorld}
-use Rattle.rules.specs.Demand3.{orderIn, CommandsStand}
+use Rattle.rules.specs.Demand3.{orderIn, Begins, CommandsStand}
 use Rattle.rules.specs.Examples.{must, best}
 use Rattle.rules.proofs.Worlds.{calcWorld, Passage, endOf, Passes, call, elsewhere}
 
@@ -18,7 +18,7 @@ committedStays = record {
   devices = 2;
   passLimit = 8;
   acts = call (submit (must 0 (pos 50) ∷ must 1 (pos 20) ∷ [])) ∷ call (turn 1) ∷ takes-one 0 0 ∷ call (report 1 0) ∷ call (submit (must 0 (pos 70) ∷ [])) ∷ call (turn 2) ∷ takes-one 0 0
-      ∷ call (report 2 0) ∷ call (turn 2) ∷ call (submit (must 0 (pos 9) ∷ [])) ∷ call (turn 3) ∷ takes-one 0 0 ∷ call (report 3 0) ∷ call (turn 3) ∷ call (cancel 1) ∷ [];
+      ∷ call (report 2 0) ∷ call (turn 2) ∷ call (submit (must 0 (pos 9) ∷ [])) ∷ call (turn 3) ∷ takes-one 0 0 ∷ call (report 3 0) ∷ call (turn 3) ∷ call (cancel 1) ∷ takes-one 0 0 ∷ [];
   settings = pos 9 ∷ pos 0 ∷ [];
 }
 
@@ -26,7 +26,7 @@ pub committed-stays : Passes committedStays
 unfolding calcWorld
 committed-stays = record {
   accepted = refl;
-  premise = ((λ _. tt), ((λ _. tt), (tt, ((λ _. refl), ((λ _. tt), ((λ _. tt), (tt, ((λ _. refl), ((λ _. tt), ((λ _. tt), ((λ _. tt), (tt, ((λ _. refl), ((λ _. tt), ((λ _. tt), tt)))))))))))))));
+  premise = ((λ _. tt), ((λ _. tt), (tt, ((λ _. refl), ((λ _. tt), ((λ _. tt), (tt, ((λ _. refl), ((λ _. tt), ((λ _. tt), ((λ _. tt), (tt, ((λ _. refl), ((λ _. tt), ((λ _. tt), (tt, tt))))))))))))))));
   none-runs = λ i. elsewhere (accounts (endOf committedStays)) 1 refl i
       (λ n. elsewhere (accounts (endOf committedStays)) 2 refl i (λ m. elsewhere (accounts (endOf committedStays)) 3 refl i (λ k. rw (n, m, k) refl)));
   ready = refl;
@@ -139,3 +139,11 @@ restart-aborts = tt
 pub skip-begins : Stands (call (failure 0) ∷ call (submit (best 0 (pos 5) ∷ [])) ∷ call (turn 1) ∷ call (restart 0 (pos 0)) ∷ [])
 unfolding calcWorld
 skip-begins = (refl, (refl, tt), tt)
+
+-- marks_stay_settled: 1 has settled and the mark of 0 is 0, so the failure of 0 comes last in the settled part. Attached to 1, it would get in ahead of 2, which has settled too.
+pub settled-stands :
+    let first = call (submit (must 0 (pos 5) ∷ [])) ∷ call (turn 1) ∷ call (report 1 0) ∷ call (turn 1) ∷ call (submit (must 1 (pos 6) ∷ [])) ∷ call (turn 2) ∷ call (report 2 0) ∷ call (turn 2) ∷ [] in
+    let o = newWorld (newHub 2 0 1) in
+    Begins (orderIn (worldAfterAll o first) .settled) (entries (orderIn (worldAfterAll o (first ++ (call (failure 0) ∷ [])))))
+unfolding calcWorld
+settled-stands = (event (failure-of 0) ∷ [], refl)

@@ -17,6 +17,7 @@ use Rattle.rules.specs.Abort.{later, attachTo}
 use Rattle.rules.specs.Submit.{pass}
 use Rattle.rules.specs.Events.{oneRestart}
 use Rattle.rules.specs.Order.{Event, failure-of, restart-of, Entry, routine, event}
+use Rattle.rules.specs.HubOrder.{doneSteps, entryOf}
 use Rattle.rules.proofs.Lists.{byIf, Each, NotIn, IdsOk, ids-other}
 
 pub record Group : Type 0 where
@@ -30,13 +31,6 @@ members (g ∷ l) = g .member ∷ members l
 abbrev pub ids : List Group → List ℕ
 ids [] = []
 ids (g ∷ l) = g .member .id ∷ ids l
-
-abbrev pub doneSteps : List Step → List Command
-doneSteps [] = []
-doneSteps (x ∷ l) = if isDone (x .status) then x .command ∷ doneSteps l else doneSteps l
-
-abbrev pub entryOf : Member → Entry
-entryOf m = routine (m .id) (doneSteps (m .steps)) (m .committed)
 
 -- the order's entries of a list of groups
 abbrev pub flat : List Group → List Entry

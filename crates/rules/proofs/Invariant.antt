@@ -19,8 +19,9 @@ use Rattle.rules.specs.History.{Answered, Account}
 use Rattle.rules.specs.Order.{Event, failure-of, restart-of, Entry, routine, event, Order, beforeBar, entries}
 use Rattle.rules.specs.World.{Origin, put-back, sent-for, sameOrigin, Message, Device}
 use Rattle.rules.specs.Demand3.{doneOnes}
+use Rattle.rules.specs.HubOrder.{doneSteps}
 use Rattle.rules.proofs.Lists.{Each, IdsOk}
-use Rattle.rules.proofs.Groups.{Group, members, ids, doneSteps, flat, entryIds, isOf, lastRestart}
+use Rattle.rules.proofs.Groups.{Group, members, ids, flat, entryIds, isOf, lastRestart}
 use Rattle.rules.proofs.Steps.{InTurn, leftSteps, answeredSteps}
 
 -- ---- marks

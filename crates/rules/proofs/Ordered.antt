@@ -20,9 +20,10 @@ use Rattle.rules.specs.Turn.{commit, commitTurn, sendTurn, skipTurn}
 use Rattle.rules.specs.Report.{doneReport, skippedState, skipReport}
 use Rattle.rules.specs.Events.{attachAt, attach, oneRestart}
 use Rattle.rules.specs.History.{Account}
-use Rattle.rules.specs.Order.{Event, failure-of, restart-of, Entry, routine, event, Order, beforeNext, behindRoutine, putAfter, edit, editOrder, goes, gains, noted, orderAfter, orderAfterAll, entries}
+use Rattle.rules.specs.Order.{Event, failure-of, restart-of, Entry, routine, event, Order, beforeNext, behindRoutine, hasRoutine, putAfter, edit, editOrder, goes, gains, noted, orderAfter, orderAfterAll, entries}
+use Rattle.rules.specs.HubOrder.{doneSteps, entryOf}
 use Rattle.rules.proofs.Lists.{eqb-sym, fold-++, Each, each-left, each-right, each-mid, each-insert, each-swap, IsNot, NotIn, IdsOk, ids-drop, ids-insert, ids-other, ids-not-zero}
-use Rattle.rules.proofs.Groups.{Group, members, ids, doneSteps, entryOf, flat, entryIds, deviceOf, lastRestart, alone, with, changed, passAll, foundAt, leaving, leadOf, addEvent, attachEvent, leadWith, ids-++, flat-++, ids-swap, flat-pass, events-++, flat-leaving, flat-cut, flat-added, attach-miss, attach-hit}
+use Rattle.rules.proofs.Groups.{Group, members, ids, flat, entryIds, deviceOf, lastRestart, alone, with, changed, passAll, foundAt, leaving, leadOf, addEvent, attachEvent, leadWith, ids-++, flat-++, ids-swap, flat-pass, events-++, flat-leaving, flat-cut, flat-added, attach-miss, attach-hit}
 use Rattle.rules.proofs.Same.{same-placed, same-leaving, same-attached, same-ids}
 use Rattle.rules.proofs.Steps.{send-step, skip-step, done-gains, fail-done, fresh-newcomer}
 use Rattle.rules.proofs.Invariant.{Quiet, HubOk, setAfter, upAfter, EventsOk, OrderOk, Tells}
@@ -167,6 +168,12 @@ behind-flat x (y ∷ a) g b h =
       append-assoc (map event (y .events)) (flat (a ++ (g ∷ []))) (x ∷ flat b),
     ) refl
 
+-- a routine of the sequence does not stand before the bar
+has-miss : (j : ℕ) (l : List Entry) → NotIn j (entryIds l) → hasRoutine j l ≡ false
+has-miss j [] h = refl
+has-miss j (routine i cs b ∷ l) h = rw (ne-eqb i j (h .0), has-miss j l (h .1)) refl
+has-miss j (event e ∷ l) h = has-miss j l h
+
 -- an entry put after j comes behind `pre` and before b
 abbrev Slot : Order → ℕ → List Entry → List Group → Type 0
 Slot o j pre b = (x : Entry) → putAfter x j o ≡ withUnsettled o (pre ++ (x ∷ flat b))
@@ -179,7 +186,8 @@ slot-behind : (s : State) (o : Order) (lead : List Event) (a : List Group) (g : 
     Slot o (g .member .id) (map event lead ++ flat (a ++ (g ∷ []))) b
 unfolding putAfter
 slot-behind s o lead a g b k x =
-    ap (λ l. withUnsettled o l) (rw (ne-eqb (g .member .id) 0 (not-zero s o lead a g b k))
+    rw (ne-eqb (g .member .id) 0 (not-zero s o lead a g b k), has-miss (g .member .id) (o .settled) (each-left (IsNot (g .member .id)) (entryIds (o .settled)) (ids a) (unmet s o lead a g b k)))
+    (ap (λ l. withUnsettled o l)
     (ap (λ l. behindRoutine x (g .member .id) l) (k .unsettled-is) ∙ behind-events x (g .member .id) lead (flat (a ++ (g ∷ b)))
     ∙ ap (λ l. map event lead ++ l) (behind-flat x a g b (unmet-behind s o lead a g b k)) ∙ sym (append-assoc (map event lead) (flat (a ++ (g ∷ []))) (x ∷ flat b))))
 

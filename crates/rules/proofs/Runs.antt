@@ -16,8 +16,9 @@ use Rattle.rules.specs.Abort.{later, attachTo}
 use Rattle.rules.specs.Events.{oneRestart}
 use Rattle.rules.specs.Order.{Event, failure-of, restart-of, Entry, routine, event, Order}
 use Rattle.rules.specs.Submit.{pass}
+use Rattle.rules.specs.HubOrder.{doneSteps}
 use Rattle.rules.proofs.Lists.{or-left, or-right, eqb-sym, fold-++, Each, each-mid, each-drop}
-use Rattle.rules.proofs.Groups.{Group, members, doneSteps, flat, isOf, lastRestart, passAll, addEvents, leaving, addEvent, attachEvent, added-is}
+use Rattle.rules.proofs.Groups.{Group, members, flat, isOf, lastRestart, passAll, addEvents, leaving, addEvent, attachEvent, added-is}
 use Rattle.rules.proofs.Same.{Pairwise, pairs-each, pairs-placed, pairs-last, pairs-attached}
 use Rattle.rules.proofs.Steps.{unbegun-after}
 use Rattle.rules.proofs.Invariant.{Quiet, setEvent, setCommands, setAfter, upEvent, upAfter, EventsOk, OrderOk}

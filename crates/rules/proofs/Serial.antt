@@ -15,8 +15,9 @@ use Rattle.rules.specs.Settle.{joinSettled, settle}
 use Rattle.rules.specs.Order.{Event, failure-of, restart-of, Entry, routine, event, Order, beforeBar, behindBar, entries, moveBar}
 use Rattle.rules.specs.Serial.{DeviceState, runCommand, runCommands, serialRun}
 use Rattle.rules.specs.Demand3.{Begins}
+use Rattle.rules.specs.HubOrder.{doneSteps, entryOf}
 use Rattle.rules.proofs.Lists.{byIf, eqb-sym, put-keeps, Each, IdsOk}
-use Rattle.rules.proofs.Groups.{Group, members, ids, doneSteps, entryOf, flat, entryIds, stillHeld, entryIds-++, entryIds-events}
+use Rattle.rules.proofs.Groups.{Group, members, ids, flat, entryIds, stillHeld, entryIds-++, entryIds-events}
 use Rattle.rules.proofs.Invariant.{HubOk, FirstRuns, setCommands, setAfter, upAfter, EventsOk, OrderOk}
 use Rattle.rules.proofs.Runs.{set-++, set-flat, settled-alone}
 use Rattle.rules.proofs.Fields.{settles}

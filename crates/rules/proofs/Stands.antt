@@ -20,8 +20,9 @@ use Rattle.rules.specs.History.{Outcome, reported-done, reported-failed,
 use Rattle.rules.specs.Order.{Event, failure-of, restart-of, Entry, routine, event, Order, orderAfterAll, entries}
 use Rattle.rules.specs.Serial.{DeviceState, allUp, runEntry}
 use Rattle.rules.specs.Demand3.{Finds, afterAnswered, AllFind, doneOnes, CommandsStand}
+use Rattle.rules.specs.HubOrder.{doneSteps}
 use Rattle.rules.proofs.Lists.{or-left, or-right, put-same, put-other, put-keeps, Each, each-++, each-left, each-right, each-mid, IsNot, NotIn, IdsOk, ids-fresh, ids-other}
-use Rattle.rules.proofs.Groups.{Group, ids, doneSteps, flat, entryIds, deviceOf, alone, changed, passAll, leaving, leadOf, attachEvent, leadWith, flat-++, entryIds-++, entryIds-flat, flat-pass, flat-leaving}
+use Rattle.rules.proofs.Groups.{Group, ids, flat, entryIds, deviceOf, alone, changed, passAll, leaving, leadOf, attachEvent, leadWith, flat-++, entryIds-++, entryIds-flat, flat-pass, flat-leaving}
 use Rattle.rules.proofs.Steps.{leftSteps, skip-step, done-step, fail-step, unbegun-answered}
 use Rattle.rules.proofs.Invariant.{Quiet, HubOk, FliesUp, upEvent, upAfter, OrderOk, commandsIn, Tells}
 use Rattle.rules.proofs.View.{sentMember, skippedMember, doneMember, failedMember, Gone, nobody, somebody, Moves, places, commits, sends, skips, dones, misses, aborts, fails, restarts}

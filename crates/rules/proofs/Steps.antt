@@ -15,8 +15,9 @@ use Rattle.rules.specs.State.{Status, to-do, in-flight, was-done, was-sk
 use Rattle.rules.specs.Progress.{isOn, isToDo, isInFlight, isDone, isAnswered, begun, finished, inFlightOn, inFlight, next, Flight, flightOr, flight, advance, answerFlight, withSteps}
 use Rattle.rules.specs.Due.{afterSteps}
 use Rattle.rules.specs.Submit.{stepOf, newcomer}
+use Rattle.rules.specs.HubOrder.{doneSteps}
 use Rattle.rules.proofs.Lists.{byIf, t≠f, or-left, or-right, and-left, fold-++, anyOf-++}
-use Rattle.rules.proofs.Groups.{doneSteps}
+use Rattle.rules.proofs.Groups.{}
 
 abbrev pub AllToDo : List Step → Type 0
 AllToDo [] = Unit {0}

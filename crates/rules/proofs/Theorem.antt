@@ -2,7 +2,7 @@
 use mathlib.Core.Path.{_≡_, refl, sym, ap, _∙_, subst}
 use mathlib.Core.Logic.{_≢_}
 use mathlib.Core.Bool.{Bool, true, false, not, _||_, or-true}
-use mathlib.Core.List.{List, [], _∷_, _++_, append-assoc, append-nil}
+use mathlib.Core.List.{List, [], _∷_, _++_, map, append-assoc, append-nil, tail-eq-of-cons-eq, nil≢cons}
 use Prim.Native.Nat.{ℕ, _<_, _≤_}
 use native.Mathlib.Omega.{arith}
 use borrow.Author.Tests.{eqb-true, eqb-false}
@@ -25,12 +25,13 @@ use Rattle.rules.specs.Turn.{commitTurn, sendTurn, skipTurn}
 use Rattle.rules.specs.Report.{doneReport, skippedState, skipReport}
 use Rattle.rules.specs.Events.{oneRestart}
 use Rattle.rules.specs.History.{Account, noteAnswer, noteAnswers, accountsOf, workingAfter, workingOf}
-use Rattle.rules.specs.Order.{Event, Entry, Order, orderAfter, orderAfterAll, entries, moveBar}
+use Rattle.rules.specs.Order.{Event, Entry, routine, event, Order, orderAfter, orderAfterAll, beforeBar, entries, moveBar}
 use Rattle.rules.specs.Serial.{allUp, serialRun}
-use Rattle.rules.specs.World.{Message, Device, takes, devicesAfterAll, World, Act, calls, takes-one, accounts, worldAfter, worldAfterAll, taken, isAccepted, Truthful, Premise, PremiseAll, newWorld}
-use Rattle.rules.specs.Demand3.{orderIn, NoneRuns, isBack, EndState, Begins, CommandsStand, Statement}
+use Rattle.rules.specs.World.{Message, Device, takes, World, Act, calls, takes-one, accounts, afterCall, worldAfter, worldAfterAll, taken, isAccepted, Truthful, Premised, Premise, PremiseAll, newWorld}
+use Rattle.rules.specs.Demand3.{orderIn, NoneRuns, isBack, committedPart, EndState, Begins, CommandsStand, Statement}
+use Rattle.rules.specs.HubOrder.{entryOf, routinesIn, OrderIsHubs}
 use Rattle.rules.proofs.Lists.{byIf, t≠f, fold-++, Each, anyOf-++}
-use Rattle.rules.proofs.Groups.{Group, stillHeld, each-held}
+use Rattle.rules.proofs.Groups.{Group, members, flat, stillHeld, each-held}
 use Rattle.rules.proofs.Invariant.{unmarked, HubOk, FliesUp, FirstRuns, OrderOk, Tells, backTo, Comes, has, goes-back, OneFlies, DeviceAt, dead, free, busy, DeviceOk, Honest}
 use Rattle.rules.proofs.View.{Gone, nobody, somebody, Moves, places, commits, sends, skips, dones, misses, aborts, fails, restarts, Seen, is-refused, waits, moves, see}
 use Rattle.rules.proofs.Fields.{Fixed, gone-fixed, attach-fixed, settle-fixed}
@@ -69,18 +70,6 @@ begins-trans : (a b c : List Entry) → Begins a b → Begins b c → Begins a c
 begins-trans a b c p q = (p .0 ++ q .0, q .1 ∙ ap (λ l. l ++ q .0) (p .1) ∙ append-assoc a (p .0) (q .0))
 
 -- ---- a call
-
--- the world after a call with this result
-abbrev afterCall : World → Call → ℤ → Result → World
-afterCall w c v r = record {
-  state = r .state;
-  history = record { call = c; answers = r .answers } ∷ w .history;
-  devices = devicesAfterAll c (accountsOf (record { call = c; answers = r .answers } ∷ w .history)) v (r .answers) (w .devices);
-}
-
--- the premise on a call with this result
-abbrev Premised : World → Call → Result → Type 0
-Premised w c r = isAccepted (r .answers) ≡ true → Truthful w c
 
 honest : (w : World) (c : Call) → Truthful w c → Honest (accounts w) (w .devices) c
 unfolding taken
@@ -138,7 +127,7 @@ untold P Q w c x h a k o = record {
 
 -- a call that changes something
 told : (P : Type 0) (w : World) (c : Call) (v : ℤ) (h : Holds P w) {r : Result} {lead : List Event} {k : List Group} → Moves (w .state) (h .groups) c r lead k →
-    Next (P × Premised w c r) w (afterCall w c v (settling r))
+    Next (P × Premised w c (r .answers)) w (afterCall w c v (settling r))
 told P w c v h {r = r} {lead = lead} {k = k} m = record {
   next = record {
     groups = stillHeld k;
@@ -186,7 +175,7 @@ told P w c v h {r = r} {lead = lead} {k = k} m = record {
         × Begins (orderAfterAll c a (r .answers) (orderIn w) .settled) (moveBar (orderAfterAll c a (r .answers) (orderIn w)) .settled)
     settled = order-settles (r .state) (orderAfterAll c a (r .answers) (orderIn w)) lead k hub (moved .0)
 
-seen : (P : Type 0) (w : World) (c : Call) (v : ℤ) (h : Holds P w) {r : Result} → Seen (w .state) (h .groups) c r → Next (P × Premised w c r) w (afterCall w c v r)
+seen : (P : Type 0) (w : World) (c : Call) (v : ℤ) (h : Holds P w) {r : Result} → Seen (w .state) (h .groups) c r → Next (P × Premised w c (r .answers)) w (afterCall w c v r)
 seen P w c v h (is-refused r) = untold P _ w c (refused r) h refl refl refl
 seen P w c v h (waits i j) = untold P _ w c (wait i j) h refl refl refl
 seen P w c v h (moves m) = told P w c v h m
@@ -278,18 +267,45 @@ settles-at d s a w u n (busy e f) = absurd (nobody-flies f)
     nobody-flies : OneFlies d a w [] → ⊥
     nobody-flies = elim [ ]
 
+-- the serial run gives what the hub has of d
+serial-is : (P : Type 0) (w : World) → Holds P w → (d : ℕ) → serialRun (entries (orderIn w)) allUp d ≡ record { up = w .state .up d; setting = due (w .state) d }
+serial-is P w h d =
+    let k = h .known in
+    ap (λ u. record { up = u; setting = serialRun (entries (orderIn w)) allUp d .setting }) (serial-up d (entries (orderIn w)) allUp ∙ k .order .up-is d)
+    ∙ ap (λ v. record { up = w .state .up d; setting = v }) (serial-setting d (entries (orderIn w)) allUp ∙ order-due (w .state) (orderIn w) (h .groups) (k .hub) (k .order) d)
+
+-- what stands before the bar is committed
+all-committed : (l : List Entry) → beforeBar l ≡ l → committedPart l ≡ l
+all-committed [] e = refl
+all-committed (event x ∷ l) e = ap (λ m. event x ∷ m) (all-committed l (tail-eq-of-cons-eq e))
+all-committed (routine i cs true ∷ l) e = ap (λ m. routine i cs true ∷ m) (all-committed l (tail-eq-of-cons-eq e))
+all-committed (routine i cs false ∷ l) e = absurd (nil≢cons e)
+
 end-state : (P : Type 0) (w : World) → Holds P w → P → EndState (w .state .devices) w
 end-state P w h p none-runs d n works no-back =
-    ap (λ u. record { up = u; setting = serialRun (entries (orderIn w)) allUp d .setting }) (serial-up d (entries (orderIn w)) allUp ∙ k .order .up-is d ∙ up)
-    ∙ ap (λ v. record { up = true; setting = v })
-    (serial-setting d (entries (orderIn w)) allUp ∙ order-due (w .state) (orderIn w) (h .groups) (k .hub) (k .order) d ∙ settles-at d (w .state) (accounts w) (w .devices d) up no-back
-    (subst (λ l. DeviceAt d (w .state .up d) (due (w .state) d) (accounts w) l (w .devices d)) (nobody-left w (h .groups) none-runs (k .first) (k .tells)) (h .devices p d n .device-at)))
+    ap (λ l. serialRun l allUp d) all-settled ∙ serial-is P w h d ∙ ap (λ u. record { up = u; setting = due (w .state) d }) up
+    ∙ ap (λ v. record { up = true; setting = v }) (settles-at d (w .state) (accounts w) (w .devices d) up no-back
+    (subst (λ l. DeviceAt d (w .state .up d) (due (w .state) d) (accounts w) l (w .devices d)) none-held (h .devices p d n .device-at)))
   where
     k : Known (w .state) (orderIn w) (accounts w) (workingOf (w .history)) (h .groups)
     k = h .known
 
     up : w .state .up d ≡ true
     up = sym (k .works d) ∙ works
+
+    none-held : h .groups ≡ []
+    none-held = nobody-left w (h .groups) none-runs (k .first) (k .tells)
+
+    -- the whole order is settled
+    settled : entries (orderIn w) ≡ orderIn w .settled
+    settled = ap (λ l. orderIn w .settled ++ l) (k .order .unsettled-is ∙ ap flat none-held) ∙ append-nil (orderIn w .settled)
+
+    all-settled : committedPart (entries (orderIn w)) ≡ entries (orderIn w)
+    all-settled = ap committedPart settled ∙ all-committed (orderIn w .settled) (k .order .barred) ∙ sym settled
+
+-- what holds after any list, from an accepted opening
+started : (n k first : ℕ) (s : State) → openOf n k first ≡ opened s → Holds (Unit {0}) (newWorld s)
+started n k first s e = let h = opening n k first s e in subst (λ t. Holds (Unit {0}) (newWorld t)) (h .0) (new-holds n k first (h .1))
 
 pub demand-3 : Statement
 demand-3 n k first s e acts = record {
@@ -311,7 +327,24 @@ demand-3 n k first s e acts = record {
     w = worldAfterAll o acts
 
     start : Holds (Unit {0}) o
-    start = let h = opening n k first s e in subst (λ t. Holds (Unit {0}) (newWorld t)) (h .0) (new-holds n k first (h .1))
+    start = started n k first s e
 
     all : Next (Unit {0} × PremiseAll o acts) o w
     all = acts-hold (Unit {0}) o acts start
+
+-- the routines behind the bar are those of the groups
+routines-flat : (l : List Group) → routinesIn (flat l) ≡ map entryOf (members l)
+routines-flat [] = refl
+routines-flat (g ∷ l) = ap (λ m. entryOf (g .member) ∷ m) (past (g .events) ∙ routines-flat l)
+  where
+    past : (e : List Event) → routinesIn (map event e ++ flat l) ≡ routinesIn (flat l)
+    past [] = refl
+    past (x ∷ e) = past e
+
+pub hub-order : OrderIsHubs
+hub-order n k first s e acts =
+    let h = acts-hold (Unit {0}) (newWorld s) acts (started n k first s e) .next in
+    record {
+      routines-are = ap routinesIn (h .known .order .unsettled-is) ∙ routines-flat (h .groups) ∙ ap (map entryOf) (sym (h .known .hub .sequence-is));
+      devices-are = serial-is (Unit {0} × PremiseAll (newWorld s) acts) (worldAfterAll (newWorld s) acts) h;
+    }

@@ -15,7 +15,7 @@ use Rattle.rules.specs.History.{Told, Account, workingOf}
 use Rattle.rules.specs.Order.{putAfter, entries, moveBar}
 use Rattle.rules.specs.Serial.{DeviceState, allUp, serialRun}
 use Rattle.rules.specs.World.{put-back, sent-for, World, Act, calls, takes-one, accounts, worldAfterAll, taken, PremiseAll, newWorld}
-use Rattle.rules.specs.Demand3.{orderIn, NoneRuns, isBack, CommandsStand}
+use Rattle.rules.specs.Demand3.{orderIn, NoneRuns, isBack, committedPart, CommandsStand}
 use Rattle.rules.specs.Examples.{calc, must, best, back}
 use Rattle.rules.proofs.Lists.{t≠f, this-or-other}
 
@@ -43,9 +43,9 @@ abbrev pub settingsFrom : World → ℕ → ℕ → List ℤ
 settingsFrom w d zero = []
 settingsFrom w d (suc left) = w .devices d .setting ∷ settingsFrom w (suc d) left
 
-abbrev pub conditionsFrom : World → ℕ → ℕ → List DeviceState
-conditionsFrom w d zero = []
-conditionsFrom w d (suc left) = serialRun (entries (orderIn w)) allUp d ∷ conditionsFrom w (suc d) left
+abbrev pub statesFrom : World → ℕ → ℕ → List DeviceState
+statesFrom w d zero = []
+statesFrom w d (suc left) = serialRun (committedPart (entries (orderIn w))) allUp d ∷ statesFrom w (suc d) left
 
 abbrev pub upAt : List ℤ → List DeviceState
 upAt [] = []
@@ -58,7 +58,7 @@ pub record Passes (p : Passage) : Type 0 where
   pub none-runs : NoneRuns (endOf p)
   pub ready : readyFrom (endOf p) 0 (p .devices) ≡ true
   pub settings-are : settingsFrom (endOf p) 0 (p .devices) ≡ p .settings
-  pub serial-is : conditionsFrom (endOf p) 0 (p .devices) ≡ upAt (p .settings)
+  pub serial-is : statesFrom (endOf p) 0 (p .devices) ≡ upAt (p .settings)
   pub stands : CommandsStand (accounts (endOf p)) (entries (orderIn (endOf p))) allUp
 
 -- a call that leaves no device at another setting

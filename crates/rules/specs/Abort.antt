@@ -26,13 +26,13 @@ attachTo e m = record { id = m .id; steps = m .steps; passed = m .passed; commit
 unfoldable pub settleRestarts : (ℕ → Option ℤ) → (ℕ → ℤ) → ℕ → ℤ
 settleRestarts e settled d = afterRestart (e d) (settled d)
 
--- "events attached to R move there": to the routine before it in the sequence, the last of those ahead,
+-- "events attached to R move there", to the routine before it in the sequence: the last of those ahead.
 abbrev pub attachToLast : (ℕ → Option ℤ) → List Member → List Member
 attachToLast e [] = []
 attachToLast e (m ∷ []) = attachTo e m ∷ []
 attachToLast e (m ∷ (n ∷ l)) = m ∷ attachToLast e (n ∷ l)
 
--- or to 0, if none is ahead.
+-- They move to 0 if none is ahead.
 abbrev pub settleIfFirst : (ℕ → Option ℤ) → List Member → (ℕ → ℤ) → ℕ → ℤ
 settleIfFirst e [] settled = settleRestarts e settled
 settleIfFirst e (m ∷ l) settled = settled

@@ -11,7 +11,7 @@ use Rattle.rules.specs.Open.{opened, openOf}
 use Rattle.rules.specs.History.{Outcome, reported-done, reported-failed, not-sent, Answered, Account, workingOf}
 use Rattle.rules.specs.Order.{Entry, routine, event, Order, entries, orderOf}
 use Rattle.rules.specs.Serial.{DeviceState, allUp, runCommand, runEntry, serialRun}
-use Rattle.rules.specs.World.{Origin, put-back, sent-for, Message, World, accounts, Act, worldAfterAll, PremiseAll, newWorld}
+use Rattle.rules.specs.World.{put-back, sameOrigin, Message, World, accounts, Act, worldAfterAll, PremiseAll, newWorld}
 
 -- The order of a world: built from its calls and answers.
 abbrev pub orderIn : World → Order
@@ -22,19 +22,23 @@ abbrev pub NoneRuns : World → Type 0
 NoneRuns w = (i : ℕ) → accounts w i .running ≡ false
 
 abbrev pub isBack : Message → Bool
-isBack m = isPutBack (m .origin)
-  where
-    isPutBack : Origin → Bool
-    isPutBack put-back = true
-    isPutBack (sent-for i n) = false
+isBack m = sameOrigin (m .origin) put-back
 
--- Each working device, nothing that puts it back being left to take, "has exactly the setting" of the serial run.
+-- The demand: "the committed routines, each with the commands reported done, and all accepted failures and restarts".
+abbrev pub committedPart : List Entry → List Entry
+committedPart [] = []
+committedPart (routine i cs true ∷ l) = routine i cs true ∷ committedPart l
+committedPart (routine i cs false ∷ l) = committedPart l
+committedPart (event e ∷ l) = event e ∷ committedPart l
+
+-- Each working device, nothing that puts it back being left to take, is up in the serial run of these and has its setting. They run "one after another
+-- from the opening, in the hub's order".
 abbrev pub EndState : ℕ → World → Type 0
 EndState n w =
     NoneRuns w → (d : ℕ) → d < n → workingOf (w .history) d ≡ true → anyOf isBack (w .devices d .sent) ≡ false →
-    serialRun (entries (orderIn w)) allUp d ≡ record { up = true; setting = w .devices d .setting }
+    serialRun (committedPart (entries (orderIn w))) allUp d ≡ record { up = true; setting = w .devices d .setting }
 
--- Part 2, settled part. "what was settled after any first part of the list stands unchanged and unmoved at the beginning of that order"
+-- Part 2, settled part. The demand: "what was settled after any first part of the list stands unchanged and unmoved at the beginning of that order"
 abbrev pub Begins : List Entry → List Entry → Type 0
 Begins first whole = (rest : List Entry) × (whole ≡ first ++ rest)
 
@@ -42,7 +46,7 @@ abbrev pub SettledStands : World → List Act → Type 0
 SettledStands w acts =
     (before rest : List Act) → acts ≡ before ++ rest → Begins (orderIn (worldAfterAll w before) .settled) (entries (orderIn (worldAfterAll w acts)))
 
--- Part 3, where commands stand. "In it every done command finds its device up; every skipped one was reported failed or finds it down."
+-- Part 3, where commands stand. Document 01, The hub's order: "In it every done command finds its device up; every skipped one was reported failed or finds it down."
 abbrev pub Finds : Bool → Outcome → Type 0
 Finds isUp reported-done = isUp ≡ true
 Finds isUp reported-failed = Unit {0}

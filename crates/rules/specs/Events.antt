@@ -39,7 +39,7 @@ attach i e s = if eqb i 0 then withSettled s (settleRestarts e (s .settled)) els
 
 -- One restart, of D.
 unfoldable pub oneRestart : ℕ → ℤ → ℕ → Option ℤ
-oneRestart d v e = if eqb e d then some v else none
+oneRestart d v device = if eqb device d then some v else none
 
 -- "On a failure D first becomes down." The abort; "Then the event is attached to D's mark": it changes no due setting, so the state keeps
 -- nothing of it but that D is down; the answer has the mark.

@@ -109,7 +109,7 @@ ring = record {
   settings = some (pos 0) ∷ some (pos 0) ∷ some (pos 0) ∷ [];
 }
 
--- "1 did device 0 = 50 and has device 1 left; 2 follows with 70" and has done it.
+-- "1 did device 0 = 50 and has device 1 left; 2 follows with 70": its command c has been sent.
 abbrev pub followed : Command → List Call
 followed c = submit (must 0 (pos 50) ∷ must 1 (pos 20) ∷ []) ∷ turn 1 ∷ report 1 0 ∷ submit (c ∷ []) ∷ turn 2 ∷ []
 

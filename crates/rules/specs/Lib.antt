@@ -19,3 +19,4 @@ pub mod Serial
 pub mod World
 pub mod Demand3
 pub mod Examples
+pub mod HubOrder

@@ -1,6 +1,6 @@
 -- Document 01, "The hub's order": "Built from the accepted calls and their answers alone, it is a list, empty at first, with a bar that ends the
 -- settled part." Assumes nothing.
-use mathlib.Core.Bool.{Bool, true, false}
+use mathlib.Core.Bool.{Bool, true, false, _||_}
 use mathlib.Core.List.{List, [], _∷_, _++_}
 use Prim.Native.Nat.{ℕ}
 use lib.Dec.{eqb}
@@ -38,10 +38,19 @@ behindRoutine x j [] = x ∷ []
 behindRoutine x j (routine i cs b ∷ l) = routine i cs b ∷ (if eqb i j then beforeNext x l else behindRoutine x j l)
 behindRoutine x j (event e ∷ l) = event e ∷ behindRoutine x j l
 
+-- Does the routine X stand in this part?
+abbrev pub hasRoutine : ℕ → List Entry → Bool
+hasRoutine j [] = false
+hasRoutine j (routine i cs b ∷ l) = eqb i j || hasRoutine j l
+hasRoutine j (event e ∷ l) = hasRoutine j l
+
 -- "Placed, or an event, after X: it goes before the next routine behind X, or last; after 0, before the first routine behind the bar, or last."
--- Every X but 0 stands behind the bar.
+-- Where X stands before the bar, so does what is put after it.
 unfoldable pub putAfter : Entry → ℕ → Order → Order
-putAfter x j o = record { settled = o .settled; unsettled = if eqb j 0 then beforeNext x (o .unsettled) else behindRoutine x j (o .unsettled) }
+putAfter x j o =
+    if eqb j 0 then record { settled = o .settled; unsettled = beforeNext x (o .unsettled) }
+    else if hasRoutine j (o .settled) then record { settled = behindRoutine x j (o .settled); unsettled = o .unsettled }
+    else record { settled = o .settled; unsettled = behindRoutine x j (o .unsettled) }
 
 -- The routine R, wherever it stands, becomes what f makes of its done commands and its commit.
 abbrev pub edit : ℕ → (List Command → Bool → List Entry) → List Entry → List Entry
@@ -90,14 +99,14 @@ abbrev pub orderAfterAll : Call → (ℕ → Account) → List Answer → Order 
 orderAfterAll c a [] o = o
 orderAfterAll c a (x ∷ l) o = orderAfterAll c a l (orderAfter c a x o)
 
--- "at the call's end the bar goes before the first routine not committed, or to the end": what stands before it,
+-- "at the call's end the bar goes before the first routine not committed, or to the end": what then stands before the bar.
 abbrev pub beforeBar : List Entry → List Entry
 beforeBar [] = []
 beforeBar (event e ∷ l) = event e ∷ beforeBar l
 beforeBar (routine i cs true ∷ l) = routine i cs true ∷ beforeBar l
 beforeBar (routine i cs false ∷ l) = []
 
--- and behind it.
+-- And what then stands behind the bar.
 abbrev pub behindBar : List Entry → List Entry
 behindBar [] = []
 behindBar (event e ∷ l) = behindBar l

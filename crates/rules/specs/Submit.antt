@@ -26,13 +26,13 @@ submitCheck s cs =
 unfoldable pub blocks : State → List Command → Member → Bool
 blocks s cs m = anyOf (λ c. eqb (s .mark (c .device)) (m .id)) cs || (isRunning m && leb (s .passLimit) (m .passed))
 
--- "directly after the latest, in the sequence, of": the part of the sequence up to the last that passes the test, none if none does: the newcomer
--- then follows the settled part,
+-- "directly after the latest, in the sequence, of": the part of the sequence up to the last that passes the test. It is empty if none does: the
+-- newcomer then follows the settled part.
 abbrev pub upToLast : (Member → Bool) → List Member → List Member
 upToLast p [] = []
 upToLast p (m ∷ l) = if anyOf p (m ∷ l) then m ∷ upToLast p l else []
 
--- and the part behind it.
+-- The part of the sequence behind the last that passes the test.
 abbrev pub pastLast : (Member → Bool) → List Member → List Member
 pastLast p [] = []
 pastLast p (m ∷ l) = if anyOf p (m ∷ l) then pastLast p l else m ∷ l

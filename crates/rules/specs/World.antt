@@ -9,7 +9,7 @@ use lib.IntN.{ℤ, pos}
 use Rattle.routine.specs.Choice.{if_then_else_}
 use Rattle.rules.specs.Tables.{anyOf, put}
 use Rattle.rules.specs.State.{State}
-use Rattle.rules.specs.Answers.{Call, submit, turn, report, failure, restart, cancel, Back, Answer, refused, placed, wait, send, done, skipped, committed, aborted, down, up}
+use Rattle.rules.specs.Answers.{Call, submit, turn, report, failure, restart, cancel, Back, Answer, refused, placed, wait, send, done, skipped, committed, aborted, down, up, Result}
 use Rattle.rules.specs.Report.{codeDone}
 use Rattle.rules.specs.Calls.{resultOf}
 use Rattle.rules.specs.History.{Told, Account, accountsOf}
@@ -103,15 +103,19 @@ abbrev pub accounts : World → ℕ → Account
 accounts w = accountsOf (w .history)
 
 -- The history with one call more.
-abbrev pub historyAfter : World → Call → List Told
-historyAfter w c = record { call = c; answers = resultOf (w .state) c .answers } ∷ w .history
+abbrev pub historyAfter : World → Call → List Answer → List Told
+historyAfter w c answers = record { call = c; answers = answers } ∷ w .history
+
+-- The world after a call with this result.
+abbrev pub afterCall : World → Call → ℤ → Result → World
+afterCall w c v r = record {
+  state = r .state;
+  history = historyAfter w c (r .answers);
+  devices = devicesAfterAll c (accountsOf (historyAfter w c (r .answers))) v (r .answers) (w .devices);
+}
 
 abbrev pub worldAfter : World → Act → World
-worldAfter w (calls c v) = record {
-  state = resultOf (w .state) c .state;
-  history = historyAfter w c;
-  devices = devicesAfterAll c (accountsOf (historyAfter w c)) v (resultOf (w .state) c .answers) (w .devices);
-}
+worldAfter w (calls c v) = afterCall w c v (resultOf (w .state) c)
 worldAfter w (takes-one d k) = record {
   state = w .state;
   history = w .history;
@@ -139,7 +143,7 @@ isAccepted (aborted i b ∷ l) = true
 isAccepted (down d j ∷ l) = true
 isAccepted (up d j ∷ l) = true
 
--- The premise on an accepted call: "a done report means the setting was taken, a failed report means it was not", "a restart reports the setting it
+-- The premise on an accepted call. The demand: "a done report means the setting was taken, a failed report means it was not", "a restart reports the setting it
 -- then has".
 abbrev pub Truthful : World → Call → Type 0
 Truthful w (submit cs) = Unit {0}
@@ -149,8 +153,12 @@ Truthful w (failure d) = Unit {0}
 Truthful w (restart d v) = v ≡ w .devices d .setting
 Truthful w (cancel i) = Unit {0}
 
+-- Asked of a call that is accepted with these answers.
+abbrev pub Premised : World → Call → List Answer → Type 0
+Premised w c answers = isAccepted answers ≡ true → Truthful w c
+
 abbrev pub Premise : World → Act → Type 0
-Premise w (calls c v) = isAccepted (resultOf (w .state) c .answers) ≡ true → Truthful w c
+Premise w (calls c v) = Premised w c (resultOf (w .state) c .answers)
 Premise w (takes-one d k) = Unit {0}
 
 abbrev pub PremiseAll : World → List Act → Type 0
