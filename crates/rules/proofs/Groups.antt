@@ -9,15 +9,13 @@ use borrow.Author.Tests.{eq-eqb, ne-eqb}
 use lib.Dec.{eqb}
 use lib.IntN.{ℤ}
 use Rattle.routine.specs.Choice.{if_then_else_}
-use Rattle.routine.specs.declared.Command.{Command}
 use Rattle.rules.specs.State.{Step, Member}
-use Rattle.rules.specs.Progress.{isDone}
 use Rattle.rules.specs.Sequence.{Found}
 use Rattle.rules.specs.Abort.{later, attachTo}
 use Rattle.rules.specs.Submit.{pass}
 use Rattle.rules.specs.Events.{oneRestart}
 use Rattle.rules.specs.Order.{Event, failure-of, restart-of, Entry, routine, event}
-use Rattle.rules.specs.HubOrder.{doneSteps, entryOf}
+use Rattle.rules.specs.HubOrder.{entryOf}
 use Rattle.rules.proofs.Lists.{byIf, Each, NotIn, IdsOk, ids-other}
 
 pub record Group : Type 0 where

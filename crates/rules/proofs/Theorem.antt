@@ -24,7 +24,7 @@ use Rattle.rules.specs.Submit.{place}
 use Rattle.rules.specs.Turn.{commitTurn, sendTurn, skipTurn}
 use Rattle.rules.specs.Report.{doneReport, skippedState, skipReport}
 use Rattle.rules.specs.Events.{oneRestart}
-use Rattle.rules.specs.History.{Account, noteAnswer, noteAnswers, accountsOf, workingAfter, workingOf}
+use Rattle.rules.specs.History.{Account, noteAnswer, noteAnswers, workingAfter, workingOf}
 use Rattle.rules.specs.Order.{Event, Entry, routine, event, Order, orderAfter, orderAfterAll, beforeBar, entries, moveBar}
 use Rattle.rules.specs.Serial.{allUp, serialRun}
 use Rattle.rules.specs.World.{Message, Device, takes, World, Act, calls, takes-one, accounts, afterCall, worldAfter, worldAfterAll, taken, isAccepted, Truthful, Premised, Premise, PremiseAll, newWorld}

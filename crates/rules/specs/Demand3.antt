@@ -3,7 +3,6 @@ use mathlib.Core.Path.{_≡_}
 use mathlib.Core.Bool.{Bool, true, false}
 use mathlib.Core.List.{List, [], _∷_, _++_}
 use Prim.Native.Nat.{ℕ, _<_}
-use Rattle.routine.specs.Choice.{if_then_else_}
 use Rattle.routine.specs.declared.Command.{Command}
 use Rattle.rules.specs.Tables.{anyOf}
 use Rattle.rules.specs.State.{State}
@@ -21,6 +20,7 @@ orderIn w = orderOf (w .history)
 abbrev pub NoneRuns : World → Type 0
 NoneRuns w = (i : ℕ) → accounts w i .running ≡ false
 
+-- Was it sent to put the device back?
 abbrev pub isBack : Message → Bool
 isBack m = sameOrigin (m .origin) put-back
 
@@ -52,16 +52,18 @@ Finds isUp reported-done = isUp ≡ true
 Finds isUp reported-failed = Unit {0}
 Finds isUp not-sent = isUp ≡ false
 
--- The answered commands of a routine, in turn.
+-- What a command that was answered so leaves: a done one is run.
 abbrev pub afterAnswered : Outcome → Command → (ℕ → DeviceState) → ℕ → DeviceState
 afterAnswered reported-done c t = runCommand c t
 afterAnswered reported-failed c t = t
 afterAnswered not-sent c t = t
 
+-- The answered commands of a routine, in turn.
 abbrev pub AllFind : List Answered → (ℕ → DeviceState) → Type 0
 AllFind [] t = Unit {0}
 AllFind (x ∷ l) t = Finds (t (x .command .device) .up) (x .outcome) × AllFind l (afterAnswered (x .outcome) (x .command) t)
 
+-- Those of them that were done.
 abbrev pub doneOnes : List Answered → List Command
 doneOnes [] = []
 doneOnes (x ∷ l) = ifDone (x .outcome) (x .command) (doneOnes l)

@@ -1,8 +1,7 @@
 -- Document 01, "Examples from the exam hall": those with ★ that concern the hub, as one list, each through its last settings. (The two ★ examples
 -- of a book stand in crate `layout`.) Assumes nothing.
 use mathlib.Core.Path.{_≡_, refl}
-use mathlib.Core.Bool.{Bool, true, false}
-use mathlib.Core.List.{List, [], _∷_, _++_, map}
+use mathlib.Core.List.{List, [], _∷_, _++_}
 use mathlib.Core.Option.{Option, none, some}
 use Prim.Native.Nat.{ℕ, zero, suc}
 use lib.IntN.{ℤ, pos, negsuc}

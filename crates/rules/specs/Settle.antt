@@ -2,7 +2,6 @@
 use mathlib.Core.List.{List, [], _∷_}
 use Prim.Native.Nat.{ℕ}
 use lib.Dec.{eqb}
-use lib.IntN.{ℤ}
 use Rattle.routine.specs.Choice.{if_then_else_}
 use Rattle.rules.specs.State.{Member, State}
 use Rattle.rules.specs.Answers.{Result}

@@ -1,7 +1,7 @@
 -- Document 01, "The devices", and the premise of demand 3: the hub, what it was told, and all devices, which take what was sent to them at any
 -- time. Assumes nothing.
 use mathlib.Core.Path.{_≡_}
-use mathlib.Core.Bool.{Bool, true, false, not, _&&_}
+use mathlib.Core.Bool.{Bool, true, false, _&&_}
 use mathlib.Core.List.{List, [], _∷_, _++_}
 use Prim.Native.Nat.{ℕ, zero, suc}
 use lib.Dec.{eqb}
