@@ -18,11 +18,11 @@ use Rattle.rules.specs.Abort.{leave, abort}
 use Rattle.rules.specs.Submit.{newcomer, place}
 use Rattle.rules.specs.Turn.{commit, commitTurn, sendTurn, skipTurn}
 use Rattle.rules.specs.Report.{doneReport, skippedState, skipReport}
-use Rattle.rules.specs.Events.{attach, oneRestart}
 use Rattle.rules.specs.History.{Outcome, reported-done, reported-failed, not-sent, Answered, Account, placedAccount, sentAccount, answeredAccount, endedAccount, noteAnswers, workingAfterAll}
 use Rattle.rules.specs.Order.{Event, failure-of, restart-of}
 use Rattle.rules.specs.Demand3.{doneOnes}
 use Rattle.rules.specs.HubOrder.{doneSteps}
+use Rattle.rules.specs.Attach.{attach, oneRestart}
 use Rattle.rules.proofs.Lists.{byIf, put-same, put-other, put-keeps, fold-++, Each, each-mid, each-drop, each-insert, NotIn, ids-fresh, ids-right}
 use Rattle.rules.proofs.Groups.{Group, ids, alone, with, leaving, attachEvent, other-ids}
 use Rattle.rules.proofs.Same.{Pairwise, Same, same-refl, same-placed, same-leaving, same-attached, same-each}
@@ -219,7 +219,7 @@ Unsent s a = (i : ℕ) → s .nextId ≤ i → a i .sends ≡ 0
 
 pub unsent-moves : (s : State) (a : ℕ → Account) (l : List Group) {c : Call} {r : Result} {lead : List Event} {k : List Group} → HubOk s l → Unsent s a → Moves s l c r lead k →
     Unsent (r .state) (noteAnswers c (r .answers) a)
-unfolding place commitTurn sendTurn skipTurn doneReport skippedState skipReport abort leave
+unfolding place commitTurn sendTurn skipTurn doneReport skippedState skipReport abort leave attach
 unsent-moves s a l h u (places cs ga gb q f v p n) i e = byIf (λ (x : Account). x .sends ≡ 0) (eqb i (s .nextId)) (λ _. refl) (λ _. u i (omega arith))
 unsent-moves s a l h u (commits j ga g gb f n r k q) i e = put-sends a (g .member .id) _ refl i ∙ u i e
 unsent-moves s a l h u (sends j ga g gb c f n r k q x v) i e = ap (λ (y : Account). y .sends) (put-other a (g .member .id) _ i (λ z. given z)) ∙ u i e
@@ -256,7 +256,7 @@ put-agree f g d b e p = ap (λ x. if eqb e d then b else x) p
 
 pub working-moves : (s : State) (w : ℕ → Bool) (l : List Group) {c : Call} {r : Result} {lead : List Event} {k : List Group} →
     ((d : ℕ) → w d ≡ s .up d) → Moves s l c r lead k → (d : ℕ) → workingAfterAll (r .answers) w d ≡ r .state .up d
-unfolding place commitTurn sendTurn skipTurn doneReport skippedState skipReport abort leave
+unfolding place commitTurn sendTurn skipTurn doneReport skippedState skipReport abort leave attach
 working-moves s w l e (places cs ga gb q f u p n) d = e d
 working-moves s w l e (commits i ga g gb f n r k q) d = e d
 working-moves s w l e (sends i ga g gb c f n r k q x u) d = e d

@@ -15,11 +15,11 @@ use Rattle.rules.specs.Answers.{Call, failure, restart, Back, Answer, do
 use Rattle.rules.specs.Progress.{inFlightOn}
 use Rattle.rules.specs.Due.{afterRestart, afterMember, afterMembers, due}
 use Rattle.rules.specs.Sequence.{withUp}
-use Rattle.rules.specs.Abort.{attachTo, settleRestarts, leave, isPutBack, putBacks, abort}
-use Rattle.rules.specs.Events.{attachAt, attach, oneRestart}
+use Rattle.rules.specs.Abort.{leave, isPutBack, putBacks, abort}
 use Rattle.rules.specs.History.{Account, noteAnswer, noteAnswers}
 use Rattle.rules.specs.Order.{Event, failure-of, restart-of}
 use Rattle.rules.specs.World.{sent-for, Message, Device, receives, putBack, putAllBack, drops, dropReported, devicesAfter, devicesAfterAll}
+use Rattle.rules.specs.Attach.{attachTo, settleRestarts, attachAt, attach, oneRestart}
 use Rattle.rules.proofs.Lists.{byIf, t≠f, this-or-other, same-setting, put-same, put-other, put-keeps, fold-++, Each, each-++, each-right, each-mid, each-drop, NotIn}
 use Rattle.rules.proofs.Groups.{Group, members, ids, foundAt, leaving, attachEvent, other-ids}
 use Rattle.rules.proofs.Same.{Pairwise, Same, same-leaving, same-attached}
@@ -73,7 +73,7 @@ leave-at : (d : ℕ) (s : State) (a b : ℕ → Account) (x : List Group) (g : G
     DeviceAt d (s .up d) (due s d) a (x ++ (g ∷ y)) w →
     let t = leave s (foundAt x g y) in
     DeviceAt d (t .up d) (due t d) b (leaving x g y) (if isPutBack s (g .member) t d then receives (backTo (due t d)) u else u)
-unfolding abort leave isPutBack
+unfolding abort leave attach isPutBack
 leave-at d s a b x g y w u h q at = go at
   where
     t : State
@@ -256,8 +256,11 @@ at-other d i f n (m ∷ l) v =
 -- restarts of other devices change nothing of d
 due-other : (d i : ℕ) (f : ℕ → Option ℤ) (s : State) → f d ≡ none → due (attach i f s) d ≡ due s d
 unfolding attach due settleRestarts
-due-other d i f s n =
-    byIf (λ t. due t d ≡ due s d) (eqb i 0) (λ _. ap (λ x. afterMembers d (s .sequence) (afterRestart x (s .settled d))) n) (λ _. at-other d i f n (s .sequence) (s .settled d))
+due-other d i f s n = go (eqb i 0)
+  where
+    go : (b : Bool) → afterMembers d (if b then s .sequence else attachAt i f (s .sequence)) ((if b then settleRestarts f (s .settled) else s .settled) d) ≡ due s d
+    go true = ap (λ x. afterMembers d (s .sequence) (afterRestart x (s .settled d))) n
+    go false = at-other d i f n (s .sequence) (s .settled d)
 
 -- a restart of e at a routine behind which everyone is quiet
 at-this : (e i : ℕ) (f : ℕ → Option ℤ) (w : ℤ) → f e ≡ some w → (x : List Group) (g : Group) (y : List Group) → NotIn i (ids x) → g .member .id ≡ i → Each EventsOk y → Each (Quiet e) y →

@@ -4,7 +4,6 @@ use mathlib.Core.Bool.{Bool, true, false}
 use mathlib.Core.List.{List, [], _∷_}
 use mathlib.Core.Option.{Option}
 use Prim.Native.Nat.{ℕ}
-use lib.Dec.{eqb}
 use lib.IntN.{ℤ}
 use Rattle.routine.specs.Choice.{if_then_else_}
 use Rattle.rules.specs.State.{Member, State}
@@ -13,8 +12,8 @@ use Rattle.rules.specs.Due.{afterMembers, due}
 use Rattle.rules.specs.Sequence.{withSequence}
 use Rattle.rules.specs.Settle.{joinSettled, settleFrom, settle}
 use Rattle.rules.specs.Abort.{leave, abort}
-use Rattle.rules.specs.Events.{attach}
 use Rattle.rules.specs.Order.{Event}
+use Rattle.rules.specs.Attach.{attach}
 use Rattle.rules.proofs.Lists.{byIf}
 use Rattle.rules.proofs.Groups.{Group, members, stillHeld}
 use Rattle.rules.proofs.Invariant.{FirstRuns}
@@ -32,13 +31,13 @@ fixedOf s = record { devices = s .devices; passLimit = s .passLimit; nextId = s 
 
 -- the abort ahead of an event
 pub gone-fixed : (s : State) (d : ℕ) (l : List Group) {r : Result} {lead : List Event} {k : List Group} → Gone s d l r lead k → fixedOf (r .state) ≡ fixedOf s
-unfolding abort leave
+unfolding abort leave attach
 gone-fixed s d l (nobody n) = refl
 gone-fixed s d l (somebody a g b e n) = refl
 
 pub attach-fixed : (j : ℕ) (e : ℕ → Option ℤ) (s : State) → fixedOf (attach j e s) ≡ fixedOf s
 unfolding attach
-attach-fixed j e s = byIf (λ t. fixedOf t ≡ fixedOf s) (eqb j 0) (λ _. refl) (λ _. refl)
+attach-fixed j e s = refl
 
 from-fixed : (l : List Member) (s : State) → fixedOf (settleFrom s l) ≡ fixedOf s
 unfolding joinSettled

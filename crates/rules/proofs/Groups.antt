@@ -1,22 +1,22 @@
 -- Each routine of the sequence together with all events attached to it: the hub's sequence and the order behind the bar are read off this list, which
 -- only the proofs keep. What the calls do to the list, and what is then read off it. Assumes nothing.
 use mathlib.Core.Path.{_≡_, refl, sym, ap, _∙_, subst}
-use mathlib.Core.Bool.{Bool}
+use mathlib.Core.Bool.{Bool, false}
 use mathlib.Core.List.{List, [], _∷_, _++_, map, append-assoc, append-nil, map-append}
 use mathlib.Core.Option.{Option, none}
+use mathlib.Core.Logic.{inl, inr}
 use Prim.Native.Nat.{ℕ}
 use borrow.Author.Tests.{eq-eqb, ne-eqb}
 use lib.Dec.{eqb}
 use lib.IntN.{ℤ}
 use Rattle.routine.specs.Choice.{if_then_else_}
 use Rattle.rules.specs.State.{Step, Member}
-use Rattle.rules.specs.Sequence.{Found}
-use Rattle.rules.specs.Abort.{later, attachTo}
+use Rattle.rules.specs.Sequence.{Found, lastIdOr}
 use Rattle.rules.specs.Submit.{pass}
-use Rattle.rules.specs.Events.{oneRestart}
 use Rattle.rules.specs.Order.{Event, failure-of, restart-of, Entry, routine, event}
 use Rattle.rules.specs.HubOrder.{entryOf}
-use Rattle.rules.proofs.Lists.{byIf, Each, NotIn, IdsOk, ids-other}
+use Rattle.rules.specs.Attach.{later, attachTo, oneRestart}
+use Rattle.rules.proofs.Lists.{byIf, Each, NotIn, In, IdsOk, ids-other, ids-not-zero, in-other}
 
 pub record Group : Type 0 where
   pub member : Member
@@ -204,3 +204,12 @@ attach-hit j x (y ∷ a) g b n e = rw (ne-eqb (y .member .id) j (n .0), attach-h
 pub each-held : (P : Group → Type 0) (l : List Group) → Each P l → Each P (stillHeld l)
 each-held P [] h = tt
 each-held P (g ∷ l) h = byIf (Each P) (g .member .committed) (λ _. each-held P l (h .1)) (λ _. h)
+
+-- ---- the last of a list
+
+pub last-in : (x : Group) (l : List Group) → In (lastIdOr (x .member .id) (members l)) (ids (x ∷ l))
+last-in x [] = inl refl
+last-in x (y ∷ l) = inr (last-in y l)
+
+pub last-not-zero : (n : ℕ) (x : Group) (l : List Group) → IdsOk n (ids (x ∷ l)) → eqb (lastIdOr (x .member .id) (members l)) 0 ≡ false
+last-not-zero n x l k = ne-eqb _ 0 (in-other 0 _ (ids (x ∷ l)) (ids-not-zero n (ids (x ∷ l)) k) (last-in x l))

@@ -17,8 +17,9 @@ use Rattle.rules.specs.Abort.{leave, abort}
 use Rattle.rules.specs.Submit.{newcomer, place}
 use Rattle.rules.specs.Turn.{commit, commitTurn, sendTurn, skipTurn}
 use Rattle.rules.specs.Report.{doneReport, skippedState, skipReport}
-use Rattle.rules.specs.Events.{isHalfway, attach, oneRestart}
+use Rattle.rules.specs.Events.{isHalfway}
 use Rattle.rules.specs.Order.{Event, failure-of, restart-of}
+use Rattle.rules.specs.Attach.{attach, oneRestart}
 use Rattle.rules.proofs.Lists.{byIf, t≠f, put-other, Each, each-mid, each-drop, each-insert, each-swap, each-map}
 use Rattle.rules.proofs.Groups.{Group, alone, with, passAll, foundAt, leaving, attachEvent, stillHeld, each-held}
 use Rattle.rules.proofs.Same.{Same, same-placed, same-leaving, same-attached, same-each}
@@ -107,7 +108,7 @@ module _ (s : State) (a : List Group) (g : Group) (b : List Group) (f : Each (Fl
 
 pub flies-moves : (s : State) (l : List Group) {c : Call} {r : Result} {lead : List Event} {k : List Group} → HubOk s l → Each (FliesUp s) l → Moves s l c r lead k →
     Each (FliesUp (r .state)) k
-unfolding place commitTurn commit sendTurn skipTurn doneReport skipReport skippedState abort leave inFlightOn
+unfolding place commitTurn commit sendTurn skipTurn doneReport skipReport skippedState abort leave attach inFlightOn
 flies-moves s l h f (places cs a b _ e _ _ _) =
     let w = subst (Each (FliesUp s)) e f in
     let n = newcomer (s .nextId) cs in

@@ -149,6 +149,10 @@ ids-insert n [] b p h = (p, omega arith, ids-fresh n b h, wider b h)
     wider (x ∷ l) k = (k .0, omega arith, k .2, wider l (k .3))
 ids-insert n (z ∷ a) b p h = (h .0, omega arith, each-insert (IsNot z) a n b (h .2) (omega arith), ids-insert n a b p (h .3))
 
+pub ids-left : (n : ℕ) (a b : List ℕ) → IdsOk n (a ++ b) → IdsOk n a
+ids-left n [] b h = tt
+ids-left n (z ∷ a) b h = (h .0, h .1, each-left (IsNot z) a b (h .2), ids-left n a b (h .3))
+
 pub ids-right : (n : ℕ) (a b : List ℕ) → IdsOk n (a ++ b) → IdsOk n b
 ids-right n [] b h = h
 ids-right n (z ∷ a) b h = ids-right n a b (h .3)

@@ -15,14 +15,15 @@ use Rattle.rules.specs.Tables.{anyOf}
 use Rattle.rules.specs.State.{Member, State}
 use Rattle.rules.specs.Answers.{Result}
 use Rattle.rules.specs.Progress.{isOn, isAnswered, begun, finished}
-use Rattle.rules.specs.Sequence.{isRunning, lastIdOr, withSequence, withSettled, withUp}
-use Rattle.rules.specs.Settle.{clearMarks, joinSettled, settle}
-use Rattle.rules.specs.Abort.{attachTo, settleRestarts, attachToLast, moveMarks, leave, abort}
+use Rattle.rules.specs.Sequence.{isRunning, lastIdOr, withSequence, withSettled, withUp, moveMarks}
+use Rattle.rules.specs.Settle.{joinSettled, settle}
+use Rattle.rules.specs.Abort.{leave, abort}
 use Rattle.rules.specs.Submit.{blocks, upToLast, pastLast, stepOf, newcomer, place}
-use Rattle.rules.specs.Events.{isHalfway, attachAt, attach, oneRestart}
+use Rattle.rules.specs.Events.{isHalfway}
 use Rattle.rules.specs.Order.{Event, failure-of, restart-of}
-use Rattle.rules.proofs.Lists.{byIf, t≠f, or-left, or-right, this-or-other, Each, each-++, each-left, each-right, each-mid, each-drop, each-insert, each-map, anyOf-++, IsNot, NotIn, IdsOk, ids-drop, ids-insert, ids-other, ids-not-zero, in-other}
-use Rattle.rules.proofs.Groups.{Group, members, ids, deviceOf, isOf, alone, passAll, foundAt, addEvents, addToLast, leaving, addEvent, attachEvent, stillHeld, members-++, ids-++, members-pass, added-is, attach-miss}
+use Rattle.rules.specs.Attach.{attachTo, attachAt, attach, oneRestart}
+use Rattle.rules.proofs.Lists.{byIf, t≠f, or-left, or-right, this-or-other, Each, each-++, each-left, each-right, each-mid, each-drop, each-insert, each-map, anyOf-++, IsNot, NotIn, IdsOk, ids-drop, ids-insert, ids-left, ids-other, ids-not-zero, in-other}
+use Rattle.rules.proofs.Groups.{Group, members, ids, deviceOf, isOf, alone, passAll, foundAt, addEvents, addToLast, leaving, addEvent, attachEvent, stillHeld, members-++, ids-++, members-pass, added-is, attach-miss, last-in, last-not-zero}
 use Rattle.rules.proofs.Same.{Pairwise, pair, pairs-each, pairs-placed, pairs-last, pairs-attached, Same, same-refl, same-pass, same-moved, same-added, same-placed, same-leaving, same-attached, same-each, same-ids}
 use Rattle.rules.proofs.Steps.{InTurn, leftSteps, fresh-newcomer}
 use Rattle.rules.proofs.Invariant.{Quiet, Fin, AtMark, whole, part, Upto, here, there, MarkOk, unmarked, marked, Shut, Turns, HubOk, Calm}
@@ -139,10 +140,21 @@ leaving-sameOn : (d : ℕ) (a : List Group) (g : Group) (b : List Group) → Qui
 leaving-sameOn d a g b q = pairs-last (SameOn d) (sameOn-refl d) (g .events) (g .member .restarts)
     (λ x. record { same-member = same-moved (g .events) (g .member .restarts) x; same-events = no-more d (x .events) (g .events) (q .bare) }) a b
 
-heirs-members : (g : Group) (l : List Group) → members (heirs g l) ≡ attachToLast (g .member .restarts) (members l)
-heirs-members g [] = refl
-heirs-members g (x ∷ []) = refl
-heirs-members g (x ∷ (y ∷ l)) = ap (λ m. x .member ∷ m) (heirs-members g (y ∷ l))
+-- the last ahead is the one with its id
+heirs-members : (n : ℕ) (g x : Group) (l : List Group) (m : List Member) → IdsOk n (ids (x ∷ l)) →
+    attachAt (lastIdOr (x .member .id) (members l)) (g .member .restarts) (members (x ∷ l) ++ m) ≡ members (heirs g (x ∷ l)) ++ m
+heirs-members n g x [] m k = rw (eq-eqb (x .member .id) (x .member .id) refl) refl
+heirs-members n g x (y ∷ l) m k =
+    rw (ne-eqb (x .member .id) (lastIdOr (y .member .id) (members l)) (λ e. in-other (x .member .id) _ (ids (y ∷ l)) (k .2) (last-in y l) (sym e)))
+    (ap (λ q. x .member ∷ q) (heirs-members n g y l m (k .3)))
+
+-- those ahead, with what moves to the last of them
+heirs-sequence : (s : State) (a : List Group) (g : Group) (b : List Group) → HubOk s (a ++ (g ∷ b)) →
+    (if eqb (lastIdOr 0 (members a)) 0 then members a ++ members b else attachAt (lastIdOr 0 (members a)) (g .member .restarts) (members a ++ members b)) ≡ members (leaving a g b)
+heirs-sequence s [] g b h = refl
+heirs-sequence s (x ∷ a) g b h =
+    rw (last-not-zero (s .nextId) x a (ids-left (s .nextId) (ids (x ∷ a)) (g .member .id ∷ ids b) (ids-at s (x ∷ a) g b h)))
+    (heirs-members (s .nextId) g x a (members b) (ids-left (s .nextId) (ids (x ∷ a)) (g .member .id ∷ ids b) (ids-at s (x ∷ a) g b h)) ∙ sym (members-++ (heirs g (x ∷ a)) b))
 
 -- all have finished d: the last can bear the mark
 heirs-mark : (d : ℕ) (g x : Group) (l : List Group) → Each (Fin d) (x ∷ l) → Upto d (lastIdOr (x .member .id) (members l)) (heirs g (x ∷ l))
@@ -181,9 +193,9 @@ leave-mark d i n a g b k m = go (see-mark d i a g b m)
         (marked (upto-left d i (heirs g a) b (each-left (Fin d) (heirs g a) [] (same-each (Fin d) (same-fin d) (same-leaving a g []) (each-++ (Fin d) a [] f tt))) u))
 
 pub hub-leaves : (s : State) (a : List Group) (g : Group) (b : List Group) → HubOk s (a ++ (g ∷ b)) → HubOk (abort s (foundAt a g b) .state) (leaving a g b)
-unfolding abort leave moveMarks
+unfolding abort leave attach moveMarks
 hub-leaves s a g b h = record {
-  sequence-is = sym (members-++ (heirs g a) b ∙ ap (λ l. l ++ members b) (heirs-members g a));
+  sequence-is = heirs-sequence s a g b h;
   ids-ok = rw (same-ids (same-leaving a g b), ids-++ a b) (ids-drop (s .nextId) (ids a) (g .member .id) (ids b) (ids-at s a g b h));
   marks = λ d. leave-mark d (s .mark d) (s .nextId) a g b (ids-at s a g b h) (h .marks d);
   shuts = same-each Shut same-shut (same-leaving a g b) (each-drop Shut a g b (h .shuts));
@@ -273,9 +285,10 @@ hub-fails s d l h c = event-ok s (failure-of d) l h c (s .sequence) (s .settled)
 pub hub-restarts : (s : State) (d : ℕ) (v : ℤ) (l : List Group) → HubOk s l → Each (Calm d) l →
     HubOk (attach (s .mark d) (oneRestart d v) s) (attachEvent (s .mark d) (restart-of d v) l)
 unfolding attach
-hub-restarts s d v l h c = byIf (λ t. HubOk t (attachEvent i x l)) (eqb i 0)
-    (λ t. ok (s .sequence) (settleRestarts e (s .settled)) (h .sequence-is ∙ ap members (sym (attach-zero s l h i x (eqb-true i 0 t)))))
-    (λ t. ok (attachAt i e (s .sequence)) (s .settled) (ap (attachAt i e) (h .sequence-is) ∙ attached l))
+hub-restarts s d v l h c =
+    event-ok s x l h c _ _
+    (byIf (λ q. q ≡ members (attachEvent i x l)) (eqb i 0) (λ t. h .sequence-is ∙ ap members (sym (attach-zero s l h i x (eqb-true i 0 t))))
+    (λ _. ap (attachAt i e) (h .sequence-is) ∙ attached l))
   where
     i : ℕ
     i = s .mark d
@@ -285,9 +298,6 @@ hub-restarts s d v l h c = byIf (λ t. HubOk t (attachEvent i x l)) (eqb i 0)
 
     e : ℕ → Option ℤ
     e = oneRestart d v
-
-    ok : (q : List Member) (w : ℕ → ℤ) → q ≡ members (attachEvent i x l) → HubOk (withSettled (withSequence s q) w) (attachEvent i x l)
-    ok = event-ok s x l h c
 
     attached : (l : List Group) → attachAt i e (members l) ≡ members (attachEvent i x l)
     attached [] = refl
@@ -306,7 +316,7 @@ hub-up s u l h = record { sequence-is = h .sequence-is; ids-ok = h .ids-ok; mark
 
 -- a first one that settles leaves as any other
 join-ok : (s : State) (g : Group) (l : List Group) → HubOk (withSequence s (members (g ∷ l))) (g ∷ l) → HubOk (withSequence (joinSettled s (g .member)) (members l)) l
-unfolding joinSettled clearMarks
+unfolding joinSettled moveMarks
 join-ok s g l h = record {
   sequence-is = refl;
   ids-ok = h .ids-ok .3;

@@ -12,18 +12,18 @@ use Rattle.routine.specs.declared.Command.{Command}
 use Rattle.rules.specs.Tables.{put}
 use Rattle.rules.specs.State.{Step, Member, State}
 use Rattle.rules.specs.Answers.{Call, failure, restart, Answer, down, up, Result}
-use Rattle.rules.specs.Sequence.{lastIdOr, withSequence, withSettled, withUp, withMark}
+use Rattle.rules.specs.Sequence.{lastIdOr, withSequence, withUp, withMark}
 use Rattle.rules.specs.Due.{afterRestart}
-use Rattle.rules.specs.Abort.{settleRestarts, leave, abort}
+use Rattle.rules.specs.Abort.{leave, abort}
 use Rattle.rules.specs.Submit.{newcomer, place}
 use Rattle.rules.specs.Turn.{commit, commitTurn, sendTurn, skipTurn}
 use Rattle.rules.specs.Report.{doneReport, skippedState, skipReport}
-use Rattle.rules.specs.Events.{attachAt, attach, oneRestart}
 use Rattle.rules.specs.History.{Account}
 use Rattle.rules.specs.Order.{Event, failure-of, restart-of, Entry, routine, event, Order, beforeNext, behindRoutine, hasRoutine, putAfter, edit, editOrder, goes, gains, noted, orderAfter, orderAfterAll, entries}
 use Rattle.rules.specs.HubOrder.{doneSteps, entryOf}
-use Rattle.rules.proofs.Lists.{eqb-sym, fold-++, Each, each-left, each-right, each-mid, each-insert, each-swap, IsNot, NotIn, IdsOk, ids-drop, ids-insert, ids-other, ids-not-zero}
-use Rattle.rules.proofs.Groups.{Group, members, ids, flat, entryIds, deviceOf, lastRestart, alone, with, changed, passAll, foundAt, leaving, leadOf, addEvent, attachEvent, leadWith, ids-++, flat-++, ids-swap, flat-pass, events-++, flat-leaving, flat-cut, flat-added, attach-miss, attach-hit}
+use Rattle.rules.specs.Attach.{settleRestarts, attach, oneRestart}
+use Rattle.rules.proofs.Lists.{eqb-sym, fold-++, Each, each-left, each-right, each-mid, each-insert, each-swap, IsNot, NotIn, IdsOk, ids-drop, ids-insert, ids-other, ids-not-zero, ids-left, ids-right}
+use Rattle.rules.proofs.Groups.{Group, members, ids, flat, entryIds, deviceOf, lastRestart, alone, with, changed, passAll, foundAt, leaving, leadOf, addEvent, attachEvent, leadWith, ids-++, flat-++, ids-swap, flat-pass, events-++, flat-leaving, flat-cut, flat-added, attach-miss, attach-hit, last-not-zero}
 use Rattle.rules.proofs.Same.{same-placed, same-leaving, same-attached, same-ids}
 use Rattle.rules.proofs.Steps.{send-step, skip-step, done-gains, fail-done, fresh-newcomer}
 use Rattle.rules.proofs.Invariant.{Quiet, HubOk, setAfter, upAfter, EventsOk, OrderOk, Tells}
@@ -238,7 +238,7 @@ order-places s o cs a b h k =
 
 order-leaves : (s : State) (o : Order) (a : List Group) (g : Group) (b : List Group) → OrderOk s o [] (a ++ (g ∷ b)) →
     Kept (abort s (foundAt a g b) .state) o (editOrder (g .member .id) goes o) (leadOf a g) (leaving a g b)
-unfolding abort leave settleRestarts
+unfolding abort leave attach settleRestarts
 order-leaves s o a g b k =
     kept (abort s (foundAt a g b) .state) o _ (leadOf a g) (leaving a g b) _ (edit-is s o a g b k goes)
     (record {
@@ -255,7 +255,9 @@ order-leaves s o a g b k =
         set-++ d (o .settled) (map event (g .events)) (pos 0) ∙ set-events d (g .events) _
         ∙ ap (λ x. afterRestart x (setAfter d (o .settled) (pos 0))) (sym (k .events-ok .0 .events-ok d))
         ∙ ap (λ v. afterRestart (g .member .restarts d) v) (settled-alone s o (g ∷ b) k d)
-    settled (x ∷ c) k d = k .settled-is d
+    settled (x ∷ c) k d =
+        rw (last-not-zero (s .nextId) x c (ids-left (s .nextId) (ids (x ∷ c)) (g .member .id ∷ ids b)
+        (subst (IdsOk (s .nextId)) (ids-++ (x ∷ c) (g ∷ b)) (ids-right (s .nextId) (entryIds (o .settled)) (ids ((x ∷ c) ++ (g ∷ b))) (k .ids-ok))))) (k .settled-is d)
 
     ids-is : (entryIds (o .settled) ++ ids a) ++ ids b ≡ entryIds (o .settled) ++ ids (leaving a g b)
     ids-is = append-assoc (entryIds (o .settled)) (ids a) (ids b)
@@ -356,7 +358,7 @@ module _ (x : Event) (s t : State) (o : Order) (lead : List Event) where
 -- `u`: what is up when the routine aborts. On a failure the device is down by then, but the order has the event only after the abort
 order-gone : (s : State) (u : ℕ → Bool) (o : Order) (c : Call) (n : ℕ → Account) (d : ℕ) (l : List Group) {r : Result} {lead : List Event} {k : List Group} →
     OrderOk s o [] l → Gone (withUp s u) d l r lead k → Kept (withUp (r .state) (s .up)) o (orderAfterAll c n (r .answers) o) lead k
-unfolding abort leave
+unfolding abort leave attach
 order-gone s u o c n d l k (nobody f) = (k, refl)
 order-gone s u o c n d l k (somebody a g b e f) = order-leaves s o a g b (subst (λ m. OrderOk s o [] m) e k)
 
@@ -383,12 +385,12 @@ attached-failure d first s t n v u = record { next-is = n; settled-is = λ i. ap
 attached-restart : (d j : ℕ) (v : ℤ) (s : State) (u : ℕ → Bool) → s .up ≡ u →
     Attached (restart-of d v) (eqb j 0) (withUp s u) (withUp (attach j (oneRestart d v) s) (put (attach j (oneRestart d v) s .up) d true))
 unfolding attach settleRestarts
-attached-restart d j v s u e = go (eqb j 0)
+attached-restart d j v s u e = record { next-is = refl; settled-is = go (eqb j 0); up-is = λ i. ap (λ f. put f d true i) e }
   where
-    go : (b : Bool) → let t = if b then withSettled s (settleRestarts (oneRestart d v) (s .settled)) else withSequence s (attachAt j (oneRestart d v) (s .sequence)) in
-        Attached (restart-of d v) b (withUp s u) (withUp t (put (t .up) d true))
-    go true = record { next-is = refl; settled-is = λ i. refl; up-is = λ i. ap (λ f. put f d true i) e }
-    go false = record { next-is = refl; settled-is = λ i. refl; up-is = λ i. ap (λ f. put f d true i) e }
+    go : (b : Bool) (i : ℕ) →
+        (if b then settleRestarts (oneRestart d v) (s .settled) else s .settled) i ≡ (if b then afterRestart (lastRestart i (restart-of d v ∷ [])) (s .settled i) else s .settled i)
+    go true i = refl
+    go false i = refl
 
 -- ---- every call
 

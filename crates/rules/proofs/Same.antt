@@ -5,9 +5,9 @@ use mathlib.Core.Option.{Option}
 use Prim.Native.Nat.{ℕ}
 use lib.Dec.{eqb}
 use lib.IntN.{ℤ}
-use Rattle.rules.specs.Abort.{attachTo}
 use Rattle.rules.specs.Submit.{pass}
 use Rattle.rules.specs.Order.{Event}
+use Rattle.rules.specs.Attach.{attachTo}
 use Rattle.rules.proofs.Lists.{byIf, Each}
 use Rattle.rules.proofs.Groups.{Group, ids, lastRestart, with, passAll, addEvents, addToLast, leaving, addEvent, attachEvent, added-is}
 

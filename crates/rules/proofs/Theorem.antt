@@ -23,13 +23,13 @@ use Rattle.rules.specs.Open.{opened, openCheck, newHub, openIf, openOf}
 use Rattle.rules.specs.Submit.{place}
 use Rattle.rules.specs.Turn.{commitTurn, sendTurn, skipTurn}
 use Rattle.rules.specs.Report.{doneReport, skippedState, skipReport}
-use Rattle.rules.specs.Events.{oneRestart}
 use Rattle.rules.specs.History.{Account, noteAnswer, noteAnswers, workingAfter, workingOf}
 use Rattle.rules.specs.Order.{Event, Entry, routine, event, Order, orderAfter, orderAfterAll, beforeBar, entries, moveBar}
 use Rattle.rules.specs.Serial.{allUp, serialRun}
 use Rattle.rules.specs.World.{Message, Device, takes, World, Act, calls, takes-one, accounts, afterCall, worldAfter, worldAfterAll, taken, isAccepted, Truthful, Premised, Premise, PremiseAll, newWorld}
 use Rattle.rules.specs.Demand3.{orderIn, NoneRuns, isBack, committedPart, EndState, Begins, CommandsStand, Statement}
 use Rattle.rules.specs.HubOrder.{entryOf, routinesIn, OrderIsHubs}
+use Rattle.rules.specs.Attach.{oneRestart, attach}
 use Rattle.rules.proofs.Lists.{byIf, t≠f, fold-++, Each, anyOf-++}
 use Rattle.rules.proofs.Groups.{Group, members, flat, stillHeld, each-held}
 use Rattle.rules.proofs.Invariant.{unmarked, HubOk, FliesUp, FirstRuns, OrderOk, Tells, backTo, Comes, has, goes-back, OneFlies, DeviceAt, dead, free, busy, DeviceOk, Honest}
@@ -89,7 +89,7 @@ gone-accepted s d l x e (somebody a g b q f) = refl
 -- it is accepted, and the devices are as many as before
 moves-same : (s : State) (l : List Group) {c : Call} {r : Result} {lead : List Event} {k : List Group} → Moves s l c r lead k →
     (isAccepted (r .answers) ≡ true) × (r .state .devices ≡ s .devices)
-unfolding place commitTurn sendTurn skipTurn doneReport skippedState skipReport abort leave
+unfolding place commitTurn sendTurn skipTurn doneReport skippedState skipReport abort leave attach
 moves-same s l (places cs a b q e u p n) = (refl, refl)
 moves-same s l (commits i a g b e n r f q) = (refl, refl)
 moves-same s l (sends i a g b c e n r f q w u) = (refl, refl)

@@ -24,10 +24,11 @@ use Rattle.rules.specs.Abort.{abort}
 use Rattle.rules.specs.Submit.{submitCheck, blocks, upToLast, pastLast, newcomer, place, submitOf}
 use Rattle.rules.specs.Turn.{firstHolding, commit, commitTurn, sendTurn, skipTurn, waitOr, turnNext, turnFound, turnOf}
 use Rattle.rules.specs.Report.{codeDone, codeFailed, doneReport, skipReport, reportFlight, reportFound, reportOf}
-use Rattle.rules.specs.Events.{isHalfway, abortIfAny, abortHalfway, attach, oneRestart, failureResult, restartResult, failureOf, restartOf}
+use Rattle.rules.specs.Events.{isHalfway, abortIfAny, abortHalfway, failureResult, restartResult, failureOf, restartOf}
 use Rattle.rules.specs.Cancel.{cancelFound, cancelOf}
 use Rattle.rules.specs.Calls.{resultOf}
 use Rattle.rules.specs.Order.{Event, failure-of, restart-of}
+use Rattle.rules.specs.Attach.{attach, oneRestart}
 use Rattle.rules.proofs.Lists.{byIf, and-left, and-right, Each, each-map}
 use Rattle.rules.proofs.Groups.{Group, members, alone, with, passAll, foundAt, leaving, leadOf, attachEvent, leadWith}
 use Rattle.rules.proofs.Invariant.{Calm}

@@ -1,19 +1,19 @@
 -- Document 01, "Failure or restart of D". Refusals: failure 14, 15; restart 14, 16, 17. Assumes nothing.
 use mathlib.Core.Bool.{Bool, true, false, not, _&&_}
-use mathlib.Core.List.{List, [], _∷_, _++_}
+use mathlib.Core.List.{[], _∷_, _++_}
 use mathlib.Core.Option.{Option, none, some}
 use Prim.Native.Nat.{ℕ}
-use lib.Dec.{leb, eqb}
+use lib.Dec.{leb}
 use lib.IntN.{ℤ}
-use Rattle.routine.specs.Choice.{if_then_else_}
 use Rattle.routine.specs.Range.{inRange}
 use Rattle.routine.specs.Refusals.{event-device, failure-of-down, restart-of-up, restart-setting, refuse_when_, _andThen_}
 use Rattle.rules.specs.Tables.{put}
 use Rattle.rules.specs.State.{Member, State}
 use Rattle.rules.specs.Answers.{Result, down, up, unlessRefused}
 use Rattle.rules.specs.Progress.{begun, finished}
-use Rattle.rules.specs.Sequence.{Found, find, isRunning, withSequence, withSettled, withUp}
-use Rattle.rules.specs.Abort.{attachTo, settleRestarts, abort}
+use Rattle.rules.specs.Sequence.{Found, find, isRunning, withUp}
+use Rattle.rules.specs.Attach.{oneRestart, attach}
+use Rattle.rules.specs.Abort.{abort}
 use Rattle.rules.specs.Settle.{settling}
 
 -- "A running routine that has begun D and not finished it"
@@ -27,19 +27,6 @@ abortIfAny s (some f) = abort s f
 
 unfoldable pub abortHalfway : ℕ → State → Result
 abortHalfway d s = abortIfAny s (find (isHalfway d) (s .sequence))
-
--- The routine with this id gets the restarts.
-abbrev pub attachAt : ℕ → (ℕ → Option ℤ) → List Member → List Member
-attachAt i e [] = []
-attachAt i e (m ∷ l) = if eqb (m .id) i then attachTo e m ∷ l else m ∷ attachAt i e l
-
--- Restarts attached to an id; 0 is the settled part.
-unfoldable pub attach : ℕ → (ℕ → Option ℤ) → State → State
-attach i e s = if eqb i 0 then withSettled s (settleRestarts e (s .settled)) else withSequence s (attachAt i e (s .sequence))
-
--- One restart, of D.
-unfoldable pub oneRestart : ℕ → ℤ → ℕ → Option ℤ
-oneRestart d v device = if eqb device d then some v else none
 
 -- "On a failure D first becomes down." The abort; "Then the event is attached to D's mark": it changes no due setting, so the state keeps
 -- nothing of it but that D is down; the answer has the mark.

@@ -16,20 +16,21 @@ use Rattle.rules.specs.State.{State}
 use Rattle.rules.specs.Answers.{Call, submit, turn, report, failure, restart, cancel, Back, Answer, refused, placed, wait, send, done, skipped, committed, aborted, down, up}
 use Rattle.rules.specs.Progress.{begun, finished, inFlightOn, inFlight}
 use Rattle.rules.specs.Due.{afterMember, due}
-use Rattle.rules.specs.Sequence.{isRunning, runs}
-use Rattle.rules.specs.Settle.{clearMarks, joinSettled, settle}
-use Rattle.rules.specs.Abort.{attachTo, settleRestarts, moveMarks, leave, isPutBack, putBacks, abort}
+use Rattle.rules.specs.Sequence.{isRunning, runs, moveMarks}
+use Rattle.rules.specs.Attach.{oneRestart, attachTo, settleRestarts, attach}
+use Rattle.rules.specs.Settle.{joinSettled, settle}
+use Rattle.rules.specs.Abort.{leave, isPutBack, putBacks, abort}
 use Rattle.rules.specs.Open.{opened, openCheck, newHub, openOf}
 use Rattle.rules.specs.Submit.{submitCheck, blocks, pass, newcomer, place, submitOf}
 use Rattle.rules.specs.Turn.{holds, markBegun, commit, commitTurn, sendTurn, skipTurn, turnOf}
 use Rattle.rules.specs.Report.{doneReport, backIfChanged, skippedState, skipReport, reportOf}
-use Rattle.rules.specs.Events.{isHalfway, abortHalfway, attach, oneRestart, failureResult, restartResult, failureOf, restartOf}
+use Rattle.rules.specs.Events.{isHalfway, abortHalfway, failureResult, restartResult, failureOf, restartOf}
 use Rattle.rules.specs.Cancel.{cancelOf}
 use Rattle.rules.specs.Calls.{resultOf}
 
 -- All that a computation with the rules opens.
 unfoldable pub calc : Unit {0}
-unfolding inRange refusalOf commandCheck commandsCheck routineCheck begun finished inFlightOn inFlight afterMember due isRunning runs clearMarks joinSettled settle attachTo settleRestarts moveMarks leave isPutBack putBacks abort openCheck newHub openOf submitCheck blocks pass newcomer place submitOf holds markBegun commit commitTurn sendTurn skipTurn turnOf doneReport backIfChanged skippedState skipReport reportOf isHalfway abortHalfway attach oneRestart failureResult restartResult failureOf restartOf cancelOf
+unfolding inRange refusalOf commandCheck commandsCheck routineCheck begun finished inFlightOn inFlight afterMember due isRunning runs joinSettled settle attachTo settleRestarts moveMarks leave isPutBack putBacks abort openCheck newHub openOf submitCheck blocks pass newcomer place submitOf holds markBegun commit commitTurn sendTurn skipTurn turnOf doneReport backIfChanged skippedState skipReport reportOf isHalfway abortHalfway attach oneRestart failureResult restartResult failureOf restartOf cancelOf
 calc = tt
 
 -- An opening, calls, what each answers, and the device lines at the end: the due setting of a device that is up, none of one that is down.

@@ -10,7 +10,7 @@ use Rattle.rules.specs.State.{Step, Member, State}
 use Rattle.rules.specs.Progress.{isDone}
 use Rattle.rules.specs.Due.{due}
 use Rattle.rules.specs.Open.{opened, openOf}
-use Rattle.rules.specs.Order.{Entry, routine, event, Order, entries}
+use Rattle.rules.specs.Order.{Entry, routine, event, entries}
 use Rattle.rules.specs.Serial.{allUp, serialRun}
 use Rattle.rules.specs.World.{World, Act, worldAfterAll, newWorld}
 use Rattle.rules.specs.Demand3.{orderIn}

@@ -4,6 +4,7 @@ pub mod Answers
 pub mod Progress
 pub mod Due
 pub mod Sequence
+pub mod Attach
 pub mod Settle
 pub mod Abort
 pub mod Open

@@ -48,6 +48,10 @@ withUp s u = record { devices = s .devices; passLimit = s .passLimit; nextId = s
 abbrev pub withMark : State → (ℕ → ℕ) → State
 withMark s m = record { devices = s .devices; passLimit = s .passLimit; nextId = s .nextId; sequence = s .sequence; settled = s .settled; up = s .up; mark = m }
 
+-- Marks that were i become j.
+unfoldable pub moveMarks : ℕ → ℕ → (ℕ → ℕ) → ℕ → ℕ
+moveMarks i j mark d = if eqb (mark d) i then j else mark d
+
 -- The routine found becomes m.
 abbrev pub change : State → Found → Member → State
 change s f m = withSequence s (f .ahead ++ (m ∷ f .behind))

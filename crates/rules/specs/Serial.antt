@@ -6,7 +6,7 @@ use Prim.Native.Nat.{ℕ}
 use lib.IntN.{ℤ, pos}
 use Rattle.routine.specs.declared.Command.{Command}
 use Rattle.rules.specs.Tables.{put}
-use Rattle.rules.specs.Order.{Event, failure-of, restart-of, Entry, routine, event}
+use Rattle.rules.specs.Order.{failure-of, restart-of, Entry, routine, event}
 
 pub record DeviceState : Type 0 where
   pub up : Bool

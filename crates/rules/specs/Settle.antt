@@ -1,20 +1,14 @@
 -- Document 01, "Settling". Assumes nothing.
 use mathlib.Core.List.{List, [], _∷_}
-use Prim.Native.Nat.{ℕ}
-use lib.Dec.{eqb}
 use Rattle.routine.specs.Choice.{if_then_else_}
 use Rattle.rules.specs.State.{Member, State}
 use Rattle.rules.specs.Answers.{Result}
-use Rattle.rules.specs.Sequence.{withSequence, withSettled, withMark}
+use Rattle.rules.specs.Sequence.{withSequence, withSettled, withMark, moveMarks}
 use Rattle.rules.specs.Due.{afterMember}
 
--- "marks equal to it become 0"
-unfoldable pub clearMarks : ℕ → (ℕ → ℕ) → ℕ → ℕ
-clearMarks i mark d = if eqb (mark d) i then 0 else mark d
-
--- "it joins the settled part with its attached events"
+-- "it joins the settled part with its attached events, and marks equal to it become 0"
 unfoldable pub joinSettled : State → Member → State
-joinSettled s m = withMark (withSettled s (λ d. afterMember d m (s .settled d))) (clearMarks (m .id) (s .mark))
+joinSettled s m = withMark (withSettled s (λ d. afterMember d m (s .settled d))) (moveMarks (m .id) 0 (s .mark))
 
 -- "while the first in the sequence is committed"; l is what is left of the sequence
 abbrev pub settleFrom : State → List Member → State
