@@ -13,7 +13,7 @@ use Rattle.routine.specs.declared.Command.{Command}
 use Rattle.rules.specs.Tables.{put, sameSetting}
 use Rattle.rules.specs.State.{Step, Member, State}
 use Rattle.rules.specs.Answers.{Call, submit, turn, report, placed, Result}
-use Rattle.rules.specs.Progress.{inFlightOn, inFlight, next, Flight, flight, withSteps}
+use Rattle.rules.specs.Progress.{inFlightOn, next, Flight, flight, withSteps}
 use Rattle.rules.specs.Due.{afterSteps, afterRestart, afterMember, afterMembers, due}
 use Rattle.rules.specs.Sequence.{lastIdOr, change}
 use Rattle.rules.specs.Turn.{firstHolding, commit, commitTurn, sendTurn, skipTurn}
@@ -24,7 +24,7 @@ use Rattle.rules.specs.World.{Origin, sent-for, Message, Device, receive
 use Rattle.rules.proofs.Lists.{byIf, t≠f, this-or-other, same-setting, put-same, put-other, Each, each-++, each-right, each-mid, each-map, ids-fresh}
 use Rattle.rules.proofs.Groups.{Group, members, ids, alone, with, passAll, foundAt, members-++, other-ids}
 use Rattle.rules.proofs.Same.{same-placed}
-use Rattle.rules.proofs.Steps.{InTurn, send-step, skip-step, done-step, done-after, fail-step, fail-after, idle-flight, grounded, unbegun-after, fresh-newcomer}
+use Rattle.rules.proofs.Steps.{InTurn, send-step, skip-step, done-step, done-after, fail-step, fail-after, grounded, unbegun-after, fresh-newcomer}
 use Rattle.rules.proofs.Invariant.{Quiet, Fin, HubOk, EventsOk, Old, OldMessage, backTo, Comes, has, goes-back, flightOrigin, NotOrigin, Flying, arrived, going, Still, first-flies, DeviceAt, dead, free, busy, DeviceOk}
 use Rattle.rules.proofs.View.{sentMember, skippedMember, doneMember, failedMember}
 use Rattle.rules.proofs.Runs.{members-after-++, lastRestart-quiet, quiet-members}
@@ -48,8 +48,8 @@ module _ (s : State) (a : ℕ → Account) (p : List Group) (g : Group) (q : Lis
   steps-ok : InTurn (g .member .steps)
   steps-ok = in-turn s p g q h
 
-  idle-still : (d : ℕ) → inFlight (g .member) ≡ false → Still d g
-  idle-still d f = record { still = grounded (g .member) d (idle-flight (g .member) f) }
+  idle-still : (d : ℕ) → flight (g .member .steps) ≡ none → Still d g
+  idle-still d f = record { still = grounded (g .member) d f }
 
   due-steps : (d : ℕ) (l : List Step) → ((u : ℤ) → afterSteps d l u ≡ afterSteps d (g .member .steps) u) → due (change s (foundAt p g q) (withSteps (g .member) l)) d ≡ due s d
   unfolding afterMember
@@ -67,21 +67,21 @@ module _ (s : State) (a : ℕ → Account) (p : List Group) (g : Group) (q : Lis
       (ok-insert d s b p (with g m) q u o
       (ok-alike d s (g .member .id) a b (p ++ q) (ds d) u y (other-ids (s .nextId) p g q (h .ids-ok)) (ok-drop d s a p g q (ds d) steps-ok n k)))
 
-  pub device-commits : (d j : ℕ) → inFlight (g .member) ≡ false → Keeps d (turn j) (commitTurn s (foundAt p g q)) (commit (g .member))
+  pub device-commits : (d j : ℕ) → flight (g .member .steps) ≡ none → Keeps d (turn j) (commitTurn s (foundAt p g q)) (commit (g .member))
   unfolding commitTurn commit inFlightOn afterMember
   device-commits d j f k =
       let n = idle-still d f in
       swaps d (commit (g .member)) (change s (foundAt p g q) (commit (g .member))) _ (ds d) n (record { still = n .still }) refl
       (due-swap s d p g q (commit (g .member)) (h .sequence-is) (λ u. refl)) (alike-ended (g .member .id) a (ds d)) k
 
-  pub device-skips : (d j : ℕ) (c : Command) → next (g .member .steps) ≡ some c → inFlight (g .member) ≡ false → Keeps d (turn j) (skipTurn s (foundAt p g q) c) (skippedMember g)
+  pub device-skips : (d j : ℕ) (c : Command) → next (g .member .steps) ≡ some c → flight (g .member .steps) ≡ none → Keeps d (turn j) (skipTurn s (foundAt p g q) c) (skippedMember g)
   unfolding skipTurn due
   device-skips d j c e f k =
       let r = skip-step (g .member) steps-ok c e f in
       swaps d (skippedMember g) (skipTurn s (foundAt p g q) c .state) _ (ds d) (idle-still d f) (record { still = r .flies d }) refl
       (due-steps d _ (r .same-after d)) (alike-answered not-sent (g .member .id) a (ds d)) k
 
-  sends-other : (d j : ℕ) (c : Command) → next (g .member .steps) ≡ some c → inFlight (g .member) ≡ false → c .device ≢ d → Keeps d (turn j) (sendTurn s (foundAt p g q) c) (sentMember s g c)
+  sends-other : (d j : ℕ) (c : Command) → next (g .member .steps) ≡ some c → flight (g .member .steps) ≡ none → c .device ≢ d → Keeps d (turn j) (sendTurn s (foundAt p g q) c) (sentMember s g c)
   unfolding sendTurn due
   sends-other d j c e f n k =
       let r = send-step (g .member) steps-ok c (due s (c .device)) e f in
@@ -91,7 +91,7 @@ module _ (s : State) (a : ℕ → Account) (p : List Group) (g : Group) (q : Lis
       (swaps d (sentMember s g c) t (put a (g .member .id) y) (ds d) (idle-still d f) (record { still = r .flies d ∙ ne-eqb (c .device) d n }) refl
       (due-steps d _ (r .same-after d)) (alike-put (g .member .id) a y (omega arith) (ds d)) k)
 
-  sends-here : (j : ℕ) (c : Command) → next (g .member .steps) ≡ some c → inFlight (g .member) ≡ false → firstHolding (c .device) (members p) ≡ none → s .up (c .device) ≡ true →
+  sends-here : (j : ℕ) (c : Command) → next (g .member .steps) ≡ some c → flight (g .member .steps) ≡ none → firstHolding (c .device) (members p) ≡ none → s .up (c .device) ≡ true →
       Keeps (c .device) (turn j) (sendTurn s (foundAt p g q) c) (sentMember s g c)
   unfolding sendTurn
   sends-here j c e f n y k =
@@ -143,7 +143,7 @@ module _ (s : State) (a : ℕ → Account) (p : List Group) (g : Group) (q : Lis
           (none-took a i (b i .sends) one-more (w .took) (k .old-took)) z) behind))
       go (busy x o) = t≠f (sym (one-any d a w (p ++ (g ∷ q)) (h .turns) o) ∙ stills-any d (p ++ (g ∷ q)) (each-++ (Still d) p (g ∷ q) ahead (idle-still d f, behind)))
 
-  pub device-sends : (d j : ℕ) (c : Command) → next (g .member .steps) ≡ some c → inFlight (g .member) ≡ false → firstHolding (c .device) (members p) ≡ none → s .up (c .device) ≡ true →
+  pub device-sends : (d j : ℕ) (c : Command) → next (g .member .steps) ≡ some c → flight (g .member .steps) ≡ none → firstHolding (c .device) (members p) ≡ none → s .up (c .device) ≡ true →
       Keeps d (turn j) (sendTurn s (foundAt p g q) c) (sentMember s g c)
   device-sends d j c e f n y =
       this-or-other (λ d. Keeps d (turn j) (sendTurn s (foundAt p g q) c) (sentMember s g c)) (c .device) d

@@ -9,6 +9,7 @@ use borrow.Author.Tests.{eqb-true, eqb-false, eq-eqb, ne-eqb}
 use lib.Dec.{eqb}
 use lib.IntN.{ℤ, pos, negsuc}
 use Rattle.routine.specs.Choice.{if_then_else_}
+use Rattle.routine.proofs.Laws.{or-false, and-true}
 use Rattle.rules.specs.Tables.{anyOf, put, sameSetting}
 
 -- ---- tests
@@ -22,20 +23,16 @@ pub t≠f {ℓ} : {A : Type ℓ} → true ≡ false → A
 t≠f e = let z : _≡_ {A = ℕ} 0 1 = cc in absurd (omega arith)
 
 pub or-left : (s t : Bool) → s || t ≡ false → s ≡ false
-or-left true t e = e
-or-left false t e = refl
+or-left s t e = or-false s t e .0
 
 pub or-right : (s t : Bool) → s || t ≡ false → t ≡ false
-or-right true t e = t≠f e
-or-right false t e = e
+or-right s t e = or-false s t e .1
 
 pub and-left : (s t : Bool) → s && t ≡ true → s ≡ true
-and-left true t e = refl
-and-left false t e = t≠f (sym e)
+and-left s t e = and-true s t e .0
 
 pub and-right : (s t : Bool) → s && t ≡ true → t ≡ true
-and-right true t e = e
-and-right false t e = t≠f (sym e)
+and-right s t e = and-true s t e .1
 
 pub eqb-sym : (i j : ℕ) → eqb i j ≡ eqb j i
 eqb-sym i j = go (eqb j i) refl

@@ -12,7 +12,7 @@ use Rattle.routine.specs.Choice.{if_then_else_}
 use Rattle.routine.specs.declared.Command.{Command}
 use Rattle.rules.specs.Tables.{anyOf}
 use Rattle.rules.specs.State.{Member, State}
-use Rattle.rules.specs.Progress.{begun, finished, inFlight, next, Flight, flight}
+use Rattle.rules.specs.Progress.{begun, finished, next, Flight, flight}
 use Rattle.rules.specs.Due.{due}
 use Rattle.rules.specs.Sequence.{isRunning, withMark, change}
 use Rattle.rules.specs.Turn.{holds, firstHolding, markBegun, commit, commitTurn, sendTurn, skipTurn}
@@ -141,7 +141,7 @@ ids-at s a g b h = subst (IdsOk (s .nextId)) (ids-++ a (g ∷ b)) (h .ids-ok)
 
 -- the device of the next command, when nobody ahead holds it
 pub turn-clear : (s : State) (a : List Group) (g : Group) (b : List Group) (c : Command) → HubOk s (a ++ (g ∷ b)) →
-    next (g .member .steps) ≡ some c → inFlight (g .member) ≡ false → firstHolding (c .device) (members a) ≡ none → Clear (c .device) a g b
+    next (g .member .steps) ≡ some c → flight (g .member .steps) ≡ none → firstHolding (c .device) (members a) ≡ none → Clear (c .device) a g b
 turn-clear s a g b c h e f n =
     not-behind (c .device) (s .mark (c .device)) a g b (none-holds (c .device) a (each-left Shut a (g ∷ b) (h .shuts)) n)
     (skip-step (g .member) (in-turn s a g b h) c e f .unfinished) (h .marks (c .device))
@@ -244,7 +244,7 @@ module _ (s : State) (a : List Group) (g : Group) (b : List Group) (h : HubOk s 
       other q = swap-mark d (s .mark d) a g b n i (o d q) (f d) (h .marks d)
 
 -- the five changes of a turn or a report keep the hub's invariant
-pub hub-commits : (s : State) (a : List Group) (g : Group) (b : List Group) → HubOk s (a ++ (g ∷ b)) → inFlight (g .member) ≡ false → next (g .member .steps) ≡ none →
+pub hub-commits : (s : State) (a : List Group) (g : Group) (b : List Group) → HubOk s (a ++ (g ∷ b)) → flight (g .member .steps) ≡ none → next (g .member .steps) ≡ none →
     HubOk (commitTurn s (foundAt a g b) .state) (a ++ (with g (commit (g .member)) ∷ b))
 unfolding commitTurn commit begun finished
 hub-commits s a g b h f e =
@@ -252,7 +252,7 @@ hub-commits s a g b h f e =
     (λ d. swap-mark d (s .mark d) a g b (commit (g .member)) refl refl (λ q. q) (h .marks d))
 
 pub hub-sends : (s : State) (a : List Group) (g : Group) (b : List Group) (c : Command) → HubOk s (a ++ (g ∷ b)) → g .member .committed ≡ false →
-    inFlight (g .member) ≡ false → next (g .member .steps) ≡ some c → firstHolding (c .device) (members a) ≡ none →
+    flight (g .member .steps) ≡ none → next (g .member .steps) ≡ some c → firstHolding (c .device) (members a) ≡ none →
     HubOk (sendTurn s (foundAt a g b) c .state) (a ++ (with g (sentMember s g c) ∷ b))
 unfolding sendTurn
 hub-sends s a g b c h r f e n =
@@ -261,7 +261,7 @@ hub-sends s a g b c h r f e n =
     (begin-marks s a g b h (c .device) (sentMember s g c) refl (turn-clear s a g b c h e f n) (x .unfinished) (x .begins) (x .other-begun) (λ d q. x .finishes d ∙ q))
 
 pub hub-skips : (s : State) (a : List Group) (g : Group) (b : List Group) (c : Command) → HubOk s (a ++ (g ∷ b)) → g .member .committed ≡ false →
-    inFlight (g .member) ≡ false → next (g .member .steps) ≡ some c → firstHolding (c .device) (members a) ≡ none →
+    flight (g .member .steps) ≡ none → next (g .member .steps) ≡ some c → firstHolding (c .device) (members a) ≡ none →
     HubOk (skipTurn s (foundAt a g b) c .state) (a ++ (with g (skippedMember g) ∷ b))
 unfolding skipTurn
 hub-skips s a g b c h r f e n =

@@ -12,7 +12,7 @@ use Rattle.routine.specs.Choice.{if_then_else_}
 use Rattle.routine.specs.declared.Command.{Command}
 use Rattle.rules.specs.Tables.{anyOf}
 use Rattle.rules.specs.State.{Status, to-do, in-flight, was-done, was-skipped, Step, Member}
-use Rattle.rules.specs.Progress.{isOn, isToDo, isInFlight, isDone, isAnswered, begun, finished, inFlightOn, inFlight, next, Flight, flightOr, flight, advance, answerFlight, withSteps}
+use Rattle.rules.specs.Progress.{isOn, isToDo, isInFlight, isDone, isAnswered, begun, finished, inFlightOn, next, Flight, flightOr, flight, advance, answerFlight, withSteps}
 use Rattle.rules.specs.Due.{afterSteps}
 use Rattle.rules.specs.Submit.{stepOf, newcomer}
 use Rattle.rules.specs.HubOrder.{doneSteps}
@@ -340,14 +340,14 @@ module _ (p : List Step) (a : AllAnswered p) (c : Command) (cs : List Command) w
 
 -- the next command is sent or skipped
 at-next : (P : List Step → List Step → Type 0) (c : Command) (s : Status) → Goes c to-do s P →
-    (l : List Step) → Parts l → next l ≡ some c → anyOf (λ x. isInFlight (x .status)) l ≡ false → P l (advance s l)
+    (l : List Step) → Parts l → next l ≡ some c → flight l ≡ none → P l (advance s l)
 at-next P c s h _ (rests p a []) e f = absurd (Option·none-ne-some c (sym (over (λ p k. next k ≡ none) [] refl (λ b p k q. q) (λ b p k q. q) p a) ∙ e))
 at-next P c s h _ (rests p a (b ∷ cs)) e f =
     let q : b ≡ c = Option·some-injective b c (sym (over (λ p k. next k ≡ some b) (map stepOf (b ∷ cs)) refl (λ b p k q. q) (λ b p k q. q) p a) ∙ e) in
     subst (λ k. P (at p b cs to-do) k)
     (sym (over (λ p k. advance s k ≡ at p b cs s) (map stepOf (b ∷ cs)) refl (λ b p k. ap (λ n. step b was-done ∷ n)) (λ b p k. ap (λ n. step b was-skipped ∷ n)) p a))
     (subst (λ b. P (at p b cs to-do) (at p b cs s)) (sym q) (h p a cs))
-at-next P c s h _ (flies p a b u cs) e f = t≠f (sym (any-here (λ x. isInFlight (x .status)) p (step b (in-flight u)) (map stepOf cs) refl) ∙ f)
+at-next P c s h _ (flies p a b u cs) e f = absurd (Option·some-ne-none (record { command = b; dueThen = u }) (sym (flight-at p a b cs (in-flight u)) ∙ f))
 
 -- the command in flight is answered
 at-flight : (P : List Step → List Step → Type 0) (x : Flight) (s : Status) → Goes (x .command) (in-flight (x .dueThen)) s P →
@@ -361,12 +361,10 @@ at-flight P x s h _ (flies p a c u cs) e =
     (subst (λ y. P (at p (y .command) cs (in-flight (y .dueThen))) (at p (y .command) cs s)) (sym q) (h p a cs))
 
 module _ (m : Member) (t : InTurn (m .steps)) where
-  pub send-step : (c : Command) (u : ℤ) → next (m .steps) ≡ some c → inFlight m ≡ false → Sent c u m (withSteps m (advance (in-flight u) (m .steps)))
-  unfolding inFlight
+  pub send-step : (c : Command) (u : ℤ) → next (m .steps) ≡ some c → flight (m .steps) ≡ none → Sent c u m (withSteps m (advance (in-flight u) (m .steps)))
   send-step c u e f = at-next (λ k l. Sent c u (withSteps m k) (withSteps m l)) c (in-flight u) (λ p a cs. sent-at p a c cs m u) (m .steps) (apart (m .steps) t) e f
 
-  pub skip-step : (c : Command) → next (m .steps) ≡ some c → inFlight m ≡ false → Skipped c m (withSteps m (advance was-skipped (m .steps)))
-  unfolding inFlight
+  pub skip-step : (c : Command) → next (m .steps) ≡ some c → flight (m .steps) ≡ none → Skipped c m (withSteps m (advance was-skipped (m .steps)))
   skip-step c e f = at-next (λ k l. Skipped c (withSteps m k) (withSteps m l)) c was-skipped (λ p a cs. skipped-at p a c cs m) (m .steps) (apart (m .steps) t) e f
 
   answers : (P : List Step → List Step → Type 0) (x : Flight) (s : Status) → Goes (x .command) (in-flight (x .dueThen)) s P →
@@ -409,11 +407,15 @@ module _ (m : Member) (t : InTurn (m .steps)) where
 -- ---- laws of one routine
 
 -- nothing is left: all is answered
-pub none-left : (m : Member) → next (m .steps) ≡ none → inFlight m ≡ false → leftSteps (m .steps) ≡ []
-unfolding inFlight
+pub none-left : (m : Member) → next (m .steps) ≡ none → flight (m .steps) ≡ none → leftSteps (m .steps) ≡ []
 none-left m e f =
-    by-status (λ l. next l ≡ none → anyOf (λ x. isInFlight (x .status)) l ≡ false → leftSteps l ≡ []) (λ e f. refl)
-    (λ c l h e f. absurd (Option·some-ne-none c e)) (λ c u l h e f. t≠f f) (λ c l h. h) (λ c l h. h) (m .steps) e f
+    by-status (λ l. next l ≡ none → flight l ≡ none → leftSteps l ≡ []) (λ e f. refl)
+    (λ c l h e f. absurd (Option·some-ne-none c e)) (λ c u l h e f. absurd (Option·some-ne-none (record { command = c; dueThen = u }) f)) (λ c l h. h) (λ c l h. h) (m .steps) e f
+
+no-flight : (l : List Step) → flight l ≡ none → anyOf (λ x. isInFlight (x .status)) l ≡ false
+no-flight =
+    by-status (λ l. flight l ≡ none → anyOf (λ x. isInFlight (x .status)) l ≡ false) (λ e. refl)
+    (λ c l h. h) (λ c u l h e. absurd (Option·some-ne-none (record { command = c; dueThen = u }) e)) (λ c l h. h) (λ c l h. h)
 
 left-answered : (l : List Step) → leftSteps l ≡ [] → anyOf (λ x. isOpen (x .status)) l ≡ false
 left-answered =
@@ -428,20 +430,9 @@ pub left-grounded : (m : Member) → leftSteps (m .steps) ≡ [] → flight (m .
 left-grounded m e =
     by-status (λ l. leftSteps l ≡ [] → flight l ≡ none) (λ e. refl) (λ c l h e. absurd (cons≢nil e)) (λ c u l h e. absurd (cons≢nil e)) (λ c l h. h) (λ c l h. h) (m .steps) e
 
-no-flight : (m : Member) → flight (m .steps) ≡ none → inFlight m ≡ false
-unfolding inFlight
-no-flight m e =
-    by-status (λ l. flight l ≡ none → anyOf (λ x. isInFlight (x .status)) l ≡ false) (λ e. refl)
-    (λ c l h. h) (λ c u l h e. absurd (Option·some-ne-none (record { command = c; dueThen = u }) e)) (λ c l h. h) (λ c l h. h) (m .steps) e
-
-pub idle-flight : (m : Member) → inFlight m ≡ false → flight (m .steps) ≡ none
-unfolding inFlight
-idle-flight m e =
-    by-status (λ l. anyOf (λ x. isInFlight (x .status)) l ≡ false → flight l ≡ none) (λ e. refl) (λ c l h. h) (λ c u l h e. t≠f e) (λ c l h. h) (λ c l h. h) (m .steps) e
-
 pub grounded : (m : Member) (d : ℕ) → flight (m .steps) ≡ none → inFlightOn d m ≡ false
-unfolding inFlight inFlightOn
-grounded m d e = fewer (λ x. isInFlight (x .status)) (on d isInFlight) (unpassed d isInFlight) (m .steps) (no-flight m e)
+unfolding inFlightOn
+grounded m d e = fewer (λ x. isInFlight (x .status)) (on d isInFlight) (unpassed d isInFlight) (m .steps) (no-flight (m .steps) e)
 
 pub finished-grounded : (m : Member) (d : ℕ) → finished d m ≡ true → inFlightOn d m ≡ false
 unfolding finished inFlightOn

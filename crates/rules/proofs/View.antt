@@ -16,13 +16,13 @@ use Rattle.routine.specs.declared.Verdict.the-variants.{Accepted, Refused}
 use Rattle.rules.specs.Tables.{anyOf, put}
 use Rattle.rules.specs.State.{in-flight, was-done, was-skipped, Member, State}
 use Rattle.rules.specs.Answers.{Call, submit, turn, report, failure, restart, cancel, refused, placed, wait, down, up, Result, unlessRefused}
-use Rattle.rules.specs.Progress.{isMust, inFlight, next, Flight, flight, advance, answerFlight, withSteps}
+use Rattle.rules.specs.Progress.{isMust, next, Flight, flight, advance, answerFlight, withSteps}
 use Rattle.rules.specs.Due.{due}
 use Rattle.rules.specs.Sequence.{Found, onto, find, isRunning, runs, lastIdOr, withUp}
 use Rattle.rules.specs.Settle.{settling}
 use Rattle.rules.specs.Abort.{abort}
 use Rattle.rules.specs.Submit.{submitCheck, blocks, upToLast, pastLast, newcomer, place, submitOf}
-use Rattle.rules.specs.Turn.{firstHolding, commit, commitTurn, sendTurn, skipTurn, waitOr, turnNext, turnFound, turnOf}
+use Rattle.rules.specs.Turn.{firstHolding, commit, commitTurn, sendTurn, skipTurn, waitOr, turnNext, turnFlight, turnFound, turnOf}
 use Rattle.rules.specs.Report.{codeDone, codeFailed, doneReport, skipReport, reportFlight, reportFound, reportOf}
 use Rattle.rules.specs.Events.{isHalfway, abortIfAny, abortHalfway, failureResult, restartResult, failureOf, restartOf}
 use Rattle.rules.specs.Cancel.{cancelFound, cancelOf}
@@ -48,7 +48,7 @@ failedMember g = withSteps (g .member) (answerFlight was-skipped (g .member .ste
 
 -- why a routine aborts at a call of its own
 pub data Aborts (g : Group) : Call → Type 0 where
-  by-turn : (i : ℕ) → g .member .id ≡ i → inFlight (g .member) ≡ false → Aborts g (turn i)
+  by-turn : (i : ℕ) → g .member .id ≡ i → flight (g .member .steps) ≡ none → Aborts g (turn i)
   by-report : (i code : ℕ) (x : Flight) → g .member .id ≡ i → flight (g .member .steps) ≡ some x → eqb code codeDone ≡ false → Aborts g (report i code)
   by-cancel : (i : ℕ) → g .member .id ≡ i → Aborts g (cancel i)
 
@@ -64,13 +64,13 @@ pub data Moves (s : State) (l : List Group) : Call → Result → List Event →
       Moves s l (submit cs) (record { state = place s cs; answers = placed (s .nextId) (lastIdOr 0 (upToLast (blocks s cs) (s .sequence))) ∷ [] }) []
       (a ++ (alone (newcomer (s .nextId) cs) ∷ passAll b))
   commits : (i : ℕ) (a : List Group) (g : Group) (b : List Group) → l ≡ a ++ (g ∷ b) → g .member .id ≡ i → g .member .committed ≡ false →
-      inFlight (g .member) ≡ false → next (g .member .steps) ≡ none →
+      flight (g .member .steps) ≡ none → next (g .member .steps) ≡ none →
       Moves s l (turn i) (commitTurn s (foundAt a g b)) [] (a ++ (with g (commit (g .member)) ∷ b))
   sends : (i : ℕ) (a : List Group) (g : Group) (b : List Group) (c : Command) → l ≡ a ++ (g ∷ b) → g .member .id ≡ i → g .member .committed ≡ false →
-      inFlight (g .member) ≡ false → next (g .member .steps) ≡ some c → firstHolding (c .device) (members a) ≡ none → s .up (c .device) ≡ true →
+      flight (g .member .steps) ≡ none → next (g .member .steps) ≡ some c → firstHolding (c .device) (members a) ≡ none → s .up (c .device) ≡ true →
       Moves s l (turn i) (sendTurn s (foundAt a g b) c) [] (a ++ (with g (sentMember s g c) ∷ b))
   skips : (i : ℕ) (a : List Group) (g : Group) (b : List Group) (c : Command) → l ≡ a ++ (g ∷ b) → g .member .id ≡ i → g .member .committed ≡ false →
-      inFlight (g .member) ≡ false → next (g .member .steps) ≡ some c → firstHolding (c .device) (members a) ≡ none → s .up (c .device) ≡ false →
+      flight (g .member .steps) ≡ none → next (g .member .steps) ≡ some c → firstHolding (c .device) (members a) ≡ none → s .up (c .device) ≡ false →
       Moves s l (turn i) (skipTurn s (foundAt a g b) c) [] (a ++ (with g (skippedMember g) ∷ b))
   dones : (i code : ℕ) (a : List Group) (g : Group) (b : List Group) (x : Flight) → l ≡ a ++ (g ∷ b) → g .member .id ≡ i → g .member .committed ≡ false →
       flight (g .member .steps) ≡ some x → eqb code codeDone ≡ true →
@@ -168,15 +168,19 @@ unless s l c (Refused x) f = is-refused x
 
 -- a turn of the running routine g, and a report on it
 module _ (s : State) {l : List Group} (i : ℕ) (a : List Group) (g : Group) (b : List Group) (w : l ≡ a ++ (g ∷ b)) (n : g .member .id ≡ i) (u : g .member .committed ≡ false) where
-  turned : inFlight (g .member) ≡ false → (o : Option Command) → next (g .member .steps) ≡ o → Seen s l (turn i) (turnNext s (foundAt a g b) o)
-  turned f none e = moves (commits i a g b w n u f e)
-  turned f (some c) e = unheld (firstHolding (c .device) (members a)) refl
+  idle : flight (g .member .steps) ≡ none → (o : Option Command) → next (g .member .steps) ≡ o → Seen s l (turn i) (turnNext s (foundAt a g b) o)
+  idle f none e = moves (commits i a g b w n u f e)
+  idle f (some c) e = unheld (firstHolding (c .device) (members a)) refl
     where
       unheld : (o : Option ℕ) → firstHolding (c .device) (members a) ≡ o → Seen s l (turn i) (waitOr s (foundAt a g b) c o)
       unheld (some j) h = waits (g .member .id) j
       unheld none h =
           byIf (Seen s l (turn i)) (s .up (c .device)) (λ t. moves (sends i a g b c w n u f e h t))
           (λ t. byIf (Seen s l (turn i)) (isMust c) (λ _. moves (aborts (turn i) a g b w u (by-turn i n f))) (λ _. moves (skips i a g b c w n u f e h t)))
+
+  turned : (o : Option Flight) → flight (g .member .steps) ≡ o → Seen s l (turn i) (turnFlight s (foundAt a g b) o)
+  turned (some x) f = is-refused _
+  turned none f = idle f (next (g .member .steps)) refl
 
   told : (code : ℕ) (o : Option Flight) → flight (g .member .steps) ≡ o → Seen s l (report i code) (reportFlight s (foundAt a g b) code o)
   told code none e = is-refused _
@@ -197,8 +201,7 @@ module _ (s : State) (l : List Group) (e : s .sequence ≡ members l) where
   unfolding turnOf
   see-turn i =
       running i s l e (λ o. Seen s l (turn i) (turnFound s o)) (is-refused _)
-      (λ a g b w n u. byIf (λ v. Seen s l (turn i) (unlessRefused v s (turnNext s (foundAt a g b) (next (g .member .steps))))) (inFlight (g .member)) (λ _. is-refused _)
-      (λ f. turned s i a g b w n u f (next (g .member .steps)) refl))
+      (λ a g b w n u. turned s i a g b w n u (flight (g .member .steps)) refl)
 
   see-report : (i code : ℕ) → Seen s l (report i code) (reportOf s i code)
   unfolding reportOf

@@ -14,7 +14,7 @@ use Rattle.routine.specs.declared.Command.{Command}
 use Rattle.routine.specs.declared.Refusal.the-variants.{Number, Indexed}
 use Rattle.rules.specs.State.{State}
 use Rattle.rules.specs.Answers.{Call, submit, turn, report, failure, restart, cancel, Back, Answer, refused, placed, wait, send, done, skipped, committed, aborted, down, up}
-use Rattle.rules.specs.Progress.{begun, finished, inFlightOn, inFlight}
+use Rattle.rules.specs.Progress.{begun, finished, inFlightOn}
 use Rattle.rules.specs.Due.{afterMember, due}
 use Rattle.rules.specs.Sequence.{isRunning, runs, moveMarks}
 use Rattle.rules.specs.Attach.{oneRestart, attachTo, settleRestarts, attach}
@@ -30,7 +30,7 @@ use Rattle.rules.specs.Calls.{resultOf}
 
 -- All that a computation with the rules opens.
 unfoldable pub calc : Unit {0}
-unfolding inRange refusalOf commandCheck commandsCheck routineCheck begun finished inFlightOn inFlight afterMember due isRunning runs joinSettled settle attachTo settleRestarts moveMarks leave isPutBack putBacks abort openCheck newHub openOf submitCheck blocks pass newcomer place submitOf holds markBegun commit commitTurn sendTurn skipTurn turnOf doneReport backIfChanged skippedState skipReport reportOf isHalfway abortHalfway attach oneRestart failureResult restartResult failureOf restartOf cancelOf
+unfolding inRange refusalOf commandCheck commandsCheck routineCheck begun finished inFlightOn afterMember due isRunning runs joinSettled settle attachTo settleRestarts moveMarks leave isPutBack putBacks abort openCheck newHub openOf submitCheck blocks pass newcomer place submitOf holds markBegun commit commitTurn sendTurn skipTurn turnOf doneReport backIfChanged skippedState skipReport reportOf isHalfway abortHalfway attach oneRestart failureResult restartResult failureOf restartOf cancelOf
 calc = tt
 
 -- An opening, calls, what each answers, and the device lines at the end: the due setting of a device that is up, none of one that is down.

@@ -54,10 +54,6 @@ finished d m = not (anyOf (λ x. isOn d x && not (isAnswered (x .status))) (m .s
 unfoldable pub inFlightOn : ℕ → Member → Bool
 inFlightOn d m = anyOf (λ x. isOn d x && isInFlight (x .status)) (m .steps)
 
--- It has a command in flight.
-unfoldable pub inFlight : Member → Bool
-inFlight m = anyOf (λ x. isInFlight (x .status)) (m .steps)
-
 -- The next command: the first that is neither sent nor skipped.
 abbrev pub next : List Step → Option Command
 next [] = none

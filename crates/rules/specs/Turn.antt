@@ -4,12 +4,12 @@ use mathlib.Core.List.{List, [], _∷_}
 use mathlib.Core.Option.{Option, none, some}
 use Prim.Native.Nat.{ℕ}
 use Rattle.routine.specs.Choice.{if_then_else_}
-use Rattle.routine.specs.Refusals.{not-running, turn-in-flight, refuse_when_}
+use Rattle.routine.specs.Refusals.{not-running, turn-in-flight}
 use Rattle.routine.specs.declared.Command.{Command}
 use Rattle.rules.specs.Tables.{put}
 use Rattle.rules.specs.State.{Status, in-flight, was-skipped, Member, State}
-use Rattle.rules.specs.Answers.{Result, wait, send, skipped, committed, refusedFor, unlessRefused}
-use Rattle.rules.specs.Progress.{isMust, begun, finished, inFlight, next, advance, withSteps}
+use Rattle.rules.specs.Answers.{Result, wait, send, skipped, committed, refusedFor}
+use Rattle.rules.specs.Progress.{isMust, begun, finished, next, Flight, flight, advance, withSteps}
 use Rattle.rules.specs.Due.{due}
 use Rattle.rules.specs.Sequence.{Found, find, isRunning, runs, withMark, change}
 use Rattle.rules.specs.Abort.{abort}
@@ -64,9 +64,13 @@ abbrev pub turnNext : State → Found → Option Command → Result
 turnNext s f none = settling (commitTurn s f)
 turnNext s f (some c) = waitOr s f c (firstHolding (c .device) (f .ahead))
 
+abbrev pub turnFlight : State → Found → Option Flight → Result
+turnFlight s f (some x) = refusedFor turn-in-flight s
+turnFlight s f none = turnNext s f (next (f .it .steps))
+
 abbrev pub turnFound : State → Option Found → Result
 turnFound s none = refusedFor not-running s
-turnFound s (some f) = unlessRefused (refuse turn-in-flight when inFlight (f .it)) s (turnNext s f (next (f .it .steps)))
+turnFound s (some f) = turnFlight s f (flight (f .it .steps))
 
 unfoldable pub turnOf : State → ℕ → Result
 turnOf s i = turnFound s (find (runs i) (s .sequence))
