@@ -1,5 +1,6 @@
 // The routine book of document 01 as definitions, and the theorems about them: specs/ and proofs/. Here stand what
 // the code of reading and writing shares: the types of the answers, the layout's numbers, and settings as 16 bits.
+use routine::MAX_DEVICES;
 use routine::Refusal;
 use routine::Routine;
 ghost use mathlib.Core.Path.{_≡_};
@@ -19,7 +20,7 @@ pub const COMMAND_SIZE: usize = 4;
 // A book has at most this many routines, and devices below this number.
 pub const MAX_ROUTINES: usize = 64;
 
-pub const BOOK_DEVICES: u8 = 32;
+pub const BOOK_DEVICES: u8 = MAX_DEVICES as u8;
 
 // The numbers of the table that belong to books.
 pub const CUT_SHORT: u8 = 18;

@@ -6,6 +6,9 @@ ghost use Rattle.routine.specs.Routine.{commandsOf, noRoutine, withComma
 // A routine has at most this many commands.
 pub const MAX_COMMANDS: usize = 8;
 
+// Devices are below this number.
+pub const MAX_DEVICES: usize = 32;
+
 // Settings and tags.
 pub const LOWEST_SETTING: i16 = -1000;
 
