@@ -1,7 +1,10 @@
 #!/usr/bin/env python3
 """The edit loop of a crate: runs `rt dev NAME --allow-holes`, writes each proof file that the check offers, and prints errors and goals.
 
-    tools/goals.py NAME [PART] [LINES]    # only of files whose path has PART; at most LINES lines
+    tools/goals.py NAME [PART] [LINES]             # only of files whose path has PART; at most LINES lines
+    tools/goals.py --over LIB,LIB NAME [PART] ..   # over libraries of the repository that may have holes themselves
+
+A library that NAME builds on is else taken as proved. Those given by --over, with all that stands between them and NAME, are read as source.
 """
 
 import os
@@ -57,14 +60,47 @@ def shown(text, part, most):
                 return
 
 
+def builds_on(name):
+    """What crates.txt says that a crate builds on."""
+    with open('crates.txt', encoding='utf-8') as listed:
+        for line in listed:
+            if line.startswith(name + ':'):
+                return line.split(':')[1].split()
+    return []
+
+
+def command(name, over):
+    """The check of a crate, the libraries of `over` passed as source."""
+    if not over:
+        return ['rt', 'dev', name, '--allow-holes']
+    kit = os.path.dirname(os.path.dirname(subprocess.run(['rt', 'doc'], capture_output=True, text=True).stdout.strip()))
+    own = os.path.join(kit, 'on', os.uname().machine)
+    words = [os.path.join(own, 'bin', 'rattle'), 'check', '--crate-name', name, 'crates/%s/src/lib.rt' % name]
+    words += ['--extern', 'std=%s/rlib/std.rlib' % own]
+    for lib in builds_on(name):
+        if lib in over:
+            words += ['--lib', '%s=crates/%s/src/lib.rt' % (lib, lib)]
+        else:
+            words += ['--extern', '%s=target/rlib/%s.rlib' % (lib, lib)]
+    words += ['-L', 'dependency=target/rlib', '-L', 'dependency=%s/rlib' % own]
+    words += ['--antt-project', os.path.join(kit, 'logic', 'antt-project.json'), '--logic-built', os.path.join(own, 'logic-built')]
+    os.makedirs('target/over/' + name, exist_ok=True)
+    return words + ['--incremental', 'target/over/' + name, '--allow-holes']
+
+
 def main():
-    if len(sys.argv) < 2:
+    words = sys.argv[1:]
+    over = []
+    if words[:1] == ['--over']:
+        over = words[1].split(',')
+        words = words[2:]
+    if not words:
         print(__doc__)
         return 2
-    name = sys.argv[1]
-    part = sys.argv[2] if len(sys.argv) > 2 else ''
-    most = int(sys.argv[3]) if len(sys.argv) > 3 else 80
-    run = subprocess.run(['rt', 'dev', name, '--allow-holes'], capture_output=True, text=True, env=dict(os.environ, RT_CUT='0'))
+    name = words[0]
+    part = words[1] if len(words) > 1 else ''
+    most = int(words[2]) if len(words) > 2 else 80
+    run = subprocess.run(command(name, over), capture_output=True, text=True, env=dict(os.environ, RT_CUT='0'))
     text = run.stdout + run.stderr
     write_offers(text)
     shown(pretty(text), part, most)
