@@ -1,22 +1,30 @@
+-- `slot::submit::newcomer_slot` meets its contract. Assumes nothing.
 use borrow.Author.Needs.{needs}
+use mathlib.Core.Path.{sym, subst}
+use mathlib.Core.Bool.{false}
+use Rattle.routine.specs.Routine.{commandsOf}
+use Rattle.rules.specs.Submit.{newcomer}
+use Rattle.rules.proofs.Lists.{Each}
+use Rattle.slot.specs.View.{memberOf}
+use Rattle.slot.specs.Valid.{StepOk}
+use Rattle.slot.proofs.SubmitLaws.{steps-fit}
 use Rattle.slot.proofs.submit.newcomer_slot.Statement.{statement}
 use Rattle.slot.proofs.submit.newcomer_slot.Tie as tie
-use Rattle.slot.proofs.submit.newcomer_slot.Reads as reads
-use Rattle.slot.proofs.submit.newcomer_slot.Lts as lts
-use Rattle.slot.proofs.attach.no_restarts.Reads as no-restarts-reads
-use Rattle.slot.proofs.submit.to_do.Reads as to-do-reads
 
--- src/submit.rt:51:9
 to-do-requires : tie.Need-to-do-requires
 to-do-requires c κs = search needs
 
--- src/submit.rt:52:9
 no-restarts-requires : tie.Need-no-restarts-requires
 no-restarts-requires c κs = search needs
 
--- src/submit.rt:47:1
 returns : tie.Need-returns
-returns c = ?
+unfolding memberOf newcomer
+returns c =
+    let s = c .before .before in
+    let e = c .before .to-do .ensures in (
+      record { fits = s .pre .1; devices-fit = subst (λ l. Each StepOk l) (sym e) (steps-fit (commandsOf (s .args .routine)) (s .pre .2)); has-id = s .pre .0 },
+      λ i. record { id = s .args .id; steps = e i; passed = 0; committed = false; restarts = c .no-restarts .ensures i },
+    )
 
 pub newcomer-slot-spec : {M : Type 1} → statement M
 newcomer-slot-spec = tie.close (tie.spec to-do-requires no-restarts-requires returns)
