@@ -32,7 +32,11 @@ pub fn move_marks(marks: [u32; MAX_DEVICES], from: u32, to: u32) -> [u32; MAX_DE
 }
 
 // "while the first in the sequence is committed, it joins the settled part with its attached events, and marks equal to it become 0"
-fn join_committed(sequence: Sequence, settings: [i16; MAX_DEVICES], marks: [u32; MAX_DEVICES]) -> Joined
+fn join_committed(
+    sequence: Sequence,
+    settings: [i16; MAX_DEVICES],
+    marks: [u32; MAX_DEVICES],
+) -> Joined
     requires { ⌜ SequenceOk sequence ⌝ }
     ensures { λ r. ⌜ (Gap sequence (r .count))
         × ((s : State) → settleFrom (held s settings marks (membersOf sequence)) (membersOf sequence) ≡ held s (r .settings) (r .marks) (past sequence (r .count))) ⌝ }
@@ -60,7 +64,11 @@ fn join_committed(sequence: Sequence, settings: [i16; MAX_DEVICES], marks: [u32;
 }
 
 // Settling.
-pub fn settle_committed(sequence: Sequence, settings: [i16; MAX_DEVICES], marks: [u32; MAX_DEVICES]) -> Settled
+pub fn settle_committed(
+    sequence: Sequence,
+    settings: [i16; MAX_DEVICES],
+    marks: [u32; MAX_DEVICES],
+) -> Settled
     requires { ⌜ SequenceOk sequence ⌝ }
     ensures { λ r. ⌜ (SequenceOk (r .sequence))
         × ((s : State) → settleFrom (held s settings marks (membersOf sequence)) (membersOf sequence) ≡ held s (r .settings) (r .marks) (membersOf (r .sequence))) ⌝ }

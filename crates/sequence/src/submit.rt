@@ -34,7 +34,12 @@ fn blocks_it(slot: Slot, marks: [u32; MAX_DEVICES], limit: u8, routine: Routine)
 }
 
 // "directly after the latest, in the sequence, of": the place past the last that it must follow.
-pub fn past_latest(sequence: Sequence, marks: [u32; MAX_DEVICES], limit: u8, routine: Routine) -> usize
+pub fn past_latest(
+    sequence: Sequence,
+    marks: [u32; MAX_DEVICES],
+    limit: u8,
+    routine: Routine,
+) -> usize
     requires { ⌜ (SequenceOk sequence) × (routine .count ≤ maxCommands) × CommandsOk (commandsOf routine) ⌝ }
     ensures { λ r. ⌜ (Gap sequence r)
         × (upTo sequence r ≡ upToLast (blocksBy (marksOf marks) limit (commandsOf routine)) (membersOf sequence))

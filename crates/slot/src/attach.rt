@@ -46,7 +46,10 @@ pub fn attach_to(slot: Slot, restarts: [Restart; MAX_DEVICES]) -> Slot
 }
 
 // For each device the later of two last restarts.
-fn later_restarts(earlier: [Restart; MAX_DEVICES], restarts: [Restart; MAX_DEVICES]) -> [Restart; MAX_DEVICES]
+fn later_restarts(
+    earlier: [Restart; MAX_DEVICES],
+    restarts: [Restart; MAX_DEVICES],
+) -> [Restart; MAX_DEVICES]
     ensures { λ r. ⌜ restartsOf r ≡ (λ d. later (restartsOf earlier d) (restartsOf restarts d)) ⌝ }
 {
     let mut both = earlier;
@@ -62,7 +65,10 @@ fn later_restarts(earlier: [Restart; MAX_DEVICES], restarts: [Restart; MAX_DEVIC
 }
 
 // What the devices are at after restarts that join the settled part.
-pub fn settle_restarts(table: [i16; MAX_DEVICES], restarts: [Restart; MAX_DEVICES]) -> [i16; MAX_DEVICES]
+pub fn settle_restarts(
+    table: [i16; MAX_DEVICES],
+    restarts: [Restart; MAX_DEVICES],
+) -> [i16; MAX_DEVICES]
     ensures { λ r. ⌜ settingsOf r ≡ settleRestarts (restartsOf restarts) (settingsOf table) ⌝ }
 {
     let mut after = table;

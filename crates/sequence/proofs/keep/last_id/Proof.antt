@@ -1,28 +1,37 @@
+-- `sequence::keep::last_id` meets its contract. Assumes nothing.
+use mathlib.Core.Path.{_≡_}
+use native.Mathlib.Omega.{arith}
 use borrow.Author.Needs.{needs}
+use lib.ListN.{length}
+use Rattle.routine.proofs.Laws.{length-mapped}
+use Rattle.sequence.specs.View.{upTo}
+use Rattle.sequence.specs.Valid.{Gap}
+use Rattle.sequence.proofs.KeepLaws.{last-at}
 use Rattle.sequence.proofs.keep.last_id.Statement.{statement}
 use Rattle.sequence.proofs.keep.last_id.Tie as tie
-use Rattle.sequence.proofs.keep.last_id.Reads as reads
-use Rattle.sequence.proofs.keep.last_id.Lts as lts
 
--- src/keep.rt:165:9
 returns : tie.Need-returns
-returns c = ?
+unfolding upTo
+returns c = rw (c .if1 .taken)
 
--- src/keep.rt:167:31
 sub-slot : tie.Need-sub-slot
 sub-slot c = search needs
 
--- src/keep.rt:167:16
 mul-slot : tie.Need-mul-slot
-mul-slot c = ?
+unfolding Gap
+mul-slot c = search needs
 
--- src/keep.rt:167:16
 element-copy-out-slot : tie.Need-element-copy-out-slot
-element-copy-out-slot c = ?
+unfolding Gap
+element-copy-out-slot c = search needs
 
--- src/keep.rt:160:1
 returns-2 : tie.Need-returns-2
-returns-2 c = ?
+unfolding Gap
+returns-2 c =
+    let q = c .before .before .args .t1 in
+    let l : length (q .slots) ≡ 16 = search (needs, length-mapped) in
+    let p = c .before .before .pre in
+    last-at q l (p .0) (c .before .before .args .at) (omega (arith, c .before .if1 .left)) (p .1)
 
 pub last-id-spec : {M : Type 1} → statement M
 last-id-spec = tie.close (tie.spec returns sub-slot mul-slot element-copy-out-slot returns-2)

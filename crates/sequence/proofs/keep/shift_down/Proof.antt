@@ -1,53 +1,53 @@
+-- `sequence::keep::shift_down` meets its contract. Assumes nothing.
+use mathlib.Core.Path.{_≡_, refl, _∙_}
+use Prim.Native.Nat.{_+_, _-_, _≤_}
+use native.Mathlib.Omega.{arith}
+use borrow.Author.Needs.{needs}
+use lib.ListN.{length}
+use Rattle.sequence.proofs.KeepLaws.{closed, shift-turn, shift-end}
 use Rattle.sequence.proofs.keep.shift_down.Statement.{statement}
 use Rattle.sequence.proofs.keep.shift_down.Tie as tie
-use Rattle.sequence.proofs.keep.shift_down.Reads as reads
-use Rattle.sequence.proofs.keep.shift_down.Lts as lts
 
 abbrev Inv-loop : tie.InvT-loop
-Inv-loop len to from moved₀ down₀ up₀ moved down up = ?
+Inv-loop len to from moved₀ down₀ up₀ moved down up = (length moved ≡ 16) × (up ≤ len) × (up + to ≡ from + down) × (closed down up len moved ≡ closed to from len moved₀)
 
 abbrev μ-loop : tie.MeasureT-loop
-μ-loop len to from moved₀ down₀ up₀ moved down up = ?
+μ-loop len to from moved₀ down₀ up₀ moved down up = len - up
 
--- src/keep.rt:119:5
 loop-holds : tie.Need-loop-holds Inv-loop μ-loop
-loop-holds c = ?
+loop-holds c = (search needs, search needs, refl, refl)
 
--- src/keep.rt:120:20
 mul-next : tie.Need-mul-next Inv-loop μ-loop
-mul-next c = ?
+mul-next c = search needs
 
--- src/keep.rt:120:20
 array-copy-out-next : tie.Need-array-copy-out-next Inv-loop μ-loop
-array-copy-out-next c = ?
+array-copy-out-next c = search needs
 
--- src/keep.rt:121:9
 mul-moved : tie.Need-mul-moved Inv-loop μ-loop
-mul-moved c = ?
+mul-moved c = search needs
 
--- src/keep.rt:121:9
 array-set-from-moved : tie.Need-array-set-from-moved Inv-loop μ-loop
-array-set-from-moved c = ?
+array-set-from-moved c = search needs
 
--- src/keep.rt:122:9
 add-down : tie.Need-add-down Inv-loop μ-loop
-add-down c = ?
+add-down c = search needs
 
--- src/keep.rt:123:9
 add-up : tie.Need-add-up Inv-loop μ-loop
-add-up c = ?
+add-up c = search needs
 
--- src/keep.rt:119:5
 loop-less : tie.Need-loop-less Inv-loop μ-loop
-loop-less c = ?
+loop-less c = search needs
 
--- src/keep.rt:119:5
 loop-again : tie.Need-loop-again Inv-loop μ-loop
-loop-again c = ?
+loop-again c =
+    let l = c .before .before .loop in
+    (search needs, search needs, search needs, shift-turn (l .moved) (l .down) (l .up) _ _ (omega arith) (c .before .loop-test .taken) (omega arith) ∙ l .inv .3)
 
--- src/keep.rt:112:1
 returns : tie.Need-returns Inv-loop μ-loop
-returns c = ?
+returns c =
+    let a = c .before .before .args in
+    let l = c .before .loop in
+    shift-end (l .moved) (l .down) (l .up) (a .len) (a .len - (a .from - a .to)) (l .inv .1) (c .loop-test .left) (omega arith) ∙ l .inv .3
 
 pub shift-down-spec : {M : Type 1} → statement M
 shift-down-spec =

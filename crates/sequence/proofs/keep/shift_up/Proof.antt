@@ -1,57 +1,51 @@
+-- `sequence::keep::shift_up` meets its contract. Assumes nothing.
+use mathlib.Core.Path.{_≡_, refl, _∙_}
+use Prim.Native.Nat.{_-_, _≤_}
+use native.Mathlib.Omega.{arith}
+use borrow.Author.Needs.{needs}
+use lib.ListN.{length, take}
+use Rattle.sequence.proofs.KeepLaws.{around, carry-turn, carry-end}
 use Rattle.sequence.proofs.keep.shift_up.Statement.{statement}
 use Rattle.sequence.proofs.keep.shift_up.Tie as tie
-use Rattle.sequence.proofs.keep.shift_up.Reads as reads
-use Rattle.sequence.proofs.keep.shift_up.Lts as lts
 
 abbrev Inv-loop : tie.InvT-loop
-Inv-loop len at moved₀ carry₀ i₀ moved carry i = ?
+Inv-loop len at moved₀ carry₀ i₀ moved carry i = (length moved ≡ 16) × (i ≤ len) × (around i carry (take len moved) ≡ around at carry₀ (take len moved₀))
 
 abbrev μ-loop : tie.MeasureT-loop
-μ-loop len at moved₀ carry₀ i₀ moved carry i = ?
+μ-loop len at moved₀ carry₀ i₀ moved carry i = len - i
 
--- src/keep.rt:87:5
 loop-holds : tie.Need-loop-holds Inv-loop μ-loop
-loop-holds c = ?
+loop-holds c = (search needs, search needs, refl)
 
--- src/keep.rt:88:20
 mul-next : tie.Need-mul-next Inv-loop μ-loop
-mul-next c = ?
+mul-next c = search needs
 
--- src/keep.rt:88:20
 array-copy-out-next : tie.Need-array-copy-out-next Inv-loop μ-loop
-array-copy-out-next c = ?
+array-copy-out-next c = search needs
 
--- src/keep.rt:89:9
 mul-moved : tie.Need-mul-moved Inv-loop μ-loop
-mul-moved c = ?
+mul-moved c = search needs
 
--- src/keep.rt:89:9
 array-set-from-moved : tie.Need-array-set-from-moved Inv-loop μ-loop
-array-set-from-moved c = ?
+array-set-from-moved c = search needs
 
--- src/keep.rt:91:9
 add-i : tie.Need-add-i Inv-loop μ-loop
-add-i c = ?
+add-i c = search needs
 
--- src/keep.rt:87:5
 loop-less : tie.Need-loop-less Inv-loop μ-loop
-loop-less c = ?
+loop-less c = search needs
 
--- src/keep.rt:87:5
 loop-again : tie.Need-loop-again Inv-loop μ-loop
-loop-again c = ?
+loop-again c = (search needs, search needs, carry-turn (c .before .before .loop .moved) _ _ _ _ (c .before .loop-test .taken) (omega arith) ∙ c .before .before .loop .inv .2)
 
--- src/keep.rt:93:5
 mul-moved-2 : tie.Need-mul-moved-2 Inv-loop μ-loop
-mul-moved-2 c = ?
+mul-moved-2 c = search needs
 
--- src/keep.rt:93:5
 array-set-from-moved-2 : tie.Need-array-set-from-moved-2 Inv-loop μ-loop
-array-set-from-moved-2 c = ?
+array-set-from-moved-2 c = search needs
 
--- src/keep.rt:80:1
 returns : tie.Need-returns Inv-loop μ-loop
-returns c = ?
+returns c = carry-end (c .before .loop .moved) (c .before .loop .i) _ _ (c .before .loop .inv .1) (c .loop-test .left) (omega arith) ∙ c .before .loop .inv .2
 
 pub shift-up-spec : {M : Type 1} → statement M
 shift-up-spec =

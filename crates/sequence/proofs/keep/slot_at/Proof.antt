@@ -1,19 +1,27 @@
+-- `sequence::keep::slot_at` meets its contract. Assumes nothing.
+use mathlib.Core.Path.{_≡_, sym}
+use borrow.Author.Needs.{needs}
+use lib.ListN.{length}
+use Rattle.routine.proofs.Laws.{length-mapped}
+use Rattle.sequence.specs.Valid.{Stands}
+use Rattle.sequence.proofs.Laws.{slot-ok-at, there-it}
 use Rattle.sequence.proofs.keep.slot_at.Statement.{statement}
 use Rattle.sequence.proofs.keep.slot_at.Tie as tie
-use Rattle.sequence.proofs.keep.slot_at.Reads as reads
-use Rattle.sequence.proofs.keep.slot_at.Lts as lts
 
--- src/keep.rt:66:5
 mul-result : tie.Need-mul-result
-mul-result c = ?
+unfolding Stands
+mul-result c = search needs
 
--- src/keep.rt:66:5
 element-copy-out-result : tie.Need-element-copy-out-result
-element-copy-out-result c = ?
+unfolding Stands
+element-copy-out-result c = search needs
 
--- src/keep.rt:62:1
 returns : tie.Need-returns
-returns c = ?
+unfolding Stands
+returns c =
+    let q = c .before .args .t1 in
+    let l : length (q .slots) ≡ 16 = search (needs, length-mapped) in
+    (slot-ok-at q l (c .before .pre .0) _ _ (c .before .pre .1), sym (there-it q l (c .before .pre .0) _ (c .before .pre .1)))
 
 pub slot-at-spec : {M : Type 1} → statement M
 slot-at-spec = tie.close (tie.spec mul-result element-copy-out-result returns)

@@ -1,54 +1,76 @@
+-- `sequence::submit::pass_behind` meets its contract. The loop's invariant: the sequence with those past i still to be passed is the whole with those past `at` to be passed.
+-- Assumes nothing.
+use borrow.Author.Needs.{needs}
+use Prim.Native.Nat.{_-_, _<_, _≤_}
+use native.Mathlib.Omega.{arith}
+use mathlib.Core.Path.{_≡_, refl, sym, _∙_}
+use lib.ListN.{length, length-set}
+use Rattle.routine.proofs.Laws.{length-mapped}
+use Rattle.rules.specs.State.{maxHeld}
+use Rattle.slot.specs.View.{memberOf}
+use Rattle.sequence.specs.View.{past}
+use Rattle.sequence.specs.Valid.{SequenceOk, Gap, RoomToPass}
+use Rattle.sequence.proofs.Laws.{slot-ok-at}
+use Rattle.sequence.proofs.SubmitLaws.{set-ok, passedFrom, pass-here, pass-room, pass-more, pass-end}
 use Rattle.sequence.proofs.submit.pass_behind.Statement.{statement}
 use Rattle.sequence.proofs.submit.pass_behind.Tie as tie
-use Rattle.sequence.proofs.submit.pass_behind.Reads as reads
-use Rattle.sequence.proofs.submit.pass_behind.Lts as lts
-use Rattle.slot.proofs.submit.passed_once.Reads as passed-once-reads
 
 abbrev Inv-loop : tie.InvT-loop
-Inv-loop at passed₀ len i₀ passed i = ?
+Inv-loop at passed₀ len i₀ passed i =
+    (i ≤ len) × (passed .len ≡ len) × (length (passed .slots) ≡ maxHeld) × (SequenceOk passed) × (RoomToPass (past passed i)) × (passedFrom passed i ≡ passedFrom passed₀ at)
 
 abbrev μ-loop : tie.MeasureT-loop
-μ-loop at passed₀ len i₀ passed i = ?
+μ-loop at passed₀ len i₀ passed i = len - i
 
--- src/submit.rt:64:5
+-- a routine stands at i
+inside : (c : tie.In-loop Inv-loop μ-loop) → c .before .loop .i < c .before .loop .passed .len
+inside c = omega (arith, c .loop-test .taken, c .before .loop .inv .1)
+
 loop-holds : tie.Need-loop-holds Inv-loop μ-loop
-loop-holds c = ?
+unfolding Gap
+loop-holds c = (c .pre .1, refl, search (needs, length-mapped), c .pre .0, c .pre .2, refl)
 
--- src/submit.rt:65:20
 mul-slot : tie.Need-mul-slot Inv-loop μ-loop
-mul-slot c = ?
+mul-slot c = search needs
 
--- src/submit.rt:65:20
 element-copy-out-slot : tie.Need-element-copy-out-slot Inv-loop μ-loop
-element-copy-out-slot c = ?
+element-copy-out-slot c = omega (arith, inside c, c .before .loop .inv .3 .fits)
 
--- src/submit.rt:66:13
 passed-once-requires : tie.Need-passed-once-requires Inv-loop μ-loop
-passed-once-requires c κs = ?
+unfolding memberOf
+passed-once-requires c κs = let l = c .before .before .loop in
+    let h = inside (c .before) in
+    (slot-ok-at (l .passed) (l .inv .2) (l .inv .3) (l .i) _ h, pass-here (l .passed) (l .inv .2) (l .inv .3) (l .i) h (l .inv .4))
 
--- src/submit.rt:67:9
 mul-once : tie.Need-mul-once Inv-loop μ-loop
-mul-once c = ?
+mul-once c = search needs
 
--- src/submit.rt:67:9
 element-set-from-once : tie.Need-element-set-from-once Inv-loop μ-loop
-element-set-from-once c = ?
+element-set-from-once c = omega (arith, inside (c .before .before), c .before .before .before .loop .inv .3 .fits)
 
--- src/submit.rt:68:9
 add-i : tie.Need-add-i Inv-loop μ-loop
-add-i c = ?
+add-i c = search needs
 
--- src/submit.rt:64:5
 loop-less : tie.Need-loop-less Inv-loop μ-loop
-loop-less c = ?
+loop-less c = search needs
 
--- src/submit.rt:64:5
 loop-again : tie.Need-loop-again Inv-loop μ-loop
-loop-again c = ?
+loop-again c = let l = c .before .before .before .loop in
+    let v = l .inv in
+    let h = inside (c .before .before) in
+    let e = c .passed-once .ensures in (
+      search needs,
+      v .1,
+      length-set (l .passed .slots) (l .i) _ ∙ v .2,
+      set-ok _ _ _ h (v .3) (e .0),
+      pass-room (l .passed) (v .2) (v .3) (l .i) h _ (e .1) (v .4),
+      pass-more (l .passed) (v .2) (v .3) (l .i) h _ (e .1) ∙ v .5,
+    )
 
--- src/submit.rt:57:1
 returns : tie.Need-returns Inv-loop μ-loop
-returns c = ?
+returns c = let l = c .before .loop in
+    let v = l .inv in
+    (v .3, sym (pass-end (l .passed) (v .2) (v .3) (l .i) (omega (arith, v .1, c .loop-test .left))) ∙ v .5)
 
 pub pass-behind-spec : {M : Type 1} → statement M
 pass-behind-spec =

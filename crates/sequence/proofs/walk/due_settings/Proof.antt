@@ -1,46 +1,66 @@
+-- `sequence::walk::due_settings` meets its contract. Assumes nothing.
+use borrow.Author.Needs.{needs}
+use Prim.Native.Nat.{ℕ, _+_, _-_, _≤_}
+use native.Mathlib.Omega.{arith}
+use mathlib.Core.Path.{_≡_, refl, sym, ap, _∙_}
+use lib.IntN.{ℤ}
+use lib.ListN.{length, drop}
+use Rattle.routine.proofs.Laws.{length-mapped}
+use Rattle.rules.specs.State.{maxHeld}
+use Rattle.rules.specs.Due.{afterMembers}
+use Rattle.slot.specs.View.{settingsOf}
+use Rattle.slot.proofs.Laws.{fun-ext}
+use Rattle.sequence.specs.View.{membersOf}
+use Rattle.sequence.proofs.Laws.{slot-ok-at}
+use Rattle.sequence.proofs.WalkLaws.{due-more, due-end}
 use Rattle.sequence.proofs.walk.due_settings.Statement.{statement}
 use Rattle.sequence.proofs.walk.due_settings.Tie as tie
-use Rattle.sequence.proofs.walk.due_settings.Reads as reads
-use Rattle.sequence.proofs.walk.due_settings.Lts as lts
-use Rattle.slot.proofs.due.after_slot.Reads as after-slot-reads
 
 abbrev Inv-loop : tie.InvT-loop
-Inv-loop sequence settings₀ len i₀ settings i = ?
+Inv-loop sequence settings₀ len i₀ settings i =
+    (i ≤ len) × ((d : ℕ) → afterMembers d (drop i (membersOf sequence)) (settingsOf settings d) ≡ afterMembers d (membersOf sequence) (settingsOf settings₀ d))
 
 abbrev μ-loop : tie.MeasureT-loop
-μ-loop sequence settings₀ len i₀ settings i = ?
+μ-loop sequence settings₀ len i₀ settings i = len - i
 
--- src/walk.rt:27:5
+-- the array's length
+long : (c : tie.Start Inv-loop μ-loop) → length (c .args .t1 .slots) ≡ maxHeld
+long c = search (needs, length-mapped)
+
 loop-holds : tie.Need-loop-holds Inv-loop μ-loop
-loop-holds c = ?
+loop-holds c = (search needs, λ d. refl)
 
--- src/walk.rt:28:20
 mul-slot : tie.Need-mul-slot Inv-loop μ-loop
-mul-slot c = ?
+mul-slot c = search needs
 
--- src/walk.rt:28:20
 element-copy-out-slot : tie.Need-element-copy-out-slot Inv-loop μ-loop
-element-copy-out-slot c = ?
+element-copy-out-slot c = let f = c .before .before .pre .fits in omega (arith, f, c .loop-test .taken)
 
--- src/walk.rt:29:13
 after-slot-requires : tie.Need-after-slot-requires Inv-loop μ-loop
-after-slot-requires c κs = ?
+after-slot-requires c κs = let a = c .before .before .before in slot-ok-at (a .args .t1) (long a) (a .pre) _ _ (c .before .loop-test .taken)
 
--- src/walk.rt:31:9
 add-i : tie.Need-add-i Inv-loop μ-loop
-add-i c = ?
+add-i c = search needs
 
--- src/walk.rt:27:5
 loop-less : tie.Need-loop-less Inv-loop μ-loop
-loop-less c = ?
+loop-less c = search needs
 
--- src/walk.rt:27:5
 loop-again : tie.Need-loop-again Inv-loop μ-loop
-loop-again c = ?
+loop-again c =
+    let b = c .before .before in
+    let a = b .before .before in
+    let rest = drop (b .before .loop .i + 1) (membersOf (a .args .t1)) in (
+      search needs,
+      λ d.
+          ap (λ (f : ℕ → ℤ). afterMembers d rest (f d)) (c .after-slot .ensures)
+          ∙ sym (due-more (a .args .t1) (long a) (a .pre) _ d _ (b .loop-test .taken))
+          ∙ b .before .loop .inv .1 d,
+    )
 
--- src/walk.rt:20:1
 returns : tie.Need-returns Inv-loop μ-loop
-returns c = ?
+returns c =
+    let a = c .before .before in
+    fun-ext _ _ (λ d. sym (due-end (a .args .t1) (long a) (a .pre) _ d _ (c .loop-test .left)) ∙ c .before .loop .inv .1 d)
 
 pub due-settings-spec : {M : Type 1} → statement M
 due-settings-spec =

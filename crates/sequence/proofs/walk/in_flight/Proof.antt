@@ -1,46 +1,68 @@
+-- `sequence::walk::in_flight` meets its contract. Assumes nothing.
+use borrow.Author.Needs.{needs}
+use Prim.Native.Nat.{ℕ, _+_, _-_, _≤_}
+use native.Mathlib.Omega.{arith}
+use mathlib.Core.Path.{_≡_, sym, ap, _∙_}
+use mathlib.Core.Bool.{Bool, _||_}
+use lib.ListN.{length, drop}
+use Rattle.routine.proofs.Laws.{length-mapped}
+use Rattle.routine.specs.Routine.{maxDevices}
+use Rattle.rules.specs.State.{maxHeld}
+use Rattle.rules.specs.Tables.{anyOf}
+use Rattle.rules.specs.Progress.{inFlightOn}
+use Rattle.slot.specs.View.{flagsOf}
+use Rattle.slot.proofs.Laws.{fun-ext}
+use Rattle.sequence.specs.View.{membersOf}
+use Rattle.sequence.proofs.Laws.{slot-ok-at}
+use Rattle.sequence.proofs.WalkLaws.{flights-more, flights-end, no-flag}
 use Rattle.sequence.proofs.walk.in_flight.Statement.{statement}
 use Rattle.sequence.proofs.walk.in_flight.Tie as tie
-use Rattle.sequence.proofs.walk.in_flight.Reads as reads
-use Rattle.sequence.proofs.walk.in_flight.Lts as lts
-use Rattle.slot.proofs.due.flights.Reads as flights-reads
 
 abbrev Inv-loop : tie.InvT-loop
-Inv-loop sequence flying₀ len i₀ flying i = ?
+Inv-loop sequence flying₀ len i₀ flying i =
+    (i ≤ len) × ((d : ℕ) → flagsOf flying d || anyOf (inFlightOn d) (drop i (membersOf sequence)) ≡ anyOf (inFlightOn d) (membersOf sequence))
 
 abbrev μ-loop : tie.MeasureT-loop
-μ-loop sequence flying₀ len i₀ flying i = ?
+μ-loop sequence flying₀ len i₀ flying i = len - i
 
--- src/walk.rt:60:5
+-- the array's length
+long : (c : tie.Start Inv-loop μ-loop) → length (c .args .t1 .slots) ≡ maxHeld
+long c = search (needs, length-mapped)
+
 loop-holds : tie.Need-loop-holds Inv-loop μ-loop
-loop-holds c = ?
+loop-holds c = (search needs, λ d. ap (λ (t : Bool). t || anyOf (inFlightOn d) (membersOf (c .args .t1))) (no-flag maxDevices d))
 
--- src/walk.rt:61:20
 mul-slot : tie.Need-mul-slot Inv-loop μ-loop
-mul-slot c = ?
+mul-slot c = search needs
 
--- src/walk.rt:61:20
 element-copy-out-slot : tie.Need-element-copy-out-slot Inv-loop μ-loop
-element-copy-out-slot c = ?
+element-copy-out-slot c = let f = c .before .before .pre .fits in omega (arith, f, c .loop-test .taken)
 
--- src/walk.rt:62:13
 flights-requires : tie.Need-flights-requires Inv-loop μ-loop
-flights-requires c κs = ?
+flights-requires c κs = let a = c .before .before .before in slot-ok-at (a .args .t1) (long a) (a .pre) _ _ (c .before .loop-test .taken)
 
--- src/walk.rt:64:9
 add-i : tie.Need-add-i Inv-loop μ-loop
-add-i c = ?
+add-i c = search needs
 
--- src/walk.rt:60:5
 loop-less : tie.Need-loop-less Inv-loop μ-loop
-loop-less c = ?
+loop-less c = search needs
 
--- src/walk.rt:60:5
 loop-again : tie.Need-loop-again Inv-loop μ-loop
-loop-again c = ?
+loop-again c =
+    let b = c .before .before in
+    let a = b .before .before in
+    let rest = drop (b .before .loop .i + 1) (membersOf (a .args .t1)) in (
+      search needs,
+      λ d.
+          ap (λ (f : ℕ → Bool). f d || anyOf (inFlightOn d) rest) (c .flights .ensures)
+          ∙ sym (flights-more (a .args .t1) (long a) (a .pre) _ d (flagsOf (b .before .loop .flying) d) (b .loop-test .taken))
+          ∙ b .before .loop .inv .1 d,
+    )
 
--- src/walk.rt:53:1
 returns : tie.Need-returns Inv-loop μ-loop
-returns c = ?
+returns c =
+    let a = c .before .before in
+    fun-ext _ _ (λ d. sym (flights-end (a .args .t1) (long a) (a .pre) _ d _ (c .loop-test .left)) ∙ c .before .loop .inv .1 d)
 
 pub in-flight-spec : {M : Type 1} → statement M
 in-flight-spec =

@@ -1,49 +1,89 @@
+-- `slot::attach::later_restarts` meets its contract. The loop's invariant: the restarts of the devices below d are the later ones. Assumes nothing.
+use borrow.Author.Needs.{needs}
+use native.Mathlib.Omega.{arith}
+use mathlib.Core.Path.{_≡_, sym, ap, _∙_}
+use mathlib.Core.Logic.{⊎-elim}
+use mathlib.Core.List.{List}
+use mathlib.Core.Option.{Option}
+use Prim.Native.Nat.{ℕ, _-_, _≤_}
+use lib.IntN.{ℤ}
+use lib.ListN.{length, getD, length-set}
+use Rattle.rules.specs.Attach.{later}
+use Rattle.slot.specs.View.{restartsOf, restartOf, noRestart}
+use Rattle.slot.specs.declared.Restart.{Restart}
+use Rattle.slot.proofs.Laws.{fun-ext}
+use Rattle.slot.proofs.DueLaws.{restart-set, restart-unset, restart-past, set-put, newBelow, below-none, below-put, below-same, below-all}
 use Rattle.slot.proofs.attach.later_restarts.Statement.{statement}
 use Rattle.slot.proofs.attach.later_restarts.Tie as tie
-use Rattle.slot.proofs.attach.later_restarts.Reads as reads
-use Rattle.slot.proofs.attach.later_restarts.Lts as lts
+
+-- what the restarts shall be
+abbrev joined : List Restart → List Restart → ℕ → Option ℤ
+joined earlier restarts e = later (restartsOf earlier e) (restartsOf restarts e)
 
 abbrev Inv-loop : tie.InvT-loop
-Inv-loop restarts both₀ d₀ both d = ?
+Inv-loop restarts both₀ d₀ both d = (d ≤ 32) × (length both ≡ 32) × ((e : ℕ) → restartsOf both e ≡ newBelow d (joined both₀ restarts) (restartsOf both₀) e)
 
 abbrev μ-loop : tie.MeasureT-loop
-μ-loop restarts both₀ d₀ both d = ?
+μ-loop restarts both₀ d₀ both d = 32 - d
 
--- src/attach.rt:54:5
 loop-holds : tie.Need-loop-holds Inv-loop μ-loop
-loop-holds c = ?
+loop-holds c = (search needs, search needs, λ e. sym (below-none (joined (c .args .earlier) (c .args .t2)) (restartsOf (c .args .earlier)) e))
 
--- src/attach.rt:55:23
 mul-restart : tie.Need-mul-restart Inv-loop μ-loop
-mul-restart c = ?
+mul-restart c = search needs
 
--- src/attach.rt:55:23
 array-copy-out-restart : tie.Need-array-copy-out-restart Inv-loop μ-loop
-array-copy-out-restart c = ?
+array-copy-out-restart c = search needs
 
--- src/attach.rt:57:13
 mul-both : tie.Need-mul-both Inv-loop μ-loop
-mul-both c = ?
+mul-both c = search needs
 
--- src/attach.rt:57:13
 array-set-from-both : tie.Need-array-set-from-both Inv-loop μ-loop
-array-set-from-both c = ?
+array-set-from-both c = search needs
 
--- src/attach.rt:59:9
 add-d : tie.Need-add-d Inv-loop μ-loop
-add-d c = ?
+add-d c = search needs
 
--- src/attach.rt:54:5
 loop-less : tie.Need-loop-less Inv-loop μ-loop
-loop-less c = ?
+loop-less c = search needs
 
--- src/attach.rt:54:5
 loop-again : tie.Need-loop-again Inv-loop μ-loop
-loop-again c = ?
+loop-again c =
+    let l = c .before .before in
+    let a = l .before .before .args in
+    let v = l .before .loop .inv in
+    let d = l .before .loop .d in
+    let both = l .before .loop .both in
+    let new = joined (a .earlier) (a .t2) in
+    let old = restartsOf (a .earlier) in
+    let r = getD (a .t2) d noRestart in
+    ⊎-elim
+    (λ w. (
+      search needs,
+      ap length (w .1) ∙ length-set both d r ∙ v .1,
+      λ e. ap (λ (k : List Restart). restartsOf k e) (w .1)
+          ∙ set-put restartOf both d r noRestart (omega (arith, v .1, l .loop-test .taken)) e
+          ∙ below-put new old d (restartsOf both) (restartOf r) (v .2) (let t = restart-set r (w .0 .taken) in t ∙ ap (later (old d)) (sym t)) e,
+    ))
+    (λ w. (
+      search needs,
+      ap length (w .1) ∙ v .1,
+      λ e. ap (λ (k : List Restart). restartsOf k e) (w .1)
+          ∙ below-same new old d (restartsOf both) (v .2) (ap (later (old d)) (restart-unset r (w .0 .left))) e,
+    ))
+    (c .if1 .came)
 
--- src/attach.rt:49:1
 returns : tie.Need-returns Inv-loop μ-loop
-returns c = ?
+returns c =
+    let a = c .before .before .args in
+    let v = c .before .loop .inv in
+    let d = c .before .loop .d in
+    let new = joined (a .earlier) (a .t2) in
+    let old = restartsOf (a .earlier) in
+    let n : length (a .t2) ≡ 32 = search needs in
+    let past : (e : ℕ) → d ≤ e → new e ≡ old e =
+    λ e h. ap (later (old e)) (restart-past (a .t2) e (omega (arith, h, n, c .loop-test .left))) in
+    fun-ext (restartsOf (c .before .loop .both)) new (λ e. v .2 e ∙ below-all new old d past e)
 
 pub later-restarts-spec : {M : Type 1} → statement M
 later-restarts-spec =

@@ -1,46 +1,79 @@
+-- `slot::due::after_steps_on` meets its contract. The loop's invariant: the steps from the j-th on leave the device as all of them do. Assumes nothing.
+use borrow.Author.Needs.{needs}
+use native.Mathlib.Omega.{arith}
+use mathlib.Core.Path.{_≡_, refl, sym, ap, _∙_}
+use mathlib.Core.Logic.{⊎-elim}
+use mathlib.Core.List.{List, map}
+use Prim.Native.Nat.{_-_, _≤_}
+use lib.ListN.{length, getD}
+use lib.Seq.{slice}
+use mir.Val.{toZ, ofZ}
+use mir.Syntax.{w16}
+use Rattle.routine.proofs.Laws.{length-mapped}
+use Rattle.rules.specs.State.{Step}
+use Rattle.rules.specs.Due.{afterSteps}
+use Rattle.slot.specs.View.{stepIn, stepsIn, stepsOf}
+use Rattle.slot.proofs.DueLaws.{zeroStep, after-more, rest-none, done-on, not-done, not-on}
 use Rattle.slot.proofs.due.after_steps_on.Statement.{statement}
 use Rattle.slot.proofs.due.after_steps_on.Tie as tie
-use Rattle.slot.proofs.due.after_steps_on.Reads as reads
-use Rattle.slot.proofs.due.after_steps_on.Lts as lts
-use Rattle.slot.proofs.stages.is_done.Reads as is-done-reads
 
 abbrev Inv-loop : tie.InvT-loop
-Inv-loop device before slot after₀ count j₀ after j = ?
+Inv-loop device before slot after₀ count j₀ after j = (j ≤ count) × (afterSteps device (map stepIn (slice j count (slot .steps))) (toZ w16 after) ≡ afterSteps device (stepsIn count (slot .steps)) (toZ w16 before))
 
 abbrev μ-loop : tie.MeasureT-loop
-μ-loop device before slot after₀ count j₀ after j = ?
+μ-loop device before slot after₀ count j₀ after j = count - j
 
--- src/due.rt:61:5
 loop-holds : tie.Need-loop-holds Inv-loop μ-loop
-loop-holds c = ?
+loop-holds c = (search needs, refl)
 
--- src/due.rt:62:20
 mul-step : tie.Need-mul-step Inv-loop μ-loop
-mul-step c = ?
+mul-step c = search needs
 
--- src/due.rt:62:20
 element-copy-out-step : tie.Need-element-copy-out-step Inv-loop μ-loop
-element-copy-out-step c = ?
+element-copy-out-step c = search needs
 
--- src/due.rt:66:16
 is-done-requires : tie.Need-is-done-requires Inv-loop μ-loop
-is-done-requires c κs = ?
+is-done-requires c κs = search needs
 
--- src/due.rt:70:9
 add-j : tie.Need-add-j Inv-loop μ-loop
-add-j c = ?
+add-j c = search needs
 
--- src/due.rt:61:5
 loop-less : tie.Need-loop-less Inv-loop μ-loop
-loop-less c = ?
+loop-less c = search needs
 
--- src/due.rt:61:5
 loop-again : tie.Need-loop-again Inv-loop μ-loop
-loop-again c = ?
+loop-again c =
+    let l = c .before .before .before .before in
+    let a = l .before .before .args in
+    let s = a .t1 in
+    let v = l .before .loop .inv in
+    let j = l .before .loop .j in
+    let x = getD (s .steps) j zeroStep in
+    let after = toZ w16 (l .before .loop .after) in
+    let n : length (s .steps) ≡ 8 = search (needs, length-mapped) in
+    let f = l .before .before .pre .fits in
+    let k : s .count ≤ length (s .steps) = omega (arith, n) in (
+      search needs,
+      after-more (s .steps) j (s .count) zeroStep (l .loop-test .taken) k (a .device) after (toZ w16 (c .if1 .after))
+          (⊎-elim
+          (λ w. let b : toZ w16 (ofZ w16 (x .command .setting)) ≡ x .command .setting = search needs in
+          ap (toZ w16) (w .4) ∙ b ∙ done-on after (stepIn x) (a .device) (w .0 .taken) (sym (w .1 .ensures) ∙ w .2 .taken))
+          (⊎-elim
+          (λ w. ap (toZ w16) (w .3) ∙ not-done after (stepIn x) (a .device) (sym (w .1 .ensures) ∙ w .2 .left))
+          (λ w. ap (toZ w16) (w .1) ∙ not-on after (stepIn x) (a .device) (w .0 .left)))
+          (c .if1 .came))
+          ∙ v .1,
+    )
 
--- src/due.rt:54:1
 returns : tie.Need-returns Inv-loop μ-loop
-returns c = ?
+returns c =
+    let l = c .before in
+    let a = l .before .args in
+    let ss = stepsOf (a .t1) in
+    let b : toZ w16 (ofZ w16 (a .before)) ≡ a .before = search needs in
+    sym (ap (λ (y : List Step). afterSteps (a .device) y (toZ w16 (l .loop .after))) (rest-none (a .t1 .steps) (l .loop .j) (a .t1 .count) (l .loop .inv .0) (c .loop-test .left)))
+    ∙ l .loop .inv .1
+    ∙ ap (afterSteps (a .device) ss) b
 
 pub after-steps-on-spec : {M : Type 1} → statement M
 after-steps-on-spec =

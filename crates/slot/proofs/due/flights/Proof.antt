@@ -1,54 +1,104 @@
+-- `slot::due::flights` meets its contract. The loop's invariant: the steps from the j-th on add what all of them add. Assumes nothing.
+use borrow.Author.Needs.{needs}
+use native.Mathlib.Omega.{arith}
+use mathlib.Core.Path.{_≡_, refl, sym, ap, _∙_}
+use mathlib.Core.Logic.{⊎-elim}
+use mathlib.Core.Bool.{Bool, true, false, _&&_, _||_, or-false}
+use mathlib.Core.List.{List, map}
+use Prim.Native.Nat.{ℕ, _-_, _≤_, _<_}
+use lib.ListN.{length, getD, length-set}
+use lib.Seq.{slice}
+use Rattle.routine.proofs.Laws.{length-mapped}
+use Rattle.rules.specs.Tables.{anyOf}
+use Rattle.rules.specs.State.{Step}
+use Rattle.rules.specs.Progress.{isOn, isInFlight, inFlightOn}
+use Rattle.slot.specs.View.{flagsOf, stepIn, stepsIn, stepsOf, memberOf}
+use Rattle.slot.proofs.Laws.{fun-ext, step-at}
+use Rattle.slot.proofs.DueLaws.{zeroStep, set-put, any-more, rest-none, flight-put, no-flight}
 use Rattle.slot.proofs.due.flights.Statement.{statement}
 use Rattle.slot.proofs.due.flights.Tie as tie
-use Rattle.slot.proofs.due.flights.Reads as reads
-use Rattle.slot.proofs.due.flights.Lts as lts
-use Rattle.slot.proofs.stages.is_in_flight.Reads as is-in-flight-reads
+
+-- the step is in flight on the device
+abbrev flies : ℕ → Step → Bool
+flies d x = isOn d x && isInFlight (x .status)
 
 abbrev Inv-loop : tie.InvT-loop
-Inv-loop slot flying₀ count j₀ flying j = ?
+Inv-loop slot flying₀ count j₀ flying j = (j ≤ count) × (length flying ≡ 32) × ((d : ℕ) → flagsOf flying d || anyOf (flies d) (map stepIn (slice j count (slot .steps))) ≡ flagsOf flying₀ d || anyOf (flies d) (stepsIn count (slot .steps)))
 
 abbrev μ-loop : tie.MeasureT-loop
-μ-loop slot flying₀ count j₀ flying j = ?
+μ-loop slot flying₀ count j₀ flying j = count - j
 
--- src/due.rt:98:5
+-- the array's length
+long : (c : tie.In-loop Inv-loop μ-loop) → length (c .before .before .args .t2 .steps) ≡ 8
+long c = search (needs, length-mapped)
+
+-- the step's device
+below : (c : tie.In-loop Inv-loop μ-loop) → getD (c .before .before .args .t2 .steps) (c .before .loop .j) zeroStep .command .device < 32
+below c = step-at (c .before .before .args .t2) (c .before .before .pre) (long c) (c .before .loop .j) zeroStep (c .loop-test .taken)
+
 loop-holds : tie.Need-loop-holds Inv-loop μ-loop
-loop-holds c = ?
+loop-holds c = (search needs, search needs, λ d. refl)
 
--- src/due.rt:99:20
 mul-step : tie.Need-mul-step Inv-loop μ-loop
-mul-step c = ?
+mul-step c = search needs
 
--- src/due.rt:99:20
 element-copy-out-step : tie.Need-element-copy-out-step Inv-loop μ-loop
-element-copy-out-step c = ?
+element-copy-out-step c = search needs
 
--- src/due.rt:101:12
 is-in-flight-requires : tie.Need-is-in-flight-requires Inv-loop μ-loop
-is-in-flight-requires c κs = ?
+is-in-flight-requires c κs = search needs
 
--- src/due.rt:103:26
 cast-device : tie.Need-cast-device Inv-loop μ-loop
-cast-device c = ?
+cast-device c = search needs
 
--- src/due.rt:104:13
 array-write-flying : tie.Need-array-write-flying Inv-loop μ-loop
-array-write-flying c = ?
+array-write-flying c = below (c .before .before .before .before .before)
 
--- src/due.rt:106:9
 add-j : tie.Need-add-j Inv-loop μ-loop
-add-j c = ?
+add-j c = search needs
 
--- src/due.rt:98:5
 loop-less : tie.Need-loop-less Inv-loop μ-loop
-loop-less c = ?
+loop-less c = search needs
 
--- src/due.rt:98:5
 loop-again : tie.Need-loop-again Inv-loop μ-loop
-loop-again c = ?
+loop-again c =
+    let l = c .before .before .before in
+    let s = l .before .before .args .t2 in
+    let v = l .before .loop .inv in
+    let j = l .before .loop .j in
+    let x = getD (s .steps) j zeroStep in
+    let at = x .command .device in
+    let flying = l .before .loop .flying in
+    let f = l .before .before .pre .fits in
+    let k : s .count ≤ length (s .steps) = omega (arith, long l) in
+    ⊎-elim
+    (λ w. (
+      search needs,
+      ap length (w .3) ∙ length-set flying at true ∙ v .1,
+      λ d. any-more (s .steps) j (s .count) zeroStep (l .loop-test .taken) k (flies d) (flagsOf flying d) (flagsOf (c .if1 .flying) d)
+          (ap (λ (y : List Bool). flagsOf y d) (w .3)
+          ∙ set-put (λ z. z) flying at true false (omega (arith, v .1, below l)) d
+          ∙ flight-put (flagsOf flying) (stepIn x) d (sym (c .before .is-in-flight .ensures) ∙ w .0 .taken))
+          ∙ v .2 d,
+    ))
+    (λ w. (
+      search needs,
+      ap length (w .1) ∙ v .1,
+      λ d. any-more (s .steps) j (s .count) zeroStep (l .loop-test .taken) k (flies d) (flagsOf flying d) (flagsOf (c .if1 .flying) d)
+          (ap (λ (y : List Bool). flagsOf y d) (w .1) ∙ no-flight (flagsOf flying d) (stepIn x) d (sym (c .before .is-in-flight .ensures) ∙ w .0 .left))
+          ∙ v .2 d,
+    ))
+    (c .if1 .came)
 
--- src/due.rt:91:1
 returns : tie.Need-returns Inv-loop μ-loop
-returns c = ?
+unfolding inFlightOn memberOf
+returns c =
+    let l = c .before in
+    let a = l .before .args in
+    let g = flagsOf (l .loop .flying) in
+    fun-ext g (λ d. flagsOf (a .table) d || anyOf (flies d) (stepsOf (a .t2)))
+    (λ d. sym (or-false (g d))
+    ∙ sym (ap (λ (y : List Step). g d || anyOf (flies d) y) (rest-none (a .t2 .steps) (l .loop .j) (a .t2 .count) (l .loop .inv .0) (c .loop-test .left))) ∙ l .loop .inv .2 d)
 
 pub flights-spec : {M : Type 1} → statement M
 flights-spec =

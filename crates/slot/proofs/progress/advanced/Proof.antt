@@ -1,26 +1,30 @@
+-- `slot::progress::advanced` meets its contract. Assumes nothing.
 use borrow.Author.Needs.{needs}
+use native.Mathlib.Omega.{arith}
+use mathlib.Core.Path.{_≡_, _∙_}
+use lib.ListN.{length}
+use Rattle.routine.proofs.Laws.{length-mapped}
+use Rattle.slot.proofs.ProgressLaws.{advance-first, change-past, change-at}
 use Rattle.slot.proofs.progress.advanced.Statement.{statement}
 use Rattle.slot.proofs.progress.advanced.Tie as tie
-use Rattle.slot.proofs.progress.advanced.Reads as reads
-use Rattle.slot.proofs.progress.advanced.Lts as lts
-use Rattle.slot.proofs.progress.to_do_at.Reads as to-do-at-reads
-use Rattle.slot.proofs.progress.with_stage.Reads as with-stage-reads
 
--- src/progress.rt:107:9
 to-do-at-requires : tie.Need-to-do-at-requires
 to-do-at-requires c κs = search needs
 
--- src/progress.rt:110:9
 returns : tie.Need-returns
-returns c = ?
+returns c =
+    let b = c .before .before in
+    let n : length (b .args .slot .steps) ≡ 8 = search (needs, length-mapped) in
+    let f = b .pre .fits in
+    (b .pre, change-past _ _ advance-first (b .args .slot) _ _ (c .before .to-do-at .ensures) (omega arith) (c .if1 .taken))
 
--- src/progress.rt:112:5
 with-stage-requires : tie.Need-with-stage-requires
 with-stage-requires c κs = search needs
 
--- src/progress.rt:103:1
 returns-2 : tie.Need-returns-2
-returns-2 c = ?
+returns-2 c =
+    let b = c .before .before in
+    (c .with-stage .ensures .0, c .with-stage .ensures .1 ∙ change-at _ _ advance-first (b .before .args .slot) _ _ (b .to-do-at .ensures))
 
 pub advanced-spec : {M : Type 1} → statement M
 advanced-spec = tie.close (tie.spec to-do-at-requires returns with-stage-requires returns-2)

@@ -1,26 +1,30 @@
+-- `slot::progress::answered` meets its contract. Assumes nothing.
 use borrow.Author.Needs.{needs}
+use native.Mathlib.Omega.{arith}
+use mathlib.Core.Path.{_≡_, _∙_}
+use lib.ListN.{length}
+use Rattle.routine.proofs.Laws.{length-mapped}
+use Rattle.slot.proofs.ProgressLaws.{answer-first, change-past, change-at}
 use Rattle.slot.proofs.progress.answered.Statement.{statement}
 use Rattle.slot.proofs.progress.answered.Tie as tie
-use Rattle.slot.proofs.progress.answered.Reads as reads
-use Rattle.slot.proofs.progress.answered.Lts as lts
-use Rattle.slot.proofs.progress.in_flight_at.Reads as in-flight-at-reads
-use Rattle.slot.proofs.progress.with_stage.Reads as with-stage-reads
 
--- src/progress.rt:120:9
 in-flight-at-requires : tie.Need-in-flight-at-requires
 in-flight-at-requires c κs = search needs
 
--- src/progress.rt:123:9
 returns : tie.Need-returns
-returns c = ?
+returns c =
+    let b = c .before .before in
+    let n : length (b .args .slot .steps) ≡ 8 = search (needs, length-mapped) in
+    let f = b .pre .fits in
+    (b .pre, change-past _ _ answer-first (b .args .slot) _ _ (c .before .in-flight-at .ensures) (omega arith) (c .if1 .taken))
 
--- src/progress.rt:125:5
 with-stage-requires : tie.Need-with-stage-requires
 with-stage-requires c κs = search needs
 
--- src/progress.rt:116:1
 returns-2 : tie.Need-returns-2
-returns-2 c = ?
+returns-2 c =
+    let b = c .before .before in
+    (c .with-stage .ensures .0, c .with-stage .ensures .1 ∙ change-at _ _ answer-first (b .before .args .slot) _ _ (b .in-flight-at .ensures))
 
 pub answered-spec : {M : Type 1} → statement M
 answered-spec = tie.close (tie.spec in-flight-at-requires returns with-stage-requires returns-2)

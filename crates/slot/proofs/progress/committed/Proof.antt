@@ -1,11 +1,13 @@
+-- `slot::progress::committed` meets its contract. Assumes nothing.
+use mathlib.Core.Path.{refl}
+use Rattle.rules.specs.Turn.{commit}
+use Rattle.slot.specs.View.{memberOf}
 use Rattle.slot.proofs.progress.committed.Statement.{statement}
 use Rattle.slot.proofs.progress.committed.Tie as tie
-use Rattle.slot.proofs.progress.committed.Reads as reads
-use Rattle.slot.proofs.progress.committed.Lts as lts
 
--- src/progress.rt:171:1
 returns : tie.Need-returns
-returns c = ?
+unfolding memberOf commit
+returns c = let ok = c .pre in (record { fits = ok .fits; devices-fit = ok .devices-fit; has-id = ok .has-id }, refl)
 
 pub committed-spec : {M : Type 1} → statement M
 committed-spec = tie.close (tie.spec returns)

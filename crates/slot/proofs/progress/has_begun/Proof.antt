@@ -1,50 +1,79 @@
+-- `slot::progress::has_begun` meets its contract. Assumes nothing.
+use borrow.Author.Needs.{needs}
+use Prim.Native.Nat.{ℕ, _-_, _≤_}
+use native.Mathlib.Omega.{arith}
+use mathlib.Core.Path.{_≡_, refl, sym, ap, _∙_}
+use mathlib.Core.Bool.{Bool, true, false, not, _&&_}
+use mathlib.Core.Logic.{⊎-elim}
+use lib.ListN.{length, getD}
+use Rattle.routine.proofs.Laws.{length-mapped}
+use Rattle.rules.specs.State.{Step}
+use Rattle.rules.specs.Tables.{anyOf}
+use Rattle.rules.specs.Progress.{isOn, isToDo, begun}
+use Rattle.slot.specs.View.{stepIn, stepsIn, memberOf}
+use Rattle.slot.proofs.ProgressLaws.{noStep, rest, any-more, any-found, any-end, on-this, on-other}
 use Rattle.slot.proofs.progress.has_begun.Statement.{statement}
 use Rattle.slot.proofs.progress.has_begun.Tie as tie
-use Rattle.slot.proofs.progress.has_begun.Reads as reads
-use Rattle.slot.proofs.progress.has_begun.Lts as lts
-use Rattle.slot.proofs.stages.is_to_do.Reads as is-to-do-reads
+
+-- what the loop looks for
+abbrev seen : ℕ → Step → Bool
+seen d x = isOn d x && not (isToDo (x .status))
 
 abbrev Inv-loop : tie.InvT-loop
-Inv-loop device slot count j₀ j = ?
+Inv-loop device slot count j₀ j = (j ≤ count) × (anyOf (seen device) (rest j count (slot .steps)) ≡ anyOf (seen device) (stepsIn count (slot .steps)))
 
 abbrev μ-loop : tie.MeasureT-loop
-μ-loop device slot count j₀ j = ?
+μ-loop device slot count j₀ j = count - j
 
--- src/progress.rt:135:5
+-- the array holds the routine's steps
+held : (c : tie.Start Inv-loop μ-loop) → c .args .t1 .count ≤ length (c .args .t1 .steps)
+held c =
+    let n : length (c .args .t1 .steps) ≡ 8 = search (needs, length-mapped) in
+    let f = c .pre .fits in
+    omega arith
+
 loop-holds : tie.Need-loop-holds Inv-loop μ-loop
-loop-holds c = ?
+loop-holds c = (search needs, refl)
 
--- src/progress.rt:136:20
 mul-step : tie.Need-mul-step Inv-loop μ-loop
-mul-step c = ?
+mul-step c = search needs
 
--- src/progress.rt:136:20
 element-copy-out-step : tie.Need-element-copy-out-step Inv-loop μ-loop
-element-copy-out-step c = ?
+element-copy-out-step c = search needs
 
--- src/progress.rt:140:17
 is-to-do-requires : tie.Need-is-to-do-requires Inv-loop μ-loop
-is-to-do-requires c κs = ?
+is-to-do-requires c κs = search needs
 
--- src/progress.rt:141:17
 returns : tie.Need-returns Inv-loop μ-loop
-returns c = ?
+unfolding begun memberOf
+returns c =
+    let i = c .before .before in
+    let l = i .before .before .before .before in
+    let d = l .before .before .args .device in
+    let x = stepIn (getD (l .before .before .args .t1 .steps) (l .before .loop .j) noStep) in
+    let e : seen d x ≡ true = on-this d x _ (i .if1 .taken) ∙ ap not (sym (c .before .is-to-do .ensures)) ∙ c .if2 .taken in
+    sym (any-found (seen d) _ _ _ noStep (l .loop-test .taken) (held (l .before .before)) e) ∙ l .before .loop .inv .1
 
--- src/progress.rt:144:9
 add-j : tie.Need-add-j Inv-loop μ-loop
-add-j c = ?
+add-j c = search needs
 
--- src/progress.rt:135:5
 loop-less : tie.Need-loop-less Inv-loop μ-loop
-loop-less c = ?
+loop-less c = search needs
 
--- src/progress.rt:135:5
 loop-again : tie.Need-loop-again Inv-loop μ-loop
-loop-again c = ?
+loop-again c =
+    let l = c .before .before .before .before in
+    let d = l .before .before .args .device in
+    let x = stepIn (getD (l .before .before .args .t1 .steps) (l .before .loop .j) noStep) in
+    let e : seen d x ≡ false = ⊎-elim {C = seen d x ≡ false}
+    (λ w. on-this d x _ (w .0 .taken) ∙ ap not (sym (w .1 .ensures)) ∙ w .2 .left)
+    (λ w. on-other d x _ (w .left))
+    (c .if1 .came) in
+    (search needs, sym (any-more (seen d) _ _ _ noStep (l .loop-test .taken) (held (l .before .before)) e) ∙ l .before .loop .inv .1)
 
--- src/progress.rt:129:1
 returns-2 : tie.Need-returns-2 Inv-loop μ-loop
-returns-2 c = ?
+unfolding begun memberOf
+returns-2 c = sym (any-end (seen (c .before .before .args .device)) _ _ _ (c .before .loop .inv .0) (c .loop-test .left)) ∙ c .before .loop .inv .1
 
 pub has-begun-spec : {M : Type 1} → statement M
 has-begun-spec =

@@ -1,29 +1,38 @@
+-- `slot::progress::next_command` meets its contract. Assumes nothing.
 use borrow.Author.Needs.{needs}
+use Prim.Native.Nat.{_≤_}
+use native.Mathlib.Omega.{arith}
+use mathlib.Core.Path.{_≡_, sym}
+use lib.ListN.{length}
+use Rattle.routine.proofs.Laws.{length-mapped}
+use Rattle.slot.proofs.ProgressLaws.{next-none, next-found}
 use Rattle.slot.proofs.progress.next_command.Statement.{statement}
 use Rattle.slot.proofs.progress.next_command.Tie as tie
-use Rattle.slot.proofs.progress.next_command.Reads as reads
-use Rattle.slot.proofs.progress.next_command.Lts as lts
-use Rattle.slot.proofs.progress.to_do_at.Reads as to-do-at-reads
 
--- src/progress.rt:72:9
+-- the array holds the routine's steps
+held : (c : tie.Start) → c .args .t1 .count ≤ length (c .args .t1 .steps)
+held c =
+    let n : length (c .args .t1 .steps) ≡ 8 = search (needs, length-mapped) in
+    let f = c .pre .fits in
+    omega arith
+
 to-do-at-requires : tie.Need-to-do-at-requires
 to-do-at-requires c κs = search needs
 
--- src/progress.rt:75:9
 returns : tie.Need-returns
-returns c = ?
+returns c =
+    sym (next-none _ _ _ (held (c .before .before)) (c .before .to-do-at .ensures) (c .if1 .taken))
 
--- src/progress.rt:77:16
 mul-step : tie.Need-mul-step
 mul-step c = search needs
 
--- src/progress.rt:77:16
 element-copy-out-step : tie.Need-element-copy-out-step
 element-copy-out-step c = search needs
 
--- src/progress.rt:68:1
 returns-2 : tie.Need-returns-2
-returns-2 c = ?
+returns-2 c =
+    let l = c .before .before in
+    sym (next-found _ _ _ _ (held (l .before .before)) (l .before .to-do-at .ensures) (l .if1 .left))
 
 pub next-command-spec : {M : Type 1} → statement M
 next-command-spec =

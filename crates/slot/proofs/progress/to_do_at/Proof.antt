@@ -1,50 +1,60 @@
+-- `slot::progress::to_do_at` meets its contract. Assumes nothing.
+use borrow.Author.Needs.{needs}
+use Prim.Native.Nat.{_+_, _-_, _≤_}
+use native.Mathlib.Omega.{arith}
+use mathlib.Core.Path.{_≡_, sym, _∙_}
+use lib.ListN.{length}
+use Rattle.routine.proofs.Laws.{length-mapped}
+use Rattle.rules.specs.Progress.{isToDo}
+use Rattle.slot.specs.View.{stepsIn}
+use Rattle.slot.specs.Places.{firstAt}
+use Rattle.slot.proofs.ProgressLaws.{rest, first-more, first-found, first-end}
 use Rattle.slot.proofs.progress.to_do_at.Statement.{statement}
 use Rattle.slot.proofs.progress.to_do_at.Tie as tie
-use Rattle.slot.proofs.progress.to_do_at.Reads as reads
-use Rattle.slot.proofs.progress.to_do_at.Lts as lts
-use Rattle.slot.proofs.stages.is_to_do.Reads as is-to-do-reads
 
 abbrev Inv-loop : tie.InvT-loop
-Inv-loop slot count j₀ j = ?
+Inv-loop slot count j₀ j = (j ≤ count) × (j + firstAt (λ x. isToDo (x .status)) (rest j count (slot .steps)) ≡ firstAt (λ x. isToDo (x .status)) (stepsIn count (slot .steps)))
 
 abbrev μ-loop : tie.MeasureT-loop
-μ-loop slot count j₀ j = ?
+μ-loop slot count j₀ j = count - j
 
--- src/progress.rt:25:5
+-- the array holds the routine's steps
+held : (c : tie.Start Inv-loop μ-loop) → c .args .t1 .count ≤ length (c .args .t1 .steps)
+held c =
+    let n : length (c .args .t1 .steps) ≡ 8 = search (needs, length-mapped) in
+    let f = c .pre .fits in
+    omega arith
+
 loop-holds : tie.Need-loop-holds Inv-loop μ-loop
-loop-holds c = ?
+loop-holds c = (search needs, omega arith)
 
--- src/progress.rt:26:20
 mul-step : tie.Need-mul-step Inv-loop μ-loop
-mul-step c = ?
+mul-step c = search needs
 
--- src/progress.rt:26:20
 element-copy-out-step : tie.Need-element-copy-out-step Inv-loop μ-loop
-element-copy-out-step c = ?
+element-copy-out-step c = search needs
 
--- src/progress.rt:28:12
 is-to-do-requires : tie.Need-is-to-do-requires Inv-loop μ-loop
-is-to-do-requires c κs = ?
+is-to-do-requires c κs = search needs
 
--- src/progress.rt:29:13
 returns : tie.Need-returns Inv-loop μ-loop
-returns c = ?
+returns c =
+    let l = c .before .before .before in
+    sym (first-found (λ x. isToDo (x .status)) _ _ _ _ (l .loop-test .taken) (held (l .before .before)) (sym (c .before .is-to-do .ensures) ∙ c .if1 .taken)) ∙ l .before .loop .inv .1
 
--- src/progress.rt:31:9
 add-j : tie.Need-add-j Inv-loop μ-loop
-add-j c = ?
+add-j c = search needs
 
--- src/progress.rt:25:5
 loop-less : tie.Need-loop-less Inv-loop μ-loop
-loop-less c = ?
+loop-less c = search needs
 
--- src/progress.rt:25:5
 loop-again : tie.Need-loop-again Inv-loop μ-loop
-loop-again c = ?
+loop-again c =
+    let l = c .before .before .before in
+    (search needs, sym (first-more (λ x. isToDo (x .status)) _ _ _ _ (l .loop-test .taken) (held (l .before .before)) (sym (c .before .is-to-do .ensures) ∙ c .if1 .left)) ∙ l .before .loop .inv .1)
 
--- src/progress.rt:19:1
 returns-2 : tie.Need-returns-2 Inv-loop μ-loop
-returns-2 c = ?
+returns-2 c = sym (first-end (λ x. isToDo (x .status)) _ _ _ (c .before .loop .inv .0) (c .loop-test .left)) ∙ c .before .loop .inv .1
 
 pub to-do-at-spec : {M : Type 1} → statement M
 to-do-at-spec =

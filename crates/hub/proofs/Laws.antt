@@ -1,0 +1,1 @@
+-- Laws that the proofs of this crate, and those above it, cite. Assumes nothing.

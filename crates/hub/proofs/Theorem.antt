@@ -1,0 +1,1 @@
+-- Demand 3 of this hub: the theorem of the rules, carried along a chain of calls. Assumes nothing.

@@ -1,0 +1,52 @@
+// The opening: document 01, "Things and ranges".
+use crate::DEVICES_OUT_OF_RANGE;
+use crate::FIRST_ID_0;
+use crate::HIGHEST_PASS_LIMIT;
+use crate::Hub;
+use crate::PASS_LIMIT_OUT_OF_RANGE;
+use routine::MAX_DEVICES;
+use routine::Refusal;
+use routine::Verdict;
+use sequence::keep;
+ghost use mathlib.Core.Path.{_≡_};
+ghost use Prim.Native.Nat.{_<_, _≤_};
+ghost use Rattle.routine.specs.Routine.{maxDevices};
+ghost use Rattle.rules.specs.Open.{openCheck, newHub};
+ghost use Rattle.hub.specs.View.{view};
+ghost use Rattle.hub.specs.Valid.{Valid};
+
+// 1, 2, 3.
+pub fn check(devices: u8, pass_limit: u8, first_id: u32) -> Verdict
+    ensures { λ r. ⌜ r ≡ openCheck devices «pass_limit» «first_id» ⌝ }
+{
+    if devices == 0 {
+        return Verdict::Refused(Refusal::Number(DEVICES_OUT_OF_RANGE));
+    }
+    if MAX_DEVICES < devices as usize {
+        return Verdict::Refused(Refusal::Number(DEVICES_OUT_OF_RANGE));
+    }
+    if HIGHEST_PASS_LIMIT < pass_limit {
+        return Verdict::Refused(Refusal::Number(PASS_LIMIT_OUT_OF_RANGE));
+    }
+    if first_id == 0 {
+        return Verdict::Refused(Refusal::Number(FIRST_ID_0));
+    }
+    Verdict::Accepted
+}
+
+// "At the opening all are up at 0."
+pub fn new_hub(devices: u8, pass_limit: u8, first_id: u32) -> Hub
+    requires { ⌜ (devices ≤ maxDevices) × (0 < «first_id») ⌝ }
+    ensures { λ r. ⌜ (Valid r) × (view r ≡ newHub devices «pass_limit» «first_id») ⌝ }
+{
+    let sequence = keep::empty();
+    Hub {
+        devices,
+        pass_limit,
+        next_id: first_id as u64,
+        sequence,
+        settled: [0; MAX_DEVICES],
+        up: [true; MAX_DEVICES],
+        mark: [0; MAX_DEVICES],
+    }
+}
