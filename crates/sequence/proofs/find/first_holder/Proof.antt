@@ -1,85 +1,128 @@
+-- `sequence::find::first_holder` meets its contract. The invariants: none of the first i holds the device; whether one of the routine's steps from the
+-- j-th on holds it is whether the routine does. Assumes nothing.
+use borrow.Author.Needs.{needs}
+use Prim.Native.Nat.{ℕ, _-_, _≤_, _<_}
+use native.Mathlib.Omega.{arith}
+use mathlib.Core.Path.{_≡_, refl, sym, ap, _∙_}
+use mathlib.Core.Logic.{⊎-elim}
+use mathlib.Core.Bool.{false, not}
+use lib.ListN.{length, getD}
+use lib.Seq.{slice}
+use Rattle.routine.proofs.Laws.{length-mapped}
+use Rattle.rules.specs.Tables.{anyOf}
+use Rattle.rules.specs.Turn.{holds}
+use Rattle.slot.specs.View.{memberOf}
+use Rattle.sequence.specs.View.{zeroSlot, upTo, holderOf}
+use Rattle.sequence.specs.declared.Holder.the-variants.{Nobody}
+use Rattle.sequence.proofs.Laws.{slot-ok-at}
+use Rattle.sequence.proofs.FindLaws.{none-yet, find-on, heldIn, held-start, held-hit, held-answered, held-other, held-end, gap-within, holding-hit, holding-end, steps-known, searched-fits}
 use Rattle.sequence.proofs.find.first_holder.Statement.{statement}
 use Rattle.sequence.proofs.find.first_holder.Tie as tie
-use Rattle.sequence.proofs.find.first_holder.Reads as reads
-use Rattle.sequence.proofs.find.first_holder.Lts as lts
-use Rattle.sequence.proofs.find.searched_count.Reads as searched-count-reads
-use Rattle.slot.proofs.stages.is_answered.Reads as is-answered-reads
 
 abbrev Inv-loop : tie.InvT-loop
-Inv-loop at device sequence holder₀ i slot count j₀ holder j = ?
+Inv-loop at device sequence holder₀ i slot count j₀ holder j =
+    (j ≤ count) × (count ≤ 8) × (holder ≡ Nobody) × (heldIn device (slice j count (slot .steps)) ≡ holds device (memberOf slot)) × (length (slot .steps) ≡ 8)
 
 abbrev μ-loop : tie.MeasureT-loop
-μ-loop at device sequence holder₀ i slot count j₀ holder j = ?
+μ-loop at device sequence holder₀ i slot count j₀ holder j = count - j
 
 abbrev Inv-ahead : tie.InvT-ahead
-Inv-ahead at device sequence holder₀ i₀ holder i = ?
+Inv-ahead at device sequence holder₀ i₀ holder i = (i ≤ at) × (holder ≡ Nobody) × (anyOf (holds device) (upTo sequence i) ≡ false)
 
 abbrev μ-ahead : tie.MeasureT-ahead
-μ-ahead at device sequence holder₀ i₀ holder i = ?
+μ-ahead at device sequence holder₀ i₀ holder i = at - i
 
--- src/find.rt:102:5
+-- the array's length
+long : (c : tie.Start Inv-loop μ-loop Inv-ahead μ-ahead) → length (c .args .t1 .slots) ≡ 16
+long c = search (needs, length-mapped)
+
+-- the place is one of the sequence
+within : (c : tie.In-ahead Inv-loop μ-loop Inv-ahead μ-ahead) → c .before .ahead .i < c .before .before .args .t1 .len
+within c = let g = gap-within _ _ (c .before .before .pre .1) in omega (arith, g, c .ahead-test .taken)
+
 ahead-holds : tie.Need-ahead-holds Inv-loop μ-loop Inv-ahead μ-ahead
-ahead-holds c = ?
+ahead-holds c = (search needs, refl, none-yet _ _)
 
--- src/find.rt:103:20
 mul-slot : tie.Need-mul-slot Inv-loop μ-loop Inv-ahead μ-ahead
-mul-slot c = ?
+mul-slot c = let w = within c in search needs
 
--- src/find.rt:103:20
 element-copy-out-slot : tie.Need-element-copy-out-slot Inv-loop μ-loop Inv-ahead μ-ahead
-element-copy-out-slot c = ?
+element-copy-out-slot c = omega (arith, within c, c .before .before .pre .0 .fits)
 
--- src/find.rt:104:13
 searched-count-requires : tie.Need-searched-count-requires Inv-loop μ-loop Inv-ahead μ-ahead
-searched-count-requires c κs = ?
+searched-count-requires c κs = search needs
 
--- src/find.rt:106:9
 loop-holds : tie.Need-loop-holds Inv-loop μ-loop Inv-ahead μ-ahead
-loop-holds c = ?
+loop-holds c =
+    let a = c .before .before in
+    let b = a .before .before in
+    let w = within a in
+    let x = long b in
+    let f = searched-fits _ (slot-ok-at (b .args .t1) x (b .pre .0) (a .before .ahead .i) zeroSlot w) in
+    let e = c .searched-count .ensures in
+    let s = getD (b .args .t1 .slots) (a .before .ahead .i) zeroSlot in (
+      search needs,
+      rw e f,
+      a .before .ahead .inv .1,
+      ap (λ (n : ℕ). heldIn (b .args .device) (slice 0 n (s .steps))) e ∙ held-start (b .args .device) s,
+      steps-known (b .args .t1 .slots) _ (a .before .ahead .i) (omega (arith, x, w, b .pre .0 .fits)) (b .good .0 .1 .1 .0 .1 .1),
+    )
 
--- src/find.rt:107:24
 mul-step : tie.Need-mul-step Inv-loop μ-loop Inv-ahead μ-ahead
-mul-step c = ?
+mul-step c = search needs
 
--- src/find.rt:107:24
 element-copy-out-step : tie.Need-element-copy-out-step Inv-loop μ-loop Inv-ahead μ-ahead
-element-copy-out-step c = ?
+element-copy-out-step c = search needs
 
--- src/find.rt:111:21
 is-answered-requires : tie.Need-is-answered-requires Inv-loop μ-loop Inv-ahead μ-ahead
-is-answered-requires c κs = ?
+is-answered-requires c κs = search needs
 
--- src/find.rt:116:13
 add-j : tie.Need-add-j Inv-loop μ-loop Inv-ahead μ-ahead
-add-j c = ?
+add-j c = search needs
 
--- src/find.rt:106:9
 loop-less : tie.Need-loop-less Inv-loop μ-loop Inv-ahead μ-ahead
-loop-less c = ?
+loop-less c = search needs
 
--- src/find.rt:106:9
 loop-again : tie.Need-loop-again Inv-loop μ-loop Inv-ahead μ-ahead
-loop-again c = ?
+loop-again c =
+    let l = c .before .before .before .before in
+    let v = l .before .loop .inv in (
+      search needs,
+      v .1,
+      v .2,
+      ⊎-elim
+          (λ w. held-answered _ _ _ _ _ (l .loop-test .taken) (omega (arith, v .1, v .4)) (ap not (sym (w .1 .ensures)) ∙ w .2 .left) ∙ v .3)
+          (λ w. held-other _ _ _ _ _ (l .loop-test .taken) (omega (arith, v .1, v .4)) (w .left) ∙ v .3)
+          (c .if1 .came),
+      v .4,
+    )
 
--- src/find.rt:118:9
 add-i : tie.Need-add-i Inv-loop μ-loop Inv-ahead μ-ahead
-add-i c = ?
+add-i c = search needs
 
--- src/find.rt:102:5
 ahead-less : tie.Need-ahead-less Inv-loop μ-loop Inv-ahead μ-ahead
-ahead-less c = ?
+ahead-less c = search needs
 
--- src/find.rt:102:5
 ahead-again : tie.Need-ahead-again Inv-loop μ-loop Inv-ahead μ-ahead
-ahead-again c = ?
+ahead-again c =
+    let v = c .before .loop .inv in
+    let a = c .before .before .before .before in
+    let b = a .before .before in
+    (search needs, v .2, find-on _ _ (long b) (b .pre .0) _ (within a) (a .before .ahead .inv .2) (sym (v .3) ∙ held-end _ _ _ _ (v .0) (c .loop-test .left)))
 
--- src/find.rt:96:1
 returns : tie.Need-returns Inv-loop μ-loop Inv-ahead μ-ahead
-returns c = ?
+returns c =
+    let v = c .before .ahead .inv in
+    ap holderOf (v .1) ∙ holding-end _ _ _ _ (v .0) (c .ahead-test .left) (v .2)
 
--- src/find.rt:96:1
 returns-2 : tie.Need-returns-2 Inv-loop μ-loop Inv-ahead μ-ahead
-returns-2 c = ?
+returns-2 c =
+    let l = c .before .before .before .before .before .before in
+    let v = l .before .loop .inv in
+    let a = l .before .before .before .before in
+    let b = a .before .before in
+    holding-hit _ _ (long b) (b .pre .0) _ _ (a .ahead-test .taken) (within a) (a .before .ahead .inv .2)
+    (sym (v .3) ∙ held-hit _ _ _ _ _ (l .loop-test .taken) (omega (arith, v .1, v .4)) (c .before .before .if1 .taken) (ap not (sym (c .before .is-answered .ensures)) ∙ c .if2 .taken))
 
 pub first-holder-spec : {M : Type 1} → statement M
 first-holder-spec =

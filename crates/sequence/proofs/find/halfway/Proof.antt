@@ -1,50 +1,58 @@
+-- `sequence::find::halfway` meets its contract. The loop's invariant: none of the first i passes the test. Assumes nothing.
+use borrow.Author.Needs.{needs}
+use Prim.Native.Nat.{_-_}
+use mathlib.Core.Path.{_≡_, sym, _∙_}
+use mathlib.Core.Bool.{false}
+use lib.ListN.{length}
+use Rattle.routine.proofs.Laws.{length-mapped}
+use Rattle.rules.specs.Tables.{anyOf}
+use Rattle.rules.specs.Events.{isHalfway}
+use Rattle.sequence.specs.View.{upTo}
+use Rattle.sequence.proofs.Laws.{slot-ok-at}
+use Rattle.sequence.proofs.FindLaws.{none-yet, find-hit, find-on, find-end}
 use Rattle.sequence.proofs.find.halfway.Statement.{statement}
 use Rattle.sequence.proofs.find.halfway.Tie as tie
-use Rattle.sequence.proofs.find.halfway.Reads as reads
-use Rattle.sequence.proofs.find.halfway.Lts as lts
-use Rattle.sequence.proofs.find.is_halfway.Reads as is-halfway-reads
 
 abbrev Inv-loop : tie.InvT-loop
-Inv-loop device sequence len i₀ i = ?
+Inv-loop device sequence len i₀ i = anyOf (isHalfway device) (upTo sequence i) ≡ false
 
 abbrev μ-loop : tie.MeasureT-loop
-μ-loop device sequence len i₀ i = ?
+μ-loop device sequence len i₀ i = len - i
 
--- src/find.rt:74:5
+-- the array's length
+long : (c : tie.Start Inv-loop μ-loop) → length (c .args .t1 .slots) ≡ 16
+long c = search (needs, length-mapped)
+
 loop-holds : tie.Need-loop-holds Inv-loop μ-loop
-loop-holds c = ?
+loop-holds c = none-yet _ _
 
--- src/find.rt:75:20
 mul-slot : tie.Need-mul-slot Inv-loop μ-loop
-mul-slot c = ?
+mul-slot c = search needs
 
--- src/find.rt:75:20
 element-copy-out-slot : tie.Need-element-copy-out-slot Inv-loop μ-loop
-element-copy-out-slot c = ?
+element-copy-out-slot c = search needs
 
--- src/find.rt:76:12
 is-halfway-requires : tie.Need-is-halfway-requires Inv-loop μ-loop
-is-halfway-requires c κs = ?
+is-halfway-requires c κs = slot-ok-at _ (long (c .before .before .before)) (c .before .before .before .pre) _ _ (c .before .loop-test .taken)
 
--- src/find.rt:77:13
 returns : tie.Need-returns Inv-loop μ-loop
-returns c = ?
+returns c =
+    let l = c .before .before .before in
+    find-hit _ _ (long (l .before .before)) (l .before .before .pre) _ (l .loop-test .taken) (l .before .loop .inv) (sym (c .before .is-halfway .ensures) ∙ c .if1 .taken)
 
--- src/find.rt:79:9
 add-i : tie.Need-add-i Inv-loop μ-loop
-add-i c = ?
+add-i c = search needs
 
--- src/find.rt:74:5
 loop-less : tie.Need-loop-less Inv-loop μ-loop
-loop-less c = ?
+loop-less c = search needs
 
--- src/find.rt:74:5
 loop-again : tie.Need-loop-again Inv-loop μ-loop
-loop-again c = ?
+loop-again c =
+    let l = c .before .before .before in
+    find-on _ _ (long (l .before .before)) (l .before .before .pre) _ (l .loop-test .taken) (l .before .loop .inv) (sym (c .before .is-halfway .ensures) ∙ c .if1 .left)
 
--- src/find.rt:68:1
 returns-2 : tie.Need-returns-2 Inv-loop μ-loop
-returns-2 c = ?
+returns-2 c = find-end _ _ (long (c .before .before)) (c .before .before .pre) _ (c .loop-test .left) (c .before .loop .inv)
 
 pub halfway-spec : {M : Type 1} → statement M
 halfway-spec =

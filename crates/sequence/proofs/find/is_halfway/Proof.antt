@@ -1,30 +1,27 @@
+-- `sequence::find::is_halfway` meets its contract. Assumes nothing.
+use mathlib.Core.Path.{_∙_, sym, ap}
+use mathlib.Core.Bool.{not}
+use Rattle.sequence.proofs.FindLaws.{running-of, halfway-committed, halfway-before, halfway-begun}
 use borrow.Author.Needs.{needs}
 use Rattle.sequence.proofs.find.is_halfway.Statement.{statement}
 use Rattle.sequence.proofs.find.is_halfway.Tie as tie
-use Rattle.sequence.proofs.find.is_halfway.Reads as reads
-use Rattle.sequence.proofs.find.is_halfway.Lts as lts
-use Rattle.slot.proofs.progress.has_begun.Reads as has-begun-reads
-use Rattle.slot.proofs.progress.has_finished.Reads as has-finished-reads
 
--- src/find.rt:60:9
 returns : tie.Need-returns
-returns c = ?
+returns c = halfway-committed _ _ (running-of _ ∙ ap not (c .if1 .taken))
 
--- src/find.rt:62:9
 has-begun-requires : tie.Need-has-begun-requires
 has-begun-requires c κs = search needs
 
--- src/find.rt:63:9
 returns-2 : tie.Need-returns-2
-returns-2 c = ?
+returns-2 c = halfway-before _ _ (running-of _ ∙ ap not (c .before .before .if1 .left)) (ap not (sym (c .before .has-begun .ensures)) ∙ c .if2 .taken)
 
--- src/find.rt:65:6
 has-finished-requires : tie.Need-has-finished-requires
 has-finished-requires c κs = search needs
 
--- src/find.rt:55:1
 returns-3 : tie.Need-returns-3
-returns-3 c = ?
+returns-3 c =
+    ap not (c .has-finished .ensures)
+    ∙ halfway-begun _ _ (running-of _ ∙ ap not (c .before .before .before .if1 .left)) (ap not (sym (c .before .before .has-begun .ensures)) ∙ c .before .if2 .left)
 
 pub is-halfway-spec : {M : Type 1} → statement M
 is-halfway-spec =
