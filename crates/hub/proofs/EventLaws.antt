@@ -1,0 +1,1 @@
+-- Laws for the proofs of `event_step`. Assumes nothing.

@@ -1,0 +1,1 @@
+-- Laws for the proofs of `report_step`. Assumes nothing.

@@ -1,0 +1,1 @@
+-- Laws for the proofs of `settling`. Assumes nothing.

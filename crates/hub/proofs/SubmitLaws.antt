@@ -1,0 +1,1 @@
+-- Laws for the proofs of `submit_step`. Assumes nothing.
