@@ -57,6 +57,12 @@ Chain h [] = Unit {0}
 Chain h (called c o v ∷ l) = Meets h c o × Chain (o .hub) l
 Chain h (device-takes d k ∷ l) = Chain h l
 
+-- The hub that the last call left.
+abbrev pub hubAfter : Hub → List HubAct → Hub
+hubAfter h [] = h
+hubAfter h (called c o v ∷ l) = hubAfter (o .hub) l
+hubAfter h (device-takes d k ∷ l) = hubAfter h l
+
 -- The world around the hub, by the outcomes of its calls.
 abbrev pub worldThen : World → HubAct → World
 worldThen w (called c o v) = afterCall w (callOf c) v (resultIn o)

@@ -9,6 +9,7 @@ use Rattle.routine.specs.Refusals.{refusalOf}
 use Rattle.routine.specs.Routine.{routineOf, commandCheck, commandsCheck, routineCheck}
 use Rattle.routine.specs.declared.Command.{Command}
 use Rattle.routine.specs.declared.Refusal.the-variants.{Number, Indexed}
+use Rattle.routine.specs.declared.Verdict.{Verdict}
 use Rattle.routine.specs.declared.Verdict.the-variants.{Accepted, Refused}
 use Rattle.layout.specs.Numbers.{twoBytes, fourBytes, twoAt, fourAt, bitsOf, settingOf}
 use Rattle.layout.specs.Layout.{commandBytes, bookBytes, countOf, offsetAt, lengthAt, commandAt}
@@ -25,10 +26,33 @@ calc = tt
 abbrev command : ℕ → ℕ → ℤ → Command
 command d t s = record { device = d; tag = t; setting = s }
 
--- ★ Book `00 00` is empty and accepted; `00` is refused (18).
-pub empty : (bookCheck (0 ∷ 0 ∷ []) ≡ Accepted) × (bookCheck (0 ∷ []) ≡ Refused (Number 18))
+-- A book, and what the check of it gives.
+pub record Example : Type 0 where
+  pub book : List ℕ
+  pub verdict : Verdict
+
+abbrev pub Holds : Example → Type 0
+Holds e = bookCheck (e .book) ≡ e .verdict
+
+abbrev pub AllHold : List Example → Type 0
+AllHold [] = Unit {0}
+AllHold (e ∷ l) = Holds e × AllHold l
+
+-- ★ "Book `00 00` is empty and accepted"
+abbrev pub emptyBook : Example
+emptyBook = record { book = 0 ∷ 0 ∷ []; verdict = Accepted }
+
+-- ★ "`00` is refused (18)"
+abbrev pub cutBook : Example
+cutBook = record { book = 0 ∷ []; verdict = Refused (Number 18) }
+
+-- Those with ★.
+abbrev pub bookExamples : List Example
+bookExamples = emptyBook ∷ cutBook ∷ []
+
+pub book-examples-hold : AllHold bookExamples
 unfolding calc
-empty = (refl, refl)
+book-examples-hold = (refl, (refl, tt))
 
 -- Two routines, of two commands and one: device 0 to 50 and lamp 31, best-effort, to −1,000; device 0 to 70.
 abbrev two : List (List Command)

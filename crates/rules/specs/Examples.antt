@@ -1,5 +1,5 @@
--- Document 01, "Examples from the exam hall": those with ★ that concern the hub, as one list, each through its last settings. (The two ★ examples
--- of a book stand in crate `layout`.) Assumes nothing.
+-- Document 01, "Examples from the exam hall": those that concern the hub, each through its last settings. (The ★ examples of hub and book are one
+-- list in crate `starred`.) Assumes nothing.
 use mathlib.Core.Path.{_≡_, refl}
 use mathlib.Core.List.{List, [], _∷_, _++_}
 use mathlib.Core.Option.{Option, none, some}
@@ -187,13 +187,13 @@ full = record {
   settings = some (pos 0) ∷ [];
 }
 
-abbrev pub starred : List Example
-starred = listing ∷ passing ∷ ring ∷ laterStands ∷ backTwice ∷ inFlightAtCancel ∷ onDown ∷ limits ∷ full ∷ []
+-- Those with ★.
+abbrev pub hubExamples : List Example
+hubExamples = listing ∷ passing ∷ ring ∷ laterStands ∷ backTwice ∷ inFlightAtCancel ∷ onDown ∷ limits ∷ full ∷ []
 
--- The ★ examples, as one list by one theorem.
-pub starred-hold : AllHold starred
+pub hub-examples-hold : AllHold hubExamples
 unfolding calc
-starred-hold = ((refl, refl, refl), ((refl, refl, refl), ((refl, refl, refl), ((refl, refl, refl), ((refl, refl, refl), ((refl, refl, refl), ((refl, refl, refl), ((refl, refl, refl), ((refl, refl, refl), tt)))))))))
+hub-examples-hold = ((refl, refl, refl), ((refl, refl, refl), ((refl, refl, refl), ((refl, refl, refl), ((refl, refl, refl), ((refl, refl, refl), ((refl, refl, refl), ((refl, refl, refl), ((refl, refl, refl), tt)))))))))
 
 -- "First id 4,294,967,295: one routine placed, the next refused (9)."
 abbrev pub lastIds : Example
