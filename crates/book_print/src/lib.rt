@@ -7,12 +7,13 @@ use routine::Refusal;
 use routine::Routine;
 ghost use Prim.Native.Nat.{_≤_};
 
-fn print_number(n: u64) {
+// A space and a number.
+pub fn print_number(n: u64) {
     io::write_all(STDOUT_FILENO, b" ");
     io::print_decimal(STDOUT_FILENO, n);
 }
 
-fn print_setting(setting: i16) {
+pub fn print_setting(setting: i16) {
     let bits = layout::bits_of(setting) as u64;
     if bits < 32768 {
         print_number(bits);

@@ -1,0 +1,76 @@
+// Runs test vectors of the hub, the examples of document 01 among them: standard input is a row of records (crate records).
+// tests/hub/make_vectors.py says what a record holds and what is printed for it.
+mod calls;
+mod print;
+
+use libc::STDOUT_FILENO;
+use routine::Verdict;
+ghost use Rattle.hub.specs.Valid.{Valid};
+
+// A record's first byte: is it a book?
+const BOOK: usize = 1;
+
+// A book: whether it is accepted.
+fn run_book(book: &[u8]) {
+    let verdict = book::check(book);
+    let Verdict::Refused(refusal) = verdict else {
+        io::write_all(STDOUT_FILENO, b"accepted\n");
+        return;
+    };
+    book_print::print_refusal(refusal);
+    io::write_all(STDOUT_FILENO, b"\n");
+}
+
+// The calls from a place on, and then the device lines.
+fn run_calls(opened: hub::Hub, bytes: &[u8])
+    requires { ⌜ Valid opened ⌝ }
+{
+    let mut now = opened;
+    let mut at = calls::OPENING_SIZE;
+    while at < bytes.len() {
+        let outcome = calls::called(now, bytes, at);
+        print::print_outcome(outcome);
+        now = outcome.hub;
+        at += calls::CALL_SIZE;
+    }
+    print::print_devices(now);
+}
+
+fn run_hub(bytes: &[u8]) {
+    let opened = calls::opened(bytes);
+    let verdict = opened.verdict;
+    let Verdict::Refused(refusal) = verdict else {
+        io::write_all(STDOUT_FILENO, b"opened\n");
+        run_calls(opened.hub, bytes);
+        return;
+    };
+    book_print::print_refusal(refusal);
+    io::write_all(STDOUT_FILENO, b"\n");
+}
+
+fn run_record(bytes: &[u8]) {
+    if records::byte_at(bytes, 0) == BOOK {
+        if 0 < bytes.len() {
+            run_book(&bytes[1..]);
+        }
+        return;
+    }
+    run_hub(bytes);
+}
+
+fn run_all(all: &[u8]) {
+    let mut at = 0;
+    while at < all.len() {
+        let record = records::part_at(all, at);
+        let from = record.from;
+        let to = record.to;
+        run_record(&all[from..to]);
+        at = to;
+    }
+}
+
+fn main() {
+    let mut buffer = records::room();
+    let n = records::load(&mut buffer);
+    run_all(&buffer[..n]);
+}

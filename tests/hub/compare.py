@@ -1,0 +1,37 @@
+#!/usr/bin/env python3
+"""Compares the running hub with the model of tests/rules, on random histories.
+
+    tests/hub/compare.py [COUNT] [SEED]
+
+Runs target/bin/hub_vectors, which `rt check` builds, on COUNT histories (2000 if none is given). The seed is printed. Exit status 0: all agree.
+"""
+import os
+import random
+import subprocess
+import sys
+
+from make_vectors import ROOT, vectors
+
+BATCH = 500
+
+
+def main():
+    count = int(sys.argv[1]) if len(sys.argv) > 1 else 2000
+    seed = int(sys.argv[2]) if len(sys.argv) > 2 else random.SystemRandom().randrange(10**9)
+    print(f"{count} histories, seed {seed}")
+    program = os.path.join(ROOT, "target", "bin", "hub_vectors")
+    for start in range(0, count, BATCH):
+        given, expected = vectors(min(BATCH, count - start), seed + start)
+        printed = subprocess.run([program], input=given, capture_output=True, check=True).stdout
+        if printed != expected:
+            for i, (a, b) in enumerate(zip(printed.split(b"\n"), expected.split(b"\n"))):
+                if a != b:
+                    print(f"seed {seed + start}, line {i + 1}: printed {a!r}, expected {b!r}")
+                    break
+            return 1
+    print("all agree")
+    return 0
+
+
+if __name__ == "__main__":
+    sys.exit(main())

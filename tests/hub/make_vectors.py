@@ -1,0 +1,156 @@
+#!/usr/bin/env python3
+"""Writes the test vectors of crate `hub_vectors`: its `stdin`, and in `stdout` what it must print.
+
+    tests/hub/make_vectors.py [COUNT] [SEED]    # the examples of examples.txt, and COUNT random histories
+
+A record (two bytes of length before it) is kind, N, K, the first id in four bytes, and then the calls, each 40 bytes long: a letter (`S` submission, `N` turn,
+`P` report, `C` cancel, `F` failure, `R` restart), a byte (the number of commands, the code, or the device), and then four bytes of id, two of setting, or four
+for each command; all low byte first. Or kind 1 and a book. What is printed for it are the lines of document 01's line program; of a book, `accepted` or the
+refusal. The output of the examples is that of document 01; the model must give it too. That of the histories is the model's.
+"""
+import os
+import random
+import sys
+
+HERE = os.path.dirname(os.path.abspath(__file__))
+ROOT = os.path.dirname(os.path.dirname(HERE))
+sys.path.insert(0, os.path.join(ROOT, "tests", "rules"))
+
+from histories import history  # noqa: E402
+from model import Hub, Refused  # noqa: E402
+
+CALL_SIZE = 40
+
+
+# ---- examples
+
+def examples():
+    """Of each example its input lines and its output lines."""
+    found, part = [], None
+    with open(os.path.join(HERE, "examples.txt"), encoding="utf-8") as text:
+        for line in text.read().split("\n"):
+            if line.startswith("#"):
+                part = None
+            elif line == "--":
+                part = found[-1][1]
+            elif line:
+                if part is None:
+                    found.append(([], []))
+                    part = found[-1][0]
+                part.append(line)
+    return found
+
+
+def call_of(words):
+    letter, numbers = words[0], [int(w) for w in words[1:]]
+    if letter == "S":
+        return ("submit", [tuple(numbers[i:i + 3]) for i in range(0, len(numbers), 3)])
+    if letter == "D":
+        return ("report", numbers[0], 0)
+    if letter == "B":
+        return ("report", numbers[0], 1)
+    return ({"N": "turn", "P": "report", "C": "cancel", "F": "failure", "R": "restart"}[letter], *numbers)
+
+
+# ---- bytes
+
+def low_first(number, size):
+    return (number % 256 ** size).to_bytes(size, "little")
+
+
+def call_bytes(call):
+    word = call[0]
+    if word == "submit":
+        body = bytes([len(call[1])]) + b"".join(bytes([d, t]) + low_first(s, 2) for d, t, s in call[1])
+    elif word == "failure":
+        body = bytes([call[1]])
+    elif word == "restart":
+        body = bytes([call[1]]) + low_first(call[2], 2)
+    elif word == "report":
+        body = bytes([call[2]]) + low_first(call[1], 4)
+    else:
+        body = b"\0" + low_first(call[1], 4)
+    letter = {"submit": b"S", "turn": b"N", "report": b"P", "cancel": b"C", "failure": b"F", "restart": b"R"}[word]
+    return (letter + body).ljust(CALL_SIZE, b"\0")
+
+
+def record(opening, calls):
+    n, k, first = opening
+    body = bytes([0, n, k]) + low_first(first, 4) + b"".join(call_bytes(c) for c in calls)
+    return low_first(len(body), 2) + body
+
+
+# ---- words
+
+def back_text(backs):
+    return " ".join(["back", str(len(backs))] + [f"{d} {s}" for d, s in backs])
+
+
+def answer_text(a):
+    if a[0] in ("placed", "down", "up"):
+        return f"{a[0]} {a[1]} after {a[2]}"
+    if a[0] == "wait":
+        return f"wait {a[1]} on {a[2]}"
+    if a[0] == "send":
+        return f"send {a[1]} {a[2][0]} {a[2][2]}"
+    if a[0] == "aborted" or (a[0] == "skipped" and a[2]):
+        return f"{a[0]} {a[1]} {back_text(a[2])}"
+    if a[0] == "skipped":
+        return f"skipped {a[1]}"
+    return " ".join(str(x) for x in a)
+
+
+def device_lines(lines):
+    return [f"device {d} down" if s is None else f"device {d} up {s}" for d, s in enumerate(lines)]
+
+
+def output(opening, calls):
+    """What the model prints."""
+    try:
+        hub = Hub(*opening)
+    except Refused as refusal:
+        return [answer_text(refusal.answer)]
+    lines = ["opened"]
+    for call in calls:
+        lines += [answer_text(a) for a in hub.call(call)]
+    return lines + device_lines(hub.lines())
+
+
+# ---- all vectors
+
+def vectors(count, seed):
+    """The records and the lines that are printed for them."""
+    records, lines = [], []
+    for given, expected in examples():
+        if given[0].startswith("book"):
+            book = bytes.fromhex(given[0][len("book"):])
+            records.append(low_first(len(book) + 1, 2) + b"\1" + book)
+        else:
+            opening = tuple(int(w) for w in given[0].split()[1:])
+            calls = [call_of(line.split()) for line in given[1:]]
+            if output(opening, calls) != expected:
+                raise SystemExit("the model disagrees with the example:\n" + "\n".join(output(opening, calls)))
+            records.append(record(opening, calls))
+        lines += expected
+    rng = random.Random(seed)
+    for _ in range(count):
+        opening, calls, _, _ = history(rng)
+        records.append(record(opening, calls))
+        lines += output(opening, calls)
+    return b"".join(records), "".join(line + "\n" for line in lines).encode()
+
+
+def main():
+    count = int(sys.argv[1]) if len(sys.argv) > 1 else 60
+    seed = int(sys.argv[2]) if len(sys.argv) > 2 else 4
+    given, expected = vectors(count, seed)
+    crate = os.path.join(ROOT, "crates", "hub_vectors")
+    for name, content in (("stdin", given), ("stdout", expected)):
+        with open(os.path.join(crate, name), "wb") as f:
+            f.write(content)
+    print(f"{len(examples())} examples and {count} histories, seed {seed}: {len(given)} bytes in, {len(expected)} out")
+    return 0
+
+
+if __name__ == "__main__":
+    sys.exit(main())

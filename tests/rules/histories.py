@@ -1,0 +1,54 @@
+"""Random histories of a hub: an opening and calls, most of them fitting and some odd, with the answers and device lines of the model."""
+from model import Hub, LAST_ID
+
+CALLS = 60
+
+
+def history(rng):
+    n = rng.choice([1, 2, 2, 3, 3, 4, 32])
+    k = rng.choice([0, 1, 2, 3, 8])
+    first = rng.choice([1] * 9 + [LAST_ID - 9])
+    # Weights of submission, turn, report, cancel, failure, restart, and a call that is odd.
+    weights = rng.choice([[12, 40, 34, 3, 3, 4, 2], [10, 40, 34, 8, 1, 2, 1], [14, 34, 26, 3, 8, 12, 2], [60, 20, 10, 1, 1, 2, 3]])
+    hub = Hub(n, k, first)
+    calls, answers = [], []
+    for _ in range(CALLS):
+        call = any_call(rng, hub, min(n, 4), weights)
+        calls.append(call)
+        answers.append(hub.call(call))
+    return (n, k, first), calls, answers, hub.lines()
+
+
+def pick(rng, fitting, hub):
+    """An id that fits, most of the time; else any of the sequence, 0, or one not given yet."""
+    if fitting and rng.random() < 0.95:
+        return rng.choice(fitting).id
+    return rng.choice([r.id for r in hub.sequence] + [0, hub.next_id])
+
+
+def any_call(rng, hub, devices, weights):
+    running = [r for r in hub.sequence if not r.committed]
+    flying = [r for r in running if r.flight is not None]
+    kind = rng.choices(["submit", "turn", "report", "cancel", "failure", "restart", "odd"], weights)[0]
+    if not running and kind in ("turn", "cancel") and rng.random() < 0.9:
+        kind = "submit"
+    if not flying and kind == "report" and rng.random() < 0.9:
+        kind = "turn"
+    if kind == "submit":
+        return ("submit", [(rng.randrange(devices), rng.randrange(2), rng.choice([-1000, -3, 0, 5, 5, 70, 1000])) for _ in range(rng.randint(1, 4))])
+    if kind == "turn":
+        return ("turn", pick(rng, [r for r in running if r.flight is None], hub))
+    if kind == "report":
+        return ("report", pick(rng, flying, hub), rng.choice([0, 0, 0, 1]))
+    if kind == "cancel":
+        return ("cancel", pick(rng, running, hub))
+    if kind == "failure":
+        return ("failure", rng.randrange(devices))
+    if kind == "restart":
+        down = [d for d in range(devices) if not hub.up[d]]
+        return ("restart", rng.choice(down or [0]), rng.choice([0, 5, 70, -3, 15]))
+    return rng.choice([
+        ("submit", []), ("submit", [(0, 0, 1)] * 9), ("submit", [(0, 0, 1), (hub.n, 0, 1)]), ("submit", [(0, 0, 1001)]), ("submit", [(0, 2, 1)]),
+        ("submit", [(40, 9, -1001)]), ("report", pick(rng, flying, hub), 2), ("failure", hub.n), ("restart", hub.n, 1),
+        ("restart", rng.randrange(devices), 1001), ("cancel", 0),
+    ])
