@@ -1,29 +1,35 @@
+-- `hub::abort::is_put_back` meets its contract. Assumes nothing.
+use mathlib.Core.Path.{_≡_, ap, _∙_}
+use mathlib.Core.Bool.{not}
 use borrow.Author.Needs.{needs}
+use mir.Val.{toZ, ofZ}
+use mir.Syntax.{w16}
+use Rattle.rules.specs.Tables.{sameSetting}
+use Rattle.hub.proofs.AbortLaws.{back-down, back-others, back-own, back-changed}
 use Rattle.hub.proofs.abort.is_put_back.Statement.{statement}
 use Rattle.hub.proofs.abort.is_put_back.Tie as tie
-use Rattle.hub.proofs.abort.is_put_back.Reads as reads
-use Rattle.hub.proofs.abort.is_put_back.Lts as lts
-use Rattle.slot.proofs.due.same_setting.Reads as same-setting-reads
 
--- src/abort.rt:60:9
 returns : tie.Need-returns
-returns c = ?
+returns c = let a = c .before .args in back-down (a .up) (a .others) (a .own) (a .before) (a .after) (c .if1 .taken)
 
--- src/abort.rt:63:9
 returns-2 : tie.Need-returns-2
-returns-2 c = ?
+returns-2 c = let a = c .before .before .args in back-others (a .up) (a .others) (a .own) (a .before) (a .after) (c .before .if1 .left) (c .if2 .taken)
 
--- src/abort.rt:66:9
 returns-3 : tie.Need-returns-3
-returns-3 c = ?
+returns-3 c =
+    let a = c .before .before .before .args in
+    back-own (a .up) (a .others) (a .own) (a .before) (a .after) (c .before .before .if1 .left) (c .before .if2 .left) (c .if3 .taken)
 
--- src/abort.rt:68:6
 same-setting-requires : tie.Need-same-setting-requires
 same-setting-requires c κs = search needs
 
--- src/abort.rt:56:1
 returns-4 : tie.Need-returns-4
-returns-4 c = ?
+returns-4 c =
+    let b = c .before in
+    let a = b .before .before .before .args in
+    let x : toZ w16 (ofZ w16 (a .before)) ≡ a .before = search needs in
+    let y : toZ w16 (ofZ w16 (a .after)) ≡ a .after = search needs in
+    ap not (c .same-setting .ensures ∙ (λ i. sameSetting (x i) (y i))) ∙ back-changed (a .up) (a .others) (a .own) (a .before) (a .after) (b .before .before .if1 .left) (b .before .if2 .left) (b .if3 .left)
 
 pub is-put-back-spec : {M : Type 1} → statement M
 is-put-back-spec = tie.close (tie.spec returns returns-2 returns-3 same-setting-requires returns-4)

@@ -1,32 +1,31 @@
+-- `hub::abort::left` meets its contract. Assumes nothing.
+use mathlib.Core.Path.{_∙_}
 use borrow.Author.Needs.{needs}
+use Rattle.sequence.proofs.Laws.{stands-gap}
+use Rattle.hub.proofs.AbortLaws.{left-gives}
 use Rattle.hub.proofs.abort.left.Statement.{statement}
 use Rattle.hub.proofs.abort.left.Tie as tie
-use Rattle.hub.proofs.abort.left.Reads as reads
-use Rattle.hub.proofs.abort.left.Lts as lts
-use Rattle.hub.proofs.attach.attached.Reads as attached-reads
-use Rattle.sequence.proofs.keep.last_id.Reads as last-id-reads
-use Rattle.sequence.proofs.keep.remove.Reads as remove-reads
-use Rattle.sequence.proofs.settle.move_marks.Reads as move-marks-reads
 
--- src/abort.rt:43:9
 last-id-requires : tie.Need-last-id-requires
-last-id-requires c κs = ?
+last-id-requires c κs = let p = c .before .pre in (p .0 .sequence-ok, stands-gap _ _ (p .1 .stands))
 
--- src/abort.rt:44:9
 remove-requires : tie.Need-remove-requires
 remove-requires c κs = search needs
 
--- src/abort.rt:46:9
 move-marks-requires : tie.Need-move-marks-requires
 move-marks-requires c κs = search needs
 
--- src/abort.rt:51:5
 attached-requires : tie.Need-attached-requires
 attached-requires c κs = search needs
 
--- src/abort.rt:38:1
 returns : tie.Need-returns
-returns c = ?
+returns c =
+    let m = c .before .before in
+    let r = m .before .before in
+    let a = r .before .before .before in (
+      c .attached .ensures .0,
+      c .attached .ensures .1 ∙ left-gives (a .args .hub) (a .args .at) (a .args .slot) (r .before .last-id .result) (r .remove .result) (m .move-marks .result) (a .pre .1) (r .before .last-id .ensures) (r .remove .ensures .1) (m .move-marks .ensures),
+    )
 
 pub left-spec : {M : Type 1} → statement M
 left-spec =

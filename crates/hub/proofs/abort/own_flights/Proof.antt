@@ -1,17 +1,18 @@
+-- `hub::abort::own_flights` meets its contract. Assumes nothing.
+use mathlib.Core.Path.{_∙_}
+use mathlib.Core.Bool.{_||_}
 use borrow.Author.Needs.{needs}
+use Rattle.rules.specs.Progress.{inFlightOn}
+use Rattle.slot.specs.View.{memberOf}
+use Rattle.hub.proofs.AbortLaws.{no-flags}
 use Rattle.hub.proofs.abort.own_flights.Statement.{statement}
 use Rattle.hub.proofs.abort.own_flights.Tie as tie
-use Rattle.hub.proofs.abort.own_flights.Reads as reads
-use Rattle.hub.proofs.abort.own_flights.Lts as lts
-use Rattle.slot.proofs.due.flights.Reads as flights-reads
 
--- src/abort.rt:113:5
 flights-requires : tie.Need-flights-requires
 flights-requires c κs = search needs
 
--- src/abort.rt:108:1
 returns : tie.Need-returns
-returns c = ?
+returns c = c .flights .ensures ∙ (λ i d. no-flags 32 d i || inFlightOn d (memberOf (c .before .args .slot)))
 
 pub own-flights-spec : {M : Type 1} → statement M
 own-flights-spec = tie.close (tie.spec flights-requires returns)

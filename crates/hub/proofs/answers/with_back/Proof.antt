@@ -1,24 +1,28 @@
+-- `hub::answers::with_back` meets its contract. Assumes nothing.
+use mathlib.Core.Path.{_≡_}
+use native.Mathlib.Numerals.{add-one}
+use native.Mathlib.Omega.{arith}
 use borrow.Author.Needs.{needs}
+use lib.ListN.{length}
+use Rattle.routine.proofs.Laws.{length-mapped}
+use Rattle.hub.proofs.AbortLaws.{backs-longer}
 use Rattle.hub.proofs.answers.with_back.Statement.{statement}
 use Rattle.hub.proofs.answers.with_back.Tie as tie
-use Rattle.hub.proofs.answers.with_back.Reads as reads
-use Rattle.hub.proofs.answers.with_back.Lts as lts
 
--- src/answers.rt:36:5
 mul-back : tie.Need-mul-back
 mul-back c = search needs
 
--- src/answers.rt:36:5
 element-set-from-back : tie.Need-element-set-from-back
 element-set-from-back c = search needs
 
--- src/answers.rt:37:18
 add-more : tie.Need-add-more
 add-more c = search needs
 
--- src/answers.rt:30:1
 returns : tie.Need-returns
-returns c = ?
+returns c =
+    let b = c .args .backs in
+    let l : length (b .items) ≡ 32 = search (needs, length-mapped) in
+    (add-one (b .count), backs-longer (b .items) (b .count) (c .args .back) (omega (arith, l, c .pre)))
 
 pub with-back-spec : {M : Type 1} → statement M
 with-back-spec = tie.close (tie.spec mul-back element-set-from-back add-more returns)

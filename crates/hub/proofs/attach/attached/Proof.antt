@@ -1,26 +1,46 @@
+-- `hub::attach::attached` meets its contract. Assumes nothing.
+use mathlib.Core.Path.{sym, ap, _∙_}
+use mathlib.Core.List.{List}
+use Prim.Native.Nat.{ℕ}
+use lib.IntN.{ℤ}
 use borrow.Author.Needs.{needs}
+use Rattle.rules.specs.State.{Member}
+use Rattle.rules.specs.Sequence.{withSequence, withSettled}
+use Rattle.slot.specs.View.{restartsOf}
+use Rattle.hub.specs.View.{view}
+use Rattle.hub.proofs.AbortLaws.{attach-settled, attach-routine}
 use Rattle.hub.proofs.attach.attached.Statement.{statement}
 use Rattle.hub.proofs.attach.attached.Tie as tie
-use Rattle.hub.proofs.attach.attached.Reads as reads
-use Rattle.hub.proofs.attach.attached.Lts as lts
-use Rattle.sequence.proofs.walk.attach_at.Reads as attach-at-reads
-use Rattle.slot.proofs.attach.settle_restarts.Reads as settle-restarts-reads
 
--- src/attach.rt:20:13
 settle-restarts-requires : tie.Need-settle-restarts-requires
 settle-restarts-requires c κs = search needs
 
--- src/attach.rt:22:9
 returns : tie.Need-returns
-returns c = ?
+unfolding view
+returns c =
+    let b = c .before .before in
+    let a = b .before in
+    let v = a .pre in
+    let h = a .args .hub in
+    let k = attach-settled (a .args .id) (restartsOf (a .args .restarts)) (view h) (b .if1 .taken) in (
+      record { devices-fit = v .devices-fit; some-id = v .some-id; ids-fit = v .ids-fit; sequence-ok = v .sequence-ok },
+      ap (λ (x : ℕ → ℤ). withSettled (view h) x) (c .settle-restarts .ensures) ∙ sym k,
+    )
 
--- src/attach.rt:25:9
 attach-at-requires : tie.Need-attach-at-requires
 attach-at-requires c κs = search needs
 
--- src/attach.rt:13:1
 returns-2 : tie.Need-returns-2
-returns-2 c = ?
+unfolding view
+returns-2 c =
+    let b = c .before .before in
+    let a = b .before in
+    let v = a .pre in
+    let h = a .args .hub in
+    let k = attach-routine (a .args .id) (restartsOf (a .args .restarts)) (view h) (b .if1 .left) in (
+      record { devices-fit = v .devices-fit; some-id = v .some-id; ids-fit = v .ids-fit; sequence-ok = c .attach-at .ensures .0 },
+      ap (λ (l : List Member). withSequence (view h) l) (c .attach-at .ensures .1) ∙ sym k,
+    )
 
 pub attached-spec : {M : Type 1} → statement M
 attached-spec = tie.close (tie.spec settle-restarts-requires returns attach-at-requires returns-2)

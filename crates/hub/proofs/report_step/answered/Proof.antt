@@ -1,22 +1,24 @@
-use borrow.Author.Needs.{needs}
+-- `hub::report_step::answered` meets its contract. Assumes nothing.
+use Rattle.slot.specs.View.{statusOf}
+use Rattle.hub.proofs.ReportLaws.{members-valid, answered-view}
 use Rattle.hub.proofs.report_step.answered.Statement.{statement}
 use Rattle.hub.proofs.report_step.answered.Tie as tie
-use Rattle.hub.proofs.report_step.answered.Reads as reads
-use Rattle.hub.proofs.report_step.answered.Lts as lts
-use Rattle.sequence.proofs.keep.replace.Reads as replace-reads
-use Rattle.slot.proofs.progress.answered.Reads as answered-reads
 
--- src/report_step.rt:41:9
 answered-requires : tie.Need-answered-requires
-answered-requires c κs = search needs
+answered-requires c κs = c .before .pre .1 .slot-ok
 
--- src/report_step.rt:42:9
 replace-requires : tie.Need-replace-requires
-replace-requires c κs = search needs
+replace-requires c κs =
+    let l = c .before .before in
+    (l .pre .0 .sequence-ok, l .pre .1 .stands, c .answered .ensures .0)
 
--- src/report_step.rt:36:1
 returns : tie.Need-returns
-returns c = ?
+returns c =
+    let l = c .before .before .before in
+    let a = c .before .answered in (
+      members-valid (l .args .hub) _ (l .pre .0) (c .replace .ensures .0),
+      answered-view (l .args .hub) (l .args .at) (l .args .slot) (a .result) (statusOf (l .args .stage)) (c .replace .result) (l .pre .1) (a .ensures .1) (c .replace .ensures .1),
+    )
 
 pub answered-spec : {M : Type 1} → statement M
 answered-spec = tie.close (tie.spec answered-requires replace-requires returns)

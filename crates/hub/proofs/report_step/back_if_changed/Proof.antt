@@ -1,31 +1,53 @@
+-- `hub::report_step::back_if_changed` meets its contract. Assumes nothing.
 use borrow.Author.Needs.{needs}
+use native.Mathlib.Omega.{arith}
+use mathlib.Core.Path.{_≡_, sym, ap, _∙_}
+use mathlib.Core.List.{List, [], _∷_, _++_}
+use lib.ListN.{length}
+use mir.Val.{toZ, ofZ}
+use mir.Syntax.{w16}
+use Rattle.routine.proofs.Laws.{length-mapped}
+use Rattle.rules.specs.Tables.{sameSetting}
+use Rattle.rules.specs.Answers.{Back}
+use Rattle.hub.proofs.ReportLaws.{back-same, back-changed, none-put-back}
 use Rattle.hub.proofs.report_step.back_if_changed.Statement.{statement}
 use Rattle.hub.proofs.report_step.back_if_changed.Tie as tie
-use Rattle.hub.proofs.report_step.back_if_changed.Reads as reads
-use Rattle.hub.proofs.report_step.back_if_changed.Lts as lts
-use Rattle.hub.proofs.answers.no_backs.Reads as no-backs-reads
-use Rattle.hub.proofs.answers.with_back.Reads as with-back-reads
-use Rattle.slot.proofs.due.same_setting.Reads as same-setting-reads
 
--- src/report_step.rt:61:9
 no-backs-requires : tie.Need-no-backs-requires
 no-backs-requires c κs = search needs
 
--- src/report_step.rt:62:8
 same-setting-requires : tie.Need-same-setting-requires
 same-setting-requires c κs = search needs
 
--- src/report_step.rt:63:9
+-- the test of the code is that of the definition
+tested : (c : tie.After-same-setting) → sameSetting (c .before .before .args .now) (c .before .before .args .before) ≡ c .same-setting .result
+tested c =
+    let a = c .before .before .args in
+    let n : toZ w16 (ofZ w16 (a .now)) ≡ a .now = search needs in
+    let b : toZ w16 (ofZ w16 (a .before)) ≡ a .before = search needs in
+    (λ i. sameSetting (sym n i) (sym b i)) ∙ sym (c .same-setting .ensures)
+
 returns : tie.Need-returns
-returns c = ?
+returns c =
+    let a = c .before .before .before .args in
+    c .before .before .no-backs .ensures ∙ sym (back-same (a .device) (a .now) (a .before) (tested (c .before) ∙ c .if1 .taken))
 
--- src/report_step.rt:69:5
 with-back-requires : tie.Need-with-back-requires
-with-back-requires c κs = ?
+with-back-requires c κs =
+    let r = c .before .before .no-backs in
+    let n : length (r .result .items) ≡ 32 = search (needs, length-mapped) in
+    let z = none-put-back (r .result) n (r .ensures) in
+    omega (arith, z)
 
--- src/report_step.rt:58:1
 returns-2 : tie.Need-returns-2
-returns-2 c = ?
+returns-2 c =
+    let l = c .before .before .before in
+    let a = l .before .args in
+    let n : toZ w16 (ofZ w16 (a .now)) ≡ a .now = search needs in
+    let u = toZ w16 (ofZ w16 (a .now)) in
+    c .with-back .ensures .1
+    ∙ ap (λ (b : List Back). b ++ (record { device = a .device; setting = u } ∷ [])) (l .no-backs .ensures)
+    ∙ back-changed (a .device) (a .now) (a .before) u n (tested (c .before .before) ∙ c .before .if1 .left)
 
 pub back-if-changed-spec : {M : Type 1} → statement M
 back-if-changed-spec =

@@ -1,35 +1,37 @@
+-- `hub::report_step::reported_on` meets its contract. Assumes nothing.
 use borrow.Author.Needs.{needs}
+use mathlib.Core.Path.{subst}
+use Rattle.hub.specs.View.{view, found, flightIn}
+use Rattle.hub.specs.Contract.{StepGives}
+use Rattle.hub.proofs.ReportLaws.{reported-done, reported-abort, reported-skip}
 use Rattle.hub.proofs.report_step.reported_on.Statement.{statement}
 use Rattle.hub.proofs.report_step.reported_on.Tie as tie
-use Rattle.hub.proofs.report_step.reported_on.Reads as reads
-use Rattle.hub.proofs.report_step.reported_on.Lts as lts
-use Rattle.hub.proofs.abort.step.Reads as step-reads
-use Rattle.hub.proofs.report_step.done.Reads as done-reads
-use Rattle.hub.proofs.report_step.skip.Reads as skip-reads
 
--- src/report_step.rt:97:9
 done-requires : tie.Need-done-requires
 done-requires c κs = search needs
 
--- src/report_step.rt:97:9
 returns : tie.Need-returns
-returns c = ?
+returns c =
+    let a = c .before .before .args in
+    subst (StepGives (a .hub) (c .done .result)) (reported-done (view (a .hub)) (found (a .hub) (a .at)) (flightIn (a .sent)) (a .code) (c .before .if1 .taken)) (c .done .ensures)
 
--- src/report_step.rt:101:9
 step-requires : tie.Need-step-requires
 step-requires c κs = search needs
 
--- src/report_step.rt:101:9
 returns-2 : tie.Need-returns-2
-returns-2 c = ?
+returns-2 c =
+    let l = c .before .before .before .before in
+    let a = l .before .args in
+    subst (StepGives (a .hub) (c .step .result)) (reported-abort (view (a .hub)) (found (a .hub) (a .at)) (flightIn (a .sent)) (a .code) (l .if1 .left) (c .before .if2 .taken)) (c .step .ensures)
 
--- src/report_step.rt:103:5
 skip-requires : tie.Need-skip-requires
 skip-requires c κs = search needs
 
--- src/report_step.rt:92:1
 returns-3 : tie.Need-returns-3
-returns-3 c = ?
+returns-3 c =
+    let l = c .before .before .before .before in
+    let a = l .before .args in
+    subst (StepGives (a .hub) (c .skip .result)) (reported-skip (view (a .hub)) (found (a .hub) (a .at)) (flightIn (a .sent)) (a .code) (l .if1 .left) (c .before .if2 .left)) (c .skip .ensures)
 
 pub reported-on-spec : {M : Type 1} → statement M
 reported-on-spec =

@@ -1,27 +1,31 @@
+-- `hub::report_step::skip` meets its contract. Assumes nothing.
 use borrow.Author.Needs.{needs}
+use mathlib.Core.Path.{_≡_, _∙_}
+use mir.Val.{toZ, ofZ}
+use mir.Syntax.{w16}
+use Rattle.rules.specs.Report.{backIfChanged}
+use Rattle.hub.proofs.ReportLaws.{skip-gives}
 use Rattle.hub.proofs.report_step.skip.Statement.{statement}
 use Rattle.hub.proofs.report_step.skip.Tie as tie
-use Rattle.hub.proofs.report_step.skip.Reads as reads
-use Rattle.hub.proofs.report_step.skip.Lts as lts
-use Rattle.hub.proofs.due_setting.Reads as due-setting-reads
-use Rattle.hub.proofs.report_step.answered.Reads as answered-reads
-use Rattle.hub.proofs.report_step.back_if_changed.Reads as back-if-changed-reads
 
--- src/report_step.rt:77:9
 answered-requires : tie.Need-answered-requires
 answered-requires c κs = search needs
 
--- src/report_step.rt:80:9
 due-setting-requires : tie.Need-due-setting-requires
 due-setting-requires c κs = search needs
 
--- src/report_step.rt:82:9
 back-if-changed-requires : tie.Need-back-if-changed-requires
 back-if-changed-requires c κs = search needs
 
--- src/report_step.rt:73:1
 returns : tie.Need-returns
-returns c = ?
+returns c =
+    let l = c .before .before .before .before in
+    let d = c .before .before .due-setting in
+    let s = l .before .args .sent in
+    let n : toZ w16 (ofZ w16 (d .result)) ≡ d .result = search needs in
+    let b : toZ w16 (ofZ w16 (s .«due_then»)) ≡ s .«due_then» = search needs in
+    skip-gives (l .before .args .hub) (l .answered .result) (l .before .args .at) (l .before .args .slot) (l .before .pre .1) (l .answered .ensures .0) s (c .back-if-changed .result) (l .answered .ensures .1)
+    (c .back-if-changed .ensures ∙ (λ i. backIfChanged (s .command .device) ((n ∙ d .ensures) i) (b i)))
 
 pub skip-spec : {M : Type 1} → statement M
 skip-spec =

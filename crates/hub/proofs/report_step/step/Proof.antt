@@ -1,73 +1,118 @@
+-- `hub::report_step::step` meets its contract. Assumes nothing.
 use borrow.Author.Needs.{needs}
+use mathlib.Core.Path.{_≡_, ap, _∙_, subst}
+use mathlib.Core.Option.{some}
+use Rattle.routine.specs.declared.Refusal.the-variants.{Number}
+use Rattle.rules.specs.Progress.{flight}
+use Rattle.rules.specs.Sequence.{find, runs}
+use Rattle.slot.specs.View.{flightOf}
+use Rattle.slot.specs.declared.Pending.{Pending}
+use Rattle.sequence.specs.Valid.{Stands, PlaceOk}
+use Rattle.sequence.specs.declared.Place.{Place}
+use Rattle.hub.specs.View.{view, found, flightIn}
+use Rattle.hub.specs.Valid.{Stood}
+use Rattle.hub.specs.Contract.{StepGives}
+use Rattle.hub.proofs.ReportLaws.{found-none, found-at, flight-is, report-nowhere, report-idle, report-code, report-on, turned-down}
 use Rattle.hub.proofs.report_step.step.Statement.{statement}
 use Rattle.hub.proofs.report_step.step.Tie as tie
-use Rattle.hub.proofs.report_step.step.Reads as reads
-use Rattle.hub.proofs.report_step.step.Lts as lts
-use Rattle.hub.proofs.answers.refused.Reads as refused-reads
-use Rattle.hub.proofs.report_step.reported_on.Reads as reported-on-reads
-use Rattle.sequence.proofs.find.running.Reads as running-reads
-use Rattle.sequence.proofs.keep.slot_at.Reads as slot-at-reads
-use Rattle.slot.proofs.progress.pending.Reads as pending-reads
 
--- src/report_step.rt:111:9
+-- a routine stands at the place that was found
+stands : (c : tie.After-known-told) → Stands (c .before .before .before .before .before .args .hub .sequence) (c .before .place .given .0 .0)
+stands c =
+    subst (λ (p : Place). PlaceOk (c .before .before .before .before .before .args .hub .sequence) p) (c .before .place .given .1) (c .before .before .before .running .ensures .0)
+
+-- it is the running routine with the id
+runs-there : (c : tie.After-known-told) →
+    find (runs (c .before .before .before .before .before .args .id)) (view (c .before .before .before .before .before .args .hub) .sequence)
+    ≡ some (found (c .before .before .before .before .before .args .hub) (c .before .place .given .0 .0))
+runs-there c =
+    let r = c .before .before .before in
+    found-at (r .before .before .args .hub) (r .before .before .args .id) (r .running .result) (r .running .ensures .1) (c .before .place .given .0 .0) (c .before .place .given .1)
+
+stood : (c : tie.After-slot-at) → Stood (c .before .before .before .before .before .before .args .hub) (c .before .before .place .given .0 .0) (c .slot-at .result)
+stood c = record { stands = stands (c .before); slot-ok = c .slot-at .ensures .0; slot-is = c .slot-at .ensures .1 }
+
+-- its command in flight
+flight-there : (c : tie.After-pending) →
+    flight (found (c .before .before .before .before .before .before .before .args .hub) (c .before .before .before .place .given .0 .0) .it .steps) ≡ flightOf (c .pending .result)
+flight-there c =
+    flight-is (c .before .before .before .before .before .before .before .args .hub) (c .before .before .before .place .given .0 .0) (c .before .slot-at .result) (stood (c .before))
+    (c .pending .result)
+    (c .pending .ensures)
+
 running-requires : tie.Need-running-requires
-running-requires c κs = search needs
+running-requires c κs = c .before .pre .sequence-ok
 
--- src/report_step.rt:112:19
 enum-known-place : tie.Need-enum-known-place
 enum-known-place c = search needs
 
--- src/report_step.rt:113:9
 enum-told : tie.Need-enum-told
 enum-told c = search needs
 
--- src/report_step.rt:113:9
 refused-requires : tie.Need-refused-requires
 refused-requires c κs = search needs
 
--- src/report_step.rt:113:9
 returns : tie.Need-returns
-returns c = ?
+returns c =
+    let r = c .before .before .before in
+    let l = r .before .before in
+    turned-down (l .args .hub) (Number 10) (c .refused .result) _ (c .refused .ensures) (l .pre)
+    (report-nowhere (view (l .args .hub)) (l .args .id) (l .args .code) (found-none (l .args .hub) (l .args .id) (r .running .result) (r .running .ensures .1) (c .before .enum-told .given .1)))
 
--- src/report_step.rt:115:9
 slot-at-requires : tie.Need-slot-at-requires
-slot-at-requires c κs = ?
+slot-at-requires c κs = (c .before .before .before .before .before .pre .sequence-ok, stands c)
 
--- src/report_step.rt:116:9
 pending-requires : tie.Need-pending-requires
-pending-requires c κs = search needs
+pending-requires c κs = c .slot-at .ensures .0
 
--- src/report_step.rt:117:23
 enum-known-pending : tie.Need-enum-known-pending
 enum-known-pending c = search needs
 
--- src/report_step.rt:118:9
 enum-told-2 : tie.Need-enum-told-2
 enum-told-2 c = search needs
 
--- src/report_step.rt:118:9
 refused-requires-2 : tie.Need-refused-requires-2
 refused-requires-2 c κs = search needs
 
--- src/report_step.rt:118:9
 returns-2 : tie.Need-returns-2
-returns-2 c = ?
+returns-2 c =
+    let p = c .before .before .before in
+    let k = p .before .before in
+    let l = k .before .before .before .before .before in
+    turned-down (l .args .hub) (Number 12) (c .refused2 .result) _ (c .refused2 .ensures) (l .pre)
+    (report-idle (view (l .args .hub)) (l .args .id) (l .args .code) (found (l .args .hub) (k .before .place .given .0 .0)) (runs-there k)
+    (flight-there p ∙ ap (λ (x : Pending). flightOf x) (c .before .enum-told2 .given .1)))
 
--- src/report_step.rt:121:9
 refused-requires-3 : tie.Need-refused-requires-3
 refused-requires-3 c κs = search needs
 
--- src/report_step.rt:121:9
 returns-3 : tie.Need-returns-3
-returns-3 c = ?
+returns-3 c =
+    let t = c .before .before .before in
+    let p = t .before .before in
+    let k = p .before .before in
+    let l = k .before .before .before .before .before in
+    turned-down (l .args .hub) (Number 13) (c .refused3 .result) _ (c .refused3 .ensures) (l .pre)
+    (report-code (view (l .args .hub)) (l .args .id) (l .args .code) (found (l .args .hub) (k .before .place .given .0 .0)) (runs-there k) _
+    (flight-there p ∙ ap (λ (x : Pending). flightOf x) (t .pending2 .given .1))
+    (c .before .if1 .taken))
 
--- src/report_step.rt:123:5
 reported-on-requires : tie.Need-reported-on-requires
-reported-on-requires c κs = ?
+reported-on-requires c κs =
+    let s = c .before .before .before .before .before in
+    (s .before .before .before .before .before .before .pre, stood s)
 
--- src/report_step.rt:106:1
 returns-4 : tie.Need-returns-4
-returns-4 c = ?
+returns-4 c =
+    let t = c .before .before .before in
+    let p = t .before .before in
+    let k = p .before .before in
+    let l = k .before .before .before .before .before in
+    subst (StepGives (l .args .hub) (c .reported-on .result))
+    (report-on (view (l .args .hub)) (l .args .id) (l .args .code) (found (l .args .hub) (k .before .place .given .0 .0)) (runs-there k) (flightIn (t .pending2 .given .0 .0))
+    (flight-there p ∙ ap (λ (x : Pending). flightOf x) (t .pending2 .given .1))
+    (c .before .if1 .left))
+    (c .reported-on .ensures)
 
 pub step-spec : {M : Type 1} → statement M
 step-spec =

@@ -1,41 +1,49 @@
+-- `hub::submit_step::check` meets its contract. Assumes nothing.
 use borrow.Author.Needs.{needs}
+use mathlib.Core.Path.{sym, _∙_}
+use Rattle.routine.specs.Refusals.{refusalOf}
+use Rattle.hub.specs.View.{view}
+use Rattle.hub.proofs.SubmitLaws.{check-routine, check-full, check-ids, check-fine}
 use Rattle.hub.proofs.submit_step.check.Statement.{statement}
 use Rattle.hub.proofs.submit_step.check.Tie as tie
-use Rattle.hub.proofs.submit_step.check.Reads as reads
-use Rattle.hub.proofs.submit_step.check.Lts as lts
-use Rattle.routine.proofs.check.Reads as check-reads
-use Rattle.sequence.proofs.keep.held.Reads as held-reads
 
--- src/submit_step.rt:28:9
 check-requires : tie.Need-check-requires
 check-requires c κs = search needs
 
 enum-told : tie.Need-enum-told
 enum-told c = search needs
 
--- src/submit_step.rt:30:9
 enum-told-2 : tie.Need-enum-told-2
 enum-told-2 c = search needs
 
--- src/submit_step.rt:30:9
 returns : tie.Need-returns
-returns c = ?
+unfolding view
+returns c =
+    let e = c .enum-told2 .given .1 in
+    e ∙ sym (check-routine (view (c .before .before .before .args .hub)) _ _ (sym (c .before .before .check .ensures) ∙ e))
 
--- src/submit_step.rt:33:20
 held-requires : tie.Need-held-requires
 held-requires c κs = search needs
 
--- src/submit_step.rt:34:9
 returns-2 : tie.Need-returns-2
-returns-2 c = ?
+unfolding view refusalOf
+returns-2 c =
+    let l = c .before .before .before .before .before in
+    sym (check-full (view (l .before .args .hub)) _ (sym (l .check .ensures) ∙ c .before .before .before .enum-told .given .1) (rw (c .before .held .ensures) at (c .if1 .taken)))
 
--- src/submit_step.rt:37:9
 returns-3 : tie.Need-returns-3
-returns-3 c = ?
+unfolding view refusalOf
+returns-3 c =
+    let o = c .before .before in
+    let l = o .before .before .before .before .before in
+    sym (check-ids (view (l .before .args .hub)) _ (sym (l .check .ensures) ∙ o .before .before .before .enum-told .given .1) (rw (o .before .held .ensures) at (o .if1 .left)) (c .if2 .taken))
 
--- src/submit_step.rt:23:1
 returns-4 : tie.Need-returns-4
-returns-4 c = ?
+unfolding view
+returns-4 c =
+    let o = c .before .before in
+    let l = o .before .before .before .before .before in
+    sym (check-fine (view (l .before .args .hub)) _ (sym (l .check .ensures) ∙ o .before .before .before .enum-told .given .1) (rw (o .before .held .ensures) at (o .if1 .left)) (c .if2 .left))
 
 pub check-spec : {M : Type 1} → statement M
 check-spec =

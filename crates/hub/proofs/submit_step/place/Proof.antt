@@ -1,45 +1,63 @@
+-- `hub::submit_step::place` meets its contract. Assumes nothing.
 use borrow.Author.Needs.{needs}
+use Prim.Native.Nat.{_≤_}
+use mathlib.Core.Path.{refl, sym, subst}
+use Rattle.rules.proofs.Lists.{t≠f}
+use Rattle.sequence.specs.View.{membersOf}
+use Rattle.sequence.specs.Valid.{RoomToPass}
+use Rattle.hub.proofs.Laws.{plain-gives}
+use Rattle.hub.proofs.SubmitLaws.{fine-routine, fine-room, fine-id, past-pass, withNewcomer, newcomer-valid, newcomer-given}
 use Rattle.hub.proofs.submit_step.place.Statement.{statement}
 use Rattle.hub.proofs.submit_step.place.Tie as tie
-use Rattle.hub.proofs.submit_step.place.Reads as reads
-use Rattle.hub.proofs.submit_step.place.Lts as lts
-use Rattle.hub.proofs.answers.plain.Reads as plain-reads
-use Rattle.sequence.proofs.keep.last_id.Reads as last-id-reads
-use Rattle.sequence.proofs.submit.past_latest.Reads as past-latest-reads
-use Rattle.sequence.proofs.submit.place.Reads as place-reads
-use Rattle.slot.proofs.submit.newcomer_slot.Reads as newcomer-slot-reads
 
--- src/submit_step.rt:51:14
+-- the pass limit is one of 8 bits
+narrow : (c : tie.Start) → c .args .hub .«pass_limit» ≤ 255
+narrow c = search needs
+
 cast-id : tie.Need-cast-id
-cast-id c = ?
+cast-id c =
+    let s = c .before .before in
+    let f = fine-id _ _ (s .pre .1) in
+    search needs
 
--- src/submit_step.rt:52:9
 past-latest-requires : tie.Need-past-latest-requires
-past-latest-requires c κs = ?
+past-latest-requires c κs =
+    let s = c .before .before in
+    let f = fine-routine _ _ (s .pre .1) (s .pre .0) in
+    (s .pre .0 .sequence-ok, f .0, f .1)
 
--- src/submit_step.rt:53:9
 last-id-requires : tie.Need-last-id-requires
 last-id-requires c κs = search needs
 
--- src/submit_step.rt:54:9
 newcomer-slot-requires : tie.Need-newcomer-slot-requires
-newcomer-slot-requires c κs = ?
+newcomer-slot-requires c κs =
+    let s = c .before .before .before .before in
+    let f = fine-routine _ _ (s .pre .1) (s .pre .0) in
+    (s .pre .0 .some-id, f .0, f .1)
 
--- src/submit_step.rt:55:9
 place-requires : tie.Need-place-requires
-place-requires c κs = ?
+place-requires c κs =
+    let s = c .before .before .before .before .before in
+    let l = c .before .before .past-latest .ensures in
+    let r = past-pass _ _ _ (narrow s) (membersOf (s .args .hub .sequence)) in
+    (s .pre .0 .sequence-ok, fine-room _ _ (s .pre .1), l .0, subst RoomToPass (sym (l .2)) r, c .newcomer-slot .ensures .0)
 
--- src/submit_step.rt:58:23
 add-changed : tie.Need-add-changed
 add-changed c = search needs
 
--- src/submit_step.rt:60:5
 plain-requires : tie.Need-plain-requires
 plain-requires c κs = search needs
 
--- src/submit_step.rt:43:1
 returns : tie.Need-returns
-returns c = ?
+returns c =
+    let p = c .before in
+    let d = p .before .before .before in
+    let s = d .before .before .before in
+    let h = s .args .hub in
+    let l = d .past-latest .ensures in
+    let v = newcomer-valid h (p .place .result) (s .pre .0) (fine-id _ _ (s .pre .1)) (p .place .ensures .0) in
+    let g = newcomer-given h _ _ _ _ _ _ (s .pre .1) (l .1) (l .2) (p .before .newcomer-slot .ensures .1) (p .place .ensures .1) (p .before .before .last-id .ensures) in
+    plain-gives h (withNewcomer h (p .place .result)) _ _ _ (c .plain .ensures) v g refl (λ e. t≠f (sym e))
 
 pub place-spec : {M : Type 1} → statement M
 place-spec =

@@ -1,39 +1,38 @@
+-- `hub::submit_step::step` meets its contract. Assumes nothing.
 use borrow.Author.Needs.{needs}
+use mathlib.Core.Path.{sym, _∙_, subst}
+use Rattle.hub.specs.View.{view}
+use Rattle.hub.specs.Contract.{StepGives}
+use Rattle.hub.proofs.Laws.{refused-gives}
+use Rattle.hub.proofs.SubmitLaws.{submit-refused}
 use Rattle.hub.proofs.submit_step.step.Statement.{statement}
 use Rattle.hub.proofs.submit_step.step.Tie as tie
-use Rattle.hub.proofs.submit_step.step.Reads as reads
-use Rattle.hub.proofs.submit_step.step.Lts as lts
-use Rattle.hub.proofs.answers.turned_down.Reads as turned-down-reads
-use Rattle.hub.proofs.submit_step.check.Reads as check-reads
-use Rattle.hub.proofs.submit_step.place.Reads as place-reads
 
--- src/submit_step.rt:67:9
 check-requires : tie.Need-check-requires
 check-requires c κs = search needs
 
--- src/submit_step.rt:68:26
 enum-known-verdict : tie.Need-enum-known-verdict
 enum-known-verdict c = search needs
 
--- src/submit_step.rt:69:9
 enum-told : tie.Need-enum-told
 enum-told c = search needs
 
--- src/submit_step.rt:69:9
 place-requires : tie.Need-place-requires
-place-requires c κs = ?
+place-requires c κs =
+    let l = c .before .before in
+    (l .before .pre, sym (l .check .ensures) ∙ c .enum-told .given .1)
 
--- src/submit_step.rt:69:9
 returns : tie.Need-returns
 returns c = search needs
 
--- src/submit_step.rt:71:5
 turned-down-requires : tie.Need-turned-down-requires
 turned-down-requires c κs = search needs
 
--- src/submit_step.rt:63:1
 returns-2 : tie.Need-returns-2
-returns-2 c = ?
+returns-2 c =
+    let l = c .before .before .before .before in
+    let h = l .before .args .hub in
+    subst (StepGives h (c .turned-down .result)) (sym (submit-refused (view h) _ _ (sym (l .check .ensures) ∙ c .before .before .verdict .given .1))) (refused-gives h _ _ (c .turned-down .ensures) (l .before .pre))
 
 pub step-spec : {M : Type 1} → statement M
 step-spec =

@@ -1,43 +1,50 @@
+-- `hub::turn_step::go_on` meets its contract. Assumes nothing.
 use borrow.Author.Needs.{needs}
+use Prim.Native.Nat.{_<_}
+use native.Mathlib.Omega.{arith}
+use mathlib.Core.Path.{_≡_, subst}
+use lib.ListN.{length}
+use Rattle.routine.proofs.Laws.{length-mapped}
+use Rattle.hub.specs.Contract.{StepGives}
+use Rattle.hub.proofs.TurnLaws.{proceed-up, proceed-must, proceed-skip}
 use Rattle.hub.proofs.turn_step.go_on.Statement.{statement}
 use Rattle.hub.proofs.turn_step.go_on.Tie as tie
-use Rattle.hub.proofs.turn_step.go_on.Reads as reads
-use Rattle.hub.proofs.turn_step.go_on.Lts as lts
-use Rattle.hub.proofs.abort.step.Reads as step-reads
-use Rattle.hub.proofs.turn_step.send.Reads as send-reads
-use Rattle.hub.proofs.turn_step.skip.Reads as skip-reads
 
--- src/turn_step.rt:104:18
+-- the command's device has an entry
+held : (c : tie.Start) → c .args .command .device < length (c .args .t1 .up)
+held c =
+    let n : length (c .args .t1 .up) ≡ 32 = search (needs, length-mapped) in
+    omega (arith, n, c .pre .2)
+
 cast-device : tie.Need-cast-device
 cast-device c = search needs
 
--- src/turn_step.rt:105:14
 element-copy-out-up : tie.Need-element-copy-out-up
 element-copy-out-up c = search needs
 
--- src/turn_step.rt:107:9
 send-requires : tie.Need-send-requires
 send-requires c κs = search needs
 
--- src/turn_step.rt:107:9
 returns : tie.Need-returns
-returns c = ?
+returns c =
+    let l = c .before .before .before .before in
+    subst (StepGives _ _) (proceed-up (l .args .t1) _ (l .args .command) _ (held l) (c .before .if1 .taken)) (c .send .ensures)
 
--- src/turn_step.rt:110:9
 step-requires : tie.Need-step-requires
 step-requires c κs = search needs
 
--- src/turn_step.rt:110:9
 returns-2 : tie.Need-returns-2
-returns-2 c = ?
+returns-2 c =
+    let l = c .before .before .before .before .before .before in
+    subst (StepGives _ _) (proceed-must (l .args .t1) _ (l .args .command) _ (held l) (c .before .before .before .if1 .left) (c .before .if2 .taken)) (c .step .ensures)
 
--- src/turn_step.rt:112:5
 skip-requires : tie.Need-skip-requires
 skip-requires c κs = search needs
 
--- src/turn_step.rt:100:1
 returns-3 : tie.Need-returns-3
-returns-3 c = ?
+returns-3 c =
+    let l = c .before .before .before .before .before .before in
+    subst (StepGives _ _) (proceed-skip (l .args .t1) _ (l .args .command) _ (held l) (c .before .before .before .if1 .left) (c .before .if2 .left)) (c .skip .ensures)
 
 pub go-on-spec : {M : Type 1} → statement M
 go-on-spec =

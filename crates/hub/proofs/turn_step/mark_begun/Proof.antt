@@ -1,29 +1,31 @@
+-- `hub::turn_step::mark_begun` meets its contract. Assumes nothing.
 use borrow.Author.Needs.{needs}
+use native.Mathlib.Omega.{arith}
+use mathlib.Core.Path.{_≡_, sym, _∙_}
+use lib.ListN.{length}
+use Rattle.routine.proofs.Laws.{length-mapped}
+use Rattle.hub.proofs.TurnLaws.{mark-stays, mark-put}
 use Rattle.hub.proofs.turn_step.mark_begun.Statement.{statement}
 use Rattle.hub.proofs.turn_step.mark_begun.Tie as tie
-use Rattle.hub.proofs.turn_step.mark_begun.Reads as reads
-use Rattle.hub.proofs.turn_step.mark_begun.Lts as lts
-use Rattle.slot.proofs.progress.has_begun.Reads as has-begun-reads
 
--- src/turn_step.rt:51:8
 has-begun-requires : tie.Need-has-begun-requires
 has-begun-requires c κs = search needs
 
--- src/turn_step.rt:52:9
 returns : tie.Need-returns
-returns c = ?
+returns c =
+    mark-stays _ _ (c .before .before .args .marks) (sym (c .before .has-begun .ensures) ∙ c .if1 .taken)
 
--- src/turn_step.rt:56:5
 mul-begun : tie.Need-mul-begun
 mul-begun c = search needs
 
--- src/turn_step.rt:56:5
 array-write-begun : tie.Need-array-write-begun
 array-write-begun c = search needs
 
--- src/turn_step.rt:47:1
 returns-2 : tie.Need-returns-2
-returns-2 c = ?
+returns-2 c =
+    let l = c .before .before in
+    let n : length (l .args .marks) ≡ 32 = search (needs, length-mapped) in
+    mark-put (l .args .slot) (l .args .device) (l .args .marks) (omega (arith, n, l .pre .1)) (sym (c .before .has-begun .ensures) ∙ c .if1 .left)
 
 pub mark-begun-spec : {M : Type 1} → statement M
 mark-begun-spec =

@@ -1,27 +1,25 @@
+-- `hub::turn_step::next_becomes` meets its contract. Assumes nothing.
 use borrow.Author.Needs.{needs}
+use Rattle.hub.proofs.TurnLaws.{valid-with, next-view}
 use Rattle.hub.proofs.turn_step.next_becomes.Statement.{statement}
 use Rattle.hub.proofs.turn_step.next_becomes.Tie as tie
-use Rattle.hub.proofs.turn_step.next_becomes.Reads as reads
-use Rattle.hub.proofs.turn_step.next_becomes.Lts as lts
-use Rattle.hub.proofs.turn_step.mark_begun.Reads as mark-begun-reads
-use Rattle.sequence.proofs.keep.replace.Reads as replace-reads
-use Rattle.slot.proofs.progress.advanced.Reads as advanced-reads
 
--- src/turn_step.rt:66:9
 advanced-requires : tie.Need-advanced-requires
 advanced-requires c κs = search needs
 
--- src/turn_step.rt:67:9
 replace-requires : tie.Need-replace-requires
 replace-requires c κs = search needs
 
--- src/turn_step.rt:69:9
 mark-begun-requires : tie.Need-mark-begun-requires
 mark-begun-requires c κs = search needs
 
--- src/turn_step.rt:61:1
 returns : tie.Need-returns
-returns c = ?
+returns c =
+    let l = c .before .before .before .before .before in
+    let r = c .before .before .replace .ensures in (
+      valid-with _ _ _ (l .pre .0) (r .0),
+      next-view (l .args .hub) (l .args .at) (l .args .slot) (l .pre .1) _ _ (r .1) (l .args .command) _ _ (c .before .before .before .advanced .ensures .1) (c .mark-begun .ensures),
+    )
 
 pub next-becomes-spec : {M : Type 1} → statement M
 next-becomes-spec =

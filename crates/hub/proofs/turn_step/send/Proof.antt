@@ -1,27 +1,28 @@
+-- `hub::turn_step::send` meets its contract. Assumes nothing.
 use borrow.Author.Needs.{needs}
+use mathlib.Core.Path.{_≡_, _∙_}
+use mir.Val.{toZ, ofZ}
+use mir.Syntax.{w16}
+use Rattle.hub.proofs.TurnLaws.{send-gives}
 use Rattle.hub.proofs.turn_step.send.Statement.{statement}
 use Rattle.hub.proofs.turn_step.send.Tie as tie
-use Rattle.hub.proofs.turn_step.send.Reads as reads
-use Rattle.hub.proofs.turn_step.send.Lts as lts
-use Rattle.hub.proofs.answers.plain.Reads as plain-reads
-use Rattle.hub.proofs.due_setting.Reads as due-setting-reads
-use Rattle.hub.proofs.turn_step.next_becomes.Reads as next-becomes-reads
 
--- src/turn_step.rt:81:9
 due-setting-requires : tie.Need-due-setting-requires
 due-setting-requires c κs = search needs
 
--- src/turn_step.rt:82:9
 next-becomes-requires : tie.Need-next-becomes-requires
 next-becomes-requires c κs = search needs
 
--- src/turn_step.rt:87:5
 plain-requires : tie.Need-plain-requires
 plain-requires c κs = search needs
 
--- src/turn_step.rt:77:1
 returns : tie.Need-returns
-returns c = ?
+returns c =
+    let l = c .before .before .before in
+    let n = c .before .next-becomes .ensures in
+    let d = c .before .before .due-setting in
+    let e : toZ w16 (ofZ w16 (d .result)) ≡ d .result = search needs in
+    send-gives (l .args .hub) (l .args .at) (l .args .slot) (l .pre .1) _ (l .args .command) _ _ (n .0) (e ∙ d .ensures) (n .1) (c .plain .ensures)
 
 pub send-spec : {M : Type 1} → statement M
 send-spec = tie.close (tie.spec due-setting-requires next-becomes-requires plain-requires returns)

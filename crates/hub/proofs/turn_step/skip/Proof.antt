@@ -1,22 +1,20 @@
+-- `hub::turn_step::skip` meets its contract. Assumes nothing.
 use borrow.Author.Needs.{needs}
+use Rattle.hub.proofs.TurnLaws.{skip-gives}
 use Rattle.hub.proofs.turn_step.skip.Statement.{statement}
 use Rattle.hub.proofs.turn_step.skip.Tie as tie
-use Rattle.hub.proofs.turn_step.skip.Reads as reads
-use Rattle.hub.proofs.turn_step.skip.Lts as lts
-use Rattle.hub.proofs.answers.plain.Reads as plain-reads
-use Rattle.hub.proofs.turn_step.next_becomes.Reads as next-becomes-reads
 
--- src/turn_step.rt:95:9
 next-becomes-requires : tie.Need-next-becomes-requires
 next-becomes-requires c κs = search needs
 
--- src/turn_step.rt:96:5
 plain-requires : tie.Need-plain-requires
 plain-requires c κs = search needs
 
--- src/turn_step.rt:91:1
 returns : tie.Need-returns
-returns c = ?
+returns c =
+    let l = c .before .before in
+    let n = c .before .next-becomes .ensures in
+    skip-gives (l .args .hub) (l .args .at) (l .args .slot) (l .pre .1) _ (l .args .command) _ (n .0) (n .1) (c .plain .ensures)
 
 pub skip-spec : {M : Type 1} → statement M
 skip-spec = tie.close (tie.spec next-becomes-requires plain-requires returns)

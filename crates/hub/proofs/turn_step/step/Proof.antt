@@ -1,86 +1,112 @@
+-- `hub::turn_step::step` meets its contract. Assumes nothing.
 use borrow.Author.Needs.{needs}
+use mathlib.Core.Path.{_≡_, subst}
+use Rattle.rules.specs.Turn.{turnNext, turnOf}
+use Rattle.slot.specs.View.{nextOf}
+use Rattle.slot.specs.declared.Next.{Next}
+use Rattle.sequence.specs.Valid.{PlaceOk}
+use Rattle.hub.specs.View.{view, found}
+use Rattle.hub.specs.Valid.{Stood}
+use Rattle.hub.specs.Contract.{StepGives}
+use Rattle.hub.proofs.TurnLaws.{next-below, turn-nowhere, turn-sent, turn-next}
 use Rattle.hub.proofs.turn_step.step.Statement.{statement}
 use Rattle.hub.proofs.turn_step.step.Tie as tie
-use Rattle.hub.proofs.turn_step.step.Reads as reads
-use Rattle.hub.proofs.turn_step.step.Lts as lts
-use Rattle.hub.proofs.answers.refused.Reads as refused-reads
-use Rattle.hub.proofs.turn_step.commit.Reads as commit-reads
-use Rattle.hub.proofs.turn_step.wait_or_go.Reads as wait-or-go-reads
-use Rattle.sequence.proofs.find.running.Reads as running-reads
-use Rattle.sequence.proofs.keep.slot_at.Reads as slot-at-reads
-use Rattle.slot.proofs.progress.next_command.Reads as next-command-reads
-use Rattle.slot.proofs.progress.pending.Reads as pending-reads
 
--- src/turn_step.rt:133:9
 running-requires : tie.Need-running-requires
 running-requires c κs = search needs
 
--- src/turn_step.rt:134:19
 enum-known-place : tie.Need-enum-known-place
 enum-known-place c = search needs
 
--- src/turn_step.rt:135:9
 enum-told : tie.Need-enum-told
 enum-told c = search needs
 
--- src/turn_step.rt:135:9
 refused-requires : tie.Need-refused-requires
 refused-requires c κs = search needs
 
--- src/turn_step.rt:135:9
 returns : tie.Need-returns
-returns c = ?
+returns c =
+    let l = c .before .before .before .before .before in
+    turn-nowhere (l .args .hub) (l .args .id) _ (c .before .before .before .running .ensures .1) _ (l .pre) (c .before .enum-told .given .1) (c .refused .ensures)
 
--- src/turn_step.rt:137:9
 slot-at-requires : tie.Need-slot-at-requires
-slot-at-requires c κs = ?
+slot-at-requires c κs =
+    let l = c .before .before .before .before .before in
+    (l .pre .sequence-ok, subst (PlaceOk _) (c .before .place .given .1) (c .before .before .before .running .ensures .0))
 
--- src/turn_step.rt:138:9
+-- the routine that was read stands at the place that was found
+stood : (c : tie.After-slot-at) →
+    let k = c .before in
+    Stood (k .before .before .before .before .before .args .hub) (k .before .place .given .0 .0) (c .slot-at .result)
+stood c =
+    let k = c .before in
+    record {
+      stands = subst (PlaceOk _) (k .before .place .given .1) (k .before .before .before .running .ensures .0);
+      slot-ok = c .slot-at .ensures .0;
+      slot-is = c .slot-at .ensures .1;
+    }
+
+-- no command of it is in flight: its next command decides
+goes-on : (c : tie.After-next-command) (r : Next) →
+    let k = c .before .before .before .before .before in
+    let l = k .before .before .before .before .before in
+    c .next-command .result ≡ r →
+    turnNext (view (l .args .hub)) (found (l .args .hub) (k .before .place .given .0 .0)) (nextOf r) ≡ turnOf (view (l .args .hub)) (l .args .id)
+goes-on c r e =
+    let q = c .before .before .before in
+    let k = q .before .before in
+    let l = k .before .before .before .before .before in
+    turn-next (l .args .hub) (l .args .id) _ (k .before .before .before .running .ensures .1) _ (k .before .place .given .1)
+    (q .before .slot-at .result) (q .before .slot-at .ensures .1) _ (q .pending .ensures)
+    _ (c .before .enum-told2 .given .1) (c .next-command .ensures) r e
+
 pending-requires : tie.Need-pending-requires
 pending-requires c κs = search needs
 
 enum-told-2 : tie.Need-enum-told-2
 enum-told-2 c = search needs
 
--- src/turn_step.rt:140:9
 enum-told-3 : tie.Need-enum-told-3
 enum-told-3 c = search needs
 
--- src/turn_step.rt:140:9
 refused-requires-2 : tie.Need-refused-requires-2
 refused-requires-2 c κs = search needs
 
--- src/turn_step.rt:140:9
 returns-2 : tie.Need-returns-2
-returns-2 c = ?
+returns-2 c =
+    let q = c .before .before .before in
+    let k = q .before .before in
+    let l = k .before .before .before .before .before in
+    turn-sent (l .args .hub) (l .args .id) _ (k .before .before .before .running .ensures .1) _ (k .before .place .given .1)
+    (q .before .slot-at .result) (q .before .slot-at .ensures .1) _ (q .pending .ensures) _ _ (l .pre) (c .before .enum-told3 .given .1) (c .refused2 .ensures)
 
--- src/turn_step.rt:142:9
 next-command-requires : tie.Need-next-command-requires
 next-command-requires c κs = search needs
 
--- src/turn_step.rt:143:20
 enum-known-next : tie.Need-enum-known-next
 enum-known-next c = search needs
 
--- src/turn_step.rt:144:9
 enum-told-4 : tie.Need-enum-told-4
 enum-told-4 c = search needs
 
--- src/turn_step.rt:144:9
 commit-requires : tie.Need-commit-requires
-commit-requires c κs = ?
+commit-requires c κs =
+    let x = c .before .before .before .before .before .before in
+    (x .before .before .before .before .before .before .pre, stood x)
 
--- src/turn_step.rt:144:9
 returns-3 : tie.Need-returns-3
-returns-3 c = ?
+returns-3 c =
+    subst (StepGives _ _) (goes-on (c .before .before .before) _ (c .before .enum-told4 .given .1)) (c .commit .ensures)
 
--- src/turn_step.rt:146:5
 wait-or-go-requires : tie.Need-wait-or-go-requires
-wait-or-go-requires c κs = ?
+wait-or-go-requires c κs =
+    let x = c .before .before .before .before .before .before .before in
+    let n = c .before .before .before .next-command in
+    (x .before .before .before .before .before .before .pre, stood x, next-below _ _ _ (x .slot-at .ensures .0) (n .ensures) (c .before .next .given .1))
 
--- src/turn_step.rt:128:1
 returns-4 : tie.Need-returns-4
-returns-4 c = ?
+returns-4 c =
+    subst (StepGives _ _) (goes-on (c .before .before .before .before) _ (c .before .before .next .given .1)) (c .wait-or-go .ensures)
 
 pub step-spec : {M : Type 1} → statement M
 step-spec =

@@ -1,39 +1,39 @@
+-- `hub::turn_step::wait_or_go` meets its contract. Assumes nothing.
 use borrow.Author.Needs.{needs}
+use mathlib.Core.Path.{subst}
+use Rattle.sequence.proofs.Laws.{stands-gap}
+use Rattle.hub.specs.Contract.{StepGives}
+use Rattle.hub.proofs.TurnLaws.{wait-search, wait-gives}
 use Rattle.hub.proofs.turn_step.wait_or_go.Statement.{statement}
 use Rattle.hub.proofs.turn_step.wait_or_go.Tie as tie
-use Rattle.hub.proofs.turn_step.wait_or_go.Reads as reads
-use Rattle.hub.proofs.turn_step.wait_or_go.Lts as lts
-use Rattle.hub.proofs.answers.plain.Reads as plain-reads
-use Rattle.hub.proofs.turn_step.go_on.Reads as go-on-reads
-use Rattle.sequence.proofs.find.first_holder.Reads as first-holder-reads
 
--- src/turn_step.rt:121:9
 first-holder-requires : tie.Need-first-holder-requires
-first-holder-requires c κs = ?
+first-holder-requires c κs =
+    let l = c .before in
+    (l .pre .0 .sequence-ok, stands-gap _ _ (l .pre .1 .stands))
 
--- src/turn_step.rt:122:25
 enum-known-holder : tie.Need-enum-known-holder
 enum-known-holder c = search needs
 
--- src/turn_step.rt:123:9
 enum-told : tie.Need-enum-told
 enum-told c = search needs
 
--- src/turn_step.rt:123:9
 go-on-requires : tie.Need-go-on-requires
 go-on-requires c κs = search needs
 
--- src/turn_step.rt:123:9
 returns : tie.Need-returns
-returns c = ?
+returns c =
+    let l = c .before .before .before .before .before in
+    subst (StepGives _ _) (wait-search (l .args .hub) (l .args .at) (l .args .command) _ (c .before .before .before .first-holder .ensures) _ (c .before .enum-told .given .1)) (c .go-on .ensures)
 
--- src/turn_step.rt:125:5
 plain-requires : tie.Need-plain-requires
 plain-requires c κs = search needs
 
--- src/turn_step.rt:116:1
 returns-2 : tie.Need-returns-2
-returns-2 c = ?
+returns-2 c =
+    let l = c .before .before .before .before .before .before in
+    wait-gives (l .args .hub) (l .args .at) (l .args .slot) (l .pre .1) (l .args .command) _ _ _ (l .pre .0)
+    (c .before .before .before .before .first-holder .ensures) (c .before .before .holder .given .1) (c .plain .ensures)
 
 pub wait-or-go-spec : {M : Type 1} → statement M
 wait-or-go-spec =
