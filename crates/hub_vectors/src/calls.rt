@@ -24,11 +24,7 @@ const FAIL: usize = 70;
 const RESTART: usize = 82;
 
 fn small_at(bytes: &[u8], at: usize) -> u8 {
-    if at < bytes.len() {
-        bytes[at]
-    } else {
-        0
-    }
+    if at < bytes.len() { bytes[at] } else { 0 }
 }
 
 fn id_at(bytes: &[u8], at: usize) -> u32

@@ -1,33 +1,47 @@
+-- `hub::due_setting` meets its contract. Assumes nothing.
 use borrow.Author.Needs.{needs}
+use native.Mathlib.Omega.{arith}
+use mathlib.Core.Path.{_≡_, sym, ap, _∙_}
+use lib.ListN.{length}
+use lib.IntN.{ℤ}
+use mir.Val.{toZ, ofZ}
+use mir.Syntax.{w16}
+use Rattle.routine.proofs.Laws.{length-mapped}
+use Rattle.rules.specs.Due.{afterMembers}
+use Rattle.slot.specs.View.{settingsOf}
+use Rattle.sequence.specs.View.{membersOf}
+use Rattle.hub.proofs.SettleLaws.{due-past, due-read}
 use Rattle.hub.proofs.due_setting.Statement.{statement}
 use Rattle.hub.proofs.due_setting.Tie as tie
-use Rattle.hub.proofs.due_setting.Reads as reads
-use Rattle.hub.proofs.due_setting.Lts as lts
-use Rattle.sequence.proofs.walk.due_on.Reads as due-on-reads
 
--- src/lib.rt:230:9
 due-on-requires : tie.Need-due-on-requires
 due-on-requires c κs = search needs
 
--- src/lib.rt:230:9
 returns : tie.Need-returns
-returns c = ?
+returns c =
+    let a = c .before .before .before in
+    let n : length (a .args .t1 .settled) ≡ 32 = search (needs, length-mapped) in
+    let v = c .due-on .result in
+    let e : toZ w16 (ofZ w16 v) ≡ v = search needs in
+    e ∙ c .due-on .ensures ∙ sym (due-past _ _ (omega (arith, n, c .before .if1 .taken)))
 
--- src/lib.rt:232:19
 mul-settled : tie.Need-mul-settled
 mul-settled c = search needs
 
--- src/lib.rt:232:19
 element-copy-out-settled : tie.Need-element-copy-out-settled
 element-copy-out-settled c = search needs
 
--- src/lib.rt:233:5
 due-on-requires-2 : tie.Need-due-on-requires-2
 due-on-requires-2 c κs = search needs
 
--- src/lib.rt:223:1
 returns-2 : tie.Need-returns-2
-returns-2 c = ?
+returns-2 c =
+    let v = c .due-on2 .result in
+    let e : toZ w16 (ofZ w16 v) ≡ v = search needs in
+    let a = c .before .before .before .before in
+    let w = settingsOf (a .args .t1 .settled) (a .args .device) in
+    let f : toZ w16 (ofZ w16 w) ≡ w = search needs in
+    e ∙ c .due-on2 .ensures ∙ ap (λ (z : ℤ). afterMembers (a .args .device) (membersOf (a .args .t1 .sequence)) z) f ∙ sym (due-read _ _)
 
 pub due-setting-spec : {M : Type 1} → statement M
 due-setting-spec =

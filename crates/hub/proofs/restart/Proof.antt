@@ -1,22 +1,34 @@
+-- `hub::restart` meets its contract. Assumes nothing.
 use borrow.Author.Needs.{needs}
+use mathlib.Core.Path.{_≡_, subst}
+use lib.IntN.{ℤ}
+use mir.Val.{toZ, ofZ}
+use mir.Syntax.{w16}
+use Rattle.rules.specs.Events.{restartOf}
+use Rattle.hub.specs.View.{view}
+use Rattle.hub.specs.Contract.{StepGives}
+use Rattle.hub.proofs.Laws.{settled-gives}
 use Rattle.hub.proofs.restart.Statement.{statement}
 use Rattle.hub.proofs.restart.Tie as tie
-use Rattle.hub.proofs.restart.Reads as reads
-use Rattle.hub.proofs.restart.Lts as lts
-use Rattle.hub.proofs.event_step.restart.Reads as restart-reads
-use Rattle.hub.proofs.settling.settled.Reads as settled-reads
 
--- src/lib.rt:200:9
 restart-requires : tie.Need-restart-requires
 restart-requires c κs = search needs
 
--- src/lib.rt:201:5
 settled-requires : tie.Need-settled-requires
 settled-requires c κs = search needs
 
--- src/lib.rt:196:1
 returns : tie.Need-returns
-returns c = ?
+returns c =
+    let a = c .before .before in
+    let v = a .args .setting in
+    let e : toZ w16 (ofZ w16 v) ≡ v = search needs in
+    settled-gives
+    _
+    _
+    _
+    _
+    (subst (λ (z : ℤ). StepGives (a .args .hub) (c .before .restart .result) (restartOf (view (a .args .hub)) (a .args .device) z)) e (c .before .restart .ensures))
+    (c .settled .ensures)
 
 pub restart-spec : {M : Type 1} → statement M
 restart-spec = tie.close (tie.spec restart-requires settled-requires returns)

@@ -1,44 +1,55 @@
+-- `hub::event_step::abort_halfway` meets its contract. Assumes nothing.
 use borrow.Author.Needs.{needs}
+use mathlib.Core.Path.{subst}
+use Rattle.sequence.specs.Valid.{PlaceOk}
+use Rattle.hub.proofs.EventLaws.{none-aborts, one-aborts}
 use Rattle.hub.proofs.event_step.abort_halfway.Statement.{statement}
 use Rattle.hub.proofs.event_step.abort_halfway.Tie as tie
-use Rattle.hub.proofs.event_step.abort_halfway.Reads as reads
-use Rattle.hub.proofs.event_step.abort_halfway.Lts as lts
-use Rattle.hub.proofs.abort.aborted.Reads as aborted-reads
-use Rattle.hub.proofs.answers.no_backs.Reads as no-backs-reads
-use Rattle.sequence.proofs.find.halfway.Reads as halfway-reads
-use Rattle.sequence.proofs.keep.slot_at.Reads as slot-at-reads
 
--- src/event_step.rt:39:9
 halfway-requires : tie.Need-halfway-requires
 halfway-requires c κs = search needs
 
--- src/event_step.rt:40:19
 enum-known-place : tie.Need-enum-known-place
 enum-known-place c = search needs
 
--- src/event_step.rt:41:13
 enum-told : tie.Need-enum-told
 enum-told c = search needs
 
--- src/event_step.rt:41:13
 no-backs-requires : tie.Need-no-backs-requires
 no-backs-requires c κs = search needs
 
--- src/event_step.rt:42:9
 returns : tie.Need-returns
-returns c = ?
+returns c =
+    let m = c .before .before .before in
+    let s = m .before .before in
+    none-aborts (s .args .hub) (s .args .device) (m .halfway .result) (m .halfway .ensures .1) (c .no-backs .result) (s .pre) (c .before .enum-told .given .1) (c .no-backs .ensures)
 
--- src/event_step.rt:48:9
 slot-at-requires : tie.Need-slot-at-requires
-slot-at-requires c κs = ?
+slot-at-requires c κs =
+    let m = c .before .before .before in
+    let s = m .before .before in
+    (s .pre .sequence-ok, subst (PlaceOk (s .args .hub .sequence)) (c .before .place .given .1) (m .halfway .ensures .0))
 
--- src/event_step.rt:49:9
 aborted-requires : tie.Need-aborted-requires
-aborted-requires c κs = ?
+aborted-requires c κs =
+    let m = c .before .before .before .before in
+    let s = m .before .before in (
+      s .pre,
+      record {
+        stands = subst (PlaceOk (s .args .hub .sequence)) (c .before .before .place .given .1) (m .halfway .ensures .0);
+        slot-ok = c .slot-at .ensures .0;
+        slot-is = c .slot-at .ensures .1;
+      },
+    )
 
--- src/event_step.rt:34:1
 returns-2 : tie.Need-returns-2
-returns-2 c = ?
+returns-2 c =
+    let a = c .before .before in
+    let k = a .before in
+    let m = k .before .before .before .before in
+    let s = m .before .before in
+    one-aborts (s .args .hub) (s .args .device) (m .halfway .result) (m .halfway .ensures .1) (k .before .before .place .given .0 .0) (k .slot-at .result) (a .aborted .result)
+    (k .before .before .place .given .1) (k .slot-at .ensures .1) (a .aborted .ensures)
 
 pub abort-halfway-spec : {M : Type 1} → statement M
 abort-halfway-spec =

@@ -1,29 +1,34 @@
+-- `hub::event_step::failed` meets its contract. Assumes nothing.
 use borrow.Author.Needs.{needs}
+use native.Mathlib.Omega.{arith}
+use mathlib.Core.Path.{_≡_}
+use lib.ListN.{length}
+use Rattle.routine.proofs.Laws.{length-mapped}
+use Rattle.hub.proofs.EventLaws.{failed-gives}
 use Rattle.hub.proofs.event_step.failed.Statement.{statement}
 use Rattle.hub.proofs.event_step.failed.Tie as tie
-use Rattle.hub.proofs.event_step.failed.Reads as reads
-use Rattle.hub.proofs.event_step.failed.Lts as lts
-use Rattle.hub.proofs.event_step.abort_halfway.Reads as abort-halfway-reads
 
--- src/event_step.rt:66:5
 element-write-down : tie.Need-element-write-down
 element-write-down c = search needs
 
--- src/event_step.rt:67:9
 abort-halfway-requires : tie.Need-abort-halfway-requires
 abort-halfway-requires c κs = search needs
 
--- src/event_step.rt:69:16
 mul-mark : tie.Need-mul-mark
 mul-mark c = search needs
 
--- src/event_step.rt:69:16
 element-copy-out-mark : tie.Need-element-copy-out-mark
 element-copy-out-mark c = search needs
 
--- src/event_step.rt:60:1
+-- the array's length
+long : (c : tie.Start) → length (c .args .hub .up) ≡ 32
+long c = search (needs, length-mapped)
+
 returns : tie.Need-returns
-returns c = ?
+returns c =
+    let m = c .before .before .before in
+    let s = m .before in
+    failed-gives (s .args .hub) (s .args .device) (m .abort-halfway .result) (omega (arith, s .pre .1, long s)) (m .abort-halfway .ensures)
 
 pub failed-spec : {M : Type 1} → statement M
 failed-spec =

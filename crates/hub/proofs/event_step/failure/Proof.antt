@@ -1,39 +1,51 @@
+-- `hub::event_step::failure` meets its contract. Assumes nothing.
 use borrow.Author.Needs.{needs}
+use borrow.Author.Tests.{not-true, not-false}
+use mathlib.Core.Path.{sym, _∙_, subst}
+use Rattle.routine.specs.declared.Refusal.the-variants.{Number}
+use Rattle.hub.specs.View.{view}
+use Rattle.hub.specs.Contract.{StepGives}
+use Rattle.hub.proofs.Laws.{refused-gives}
+use Rattle.hub.proofs.EventLaws.{failure-14, failure-15, failure-passes}
 use Rattle.hub.proofs.event_step.failure.Statement.{statement}
 use Rattle.hub.proofs.event_step.failure.Tie as tie
-use Rattle.hub.proofs.event_step.failure.Reads as reads
-use Rattle.hub.proofs.event_step.failure.Lts as lts
-use Rattle.hub.proofs.answers.refused.Reads as refused-reads
-use Rattle.hub.proofs.event_step.failed.Reads as failed-reads
-use Rattle.hub.proofs.is_up.Reads as is-up-reads
 
--- src/event_step.rt:107:9
 refused-requires : tie.Need-refused-requires
 refused-requires c κs = search needs
 
--- src/event_step.rt:107:9
 returns : tie.Need-returns
-returns c = ?
+unfolding view
+returns c =
+    let s = c .before .before .before in
+    let a = s .args in
+    subst (StepGives (a .hub) (c .refused .result)) (failure-14 (view (a .hub)) (a .device) (c .before .if1 .taken))
+    (refused-gives (a .hub) (Number 14) (c .refused .result) (c .refused .ensures) (s .pre))
 
--- src/event_step.rt:109:9
 is-up-requires : tie.Need-is-up-requires
 is-up-requires c κs = search needs
 
--- src/event_step.rt:110:9
 refused-requires-2 : tie.Need-refused-requires-2
 refused-requires-2 c κs = search needs
 
--- src/event_step.rt:110:9
 returns-2 : tie.Need-returns-2
-returns-2 c = ?
+unfolding view
+returns-2 c =
+    let u = c .before .before in
+    let s = u .before .before .before in
+    let a = s .args in
+    subst (StepGives (a .hub) (c .refused2 .result)) (failure-15 (view (a .hub)) (a .device) (u .before .if1 .left) (sym (u .is-up .ensures) ∙ not-true (u .is-up .result) (c .before .if2 .taken)))
+    (refused-gives (a .hub) (Number 15) (c .refused2 .result) (c .refused2 .ensures) (s .pre))
 
--- src/event_step.rt:112:5
 failed-requires : tie.Need-failed-requires
 failed-requires c κs = search needs
 
--- src/event_step.rt:102:1
 returns-3 : tie.Need-returns-3
-returns-3 c = ?
+unfolding view
+returns-3 c =
+    let u = c .before .before in
+    let a = u .before .before .before .args in
+    subst (StepGives (a .hub) (c .failed .result)) (failure-passes (view (a .hub)) (a .device) (u .before .if1 .left) (sym (u .is-up .ensures) ∙ not-false (u .is-up .result) (c .before .if2 .left)))
+    (c .failed .ensures)
 
 pub failure-spec : {M : Type 1} → statement M
 failure-spec =

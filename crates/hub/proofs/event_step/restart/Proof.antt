@@ -1,52 +1,79 @@
+-- `hub::event_step::restart` meets its contract. Assumes nothing.
 use borrow.Author.Needs.{needs}
+use borrow.Author.Tests.{not-true, not-false}
+use mathlib.Core.Path.{sym, ap, _∙_, subst}
+use lib.IntN.{ℤ}
+use mir.Facts.{toZ-ofZ}
+use Rattle.routine.specs.Range.{inRange}
+use Rattle.routine.specs.declared.Refusal.the-variants.{Number}
+use Rattle.rules.specs.Settle.{settling}
+use Rattle.rules.specs.Events.{restartResult}
+use Rattle.hub.specs.View.{view}
+use Rattle.hub.specs.Contract.{StepGives}
+use Rattle.hub.proofs.Laws.{refused-gives}
+use Rattle.hub.proofs.EventLaws.{restart-14, restart-16, restart-17, restart-passes}
 use Rattle.hub.proofs.event_step.restart.Statement.{statement}
 use Rattle.hub.proofs.event_step.restart.Tie as tie
-use Rattle.hub.proofs.event_step.restart.Reads as reads
-use Rattle.hub.proofs.event_step.restart.Lts as lts
-use Rattle.hub.proofs.answers.refused.Reads as refused-reads
-use Rattle.hub.proofs.event_step.restarted.Reads as restarted-reads
-use Rattle.hub.proofs.is_up.Reads as is-up-reads
-use Rattle.routine.proofs.in_range.Reads as in-range-reads
 
--- src/event_step.rt:120:9
 refused-requires : tie.Need-refused-requires
 refused-requires c κs = search needs
 
--- src/event_step.rt:120:9
 returns : tie.Need-returns
-returns c = ?
+unfolding view
+returns c =
+    let s = c .before .before .before in
+    let a = s .args in
+    subst (StepGives (a .hub) (c .refused .result)) (restart-14 (view (a .hub)) (a .device) (a .setting) (c .before .if1 .taken))
+    (refused-gives (a .hub) (Number 14) (c .refused .result) (c .refused .ensures) (s .pre))
 
--- src/event_step.rt:122:8
 is-up-requires : tie.Need-is-up-requires
 is-up-requires c κs = search needs
 
--- src/event_step.rt:123:9
 refused-requires-2 : tie.Need-refused-requires-2
 refused-requires-2 c κs = search needs
 
--- src/event_step.rt:123:9
 returns-2 : tie.Need-returns-2
-returns-2 c = ?
+unfolding view
+returns-2 c =
+    let u = c .before .before in
+    let s = u .before .before .before in
+    let a = s .args in
+    subst (StepGives (a .hub) (c .refused2 .result)) (restart-16 (view (a .hub)) (a .device) (a .setting) (u .before .if1 .left) (sym (u .is-up .ensures) ∙ c .before .if2 .taken))
+    (refused-gives (a .hub) (Number 16) (c .refused2 .result) (c .refused2 .ensures) (s .pre))
 
--- src/event_step.rt:125:9
 in-range-requires : tie.Need-in-range-requires
 in-range-requires c κs = search needs
 
--- src/event_step.rt:126:9
 refused-requires-3 : tie.Need-refused-requires-3
 refused-requires-3 c κs = search needs
 
--- src/event_step.rt:126:9
 returns-3 : tie.Need-returns-3
-returns-3 c = ?
+unfolding view
+returns-3 c =
+    let r = c .before .before in
+    let u = r .before .before in
+    let s = u .before .before .before in
+    let a = s .args in
+    let z = toZ-ofZ (s .fits .setting) in
+    subst (StepGives (a .hub) (c .refused3 .result))
+    (restart-17 (view (a .hub)) (a .device) (a .setting) (u .before .if1 .left) (sym (u .is-up .ensures) ∙ r .before .if2 .left) (ap inRange (sym z) ∙ sym (r .in-range .ensures) ∙ not-true (r .in-range .result) (c .before .if3 .taken)))
+    (refused-gives (a .hub) (Number 17) (c .refused3 .result) (c .refused3 .ensures) (s .pre))
 
--- src/event_step.rt:128:5
 restarted-requires : tie.Need-restarted-requires
 restarted-requires c κs = search needs
 
--- src/event_step.rt:115:1
 returns-4 : tie.Need-returns-4
-returns-4 c = ?
+unfolding view
+returns-4 c =
+    let r = c .before .before in
+    let u = r .before .before in
+    let s = u .before .before .before in
+    let a = s .args in
+    let z = toZ-ofZ (s .fits .setting) in
+    subst (StepGives (a .hub) (c .restarted .result))
+    (ap (λ (v : ℤ). settling (restartResult (view (a .hub)) (a .device) v)) z
+    ∙ restart-passes (view (a .hub)) (a .device) (a .setting) (u .before .if1 .left) (sym (u .is-up .ensures) ∙ r .before .if2 .left) (ap inRange (sym z) ∙ sym (r .in-range .ensures) ∙ not-false (r .in-range .result) (c .before .if3 .left)))
+    (c .restarted .ensures)
 
 pub restart-spec : {M : Type 1} → statement M
 restart-spec =

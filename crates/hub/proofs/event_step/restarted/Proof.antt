@@ -1,39 +1,45 @@
-use borrow.Author.Needs.{needs}
+-- `hub::event_step::restarted` meets its contract. Assumes nothing.
+use borrow.Author.Needs.{needs, length-unmapped}
+use native.Mathlib.Omega.{arith}
+use mathlib.Core.Path.{_≡_, ap, _∙_}
+use mathlib.Core.Bool.{Bool}
+use lib.ListN.{length}
+use mir.Facts.{toZ-ofZ}
+use Rattle.rules.specs.Attach.{oneRestart}
+use Rattle.hub.proofs.EventLaws.{restarted-gives}
 use Rattle.hub.proofs.event_step.restarted.Statement.{statement}
 use Rattle.hub.proofs.event_step.restarted.Tie as tie
-use Rattle.hub.proofs.event_step.restarted.Reads as reads
-use Rattle.hub.proofs.event_step.restarted.Lts as lts
-use Rattle.hub.proofs.attach.attached.Reads as attached-reads
-use Rattle.hub.proofs.event_step.abort_halfway.Reads as abort-halfway-reads
-use Rattle.slot.proofs.attach.one_restart.Reads as one-restart-reads
 
--- src/event_step.rt:86:9
 abort-halfway-requires : tie.Need-abort-halfway-requires
 abort-halfway-requires c κs = search needs
 
--- src/event_step.rt:88:16
 mul-mark : tie.Need-mul-mark
 mul-mark c = search needs
 
--- src/event_step.rt:88:16
 element-copy-out-mark : tie.Need-element-copy-out-mark
 element-copy-out-mark c = search needs
 
--- src/event_step.rt:89:9
 one-restart-requires : tie.Need-one-restart-requires
 one-restart-requires c κs = search needs
 
--- src/event_step.rt:90:18
 attached-requires : tie.Need-attached-requires
 attached-requires c κs = search needs
 
--- src/event_step.rt:91:5
 element-write-up : tie.Need-element-write-up
 element-write-up c = search needs
 
--- src/event_step.rt:81:1
+-- the array's length
+long : (c : tie.After-attached) → length (c .attached .result .up) ≡ 32
+long c = length-unmapped Bool (c .attached .result .up) 32 (c .attached .ok .1 .1 .1 .1 .1 .1 .1 .0 .1 .0 .1)
+
 returns : tie.Need-returns
-returns c = ?
+returns c =
+    let t = c .before in
+    let r = t .before in
+    let m = r .before .before .before in
+    let s = m .before in
+    restarted-gives (s .args .hub) (s .args .device) (s .args .setting) (m .abort-halfway .result) (r .one-restart .result) (t .attached .result) (omega (arith, s .pre .1, long t))
+    (m .abort-halfway .ensures) (r .one-restart .ensures ∙ ap (oneRestart (s .args .device)) (toZ-ofZ (s .fits .setting))) (t .attached .ensures .0) (t .attached .ensures .1)
 
 pub restarted-spec : {M : Type 1} → statement M
 restarted-spec =

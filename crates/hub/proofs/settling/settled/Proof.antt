@@ -1,9 +1,9 @@
+-- `hub::settling::settled` meets its contract. Assumes nothing.
 use borrow.Author.Needs.{needs}
+use mathlib.Core.Path.{refl}
+use Rattle.hub.proofs.SettleLaws.{step-settles, step-stands}
 use Rattle.hub.proofs.settling.settled.Statement.{statement}
 use Rattle.hub.proofs.settling.settled.Tie as tie
-use Rattle.hub.proofs.settling.settled.Reads as reads
-use Rattle.hub.proofs.settling.settled.Lts as lts
-use Rattle.hub.proofs.settling.with_settled.Reads as with-settled-reads
 
 enum-told : tie.Need-enum-told
 enum-told c = search needs
@@ -11,21 +11,17 @@ enum-told c = search needs
 enum-told-2 : tie.Need-enum-told-2
 enum-told-2 c = search needs
 
--- src/settling.rt:50:13
 with-settled-requires : tie.Need-with-settled-requires
 with-settled-requires c κs = search needs
 
--- src/settling.rt:50:13
 returns : tie.Need-returns
-returns c = ?
+returns c = step-settles _ _ (c .before .before .match .keys2) (c .before .match2 .keys2) (c .with-settled .ensures)
 
--- src/settling.rt:52:9
 returns-2 : tie.Need-returns-2
-returns-2 c = ?
+returns-2 c = step-stands _ _ (c .enum-told2 .given .1) (λ r. refl) (c .before .before .before .pre)
 
--- src/settling.rt:43:1
 returns-3 : tie.Need-returns-3
-returns-3 c = ?
+returns-3 c = step-stands _ _ (c .enum-told .given .1) (λ r. refl) (c .before .before .pre)
 
 pub settled-spec : {M : Type 1} → statement M
 settled-spec =
