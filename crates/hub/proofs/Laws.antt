@@ -1,46 +1,89 @@
--- Laws that the proofs of this crate, and those above it, cite. Assumes nothing.
+-- Laws for the proofs of the public calls. Assumes nothing.
 use mathlib.Core.Path.{_≡_, refl, sym, ap, _∙_, subst}
-use mathlib.Core.Bool.{true}
-use mathlib.Core.List.{[], _∷_, _++_}
-use Rattle.routine.specs.declared.Refusal.{Refusal}
-use Rattle.rules.specs.Answers.{Result, turnedDown}
-use Rattle.hub.specs.View.{view, backsOf, answerOf, firstOf, answersIn, backsIn}
-use Rattle.hub.specs.Valid.{Valid}
-use Rattle.hub.specs.Contract.{changesNothing, Gives, settleFor, StepGives, SettledStep, Plain}
+use mathlib.Core.Bool.{Bool, true, false}
+use mathlib.Core.List.{List, [], _∷_}
+use Prim.Native.Nat.{ℕ}
+use types.Run.{OneOf, miss}
+use denote.Enum.Declared.{tagOf}
+use Rattle.rules.specs.State.{State}
+use Rattle.rules.specs.Answers.{Result}
+use Rattle.rules.specs.Settle.{settle, settling}
+use Rattle.rules.proofs.Lists.{t≠f}
+use Rattle.state.specs.View.{stateOf, backsOf, answersOf, answersIn as stepAnswers, resultIn as stepResult, backsIn}
+use Rattle.state.specs.Valid.{StateOk}
+use Rattle.state.specs.Contract.{changesNothing, settleFor, StepGives}
+use Rattle.state.specs.declared.HubState.{HubState}
+use Rattle.state.specs.declared.Answer.{Answer}
+use Rattle.state.specs.declared.Answer.the-variants.{Refused, Placed, Wait, Sent, Done, Skipped, Committed, Aborted, Down, Up}
+use Rattle.state.specs.declared.StepOutcome.{StepOutcome}
+use Rattle.state.proofs.Answer.{the-type}
+use Rattle.hub.specs.View.{answersIn}
+use Rattle.hub.specs.Contract.{Gives, SettledStep}
 use Rattle.hub.specs.declared.Hub.{Hub}
-use Rattle.hub.specs.declared.Answer.{Answer}
-use Rattle.hub.specs.declared.Answer.the-variants.{Refused}
 use Rattle.hub.specs.declared.Outcome.{Outcome}
 
--- the answers do not depend on the hub
-pub same-answers : (o p : Outcome) → o .first ≡ p .first → o .answer ≡ p .answer → o .backs ≡ p .backs → answersIn o ≡ answersIn p
-same-answers o p e f g = λ i. firstOf (e i) (backsOf (g i)) ++ (answerOf (f i) (backsOf (g i)) ∷ [])
+-- an outcome with this state and the answers of its step
+abbrev pub Wraps : HubState → StepOutcome → Outcome → Type 0
+Wraps s step o = (o .hub .state ≡ s) × (o .first ≡ step .first) × (o .answer ≡ step .answer) × (o .backs ≡ step .backs)
+
+-- it answers what the step does
+same-answers : (s : HubState) (step : StepOutcome) (o : Outcome) → Wraps s step o → answersIn o ≡ stepAnswers step
+same-answers s step o w = λ i. answersOf (w .1 i) (w .2 i) (w .3 i)
+
+-- the answers that are no refusal, and those that are no wait, by their numbers
+abbrev pub notRefused : List ℕ
+notRefused = 1 ∷ 2 ∷ 3 ∷ 4 ∷ 5 ∷ 6 ∷ 7 ∷ 8 ∷ 9 ∷ []
+
+abbrev pub notWait : List ℕ
+notWait = 0 ∷ 1 ∷ 3 ∷ 4 ∷ 5 ∷ 6 ∷ 7 ∷ 8 ∷ 9 ∷ []
+
+-- after any other answer the hub settles
+pub settles : (a : Answer) → OneOf notRefused (tagOf the-type a) → OneOf notWait (tagOf the-type a) → (changesNothing a ≡ false) × ((r : Result) → settleFor a r ≡ settling r)
+settles (Refused x) h k = absurd (miss notRefused 0 tt h)
+settles (Placed x) h k = (refl, λ r. refl)
+settles (Wait i j) h k = absurd (miss notWait 2 tt k)
+settles (Sent x) h k = (refl, λ r. refl)
+settles (Done i) h k = (refl, λ r. refl)
+settles (Skipped i) h k = (refl, λ r. refl)
+settles (Committed i) h k = (refl, λ r. refl)
+settles (Aborted i) h k = (refl, λ r. refl)
+settles (Down d i) h k = (refl, λ r. refl)
+settles (Up d i) h k = (refl, λ r. refl)
+
+-- a step with such an answer has settled
+pub step-settles : (s : HubState) (step : StepOutcome) (o : Outcome) → OneOf notRefused (tagOf the-type (step .answer)) → OneOf notWait (tagOf the-type (step .answer)) →
+    StateOk s → stateOf s ≡ settle (stateOf (step .state)) → Wraps s step o → SettledStep step o
+step-settles s step o h k v e w = record {
+  valid = subst StateOk (sym (w .0)) v;
+  gives =
+      (λ i. record { state = (ap stateOf (w .0) ∙ e) i; answers = same-answers s step o w i }) ∙ sym (settles (step .answer) h k .1 (stepResult step));
+  same-first = w .1;
+  same-answer = w .2;
+  same-backs = w .3;
+  same-state = λ t. t≠f (sym t ∙ settles (step .answer) h k .0);
+}
+
+-- after a refusal or a wait it stands
+pub step-stands : (step : StepOutcome) (o : Outcome) (a : Answer) → step .answer ≡ a → ((r : Result) → settleFor a r ≡ r) → StateOk (step .state) → Wraps (step .state) step o →
+    SettledStep step o
+step-stands step o a e f v w = record {
+  valid = subst StateOk (sym (w .0)) v;
+  gives =
+      (λ i. record { state = stateOf (w .0 i); answers = same-answers (step .state) step o w i })
+      ∙ sym (ap (λ (b : Answer). settleFor b (stepResult step)) e ∙ f (stepResult step));
+  same-first = w .1;
+  same-answer = w .2;
+  same-backs = w .3;
+  same-state = λ t. w .0;
+}
 
 -- a step that has settled gives what the call's contract says
-pub settled-gives : (h : Hub) (step o : Outcome) (result : Result) → StepGives h step result → SettledStep step o → Gives h o result
+pub settled-gives : (h : Hub) (step : StepOutcome) (o : Outcome) (result : Result) → StepGives (h .state) step result → SettledStep step o → Gives h o result
 settled-gives h step o result g s = record {
   valid = s .valid;
   gives = s .gives ∙ g .gives;
-  backs-told = ap backsOf (s .same-backs) ∙ g .backs-told ∙ sym (ap backsIn (same-answers o step (s .same-first) (s .same-answer) (s .same-backs)));
+  backs-told = ap backsOf (s .same-backs) ∙ g .backs-told ∙ sym (λ i. backsIn (answersOf (s .same-first i) (s .same-answer i) (s .same-backs i)));
   same-hub = λ e.
       let k : changesNothing (step .answer) ≡ true = sym (ap changesNothing (s .same-answer)) ∙ e in
-      s .same-hub k ∙ g .same-hub k;
+      λ i. record { state = (s .same-state k ∙ g .same-state k) i };
 }
-
--- a step of one answer that puts nothing back
-pub plain-gives : (h g : Hub) (a : Answer) (o : Outcome) (result : Result) → Plain g a o → Valid g →
-    settleFor a (record { state = view g; answers = answerOf a [] ∷ [] }) ≡ result → backsIn (answerOf a [] ∷ []) ≡ [] →
-    (changesNothing a ≡ true → g ≡ h) → StepGives h o result
-plain-gives h g a o result p v e b k = record {
-  valid = subst Valid (sym (p .hub-is)) v;
-  gives = (λ i. settleFor (p .answer-is i) (record { state = view (p .hub-is i); answers = told i })) ∙ e;
-  backs-told = p .backs-are ∙ sym b ∙ sym (ap backsIn told);
-  same-hub = λ t. p .hub-is ∙ k (sym (ap changesNothing (p .answer-is)) ∙ t);
-}
-  where
-    told : answersIn o ≡ answerOf a [] ∷ []
-    told = λ i. firstOf (p .first-is i) (p .backs-are i) ++ (answerOf (p .answer-is i) (p .backs-are i) ∷ [])
-
--- a call that is turned down
-pub refused-gives : (h : Hub) (r : Refusal) (o : Outcome) → Plain h (Refused r) o → Valid h → StepGives h o (turnedDown r (view h))
-refused-gives h r o p v = plain-gives h h (Refused r) o (turnedDown r (view h)) p v refl refl (λ t. refl)

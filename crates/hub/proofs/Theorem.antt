@@ -1,7 +1,6 @@
 -- Demand 3 of this hub: the theorem of the rules, carried along a chain of calls. Assumes nothing.
 use mathlib.Core.Path.{_≡_, refl, sym, ap, _∙_, subst}
 use mathlib.Core.List.{List, [], _∷_, _++_, map, map-append}
-use Prim.Native.Nat.{ℕ}
 use Rattle.rules.specs.Answers.{Result}
 use Rattle.rules.specs.Open.{opened, openIf, openOf}
 use Rattle.rules.specs.Calls.{resultOf}
@@ -65,14 +64,10 @@ chain-left h [] rest ch = tt
 chain-left h (called c o v ∷ l) rest ch = (ch .0, chain-left (o .hub) l rest (ch .1))
 chain-left h (device-takes d k ∷ l) rest ch = chain-left h l rest ch
 
-devices-in : (h : Hub) → view h .devices ≡ h .devices
-unfolding view
-devices-in h = refl
-
 -- what the rules promise of the list without the outcomes, this hub has
 carried : (h : Hub) (acts : List HubAct) → Chain h acts → Demand3 (view h) (map actOf acts) → HubDemand3 h acts
 carried h acts ch d = record {
-  end-state = λ p. subst (λ (n : ℕ). EndState n (worldThenAll w acts)) (devices-in h) (subst (EndState (view h .devices)) (sym whole) (d .end-state (premises w h acts refl ch p)));
+  end-state = λ p. subst (EndState (view h .devices)) (sym whole) (d .end-state (premises w h acts refl ch p));
   settled-part = λ before rest e.
       subst (λ (v : World). Begins (orderIn v .settled) (entries (orderIn (worldThenAll w acts)))) (sym (worlds w h before refl (chain-left h before rest (subst (Chain h) e ch))))
       (subst (λ (v : World). Begins (orderIn (worldAfterAll w (map actOf before)) .settled) (entries (orderIn v))) (sym whole)

@@ -87,7 +87,7 @@ newWorldOf h = newWorld (view h)
 
 -- The three parts: end state, settled part, where commands stand. Only the first needs the premise on the devices.
 pub record HubDemand3 (h : Hub) (acts : List HubAct) : Type 0 where
-  pub end-state : PremiseThenAll (newWorldOf h) acts → EndState (h .devices) (worldThenAll (newWorldOf h) acts)
+  pub end-state : PremiseThenAll (newWorldOf h) acts → EndState (view h .devices) (worldThenAll (newWorldOf h) acts)
   pub settled-part :
       (before rest : List HubAct) → acts ≡ before ++ rest →
       Begins (orderIn (worldThenAll (newWorldOf h) before) .settled) (entries (orderIn (worldThenAll (newWorldOf h) acts)))

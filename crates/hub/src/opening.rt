@@ -1,13 +1,14 @@
 // The opening: document 01, "Things and ranges".
-use crate::DEVICES_OUT_OF_RANGE;
-use crate::FIRST_ID_0;
-use crate::HIGHEST_PASS_LIMIT;
 use crate::Hub;
-use crate::PASS_LIMIT_OUT_OF_RANGE;
 use routine::MAX_DEVICES;
 use routine::Refusal;
 use routine::Verdict;
 use sequence::keep;
+use state::DEVICES_OUT_OF_RANGE;
+use state::FIRST_ID_0;
+use state::HIGHEST_PASS_LIMIT;
+use state::HubState;
+use state::PASS_LIMIT_OUT_OF_RANGE;
 ghost use mathlib.Core.Path.{_≡_};
 ghost use Prim.Native.Nat.{_<_, _≤_};
 ghost use Rattle.routine.specs.Routine.{maxDevices};
@@ -40,7 +41,7 @@ pub fn new_hub(devices: u8, pass_limit: u8, first_id: u32) -> Hub
     ensures { λ r. ⌜ (Valid r) × (view r ≡ newHub devices «pass_limit» «first_id») ⌝ }
 {
     let sequence = keep::empty();
-    Hub {
+    let state = HubState {
         devices,
         pass_limit,
         next_id: first_id as u64,
@@ -48,5 +49,6 @@ pub fn new_hub(devices: u8, pass_limit: u8, first_id: u32) -> Hub
         settled: [0; MAX_DEVICES],
         up: [true; MAX_DEVICES],
         mark: [0; MAX_DEVICES],
-    }
+    };
+    Hub { state }
 }

@@ -1,55 +1,42 @@
-// "After each call, while the first in the sequence is committed": document 01, "Settling".
-use crate::Answer;
+// After a step, its hub settles: document 01, "Settling".
 use crate::Hub;
 use crate::Outcome;
-use sequence::settle;
+use state::Answer;
+use state::HubState;
+use state::StepOutcome;
+use state::settle;
 ghost use mathlib.Core.Path.{_≡_};
-ghost use Rattle.rules.specs.Settle.{settle};
-ghost use Rattle.hub.specs.View.{view};
-ghost use Rattle.hub.specs.Valid.{Valid};
+ghost use Rattle.state.specs.Valid.{StateOk};
 ghost use Rattle.hub.specs.Contract.{SettledStep};
 
-fn settled_hub(hub: Hub) -> Hub
-    requires { ⌜ Valid hub ⌝ }
-    ensures { λ r. ⌜ (Valid r) × (view r ≡ settle (view hub)) ⌝ }
+// The outcome of a call that leaves this state, with the answers of its step.
+fn outcome_with(state: HubState, step: StepOutcome) -> Outcome
+    ensures { λ r. ⌜ (r .hub .state ≡ state) × (r .first ≡ step .first) × (r .answer ≡ step .answer) × (r .backs ≡ step .backs) ⌝ }
 {
-    let sequence = hub.sequence;
-    let settings = hub.settled;
-    let marks = hub.mark;
-    let left = settle::settle_committed(sequence, settings, marks);
-    let rest = left.sequence;
-    let after = left.settings;
-    let moved = left.marks;
-    let mut changed = hub;
-    changed.sequence = rest;
-    changed.settled = after;
-    changed.mark = moved;
-    changed
+    let first = step.first;
+    let answer = step.answer;
+    let backs = step.backs;
+    Outcome {
+        hub: Hub { state },
+        first,
+        answer,
+        backs,
+    }
 }
 
-// The step's hub settles.
-fn with_settled(step: Outcome) -> Outcome
-    requires { ⌜ Valid (step .hub) ⌝ }
-    ensures { λ r. ⌜ (Valid (r .hub)) × (view (r .hub) ≡ settle (view (step .hub))) × (r .first ≡ step .first) × (r .answer ≡ step .answer) × (r .backs ≡ step .backs) ⌝ }
-{
-    let hub = step.hub;
-    let after = settled_hub(hub);
-    let mut outcome = step;
-    outcome.hub = after;
-    outcome
-}
-
-// After a step: a refusal and a wait change nothing.
-pub fn settled(step: Outcome) -> Outcome
-    requires { ⌜ Valid (step .hub) ⌝ }
+// "After each call, while the first in the sequence is committed". A refusal and a wait change nothing.
+pub fn settled(step: StepOutcome) -> Outcome
+    requires { ⌜ StateOk (step .state) ⌝ }
     ensures { λ r. ⌜ SettledStep step r ⌝ }
 {
+    let state = step.state;
     let answer = step.answer;
     let Answer::Refused(_) = answer else {
         let Answer::Wait(_, _) = answer else {
-            return with_settled(step);
+            let after = settle::settled_state(state);
+            return outcome_with(after, step);
         };
-        return step;
+        return outcome_with(state, step);
     };
-    step
+    outcome_with(state, step)
 }

@@ -5,7 +5,7 @@ use hub::Opened;
 use hub::Outcome;
 use routine::Command;
 use routine::Routine;
-ghost use Prim.Native.Nat.{_+_, _<_, _^_};
+ghost use Prim.Native.Nat.{_<_};
 ghost use Rattle.hub.specs.Valid.{Valid};
 
 pub const OPENING_SIZE: usize = 7;
@@ -28,7 +28,7 @@ fn small_at(bytes: &[u8], at: usize) -> u8 {
 }
 
 fn id_at(bytes: &[u8], at: usize) -> u32
-    requires { ⌜ at < 2 ^ 63 ⌝ }
+    requires { ⌜ at < 65536 ⌝ }
 {
     let low = records::number_at(bytes, at);
     let high = records::number_at(bytes, at + 2);
@@ -36,13 +36,13 @@ fn id_at(bytes: &[u8], at: usize) -> u32
 }
 
 fn setting_at(bytes: &[u8], at: usize) -> i16
-    requires { ⌜ at < 2 ^ 63 ⌝ }
+    requires { ⌜ at < 65536 ⌝ }
 {
     layout::setting_of(small_at(bytes, at), small_at(bytes, at + 1))
 }
 
 fn command_at(bytes: &[u8], at: usize) -> Command
-    requires { ⌜ at < 2 ^ 62 ⌝ }
+    requires { ⌜ at < 4096 ⌝ }
 {
     let setting = setting_at(bytes, at + 2);
     Command {
@@ -52,14 +52,12 @@ fn command_at(bytes: &[u8], at: usize) -> Command
     }
 }
 
-fn routine_at(bytes: &[u8], at: usize, count: u8) -> Routine
-    requires { ⌜ at < 2 ^ 61 ⌝ }
-{
+fn routine_of(call: &[u8], count: u8) -> Routine {
     let mut routine = routine::empty();
     let count = count as usize;
     let mut j = 0;
     while j < count {
-        let command = command_at(bytes, at + 4 * j);
+        let command = command_at(call, 2 + 4 * j);
         let longer = routine::with_command(routine, command);
         routine = longer;
         j += 1;
@@ -76,24 +74,24 @@ pub fn opened(bytes: &[u8]) -> Opened
     hub::open(devices, pass_limit, first_id)
 }
 
-pub fn called(hub: Hub, bytes: &[u8], at: usize) -> Outcome
-    requires { ⌜ (Valid hub) × (at < 2 ^ 60) ⌝ }
+pub fn called(hub: Hub, call: &[u8]) -> Outcome
+    requires { ⌜ Valid hub ⌝ }
     ensures { λ r. ⌜ Valid (r .hub) ⌝ }
 {
-    let letter = records::byte_at(bytes, at);
-    let small = small_at(bytes, at + 1);
+    let letter = records::byte_at(call, 0);
+    let small = small_at(call, 1);
     if letter == SUBMIT {
-        let routine = routine_at(bytes, at + 2, small);
+        let routine = routine_of(call, small);
         return hub::submit(hub, routine);
     }
     if letter == FAIL {
         return hub::fail(hub, small);
     }
     if letter == RESTART {
-        let setting = setting_at(bytes, at + 2);
+        let setting = setting_at(call, 2);
         return hub::restart(hub, small, setting);
     }
-    let id = id_at(bytes, at + 2);
+    let id = id_at(call, 2);
     if letter == TURN {
         return hub::turn(hub, id);
     }

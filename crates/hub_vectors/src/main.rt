@@ -21,14 +21,14 @@ fn run_book(book: &[u8]) {
     io::write_all(STDOUT_FILENO, b"\n");
 }
 
-// The calls from a place on, and then the device lines.
+// The calls behind the opening, and then the device lines.
 fn run_calls(opened: hub::Hub, bytes: &[u8])
     requires { ⌜ Valid opened ⌝ }
 {
     let mut now = opened;
     let mut at = calls::OPENING_SIZE;
     while at < bytes.len() {
-        let outcome = calls::called(now, bytes, at);
+        let outcome = calls::called(now, &bytes[at..]);
         print::print_outcome(outcome);
         now = outcome.hub;
         at += calls::CALL_SIZE;

@@ -2,13 +2,13 @@
 use book_print::print_number;
 use book_print::print_refusal;
 use book_print::print_setting;
-use hub::Answer;
-use hub::First;
 use hub::Hub;
 use hub::Outcome;
-use hub::PutBacks;
 use libc::STDOUT_FILENO;
 use routine::MAX_DEVICES;
+use state::Answer;
+use state::First;
+use state::PutBacks;
 ghost use Rattle.hub.specs.Valid.{Valid};
 
 fn print_line_end() {
@@ -61,7 +61,7 @@ fn print_event(device: u8, id: u32) {
     print_line_end();
 }
 
-fn print_placed(placed: hub::Placed) {
+fn print_placed(placed: state::Placed) {
     io::write_all(STDOUT_FILENO, b"placed");
     print_id(placed.id);
     io::write_all(STDOUT_FILENO, b" after");
@@ -69,7 +69,7 @@ fn print_placed(placed: hub::Placed) {
     print_line_end();
 }
 
-fn print_sent(sent: hub::Sent) {
+fn print_sent(sent: state::Sent) {
     io::write_all(STDOUT_FILENO, b"send");
     print_id(sent.id);
     let command = sent.command;

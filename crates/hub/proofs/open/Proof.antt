@@ -1,7 +1,7 @@
 -- `hub::open` meets its contract. Assumes nothing.
 use borrow.Author.Needs.{needs}
 use mathlib.Core.Path.{sym, _∙_}
-use Rattle.hub.proofs.SettleLaws.{open-fits, opens, opens-not}
+use Rattle.hub.proofs.OpenLaws.{open-fits, opens, opens-not}
 use Rattle.hub.proofs.open.Statement.{statement}
 use Rattle.hub.proofs.open.Tie as tie
 

@@ -2,7 +2,7 @@
 use native.Mathlib.Omega.{arith}
 use mathlib.Core.Path.{sym}
 use Rattle.routine.specs.Refusals.{refusalOf}
-use Rattle.hub.proofs.SettleLaws.{open-no-devices, open-many-devices, open-pass-limit, open-first-id, open-fine}
+use Rattle.hub.proofs.OpenLaws.{open-no-devices, open-many-devices, open-pass-limit, open-first-id, open-fine}
 use Rattle.hub.proofs.opening.check.Statement.{statement}
 use Rattle.hub.proofs.opening.check.Tie as tie
 

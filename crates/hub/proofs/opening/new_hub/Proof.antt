@@ -1,7 +1,7 @@
 -- `hub::opening::new_hub` meets its contract. Assumes nothing.
 use borrow.Author.Needs.{needs}
 use native.Mathlib.Omega.{arith}
-use Rattle.hub.proofs.SettleLaws.{fresh-valid, fresh-view}
+use Rattle.hub.proofs.OpenLaws.{fresh-valid, fresh-view}
 use Rattle.hub.proofs.opening.new_hub.Statement.{statement}
 use Rattle.hub.proofs.opening.new_hub.Tie as tie
 

@@ -1,0 +1,112 @@
+-- Laws for the proofs of the opening. Assumes nothing.
+use mathlib.Core.Path.{_≡_, refl, sym, ap, _∙_}
+use mathlib.Core.Bool.{Bool, true, _||_}
+use mathlib.Core.List.{List, []}
+use Prim.Native.Nat.{ℕ, zero, suc, _<_, _≤_}
+use native.Mathlib.Omega.{arith}
+use borrow.Author.Tests.{lt-ltb, le-ltb, ltb-false, eq-eqb, ne-eqb, eqb-false}
+use lib.Dec.{eqb, ltb}
+use lib.IntN.{pos}
+use lib.ListN.{replicate}
+use Rattle.routine.specs.Refusals.{devices-out-of-range, pass-limit-out-of-range, first-id-0, refusalOf, refuse_when_, _andThen_}
+use Rattle.routine.specs.Routine.{maxDevices}
+use Rattle.routine.specs.declared.Refusal.{Refusal}
+use Rattle.routine.specs.declared.Verdict.{Verdict}
+use Rattle.routine.specs.declared.Verdict.the-variants.{Accepted, Refused as TurnedDown}
+use Rattle.routine.proofs.Laws.{both-accept, not-refused, or-false}
+use Rattle.rules.specs.State.{highestPassLimit, highestId}
+use Rattle.rules.specs.Open.{openCheck, newHub, openIf, openOf}
+use Rattle.slot.proofs.DueLaws.{all-same}
+use Rattle.sequence.specs.View.{membersOf}
+use Rattle.sequence.specs.Valid.{SequenceOk}
+use Rattle.sequence.specs.declared.Sequence.{Sequence}
+use Rattle.state.specs.View.{stateOf}
+use Rattle.state.specs.Valid.{StateOk}
+use Rattle.state.specs.declared.HubState.{HubState}
+use Rattle.hub.specs.View.{view}
+use Rattle.hub.specs.Valid.{Valid}
+use Rattle.hub.specs.Contract.{Opens}
+use Rattle.hub.specs.declared.Opened.{Opened}
+
+module _ (n k first : ℕ) where
+  -- one law for each way out of the check
+  pub open-no-devices : n ≡ 0 → openCheck n k first ≡ TurnedDown (refusalOf devices-out-of-range)
+  unfolding openCheck
+  open-no-devices h = simp (eq-eqb n 0 h)
+
+  pub open-many-devices : maxDevices < n → openCheck n k first ≡ TurnedDown (refusalOf devices-out-of-range)
+  unfolding openCheck
+  open-many-devices h = simp (ne-eqb n 0 (λ e. omega arith), lt-ltb maxDevices n h)
+
+  pub open-pass-limit : 0 < n → n ≤ maxDevices → highestPassLimit < k → openCheck n k first ≡ TurnedDown (refusalOf pass-limit-out-of-range)
+  unfolding openCheck
+  open-pass-limit h m p = simp (ne-eqb n 0 (λ e. omega arith), le-ltb maxDevices n m, lt-ltb highestPassLimit k p)
+
+  pub open-first-id : 0 < n → n ≤ maxDevices → k ≤ highestPassLimit → first ≡ 0 → openCheck n k first ≡ TurnedDown (refusalOf first-id-0)
+  unfolding openCheck
+  open-first-id h m p f = simp (ne-eqb n 0 (λ e. omega arith), le-ltb maxDevices n m, le-ltb highestPassLimit k p, eq-eqb first 0 f)
+
+  pub open-fine : 0 < n → n ≤ maxDevices → k ≤ highestPassLimit → 0 < first → openCheck n k first ≡ Accepted
+  unfolding openCheck
+  open-fine h m p f = simp (ne-eqb n 0 (λ e. omega arith), le-ltb maxDevices n m, le-ltb highestPassLimit k p, ne-eqb first 0 (λ e. omega arith))
+
+  -- an accepted opening has these in range
+  pub open-fits : openCheck n k first ≡ Accepted → (n ≤ maxDevices) × (0 < first)
+  unfolding openCheck
+  open-fits e =
+      let devices = refuse devices-out-of-range when (eqb n 0 || ltb maxDevices n) in
+      let limit = refuse pass-limit-out-of-range when ltb highestPassLimit k in
+      let id = refuse first-id-0 when eqb first 0 in
+      let a = both-accept devices (limit andThen id) e in
+      let b = both-accept limit id (a .1) in
+      let m = ltb-false maxDevices n (or-false (eqb n 0) (ltb maxDevices n) (not-refused devices-out-of-range _ (a .0)) .1) in
+      let f = eqb-false first 0 (not-refused first-id-0 _ (b .1)) in
+      (m, positive first f)
+    where
+      positive : (m : ℕ) → (m ≡ 0 → ⊥) → 0 < m
+      positive zero f = absurd (f refl)
+      positive (suc m) f = omega arith
+
+  -- the state of the hub that is made
+  abbrev pub freshState : Sequence → HubState
+  freshState q = record {
+    devices = n;
+    «pass_limit» = k;
+    «next_id» = first;
+    sequence = q;
+    settled = replicate maxDevices (pos 0);
+    up = replicate maxDevices true;
+    mark = replicate maxDevices 0;
+  }
+
+  pub fresh-valid : (q : Sequence) → n ≤ maxDevices → 0 < first → first ≤ suc highestId → SequenceOk q → StateOk (freshState q)
+  fresh-valid q m f g ok = record { devices-fit = m; some-id = f; ids-fit = g; sequence-ok = ok }
+
+  pub fresh-view : (q : Sequence) → membersOf q ≡ [] → stateOf (freshState q) ≡ newHub n k first
+  unfolding stateOf newHub
+  fresh-view q e = λ i. record {
+    devices = n;
+    passLimit = k;
+    nextId = first;
+    sequence = e i;
+    settled = λ d. all-same maxDevices (pos 0) d i;
+    up = λ d. all-same maxDevices true d i;
+    mark = λ d. all-same maxDevices 0 d i;
+  }
+
+  -- what is answered
+  pub opens : (o : Opened) → o .verdict ≡ openCheck n k first → o .verdict ≡ Accepted → Valid (o .hub) → view (o .hub) ≡ newHub n k first → Opens n k first o
+  unfolding openOf
+  opens o c e v w = record {
+    valid = v;
+    gives = λ i. openIf (c i) (w i);
+    no-hub = λ r t. let z : _≡_ {A = ℕ} 0 1 = cc in absurd (omega arith);
+  }
+
+  pub opens-not : (o : Opened) (r : Refusal) → o .verdict ≡ openCheck n k first → o .verdict ≡ TurnedDown r → Valid (o .hub) → view (o .hub) ≡ newHub 1 0 1 → Opens n k first o
+  unfolding openOf
+  opens-not o r c e v w = record {
+    valid = v;
+    gives = ap (λ (d : Verdict). openIf d (view (o .hub))) e ∙ sym (ap (λ (d : Verdict). openIf d (newHub n k first)) (sym c ∙ e));
+    no-hub = λ s t. w;
+  }
