@@ -22,8 +22,7 @@ use Rattle.rules.proofs.Lists.{t≠f}
 use Rattle.slot.specs.View.{restartsOf, memberOf}
 use Rattle.slot.specs.declared.Restart.{Restart}
 use Rattle.slot.specs.declared.Slot.{Slot}
-use Rattle.slot.proofs.DueLaws.{set-put}
-use Rattle.slot.proofs.Laws.{fun-ext}
+use Rattle.slot.proofs.Laws.{set-put, fun-ext}
 use Rattle.sequence.specs.View.{membersOf, there, foundAt}
 use Rattle.sequence.specs.declared.Place.{Place}
 use Rattle.sequence.specs.declared.Place.the-variants.{At, Nowhere}

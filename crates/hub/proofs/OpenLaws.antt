@@ -16,7 +16,7 @@ use Rattle.routine.specs.declared.Verdict.the-variants.{Accepted, Refused as Tu
 use Rattle.routine.proofs.Laws.{both-accept, not-refused, or-false}
 use Rattle.rules.specs.State.{highestPassLimit, highestId}
 use Rattle.rules.specs.Open.{openCheck, newHub, openIf, openOf}
-use Rattle.slot.proofs.DueLaws.{all-same}
+use Rattle.slot.proofs.Laws.{all-same}
 use Rattle.sequence.specs.View.{membersOf}
 use Rattle.sequence.specs.Valid.{SequenceOk}
 use Rattle.sequence.specs.declared.Sequence.{Sequence}

@@ -4,12 +4,11 @@ use mathlib.Core.Bool.{Bool, true, false, not, _&&_, and-false, Bool·not-not}
 use mathlib.Core.List.{List, [], _∷_, _++_, map}
 use mathlib.Core.Option.{none, some}
 use Prim.Native.Nat.{ℕ, zero, suc, _+_, _-_, _<_, _≤_}
-use native.Mathlib.Numerals.{add-one}
 use native.Mathlib.Omega.{arith}
 use borrow.Author.Tests.{eq-eqb, ne-eqb, not-true, not-false}
 use lib.Dec.{eqb}
 use lib.ListN.{length, take, drop, getD, length-map, List·getD-map}
-use lib.Seq.{take-all, take-add, slice, slice-cons, slice-empty}
+use lib.Seq.{take-all, take-add}
 use mir.Val.{Val}
 use base.Fml.{Fml}
 use denote.Array.{each}
@@ -20,21 +19,21 @@ use Rattle.routine.proofs.Laws.{byTest}
 use Rattle.rules.specs.Tables.{anyOf}
 use Rattle.rules.specs.State.{maxHeld, Member}
 use Rattle.rules.specs.Sequence.{find, isRunning, runs}
-use Rattle.rules.specs.Progress.{isOn, isAnswered, begun, finished}
+use Rattle.rules.specs.Progress.{begun, finished}
 use Rattle.rules.specs.Turn.{holds, firstHolding}
 use Rattle.rules.specs.Events.{isHalfway}
 use Rattle.rules.proofs.Lists.{byIf, or-left, or-right, anyOf-++}
-use Rattle.slot.specs.View.{statusOf, stepIn, memberOf}
+use Rattle.slot.specs.View.{stepsOf, memberOf}
 use Rattle.slot.specs.Valid.{SlotOk}
-use Rattle.slot.specs.declared.SlotStep.{SlotStep}
 use Rattle.slot.specs.declared.Slot.{Slot}
 use Rattle.slot.proofs.Slot.{the-field}
+use Rattle.slot.proofs.Laws.{rest, unanswered}
 use Rattle.sequence.specs.View.{zeroSlot, membersOf, there, upTo, foundAt}
 use Rattle.sequence.specs.Valid.{SequenceOk, PlaceOk, Stands, Gap}
 use Rattle.sequence.specs.Tests.{hasId, searched}
 use Rattle.sequence.specs.declared.Sequence.{Sequence}
 use Rattle.sequence.specs.declared.Place.the-variants.{At, Nowhere}
-use Rattle.sequence.proofs.Laws.{length-membersOf, members-from, there-it, there-whole, there-ahead}
+use Rattle.sequence.proofs.Laws.{length-membersOf, members-from, members-to, there-it, there-whole, there-ahead}
 
 -- ---- the first of a list that passes a test
 
@@ -46,10 +45,6 @@ find-split : (p : Member → Bool) (a : List Member) (m : Member) (b : List Memb
     → find p (a ++ (m ∷ b)) ≡ some (record { ahead = a; it = m; behind = b })
 find-split p [] m b e h = rw h
 find-split p (x ∷ a) m b e h = rw (or-left (p x) (anyOf p a) e, find-split p a m b (or-right (p x) (anyOf p a) e) h)
-
--- one more of a list
-take-more : (l : List Member) (i : ℕ) (m : Member) (r : List Member) → drop i l ≡ m ∷ r → take (i + 1) l ≡ take i l ++ (m ∷ [])
-take-more l i m r e = take-add i 1 l ∙ ap (λ (x : List Member). take i l ++ take 1 x) e
 
 -- ---- a search in which none of the first i of the sequence has passed the test
 
@@ -67,7 +62,7 @@ module _ (p : Member → Bool) (q : Sequence) (l : length (q .slots) ≡ maxHeld
 
   pub find-on : i < q .len → anyOf p (upTo q i) ≡ false → p (memberOf (getD (q .slots) i zeroSlot)) ≡ false → anyOf p (upTo q (i + 1)) ≡ false
   unfolding upTo
-  find-on h e t = rw (take-more (membersOf q) i _ _ (members-from q l ok i h), anyOf-++ p (take i (membersOf q)) (memberOf (getD (q .slots) i zeroSlot) ∷ []), e, t)
+  find-on h e t = rw (members-to q l ok i h, anyOf-++ p (take i (membersOf q)) (memberOf (getD (q .slots) i zeroSlot) ∷ []), e, t)
 
   pub find-end : q .len ≤ i → anyOf p (upTo q i) ≡ false → PlaceOk q Nowhere × (foundAt q Nowhere ≡ find p (membersOf q))
   unfolding upTo
@@ -116,30 +111,13 @@ module _ (d : ℕ) (m : Member) where
 
 -- ---- the wait search
 
--- one of these steps is on the device and not answered
-abbrev pub heldIn : ℕ → List SlotStep → Bool
-heldIn d l = anyOf (λ x. isOn d x && not (isAnswered (x .status))) (map stepIn l)
-
 -- the steps that the search goes through
-pub held-start : (d : ℕ) (s : Slot) → heldIn d (slice 0 (searched s) (s .steps)) ≡ holds d (memberOf s)
+pub held-start : (d : ℕ) (s : Slot) → anyOf (unanswered d) (rest 0 (searched s) (s .steps)) ≡ holds d (memberOf s)
 unfolding holds finished isRunning memberOf
-held-start d s = byTest (λ (t : Bool). heldIn d (slice 0 (if t then 0 else s .count) (s .steps)) ≡ (not t && not (not (heldIn d (take (s .count) (s .steps)))))) (s .committed)
+held-start d s =
+    byTest (λ (t : Bool). anyOf (unanswered d) (rest 0 (if t then 0 else s .count) (s .steps)) ≡ (not t && not (not (anyOf (unanswered d) (stepsOf s))))) (s .committed)
     (λ _. refl)
-    (λ _. sym (Bool·not-not (heldIn d (take (s .count) (s .steps)))))
-
--- what is left of them from the j-th
-module _ (d : ℕ) (l : List SlotStep) (j n : ℕ) (z : SlotStep) (h : j < n) (k : n ≤ length l) where
-  pub held-hit : getD l j z .command .device ≡ d → not (isAnswered (statusOf (getD l j z .stage))) ≡ true → heldIn d (slice j n l) ≡ true
-  held-hit e t = rw (slice-cons j n l z h k, eq-eqb (getD l j z .command .device) d e, t)
-
-  pub held-answered : not (isAnswered (statusOf (getD l j z .stage))) ≡ false → heldIn d (slice (j + 1) n l) ≡ heldIn d (slice j n l)
-  held-answered t = rw (add-one j, slice-cons j n l z h k, t, and-false (eqb (getD l j z .command .device) d))
-
-  pub held-other : (getD l j z .command .device ≡ d → ⊥) → heldIn d (slice (j + 1) n l) ≡ heldIn d (slice j n l)
-  held-other e = rw (add-one j, slice-cons j n l z h k, ne-eqb (getD l j z .command .device) d e)
-
-pub held-end : (d : ℕ) (l : List SlotStep) (j n : ℕ) → j ≤ n → n ≤ j → heldIn d (slice j n l) ≡ false
-held-end d l j n h k = let e : j ≡ n = omega arith in rw (e, slice-empty n l)
+    (λ _. sym (Bool·not-not (anyOf (unanswered d) (stepsOf s))))
 
 -- none of a list holds the device, or one is the first that does
 holding-none : (d : ℕ) (l : List Member) → anyOf (holds d) l ≡ false → firstHolding d l ≡ none

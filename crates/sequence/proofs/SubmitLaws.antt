@@ -1,13 +1,13 @@
 -- Laws for the proofs of `submit`. Assumes nothing.
 use mathlib.Core.Path.{_≡_, refl, sym, ap, _∙_, subst}
-use mathlib.Core.Bool.{Bool, true, false, _||_}
+use mathlib.Core.Bool.{Bool, true, false, or-true, or-false}
 use mathlib.Core.List.{List, [], _∷_, _++_, map, append-nil}
-use Prim.Native.Nat.{ℕ, zero, suc, _+_, _<_, _≤_}
+use Prim.Native.Nat.{ℕ, suc, _+_, _<_, _≤_}
 use native.Mathlib.Numerals.{add-one}
 use native.Mathlib.Omega.{arith}
 use lib.Dec.{leb, eqb}
-use lib.ListN.{length, take, drop, getD, set, length-append, length-map, take-append-drop, drop-of-length-le, List·getD-map}
-use lib.Seq.{take-all, take-suc, getD-take, drop-append-le, take-append-le, append-snoc, take-suc-set, drop-set-lt, take-set-lt, take-at, drop-at, length-take-le}
+use lib.ListN.{length, take, drop, getD, length-append, length-map, take-append-drop, drop-of-length-le}
+use lib.Seq.{take-all, drop-append-le, take-append-le, append-snoc, take-at, drop-at}
 use Rattle.routine.specs.Choice.{if_then_else_}
 use Rattle.routine.specs.declared.Command.{Command}
 use Rattle.routine.proofs.Laws.{byTest}
@@ -15,15 +15,15 @@ use Rattle.rules.specs.Tables.{anyOf}
 use Rattle.rules.specs.State.{maxHeld, Member}
 use Rattle.rules.specs.Sequence.{isRunning}
 use Rattle.rules.specs.Submit.{upToLast, pastLast, pass}
-use Rattle.rules.proofs.Lists.{Each}
+use Rattle.rules.proofs.Lists.{anyOf-++}
 use Rattle.slot.specs.View.{memberOf}
 use Rattle.slot.specs.Valid.{SlotOk}
 use Rattle.slot.specs.declared.Slot.{Slot}
-use Rattle.sequence.specs.View.{zeroSlot, slotsOf, membersOf, upTo, past}
+use Rattle.sequence.specs.View.{zeroSlot, membersOf, upTo, past}
 use Rattle.sequence.specs.Valid.{SequenceOk, Gap, CanPass, RoomToPass}
 use Rattle.sequence.specs.Tests.{blocksBy}
 use Rattle.sequence.specs.declared.Sequence.{Sequence}
-use Rattle.sequence.proofs.Laws.{length-membersOf, members-from, members-end}
+use Rattle.sequence.proofs.Laws.{length-membersOf, members-from, members-end, members-to, length-to, withSlot, slot-replaced}
 
 -- ---- must a newcomer follow a routine, by the tests
 
@@ -53,16 +53,10 @@ LastAt p l a = (take a l ≡ upToLast p l) × (drop a l ≡ pastLast p l)
 module _ (p : Member → Bool) (x : Member) where
   -- one more at the end: does any pass the test
   any-hit : (l : List Member) → p x ≡ true → anyOf p (l ++ (x ∷ [])) ≡ true
-  any-hit [] e = rw e
-  any-hit (y ∷ l) e = or-true (p y) (anyOf p (l ++ (x ∷ []))) (any-hit l e)
-    where
-      or-true : (s t : Bool) → t ≡ true → s || t ≡ true
-      or-true true t h = refl
-      or-true false t h = h
+  any-hit l e = rw (anyOf-++ p l (x ∷ []), e) (or-true (anyOf p l))
 
   any-miss : (l : List Member) → p x ≡ false → anyOf p (l ++ (x ∷ [])) ≡ anyOf p l
-  any-miss [] e = rw e
-  any-miss (y ∷ l) e = ap (λ t. p y || t) (any-miss l e)
+  any-miss l e = rw (anyOf-++ p l (x ∷ []), e) (or-false (anyOf p l))
 
   -- the parts up to the last and behind it, if the one more passes
   upTo-hit : (l : List Member) → p x ≡ true → upToLast p (l ++ (x ∷ [])) ≡ l ++ (x ∷ [])
@@ -95,62 +89,21 @@ module _ (p : Member → Bool) (x : Member) where
 -- The walk over the sequence: the last of the first i routines.
 module _ (p : Member → Bool) (q : Sequence) (l : length (q .slots) ≡ maxHeld) (ok : SequenceOk q) where
   module _ (i : ℕ) (h : i < q .len) where
-    -- the first i + 1, and how many the first i are
-    take-more : take (i + 1) (membersOf q) ≡ take i (membersOf q) ++ (memberOf (getD (q .slots) i zeroSlot) ∷ [])
-    unfolding membersOf
-    take-more =
-        let n = length-membersOf q l ok in
-        rw (add-one i) (take-suc (membersOf q) i (memberOf zeroSlot) (omega arith)
-        ∙ ap (λ (y : Member). take i (membersOf q) ++ (y ∷ [])) (List·getD-map memberOf (slotsOf q) i zeroSlot ∙ ap memberOf (getD-take (q .len) (q .slots) i zeroSlot h)))
-
-    long : length (take i (membersOf q)) ≡ i
-    long = let n = length-membersOf q l ok in length-take-le i (membersOf q) (omega arith)
-
     -- the newcomer must follow the routine at i, or need not
     pub latest-here : p (memberOf (getD (q .slots) i zeroSlot)) ≡ true → LastAt p (take (i + 1) (membersOf q)) (i + 1)
     latest-here e =
         let x : Member = memberOf (getD (q .slots) i zeroSlot) in
-        let n = long in
-        rw take-more (last-hit p x (take i (membersOf q)) (i + 1) (omega (arith, length-append (take i (membersOf q)) (x ∷ []))) e)
+        let n = length-to q l ok i (omega arith) in
+        rw (members-to q l ok i h) (last-hit p x (take i (membersOf q)) (i + 1) (omega (arith, length-append (take i (membersOf q)) (x ∷ []))) e)
 
     pub latest-ahead : (a : ℕ) → a ≤ i → p (memberOf (getD (q .slots) i zeroSlot)) ≡ false → LastAt p (take i (membersOf q)) a → LastAt p (take (i + 1) (membersOf q)) a
     latest-ahead a k e t =
-        let n = long in
-        rw take-more (last-miss p (memberOf (getD (q .slots) i zeroSlot)) (take i (membersOf q)) a (omega arith) e t)
+        let n = length-to q l ok i (omega arith) in
+        rw (members-to q l ok i h) (last-miss p (memberOf (getD (q .slots) i zeroSlot)) (take i (membersOf q)) a (omega arith) e t)
 
   -- all were looked at
   pub latest-end : (i a : ℕ) → q .len ≤ i → LastAt p (take i (membersOf q)) a → LastAt p (membersOf q) a
   latest-end i a h t = let n = length-membersOf q l ok in subst (λ (m : List Member). LastAt p m a) (take-all i (membersOf q) (omega arith)) t
-
--- ---- one slot of the sequence replaced
-
--- what holds of each still does
-each-set : {A : Type 0} (P : A → Type 0) (l : List A) (i : ℕ) (x : A) → P x → Each P l → Each P (set l i x)
-each-set P [] i x h k = tt
-each-set P (y ∷ l) zero x h k = (h, k .1)
-each-set P (y ∷ l) (suc i) x h k = (k .0, each-set P l i x h (k .1))
-
--- a store under `map`
-map-set : {A B : Type 0} (f : A → B) (l : List A) (i : ℕ) (x : A) → map f (set l i x) ≡ set (map f l) i (f x)
-map-set f [] i x = refl
-map-set f (y ∷ l) zero x = refl
-map-set f (y ∷ l) (suc i) x = ap (λ r. f y ∷ r) (map-set f l i x)
-
--- The sequence with this slot at a place.
-abbrev withSlot : Sequence → ℕ → Slot → Sequence
-withSlot q i s = record { slots = set (q .slots) i s; len = q .len }
-
-module _ (q : Sequence) (i : ℕ) (s : Slot) (h : i < q .len) where
-  -- its slots, that it is valid, and its members
-  slots-set : slotsOf (withSlot q i s) ≡ set (slotsOf q) i s
-  slots-set = take-set-lt (q .len) (q .slots) i s h
-
-  pub set-ok : SequenceOk q → SlotOk s → SequenceOk (withSlot q i s)
-  set-ok ok k = record { fits = ok .fits; slots-ok = subst (Each SlotOk) (sym slots-set) (each-set SlotOk (slotsOf q) i s k (ok .slots-ok)) }
-
-  members-set : membersOf (withSlot q i s) ≡ set (membersOf q) i (memberOf s)
-  unfolding membersOf
-  members-set = ap (map memberOf) slots-set ∙ map-set memberOf (slotsOf q) i s
 
 -- ---- those behind a newcomer, passed in turn
 
@@ -165,15 +118,16 @@ module _ (q : Sequence) (l : length (q .slots) ≡ maxHeld) (ok : SequenceOk q) 
   pass-here h k = subst RoomToPass (members-from q l ok i h) k .0
 
   -- it was passed: those past the next place are left
-  module _ (h : i < q .len) (s : Slot) (e : memberOf s ≡ pass (memberOf (getD (q .slots) i zeroSlot))) where
+  module _ (h : i < q .len) (s : Slot) (o : SlotOk s) (e : memberOf s ≡ pass (memberOf (getD (q .slots) i zeroSlot))) where
     -- the members up to the next place, and those past it
-    front-set : take (i + 1) (membersOf (withSlot q i s)) ≡ take i (membersOf q) ++ (memberOf s ∷ [])
-    front-set =
-        let n = length-membersOf q l ok in
-        ap (take (i + 1)) (members-set q i s h) ∙ rw (add-one i) (take-suc-set (membersOf q) i (memberOf s) (omega arith))
+    parts : membersOf (withSlot q i s) ≡ (take i (membersOf q) ++ (memberOf s ∷ [])) ++ drop (i + 1) (membersOf q)
+    parts = rw (add-one i) (slot-replaced q l ok i s h o .1 ∙ sym (append-snoc (take i (membersOf q)) (memberOf s) (drop (suc i) (membersOf q))))
+
+    long : length (take i (membersOf q) ++ (memberOf s ∷ [])) ≡ i + 1
+    long = let n = length-to q l ok i (omega arith) in omega (arith, n, length-append (take i (membersOf q)) (memberOf s ∷ []))
 
     rest-set : drop (i + 1) (membersOf (withSlot q i s)) ≡ drop (i + 1) (membersOf q)
-    rest-set = ap (drop (i + 1)) (members-set q i s h) ∙ drop-set-lt (i + 1) (membersOf q) i (memberOf s) (omega arith)
+    rest-set = ap (drop (i + 1)) parts ∙ drop-at (take i (membersOf q) ++ (memberOf s ∷ [])) (drop (i + 1) (membersOf q)) (i + 1) long
 
     pub pass-room : RoomToPass (past q i) → RoomToPass (past (withSlot q i s) (i + 1))
     unfolding past
@@ -182,7 +136,7 @@ module _ (q : Sequence) (l : length (q .slots) ≡ maxHeld) (ok : SequenceOk q) 
     pub pass-more : passedFrom (withSlot q i s) (i + 1) ≡ passedFrom q i
     unfolding upTo past
     pass-more =
-        rw (front-set, rest-set, e, members-from q l ok i h)
+        rw (rest-set, parts, take-at (take i (membersOf q) ++ (memberOf s ∷ [])) (drop (i + 1) (membersOf q)) (i + 1) long, e, members-from q l ok i h)
         (append-snoc (take i (membersOf q)) (pass (memberOf (getD (q .slots) i zeroSlot))) (map pass (drop (i + 1) (membersOf q))))
 
   -- none is left
@@ -208,7 +162,7 @@ module _ (q r : Sequence) (at : ℕ) (e : membersOf r ≡ passedFrom q at) where
   module _ (l : length (q .slots) ≡ maxHeld) (ok : SequenceOk q) (g : Gap q at) where
     long-upTo : length (upTo q at) ≡ at
     unfolding upTo Gap
-    long-upTo = let n = length-membersOf q l ok in length-take-le at (membersOf q) (omega arith)
+    long-upTo = length-to q l ok at g
 
     -- those up to the place, those past it, and that it is still a place
     pub passed-upTo : upTo r at ≡ upTo q at

@@ -1,25 +1,24 @@
 -- Laws for the proofs of `walk` and `settle`. Assumes nothing.
 use mathlib.Core.Path.{_≡_, refl, sym, ap, _∙_}
-use mathlib.Core.Bool.{Bool, true, false, _||_, or-assoc}
-use mathlib.Core.List.{List, [], _∷_, _++_, map}
+use mathlib.Core.Bool.{Bool, true, false}
+use mathlib.Core.List.{List, [], _∷_, _++_, map, append-nil}
 use mathlib.Core.Option.{Option, none, some}
-use Prim.Native.Nat.{ℕ, zero, suc, _+_, _<_, _≤_}
+use Prim.Native.Nat.{ℕ, suc, _+_, _<_, _≤_}
 use native.Mathlib.Numerals.{add-one}
 use native.Mathlib.Omega.{arith}
 use borrow.Author.Tests.{ne-eqb}
 use lib.Dec.{eqb}
 use lib.IntN.{ℤ}
-use lib.ListN.{length, take, drop, getD, set, replicate, List·getD-map}
+use lib.ListN.{length, take, drop, getD, set, drop-of-length-le, List·getD-map}
+use lib.Seq.{take-all, drop-cons, append-snoc, take-suc-set, drop-set-lt}
 use Rattle.routine.specs.Choice.{if_then_else_}
 use Rattle.routine.proofs.Laws.{byTest}
 use Rattle.rules.specs.State.{maxHeld, Member, State}
-use Rattle.rules.specs.Tables.{anyOf}
-use Rattle.rules.specs.Progress.{inFlightOn}
 use Rattle.rules.specs.Due.{afterMember, afterMembers}
 use Rattle.rules.specs.Attach.{attachTo, attachAt}
 use Rattle.rules.specs.Sequence.{Found, find, onto, withSequence, withSettled, withMark, moveMarks}
 use Rattle.rules.specs.Settle.{joinSettled, settleFrom}
-use Rattle.slot.specs.View.{settingsOf, marksOf, flagsOf, memberOf}
+use Rattle.slot.specs.View.{settingsOf, marksOf, memberOf}
 use Rattle.slot.proofs.Laws.{fun-ext}
 use Rattle.sequence.specs.View.{zeroSlot, membersOf, past, held}
 use Rattle.sequence.specs.Valid.{SequenceOk}
@@ -42,13 +41,6 @@ module _ (q : Sequence) (l : length (q .slots) ≡ maxHeld) (ok : SequenceOk q) 
 
   pub due-end : (d : ℕ) (v : ℤ) → q .len ≤ i → afterMembers d (drop i (membersOf q)) v ≡ v
   due-end d v h = ap (λ (k : List Member). afterMembers d k v) (members-end q l ok i h)
-
-  -- whether a device has a command in flight
-  pub flights-more : (d : ℕ) (t : Bool) → i < q .len → t || anyOf (inFlightOn d) (drop i (membersOf q)) ≡ (t || inFlightOn d (memberOf (getD (q .slots) i zeroSlot))) || anyOf (inFlightOn d) (drop (i + 1) (membersOf q))
-  flights-more d t h = ap (λ (k : List Member). t || anyOf (inFlightOn d) k) (members-from q l ok i h) ∙ sym (or-assoc t (inFlightOn d (memberOf (getD (q .slots) i zeroSlot))) (anyOf (inFlightOn d) (drop (i + 1) (membersOf q))))
-
-  pub flights-end : (d : ℕ) (t : Bool) → q .len ≤ i → t || anyOf (inFlightOn d) (drop i (membersOf q)) ≡ t
-  flights-end d t h = ap (λ (k : List Member). t || anyOf (inFlightOn d) k) (members-end q l ok i h) ∙ byTest (λ t. t || false ≡ t) t (λ _. refl) (λ _. refl)
 
   -- settling: a committed routine joins the settled part, a running one ends it
   settle-at : (b : State) (t : Bool) → i < q .len → getD (q .slots) i zeroSlot .committed ≡ t →
@@ -84,13 +76,7 @@ module _ (q : Sequence) (l : length (q .slots) ≡ maxHeld) (ok : SequenceOk q) 
       ap (λ (r : List Member). settleFrom (held s settings marks (membersOf q)) r) (members-end q l ok i h)
       ∙ ap (λ (r : List Member). held s settings marks r) (sym (members-end q l ok i h))
 
--- ---- flags and marks
-
--- no flag is set at the start
-pub no-flag : (n d : ℕ) → flagsOf (replicate n false) d ≡ false
-no-flag zero d = refl
-no-flag (suc n) zero = refl
-no-flag (suc n) (suc d) = no-flag n d
+-- ---- marks
 
 -- a mark moved
 abbrev pub remark : ℕ → ℕ → ℕ → ℕ
@@ -101,19 +87,15 @@ abbrev pub remarked : ℕ → ℕ → ℕ → List ℕ → List ℕ
 remarked from to d l = take d l ++ map (remark from to) (drop d l)
 
 module _ (from to : ℕ) where
-  remark-suc : (d : ℕ) (l : List ℕ) → d < length l → remarked from to (suc d) (set l d (remark from to (getD l d 0))) ≡ remarked from to d l
-  remark-suc d [] h = absurd (omega (arith, h))
-  remark-suc zero (x ∷ l) h = refl
-  remark-suc (suc d) (x ∷ l) h = ap (λ (k : List ℕ). x ∷ k) (remark-suc d l (omega arith))
-
+  -- the mark of d is moved
   pub remark-more : (d : ℕ) (l : List ℕ) → d < length l → remarked from to (d + 1) (set l d (remark from to (getD l d 0))) ≡ remarked from to d l
-  remark-more d l h = rw (add-one d) (remark-suc d l h)
+  remark-more d l h =
+      let x = remark from to (getD l d 0) in
+      rw (add-one d, take-suc-set l d x h, drop-set-lt (suc d) l d x (omega arith), drop-cons l d 0 h) (append-snoc (take d l) x (map (remark from to) (drop (suc d) l)))
 
+  -- none is left
   pub remark-end : (d : ℕ) (l : List ℕ) → length l ≤ d → remarked from to d l ≡ l
-  remark-end zero [] h = refl
-  remark-end zero (x ∷ l) h = absurd (omega (arith, h))
-  remark-end (suc d) [] h = refl
-  remark-end (suc d) (x ∷ l) h = ap (λ (k : List ℕ). x ∷ k) (remark-end d l (omega arith))
+  remark-end d l h = rw (take-all d l h, drop-of-length-le l {i = d} h) (append-nil l)
 
   -- all marks moved, as a table
   pub marks-moved : (l : List ℕ) → 0 < from → marksOf (map (remark from to) l) ≡ moveMarks from to (marksOf l)

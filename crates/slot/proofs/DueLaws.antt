@@ -1,30 +1,26 @@
 -- Laws for the proofs of `due` and `attach`. Assumes nothing.
 use mathlib.Core.Path.{_≡_, refl, sym, ap, _∙_}
 use mathlib.Core.Logic.{_≢_}
-use mathlib.Core.Bool.{Bool, true, false, _&&_, _||_, or-assoc, or-true, or-false, and-true, and-false}
-use mathlib.Core.List.{List, [], _∷_, map}
+use mathlib.Core.Bool.{Bool, true, false, _&&_, _||_, or-true, or-false}
+use mathlib.Core.List.{List, _∷_}
 use mathlib.Core.Option.{none, some}
-use Prim.Native.Nat.{ℕ, zero, suc, _+_, _<_, _≤_}
-use native.Mathlib.Numerals.{add-one}
+use Prim.Native.Nat.{ℕ, _+_, _≤_}
 use native.Mathlib.Omega.{arith}
-use borrow.Author.Tests.{eqb-true, eqb-false, eq-eqb, ne-eqb, ltb-true, ltb-false, lt-ltb, le-ltb}
+use borrow.Author.Tests.{eq-eqb, ne-eqb, ltb-true, ltb-false, lt-ltb, le-ltb}
 use mir.Val.{toZ, ofZ}
 use mir.Syntax.{w16}
 use lib.Dec.{eqb, ltb}
 use lib.IntN.{ℤ, pos, negsuc}
-use lib.ListN.{length, getD, set, replicate, List·getD-eq-default}
-use lib.Seq.{slice, slice-cons, slice-empty, getD-set-same, getD-set-other}
+use lib.ListN.{length, set, List·getD-eq-default}
 use Rattle.routine.specs.Choice.{if_then_else_}
-use Rattle.routine.specs.Routine.{zeroCommand}
-use Rattle.rules.specs.Tables.{anyOf, put, sameSetting}
+use Rattle.rules.specs.Tables.{put, sameSetting}
 use Rattle.rules.specs.State.{Step}
 use Rattle.rules.specs.Progress.{isOn, isDone, isInFlight}
 use Rattle.rules.specs.Due.{afterSteps}
-use Rattle.rules.proofs.Lists.{byIf, t≠f, eqb-sym, this-or-other, same-setting, put-same, put-other}
-use Rattle.slot.specs.View.{noRestart, restartOf, restartsOf, stepIn}
+use Rattle.rules.proofs.Lists.{byIf, t≠f, this-or-other, same-setting, put-same, put-other}
+use Rattle.slot.specs.View.{noRestart, restartOf, restartsOf}
 use Rattle.slot.specs.declared.Restart.{Restart}
-use Rattle.slot.specs.declared.Stage.the-variants.{ToDo}
-use Rattle.slot.specs.declared.SlotStep.{SlotStep}
+use Rattle.slot.proofs.Laws.{on-this, on-other, on-true, on-false}
 
 -- ---- settings
 
@@ -41,21 +37,7 @@ same-bits u v p q = go (sameSetting u v) refl
     go true e = eq-eqb (ofZ w16 u) (ofZ w16 v) (ap (ofZ w16) (same-setting u v e))
     go false e = ne-eqb (ofZ w16 u) (ofZ w16 v) (λ b. let s : u ≡ v = sym p ∙ ap (toZ w16) b ∙ q in t≠f (sym (same-self u) ∙ ap (sameSetting u) s ∙ e))
 
--- ---- arrays as tables
-
--- a store in an array is a change of the table that it is read as
-pub set-put {ℓ κ} : {A : Type ℓ} {B : Type κ} (f : A → B) (l : List A) (i : ℕ) (v z : A) → i < length l → (d : ℕ) → f (getD (set l i v) d z) ≡ put (λ e. f (getD l e z)) i (f v) d
-set-put f l i v z h d = go (eqb d i) refl
-  where
-    go : (t : Bool) → eqb d i ≡ t → f (getD (set l i v) d z) ≡ (if t then f v else f (getD l d z))
-    go true e = ap (λ (k : ℕ). f (getD (set l i v) k z)) (eqb-true d i e) ∙ ap f (getD-set-same l i v z h)
-    go false e = ap f (getD-set-other l i d v z (eqb-false d i e))
-
--- an array of equal entries, read past its end as one of them
-pub all-same {ℓ} : {A : Type ℓ} (n : ℕ) (v : A) (d : ℕ) → getD (replicate n v) d v ≡ v
-all-same zero v d = refl
-all-same (suc n) v zero = refl
-all-same (suc n) v (suc d) = all-same n v d
+-- ---- a table that is made new entry by entry
 
 -- a table of which the entries below i are new
 abbrev pub newBelow {ℓ} : {A : Type ℓ} → ℕ → (ℕ → A) → (ℕ → A) → ℕ → A
@@ -106,63 +88,35 @@ restart-unset r e = ap (λ (t : Bool). if t then some (r .setting) else none) e
 pub restart-past : (l : List Restart) (d : ℕ) → length l ≤ d → restartsOf l d ≡ none
 restart-past l d h = ap restartOf (List·getD-eq-default l noRestart h)
 
--- ---- the steps of a routine: what is left from index j
+-- ---- one step
 
--- what the code reads past the end of an array of steps
-abbrev pub zeroStep : SlotStep
-zeroStep = record { command = zeroCommand; stage = ToDo }
-
--- what a device is due after one step
+-- what a device is due after it
 abbrev pub afterStep : ℕ → Step → ℤ → ℤ
 afterStep d x v = if isOn d x && isDone (x .status) then x .command .setting else v
 
-module _ (ss : List SlotStep) (j n : ℕ) (z : SlotStep) (h : j < n) (k : n ≤ length ss) where
-  -- the step at j, then the rest
-  rest-cons : map stepIn (slice j n ss) ≡ stepIn (getD ss j z) ∷ map stepIn (slice (j + 1) n ss)
-  rest-cons = rw (add-one j, slice-cons j n ss z h k)
-
-  -- what a device is due after one step more
-  pub after-more : (d : ℕ) (v w : ℤ) → w ≡ afterStep d (stepIn (getD ss j z)) v → afterSteps d (map stepIn (slice (j + 1) n ss)) w ≡ afterSteps d (map stepIn (slice j n ss)) v
-  after-more d v w e = ap (afterSteps d (map stepIn (slice (j + 1) n ss))) e ∙ sym (ap (λ (l : List Step). afterSteps d l v) rest-cons)
-
-  -- a test of one step more
-  pub any-more : (p : Step → Bool) (a b : Bool) → b ≡ (a || p (stepIn (getD ss j z))) → b || anyOf p (map stepIn (slice (j + 1) n ss)) ≡ a || anyOf p (map stepIn (slice j n ss))
-  any-more p a b e = ap (λ (t : Bool). t || anyOf p (map stepIn (slice (j + 1) n ss))) e
-      ∙ or-assoc a (p (stepIn (getD ss j z))) (anyOf p (map stepIn (slice (j + 1) n ss)))
-      ∙ sym (ap (λ (l : List Step). a || anyOf p l) rest-cons)
-
--- at the end no step is left
-pub rest-none : (ss : List SlotStep) (j n : ℕ) → j ≤ n → n ≤ j → map stepIn (slice j n ss) ≡ []
-rest-none ss j n h k = let e : j ≡ n = omega arith in rw (e, slice-empty n ss)
-
--- ---- one step, by its test and its device
-
--- a test together with the device: where the test passes the device decides, where it fails both fail
-on-true : (x : Step) (t : Bool) (d : ℕ) → t ≡ true → isOn d x && t ≡ eqb d (x .command .device)
-on-true x t d e = ap (λ (s : Bool). isOn d x && s) e ∙ and-true (isOn d x) ∙ eqb-sym (x .command .device) d
-
-on-false : (x : Step) (t : Bool) (d : ℕ) → t ≡ false → isOn d x && t ≡ false
-on-false x t d e = ap (λ (s : Bool). isOn d x && s) e ∙ and-false (isOn d x)
+-- and after the others
+pub after-more : (d : ℕ) {l r : List Step} {x : Step} → l ≡ x ∷ r → (v w : ℤ) → w ≡ afterStep d x v → afterSteps d r w ≡ afterSteps d l v
+after-more d {l} {r} {x} e v w h = ap (afterSteps d r) h ∙ sym (ap (λ (k : List Step). afterSteps d k v) e)
 
 -- a done command changes its device
 pub done-put : (f : ℕ → ℤ) (x : Step) (d : ℕ) → isDone (x .status) ≡ true → put f (x .command .device) (x .command .setting) d ≡ afterStep d x (f d)
-done-put f x d e = ap (λ (t : Bool). if t then x .command .setting else f d) (sym (on-true x (isDone (x .status)) d e))
+done-put f x d e = ap (λ (t : Bool). if t then x .command .setting else f d) (sym (on-true d x (isDone (x .status)) e))
 
 -- the same, of that device alone
 pub done-on : (v : ℤ) (x : Step) (d : ℕ) → x .command .device ≡ d → isDone (x .status) ≡ true → x .command .setting ≡ afterStep d x v
-done-on v x d p e = ap (λ (t : Bool). if t then x .command .setting else v) (sym (on-true x (isDone (x .status)) d e ∙ eq-eqb d (x .command .device) (sym p)))
+done-on v x d p e = ap (λ (t : Bool). if t then x .command .setting else v) (sym (on-this d x (isDone (x .status)) p ∙ e))
 
 -- a command that is not done changes no device
 pub not-done : (v : ℤ) (x : Step) (d : ℕ) → isDone (x .status) ≡ false → v ≡ afterStep d x v
-not-done v x d e = ap (λ (t : Bool). if t then x .command .setting else v) (sym (on-false x (isDone (x .status)) d e))
+not-done v x d e = ap (λ (t : Bool). if t then x .command .setting else v) (sym (on-false d x (isDone (x .status)) e))
 
 -- no command changes another device
 pub not-on : (v : ℤ) (x : Step) (d : ℕ) → x .command .device ≢ d → v ≡ afterStep d x v
-not-on v x d n = ap (λ (t : Bool). if t && isDone (x .status) then x .command .setting else v) (sym (ne-eqb (x .command .device) d n))
+not-on v x d n = ap (λ (t : Bool). if t then x .command .setting else v) (sym (on-other d x (isDone (x .status)) n))
 
 -- a command in flight adds its device
 pub flight-put : (f : ℕ → Bool) (x : Step) (d : ℕ) → isInFlight (x .status) ≡ true → put f (x .command .device) true d ≡ f d || (isOn d x && isInFlight (x .status))
-flight-put f x d e = go (eqb d (x .command .device)) ∙ ap (λ (t : Bool). f d || t) (sym (on-true x (isInFlight (x .status)) d e))
+flight-put f x d e = go (eqb d (x .command .device)) ∙ ap (λ (t : Bool). f d || t) (sym (on-true d x (isInFlight (x .status)) e))
   where
     go : (t : Bool) → (if t then true else f d) ≡ f d || t
     go true = sym (or-true (f d))
@@ -170,4 +124,4 @@ flight-put f x d e = go (eqb d (x .command .device)) ∙ ap (λ (t : Bool). f d 
 
 -- a command that is not in flight adds no device
 pub no-flight : (b : Bool) (x : Step) (d : ℕ) → isInFlight (x .status) ≡ false → b ≡ b || (isOn d x && isInFlight (x .status))
-no-flight b x d e = sym (or-false b) ∙ ap (λ (t : Bool). b || t) (sym (on-false x (isInFlight (x .status)) d e))
+no-flight b x d e = sym (or-false b) ∙ ap (λ (t : Bool). b || t) (sym (on-false d x (isInFlight (x .status)) e))

@@ -1,24 +1,19 @@
 -- Laws for the proofs of `progress`. Assumes nothing.
 use mathlib.Core.Path.{_≡_, refl, sym, ap, _∙_, subst}
-use mathlib.Core.Logic.{_≢_, inl, inr}
-use mathlib.Core.Bool.{Bool, true, false, _&&_}
-use mathlib.Core.List.{List, [], _∷_, map}
+use mathlib.Core.Logic.{inl, inr}
+use mathlib.Core.Bool.{Bool, true, false}
+use mathlib.Core.List.{List, [], _∷_}
 use mathlib.Core.Option.{Option, none, some}
 use Prim.Native.Nat.{ℕ, zero, suc, _+_, _<_, _≤_}
-use native.Mathlib.Numerals.{add-one}
 use native.Mathlib.Omega.{arith}
-use borrow.Author.Tests.{eq-eqb, ne-eqb}
 use types.Run.{OneOf}
 use denote.Enum.Declared.{tagOf}
 use lib.IntN.{ℤ}
-use lib.ListN.{length, take, getD, set, length-map, List·getD-map}
-use lib.Seq.{slice, slice-cons, slice-empty, length-take-le, getD-take}
+use lib.ListN.{length, getD, set}
 use Rattle.routine.specs.Choice.{if_then_else_}
-use Rattle.routine.specs.Routine.{zeroCommand}
 use Rattle.routine.proofs.Laws.{byTest}
 use Rattle.rules.specs.State.{Status, to-do, in-flight, was-done, was-skipped, Step}
-use Rattle.rules.specs.Tables.{anyOf}
-use Rattle.rules.specs.Progress.{isOn, isToDo, isInFlight, next, Flight, flightOr, flight, withStatus, advance, answerFlight, withSteps}
+use Rattle.rules.specs.Progress.{isToDo, isInFlight, next, Flight, flightOr, flight, withStatus, advance, answerFlight, withSteps}
 use Rattle.rules.proofs.Lists.{Each}
 use Rattle.slot.specs.View.{statusOf, stepIn, stepsIn, stepsOf, memberOf}
 use Rattle.slot.specs.Valid.{StepOk, SlotOk}
@@ -28,56 +23,23 @@ use Rattle.slot.specs.declared.Stage.the-variants.{ToDo, InFlight, Done,
 use Rattle.slot.specs.declared.SlotStep.{SlotStep}
 use Rattle.slot.specs.declared.Slot.{Slot}
 use Rattle.slot.proofs.Stage.{the-type}
+use Rattle.slot.proofs.Laws.{length-steps, getD-steps, rest, rest-next, rest-none}
 
--- what the code reads past the end of an array
-abbrev pub noStep : SlotStep
-noStep = record { command = zeroCommand; stage = ToDo }
+-- ---- the index of the first step that passes a test: a search from index j
 
--- ---- a search from index j up to n
+module _ (p : Step → Bool) (l : List SlotStep) (j n : ℕ) where
+  module _ (z : SlotStep) (h : j < n) (k : n ≤ length l) where
+    -- the step at j passes
+    pub first-here : p (stepIn (getD l j z)) ≡ true → j + firstAt p (rest j n l) ≡ j
+    first-here e = rw (rest-next l j n z h k, e) (omega arith)
 
--- the steps from index j up to n
-abbrev pub rest : ℕ → ℕ → List SlotStep → List Step
-rest j n l = map stepIn (slice j n l)
+    -- it does not: the search goes on
+    pub first-more : p (stepIn (getD l j z)) ≡ false → j + firstAt p (rest j n l) ≡ j + 1 + firstAt p (rest (j + 1) n l)
+    first-more e = rw (rest-next l j n z h k, e) (omega arith)
 
-module _ (p : Step → Bool) (l : List SlotStep) (j n : ℕ) (z : SlotStep) (h : j < n) (k : n ≤ length l) where
-  -- the step at j does not pass: the search goes on
-  pub first-more : p (stepIn (getD l j z)) ≡ false → j + firstAt p (rest j n l) ≡ j + 1 + firstAt p (rest (j + 1) n l)
-  first-more e = rw (slice-cons j n l z h k, e, add-one j) (omega arith)
-
-  -- it passes
-  pub first-found : p (stepIn (getD l j z)) ≡ true → j + firstAt p (rest j n l) ≡ j
-  first-found e = rw (slice-cons j n l z h k, e) (omega arith)
-
-  pub any-more : p (stepIn (getD l j z)) ≡ false → anyOf p (rest j n l) ≡ anyOf p (rest (j + 1) n l)
-  any-more e = rw (slice-cons j n l z h k, e, add-one j)
-
-  pub any-found : p (stepIn (getD l j z)) ≡ true → anyOf p (rest j n l) ≡ true
-  any-found e = rw (slice-cons j n l z h k, e)
-
-module _ (p : Step → Bool) (l : List SlotStep) (j n : ℕ) (h : j ≤ n) (k : n ≤ j) where
   -- no step is left
-  pub first-end : j + firstAt p (rest j n l) ≡ n
-  first-end = let e : j ≡ n = omega arith in rw (e, slice-empty n l) (omega arith)
-
-  pub any-end : anyOf p (rest j n l) ≡ false
-  any-end = let e : j ≡ n = omega arith in rw (e, slice-empty n l)
-
--- ---- the steps of an array
-
--- as many as are asked for
-pub length-steps : (n : ℕ) (l : List SlotStep) → n ≤ length l → length (stepsIn n l) ≡ n
-length-steps n l h = length-map (take n l) stepIn ∙ length-take-le n l h
-
-getD-steps : (n : ℕ) (l : List SlotStep) (j : ℕ) (z : SlotStep) → j < n → getD (stepsIn n l) j (stepIn z) ≡ stepIn (getD l j z)
-getD-steps n l j z h = List·getD-map stepIn (take n l) j z ∙ ap stepIn (getD-take n l j z h)
-
--- one element of the array set
-steps-set : (n : ℕ) (l : List SlotStep) (i : ℕ) (g : Stage) (z : SlotStep) →
-    stepsIn n (set l i (record { command = getD l i z .command; stage = g })) ≡ setStatus i (statusOf g) (stepsIn n l)
-steps-set zero l i g z = refl
-steps-set (suc n) [] i g z = refl
-steps-set (suc n) (x ∷ l) zero g z = refl
-steps-set (suc n) (x ∷ l) (suc i) g z = ap (λ (r : List Step). stepIn x ∷ r) (steps-set n l i g z)
+  pub first-end : j ≤ n → n ≤ j → j + firstAt p (rest j n l) ≡ n
+  first-end h k = rw (rest-none l j n h k) (omega arith)
 
 -- ---- a search for the first step that passes a test
 
@@ -160,6 +122,14 @@ not-sent x h = go (x .stage) h
 
 -- ---- a changed status
 
+-- one element of the array set
+steps-set : (n : ℕ) (l : List SlotStep) (i : ℕ) (g : Stage) (z : SlotStep) →
+    stepsIn n (set l i (record { command = getD l i z .command; stage = g })) ≡ setStatus i (statusOf g) (stepsIn n l)
+steps-set zero l i g z = refl
+steps-set (suc n) [] i g z = refl
+steps-set (suc n) (x ∷ l) zero g z = refl
+steps-set (suc n) (x ∷ l) (suc i) g z = ap (λ (r : List Step). stepIn x ∷ r) (steps-set n l i g z)
+
 -- there is no step at i
 status-out : (l : List Step) (i : ℕ) (st : Status) → length l ≤ i → setStatus i st l ≡ l
 status-out [] i st h = refl
@@ -226,12 +196,3 @@ module _ (s : Slot) (i : ℕ) (g : Stage) (z : SlotStep) where
   pub stage-member : memberOf (withStage s i g z) ≡ withSteps (memberOf s) (setStatus i (statusOf g) (stepsOf s))
   unfolding memberOf
   stage-member = ap (withSteps (memberOf s)) (steps-set (s .count) (s .steps) i g z)
-
--- ---- a test of the steps on a device
-
-module _ (d : ℕ) (x : Step) (t : Bool) where
-  pub on-this : x .command .device ≡ d → isOn d x && t ≡ t
-  on-this e = rw (eq-eqb (x .command .device) d e)
-
-  pub on-other : x .command .device ≢ d → isOn d x && t ≡ false
-  on-other e = rw (ne-eqb (x .command .device) d e)

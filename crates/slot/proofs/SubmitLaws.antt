@@ -1,24 +1,21 @@
 -- Laws for the proofs of `submit`. Assumes nothing.
-use mathlib.Core.Path.{_≡_, ap, _∙_, subst}
-use mathlib.Core.Bool.{Bool, true, false}
+use mathlib.Core.Path.{_≡_, subst}
 use mathlib.Core.List.{List, [], _∷_, map, map-append}
 use Prim.Native.Nat.{ℕ, _+_, _<_, _≤_}
 use native.Mathlib.Numerals.{add-one}
-use native.Mathlib.Omega.{arith}
 use lib.ListN.{length, take, getD, set}
-use lib.Seq.{take-suc, take-suc-set, getD-take, slice, slice-cons, slice-empty}
+use lib.Seq.{take-suc, take-suc-set}
 use Rattle.routine.specs.Routine.{maxDevices, zeroCommand, commandsOf}
 use Rattle.routine.specs.declared.Command.{Command}
 use Rattle.routine.specs.declared.Routine.{Routine}
-use Rattle.routine.proofs.Laws.{commandsOf-held, length-commandsOf}
-use Rattle.rules.specs.Tables.{anyOf}
+use Rattle.routine.proofs.Laws.{commandsOf-held}
 use Rattle.rules.specs.Submit.{stepOf}
 use Rattle.rules.proofs.Lists.{Each}
 use Rattle.slot.specs.View.{stepIn, stepsIn}
 use Rattle.slot.specs.Valid.{CommandOk, CommandsOk, StepOk}
 use Rattle.slot.specs.declared.SlotStep.{SlotStep}
 use Rattle.slot.specs.declared.Stage.the-variants.{ToDo}
-use Rattle.slot.proofs.Laws.{each-at}
+use Rattle.slot.proofs.Laws.{each-within}
 
 -- ---- the steps of a newcomer
 
@@ -38,17 +35,4 @@ steps-fit (x ∷ cs) h = (h .0, steps-fit cs (h .1))
 
 -- the device of one of them
 pub command-at : (r : Routine) → r .count ≤ length (r .commands) → CommandsOk (commandsOf r) → (j : ℕ) (z : Command) → j < r .count → getD (r .commands) j z .device < maxDevices
-command-at r k ok j z h =
-    let e = length-commandsOf r in
-    subst CommandOk (ap (λ (l : List Command). getD l j z) (commandsOf-held r k) ∙ getD-take (r .count) (r .commands) j z h) (each-at CommandOk (commandsOf r) j z (omega arith) ok)
-
--- does one of those from index j on pass the test
-module _ (p : Command → Bool) (cs : List Command) (j n : ℕ) (h : j < n) (k : n ≤ length cs) where
-  pub any-here : p (getD cs j zeroCommand) ≡ true → anyOf p (slice j n cs) ≡ true
-  any-here e = rw (slice-cons j n cs zeroCommand h k, e)
-
-  pub any-more : p (getD cs j zeroCommand) ≡ false → anyOf p (slice j n cs) ≡ anyOf p (slice (j + 1) n cs)
-  any-more e = rw (slice-cons j n cs zeroCommand h k, e, add-one j)
-
-pub any-end : (p : Command → Bool) (cs : List Command) (j n : ℕ) → j ≤ n → n ≤ j → anyOf p (slice j n cs) ≡ false
-any-end p cs j n h k = let e : j ≡ n = omega arith in rw (e, slice-empty n cs)
+command-at r k ok j z h = each-within CommandOk (r .count) (r .commands) j z k h (subst CommandsOk (commandsOf-held r k) ok)

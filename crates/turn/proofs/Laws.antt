@@ -32,8 +32,7 @@ use Rattle.slot.specs.declared.Next.{Next}
 use Rattle.slot.specs.declared.Next.the-variants.{Left}
 use Rattle.slot.specs.declared.Pending.{Pending}
 use Rattle.slot.specs.declared.Pending.the-variants.{Sent, NothingSent}
-use Rattle.slot.proofs.Laws.{fun-ext}
-use Rattle.slot.proofs.DueLaws.{set-put}
+use Rattle.slot.proofs.Laws.{fun-ext, set-put}
 use Rattle.sequence.specs.View.{membersOf, foundAt, holderOf, upTo}
 use Rattle.sequence.specs.Valid.{SequenceOk}
 use Rattle.sequence.specs.declared.Sequence.{Sequence}

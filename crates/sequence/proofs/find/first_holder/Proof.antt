@@ -7,21 +7,21 @@ use mathlib.Core.Path.{_≡_, refl, sym, ap, _∙_}
 use mathlib.Core.Logic.{⊎-elim}
 use mathlib.Core.Bool.{false, not}
 use lib.ListN.{length, getD}
-use lib.Seq.{slice}
 use Rattle.routine.proofs.Laws.{length-mapped}
 use Rattle.rules.specs.Tables.{anyOf}
 use Rattle.rules.specs.Turn.{holds}
-use Rattle.slot.specs.View.{memberOf}
+use Rattle.slot.specs.View.{stepIn, memberOf}
+use Rattle.slot.proofs.Laws.{any-end, any-here, any-more, zeroStep, rest, rest-next, rest-none, unanswered, on-this, on-other, on-false}
 use Rattle.sequence.specs.View.{zeroSlot, upTo, holderOf}
 use Rattle.sequence.specs.declared.Holder.the-variants.{Nobody}
 use Rattle.sequence.proofs.Laws.{slot-ok-at}
-use Rattle.sequence.proofs.FindLaws.{none-yet, find-on, heldIn, held-start, held-hit, held-answered, held-other, held-end, gap-within, holding-hit, holding-end, steps-known, searched-fits}
+use Rattle.sequence.proofs.FindLaws.{none-yet, find-on, held-start, gap-within, holding-hit, holding-end, steps-known, searched-fits}
 use Rattle.sequence.proofs.find.first_holder.Statement.{statement}
 use Rattle.sequence.proofs.find.first_holder.Tie as tie
 
 abbrev Inv-loop : tie.InvT-loop
 Inv-loop at device sequence holder₀ i slot count j₀ holder j =
-    (j ≤ count) × (count ≤ 8) × (holder ≡ Nobody) × (heldIn device (slice j count (slot .steps)) ≡ holds device (memberOf slot)) × (length (slot .steps) ≡ 8)
+    (j ≤ count) × (count ≤ 8) × (holder ≡ Nobody) × (anyOf (unanswered device) (rest j count (slot .steps)) ≡ holds device (memberOf slot)) × (length (slot .steps) ≡ 8)
 
 abbrev μ-loop : tie.MeasureT-loop
 μ-loop at device sequence holder₀ i slot count j₀ holder j = count - j
@@ -64,7 +64,7 @@ loop-holds c =
       search needs,
       rw e f,
       a .before .ahead .inv .1,
-      ap (λ (n : ℕ). heldIn (b .args .device) (slice 0 n (s .steps))) e ∙ held-start (b .args .device) s,
+      ap (λ (n : ℕ). anyOf (unanswered (b .args .device)) (rest 0 n (s .steps))) e ∙ held-start (b .args .device) s,
       steps-known (b .args .t1 .slots) _ (a .before .ahead .i) (omega (arith, x, w, b .pre .0 .fits)) (b .good .0 .1 .1 .0 .1 .1),
     )
 
@@ -86,16 +86,16 @@ loop-less c = search needs
 loop-again : tie.Need-loop-again Inv-loop μ-loop Inv-ahead μ-ahead
 loop-again c =
     let l = c .before .before .before .before in
-    let v = l .before .loop .inv in (
-      search needs,
-      v .1,
-      v .2,
-      ⊎-elim
-          (λ w. held-answered _ _ _ _ _ (l .loop-test .taken) (omega (arith, v .1, v .4)) (ap not (sym (w .1 .ensures)) ∙ w .2 .left) ∙ v .3)
-          (λ w. held-other _ _ _ _ _ (l .loop-test .taken) (omega (arith, v .1, v .4)) (w .left) ∙ v .3)
-          (c .if1 .came),
-      v .4,
-    )
+    let v = l .before .loop .inv in
+    let a = l .before .before .before .before in
+    let b = a .before .before in
+    let d = b .args .device in
+    let x = stepIn (getD (getD (b .args .t1 .slots) (a .before .ahead .i) zeroSlot .steps) (l .before .loop .j) zeroStep) in
+    let e : unanswered d x ≡ false = ⊎-elim {C = unanswered d x ≡ false}
+    (λ w. on-false d x _ (ap not (sym (w .1 .ensures)) ∙ w .2 .left))
+    (λ w. on-other d x _ (w .left))
+    (c .if1 .came) in
+    (search needs, v .1, v .2, any-more (unanswered d) (rest-next _ _ _ zeroStep (l .loop-test .taken) (omega (arith, v .1, v .4))) false false (sym e) ∙ v .3, v .4)
 
 add-i : tie.Need-add-i Inv-loop μ-loop Inv-ahead μ-ahead
 add-i c = search needs
@@ -108,7 +108,7 @@ ahead-again c =
     let v = c .before .loop .inv in
     let a = c .before .before .before .before in
     let b = a .before .before in
-    (search needs, v .2, find-on _ _ (long b) (b .pre .0) _ (within a) (a .before .ahead .inv .2) (sym (v .3) ∙ held-end _ _ _ _ (v .0) (c .loop-test .left)))
+    (search needs, v .2, find-on _ _ (long b) (b .pre .0) _ (within a) (a .before .ahead .inv .2) (sym (v .3) ∙ any-end _ (rest-none _ _ _ (v .0) (c .loop-test .left)) false))
 
 returns : tie.Need-returns Inv-loop μ-loop Inv-ahead μ-ahead
 returns c =
@@ -121,8 +121,11 @@ returns-2 c =
     let v = l .before .loop .inv in
     let a = l .before .before .before .before in
     let b = a .before .before in
+    let d = b .args .device in
+    let x = stepIn (getD (getD (b .args .t1 .slots) (a .before .ahead .i) zeroSlot .steps) (l .before .loop .j) zeroStep) in
     holding-hit _ _ (long b) (b .pre .0) _ _ (a .ahead-test .taken) (within a) (a .before .ahead .inv .2)
-    (sym (v .3) ∙ held-hit _ _ _ _ _ (l .loop-test .taken) (omega (arith, v .1, v .4)) (c .before .before .if1 .taken) (ap not (sym (c .before .is-answered .ensures)) ∙ c .if2 .taken))
+    (sym (v .3) ∙ any-here (unanswered d) (rest-next _ _ _ zeroStep (l .loop-test .taken) (omega (arith, v .1, v .4)))
+    (on-this d x _ (c .before .before .if1 .taken) ∙ ap not (sym (c .before .is-answered .ensures)) ∙ c .if2 .taken))
 
 pub first-holder-spec : {M : Type 1} → statement M
 first-holder-spec =

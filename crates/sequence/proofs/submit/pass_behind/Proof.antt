@@ -10,8 +10,8 @@ use Rattle.rules.specs.State.{maxHeld}
 use Rattle.slot.specs.View.{memberOf}
 use Rattle.sequence.specs.View.{past}
 use Rattle.sequence.specs.Valid.{SequenceOk, Gap, RoomToPass}
-use Rattle.sequence.proofs.Laws.{slot-ok-at}
-use Rattle.sequence.proofs.SubmitLaws.{set-ok, passedFrom, pass-here, pass-room, pass-more, pass-end}
+use Rattle.sequence.proofs.Laws.{slot-ok-at, slot-replaced}
+use Rattle.sequence.proofs.SubmitLaws.{passedFrom, pass-here, pass-room, pass-more, pass-end}
 use Rattle.sequence.proofs.submit.pass_behind.Statement.{statement}
 use Rattle.sequence.proofs.submit.pass_behind.Tie as tie
 
@@ -62,9 +62,9 @@ loop-again c = let l = c .before .before .before .loop in
       search needs,
       v .1,
       length-set (l .passed .slots) (l .i) _ ∙ v .2,
-      set-ok _ _ _ h (v .3) (e .0),
-      pass-room (l .passed) (v .2) (v .3) (l .i) h _ (e .1) (v .4),
-      pass-more (l .passed) (v .2) (v .3) (l .i) h _ (e .1) ∙ v .5,
+      slot-replaced (l .passed) (v .2) (v .3) (l .i) _ h (e .0) .0,
+      pass-room (l .passed) (v .2) (v .3) (l .i) h _ (e .0) (e .1) (v .4),
+      pass-more (l .passed) (v .2) (v .3) (l .i) h _ (e .0) (e .1) ∙ v .5,
     )
 
 returns : tie.Need-returns Inv-loop μ-loop

@@ -1,9 +1,9 @@
 -- `sequence::walk::in_flight` meets its contract. Assumes nothing.
 use borrow.Author.Needs.{needs}
-use Prim.Native.Nat.{ℕ, _+_, _-_, _≤_}
+use Prim.Native.Nat.{ℕ, _-_, _≤_}
 use native.Mathlib.Omega.{arith}
 use mathlib.Core.Path.{_≡_, sym, ap, _∙_}
-use mathlib.Core.Bool.{Bool, _||_}
+use mathlib.Core.Bool.{Bool, false, _||_}
 use lib.ListN.{length, drop}
 use Rattle.routine.proofs.Laws.{length-mapped}
 use Rattle.routine.specs.Routine.{maxDevices}
@@ -11,10 +11,9 @@ use Rattle.rules.specs.State.{maxHeld}
 use Rattle.rules.specs.Tables.{anyOf}
 use Rattle.rules.specs.Progress.{inFlightOn}
 use Rattle.slot.specs.View.{flagsOf}
-use Rattle.slot.proofs.Laws.{fun-ext}
+use Rattle.slot.proofs.Laws.{fun-ext, all-same, any-end, any-more}
 use Rattle.sequence.specs.View.{membersOf}
-use Rattle.sequence.proofs.Laws.{slot-ok-at}
-use Rattle.sequence.proofs.WalkLaws.{flights-more, flights-end, no-flag}
+use Rattle.sequence.proofs.Laws.{slot-ok-at, members-from, members-end}
 use Rattle.sequence.proofs.walk.in_flight.Statement.{statement}
 use Rattle.sequence.proofs.walk.in_flight.Tie as tie
 
@@ -30,7 +29,7 @@ long : (c : tie.Start Inv-loop μ-loop) → length (c .args .t1 .slots) ≡ maxH
 long c = search (needs, length-mapped)
 
 loop-holds : tie.Need-loop-holds Inv-loop μ-loop
-loop-holds c = (search needs, λ d. ap (λ (t : Bool). t || anyOf (inFlightOn d) (membersOf (c .args .t1))) (no-flag maxDevices d))
+loop-holds c = (search needs, λ d. ap (λ (t : Bool). t || anyOf (inFlightOn d) (membersOf (c .args .t1))) (all-same maxDevices false d))
 
 mul-slot : tie.Need-mul-slot Inv-loop μ-loop
 mul-slot c = search needs
@@ -50,19 +49,17 @@ loop-less c = search needs
 loop-again : tie.Need-loop-again Inv-loop μ-loop
 loop-again c =
     let b = c .before .before in
-    let a = b .before .before in
-    let rest = drop (b .before .loop .i + 1) (membersOf (a .args .t1)) in (
+    let a = b .before .before in (
       search needs,
       λ d.
-          ap (λ (f : ℕ → Bool). f d || anyOf (inFlightOn d) rest) (c .flights .ensures)
-          ∙ sym (flights-more (a .args .t1) (long a) (a .pre) _ d (flagsOf (b .before .loop .flying) d) (b .loop-test .taken))
+          any-more (inFlightOn d) (members-from (a .args .t1) (long a) (a .pre) _ (b .loop-test .taken)) (flagsOf (b .before .loop .flying) d) _ (ap (λ (f : ℕ → Bool). f d) (c .flights .ensures))
           ∙ b .before .loop .inv .1 d,
     )
 
 returns : tie.Need-returns Inv-loop μ-loop
 returns c =
     let a = c .before .before in
-    fun-ext _ _ (λ d. sym (flights-end (a .args .t1) (long a) (a .pre) _ d _ (c .loop-test .left)) ∙ c .before .loop .inv .1 d)
+    fun-ext _ _ (λ d. sym (any-end (inFlightOn d) (members-end (a .args .t1) (long a) (a .pre) _ (c .loop-test .left)) _) ∙ c .before .loop .inv .1 d)
 
 pub in-flight-spec : {M : Type 1} → statement M
 in-flight-spec =

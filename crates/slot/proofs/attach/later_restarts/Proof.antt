@@ -11,8 +11,8 @@ use lib.ListN.{length, getD, length-set}
 use Rattle.rules.specs.Attach.{later}
 use Rattle.slot.specs.View.{restartsOf, restartOf, noRestart}
 use Rattle.slot.specs.declared.Restart.{Restart}
-use Rattle.slot.proofs.Laws.{fun-ext}
-use Rattle.slot.proofs.DueLaws.{restart-set, restart-unset, restart-past, set-put, newBelow, below-none, below-put, below-same, below-all}
+use Rattle.slot.proofs.Laws.{fun-ext, set-put}
+use Rattle.slot.proofs.DueLaws.{restart-set, restart-unset, restart-past, newBelow, below-none, below-put, below-same, below-all}
 use Rattle.slot.proofs.attach.later_restarts.Statement.{statement}
 use Rattle.slot.proofs.attach.later_restarts.Tie as tie
 

@@ -1,6 +1,6 @@
 -- `slot::attach::no_restarts` meets its contract. Assumes nothing.
 use Rattle.slot.specs.View.{noRestart, restartOf}
-use Rattle.slot.proofs.DueLaws.{all-same}
+use Rattle.slot.proofs.Laws.{all-same}
 use Rattle.slot.proofs.attach.no_restarts.Statement.{statement}
 use Rattle.slot.proofs.attach.no_restarts.Tie as tie
 

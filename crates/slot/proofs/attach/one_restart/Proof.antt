@@ -12,7 +12,7 @@ use mir.Syntax.{w16}
 use Rattle.rules.specs.Tables.{put}
 use Rattle.rules.specs.Attach.{oneRestart}
 use Rattle.slot.specs.View.{noRestart, restartOf}
-use Rattle.slot.proofs.DueLaws.{set-put}
+use Rattle.slot.proofs.Laws.{set-put}
 use Rattle.slot.proofs.attach.one_restart.Statement.{statement}
 use Rattle.slot.proofs.attach.one_restart.Tie as tie
 

@@ -14,8 +14,8 @@ use Rattle.rules.specs.Due.{afterRestart}
 use Rattle.rules.specs.Attach.{settleRestarts}
 use Rattle.slot.specs.View.{settingsOf, restartsOf, noRestart}
 use Rattle.slot.specs.declared.Restart.{Restart}
-use Rattle.slot.proofs.Laws.{fun-ext}
-use Rattle.slot.proofs.DueLaws.{restart-set, restart-unset, restart-past, set-put, newBelow, below-none, below-put, below-same, below-all}
+use Rattle.slot.proofs.Laws.{fun-ext, set-put}
+use Rattle.slot.proofs.DueLaws.{restart-set, restart-unset, restart-past, newBelow, below-none, below-put, below-same, below-all}
 use Rattle.slot.proofs.attach.settle_restarts.Statement.{statement}
 use Rattle.slot.proofs.attach.settle_restarts.Tie as tie
 

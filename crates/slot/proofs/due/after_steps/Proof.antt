@@ -3,24 +3,23 @@ use borrow.Author.Needs.{needs}
 use native.Mathlib.Omega.{arith}
 use mathlib.Core.Path.{_≡_, refl, sym, ap, _∙_}
 use mathlib.Core.Logic.{⊎-elim}
-use mathlib.Core.List.{List, map}
+use mathlib.Core.List.{List}
 use Prim.Native.Nat.{ℕ, _-_, _≤_, _<_}
 use lib.IntN.{ℤ, pos}
 use lib.ListN.{length, getD, set, length-set}
-use lib.Seq.{slice}
 use mir.Val.{toZ, ofZ}
 use mir.Syntax.{w16}
 use Rattle.routine.proofs.Laws.{length-mapped}
 use Rattle.rules.specs.State.{Step}
 use Rattle.rules.specs.Due.{afterSteps}
 use Rattle.slot.specs.View.{settingsOf, stepIn, stepsIn, stepsOf}
-use Rattle.slot.proofs.Laws.{fun-ext, step-at}
-use Rattle.slot.proofs.DueLaws.{zeroStep, set-put, after-more, rest-none, done-put, not-done}
+use Rattle.slot.proofs.Laws.{fun-ext, set-put, zeroStep, steps-held, step-at, rest, rest-next, rest-none}
+use Rattle.slot.proofs.DueLaws.{after-more, done-put, not-done}
 use Rattle.slot.proofs.due.after_steps.Statement.{statement}
 use Rattle.slot.proofs.due.after_steps.Tie as tie
 
 abbrev Inv-loop : tie.InvT-loop
-Inv-loop slot after₀ count j₀ after j = (j ≤ count) × (length after ≡ 32) × ((d : ℕ) → afterSteps d (map stepIn (slice j count (slot .steps))) (settingsOf after d) ≡ afterSteps d (stepsIn count (slot .steps)) (settingsOf after₀ d))
+Inv-loop slot after₀ count j₀ after j = (j ≤ count) × (length after ≡ 32) × ((d : ℕ) → afterSteps d (rest j count (slot .steps)) (settingsOf after d) ≡ afterSteps d (stepsIn count (slot .steps)) (settingsOf after₀ d))
 
 abbrev μ-loop : tie.MeasureT-loop
 μ-loop slot after₀ count j₀ after j = count - j
@@ -70,14 +69,13 @@ loop-again c =
     let at = x .command .device in
     let setting = x .command .setting in
     let after = l .before .loop .after in
-    let f = l .before .before .pre .fits in
-    let k : s .count ≤ length (s .steps) = omega (arith, long l) in
+    let k = steps-held s (l .before .before .pre) (long l) in
     ⊎-elim
     (λ w. let b : toZ w16 (ofZ w16 setting) ≡ setting = search needs in
     let t : c .if1 .after ≡ set after at setting = w .4 ∙ ap (set after at) b in (
       search needs,
       ap length t ∙ length-set after at setting ∙ v .1,
-      λ d. after-more (s .steps) j (s .count) zeroStep (l .loop-test .taken) k d (settingsOf after d) (settingsOf (c .if1 .after) d)
+      λ d. after-more d (rest-next (s .steps) j (s .count) zeroStep (l .loop-test .taken) k) (settingsOf after d) (settingsOf (c .if1 .after) d)
           (ap (λ (y : List ℤ). settingsOf y d) t
           ∙ set-put (λ z. z) after at setting (pos 0) (omega (arith, v .1, below l)) d
           ∙ done-put (settingsOf after) (stepIn x) d (sym (c .before .is-done .ensures) ∙ w .0 .taken))
@@ -86,7 +84,7 @@ loop-again c =
     (λ w. (
       search needs,
       ap length (w .1) ∙ v .1,
-      λ d. after-more (s .steps) j (s .count) zeroStep (l .loop-test .taken) k d (settingsOf after d) (settingsOf (c .if1 .after) d)
+      λ d. after-more d (rest-next (s .steps) j (s .count) zeroStep (l .loop-test .taken) k) (settingsOf after d) (settingsOf (c .if1 .after) d)
           (ap (λ (y : List ℤ). settingsOf y d) (w .1) ∙ not-done (settingsOf after d) (stepIn x) d (sym (c .before .is-done .ensures) ∙ w .0 .left))
           ∙ v .2 d,
     ))

@@ -1,24 +1,23 @@
 -- `slot::due::after_steps_on` meets its contract. The loop's invariant: the steps from the j-th on leave the device as all of them do. Assumes nothing.
 use borrow.Author.Needs.{needs}
-use native.Mathlib.Omega.{arith}
 use mathlib.Core.Path.{_≡_, refl, sym, ap, _∙_}
 use mathlib.Core.Logic.{⊎-elim}
-use mathlib.Core.List.{List, map}
+use mathlib.Core.List.{List}
 use Prim.Native.Nat.{_-_, _≤_}
-use lib.ListN.{length, getD}
-use lib.Seq.{slice}
+use lib.ListN.{getD}
 use mir.Val.{toZ, ofZ}
 use mir.Syntax.{w16}
 use Rattle.routine.proofs.Laws.{length-mapped}
 use Rattle.rules.specs.State.{Step}
 use Rattle.rules.specs.Due.{afterSteps}
 use Rattle.slot.specs.View.{stepIn, stepsIn, stepsOf}
-use Rattle.slot.proofs.DueLaws.{zeroStep, after-more, rest-none, done-on, not-done, not-on}
+use Rattle.slot.proofs.Laws.{zeroStep, steps-held, rest, rest-next, rest-none}
+use Rattle.slot.proofs.DueLaws.{after-more, done-on, not-done, not-on}
 use Rattle.slot.proofs.due.after_steps_on.Statement.{statement}
 use Rattle.slot.proofs.due.after_steps_on.Tie as tie
 
 abbrev Inv-loop : tie.InvT-loop
-Inv-loop device before slot after₀ count j₀ after j = (j ≤ count) × (afterSteps device (map stepIn (slice j count (slot .steps))) (toZ w16 after) ≡ afterSteps device (stepsIn count (slot .steps)) (toZ w16 before))
+Inv-loop device before slot after₀ count j₀ after j = (j ≤ count) × (afterSteps device (rest j count (slot .steps)) (toZ w16 after) ≡ afterSteps device (stepsIn count (slot .steps)) (toZ w16 before))
 
 abbrev μ-loop : tie.MeasureT-loop
 μ-loop device before slot after₀ count j₀ after j = count - j
@@ -50,11 +49,9 @@ loop-again c =
     let j = l .before .loop .j in
     let x = getD (s .steps) j zeroStep in
     let after = toZ w16 (l .before .loop .after) in
-    let n : length (s .steps) ≡ 8 = search (needs, length-mapped) in
-    let f = l .before .before .pre .fits in
-    let k : s .count ≤ length (s .steps) = omega (arith, n) in (
+    let k = steps-held s (l .before .before .pre) (search (needs, length-mapped)) in (
       search needs,
-      after-more (s .steps) j (s .count) zeroStep (l .loop-test .taken) k (a .device) after (toZ w16 (c .if1 .after))
+      after-more (a .device) (rest-next (s .steps) j (s .count) zeroStep (l .loop-test .taken) k) after (toZ w16 (c .if1 .after))
           (⊎-elim
           (λ w. let b : toZ w16 (ofZ w16 (x .command .setting)) ≡ x .command .setting = search needs in
           ap (toZ w16) (w .4) ∙ b ∙ done-on after (stepIn x) (a .device) (w .0 .taken) (sym (w .1 .ensures) ∙ w .2 .taken))

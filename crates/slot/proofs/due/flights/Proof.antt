@@ -3,18 +3,17 @@ use borrow.Author.Needs.{needs}
 use native.Mathlib.Omega.{arith}
 use mathlib.Core.Path.{_≡_, refl, sym, ap, _∙_}
 use mathlib.Core.Logic.{⊎-elim}
-use mathlib.Core.Bool.{Bool, true, false, _&&_, _||_, or-false}
-use mathlib.Core.List.{List, map}
+use mathlib.Core.Bool.{Bool, true, false, _&&_, _||_}
+use mathlib.Core.List.{List}
 use Prim.Native.Nat.{ℕ, _-_, _≤_, _<_}
 use lib.ListN.{length, getD, length-set}
-use lib.Seq.{slice}
 use Rattle.routine.proofs.Laws.{length-mapped}
 use Rattle.rules.specs.Tables.{anyOf}
 use Rattle.rules.specs.State.{Step}
 use Rattle.rules.specs.Progress.{isOn, isInFlight, inFlightOn}
 use Rattle.slot.specs.View.{flagsOf, stepIn, stepsIn, stepsOf, memberOf}
-use Rattle.slot.proofs.Laws.{fun-ext, step-at}
-use Rattle.slot.proofs.DueLaws.{zeroStep, set-put, any-more, rest-none, flight-put, no-flight}
+use Rattle.slot.proofs.Laws.{fun-ext, set-put, any-end, any-more, zeroStep, steps-held, step-at, rest, rest-next, rest-none}
+use Rattle.slot.proofs.DueLaws.{flight-put, no-flight}
 use Rattle.slot.proofs.due.flights.Statement.{statement}
 use Rattle.slot.proofs.due.flights.Tie as tie
 
@@ -23,7 +22,7 @@ abbrev flies : ℕ → Step → Bool
 flies d x = isOn d x && isInFlight (x .status)
 
 abbrev Inv-loop : tie.InvT-loop
-Inv-loop slot flying₀ count j₀ flying j = (j ≤ count) × (length flying ≡ 32) × ((d : ℕ) → flagsOf flying d || anyOf (flies d) (map stepIn (slice j count (slot .steps))) ≡ flagsOf flying₀ d || anyOf (flies d) (stepsIn count (slot .steps)))
+Inv-loop slot flying₀ count j₀ flying j = (j ≤ count) × (length flying ≡ 32) × ((d : ℕ) → flagsOf flying d || anyOf (flies d) (rest j count (slot .steps)) ≡ flagsOf flying₀ d || anyOf (flies d) (stepsIn count (slot .steps)))
 
 abbrev μ-loop : tie.MeasureT-loop
 μ-loop slot flying₀ count j₀ flying j = count - j
@@ -69,13 +68,12 @@ loop-again c =
     let x = getD (s .steps) j zeroStep in
     let at = x .command .device in
     let flying = l .before .loop .flying in
-    let f = l .before .before .pre .fits in
-    let k : s .count ≤ length (s .steps) = omega (arith, long l) in
+    let k = steps-held s (l .before .before .pre) (long l) in
     ⊎-elim
     (λ w. (
       search needs,
       ap length (w .3) ∙ length-set flying at true ∙ v .1,
-      λ d. any-more (s .steps) j (s .count) zeroStep (l .loop-test .taken) k (flies d) (flagsOf flying d) (flagsOf (c .if1 .flying) d)
+      λ d. any-more (flies d) (rest-next (s .steps) j (s .count) zeroStep (l .loop-test .taken) k) (flagsOf flying d) (flagsOf (c .if1 .flying) d)
           (ap (λ (y : List Bool). flagsOf y d) (w .3)
           ∙ set-put (λ z. z) flying at true false (omega (arith, v .1, below l)) d
           ∙ flight-put (flagsOf flying) (stepIn x) d (sym (c .before .is-in-flight .ensures) ∙ w .0 .taken))
@@ -84,7 +82,7 @@ loop-again c =
     (λ w. (
       search needs,
       ap length (w .1) ∙ v .1,
-      λ d. any-more (s .steps) j (s .count) zeroStep (l .loop-test .taken) k (flies d) (flagsOf flying d) (flagsOf (c .if1 .flying) d)
+      λ d. any-more (flies d) (rest-next (s .steps) j (s .count) zeroStep (l .loop-test .taken) k) (flagsOf flying d) (flagsOf (c .if1 .flying) d)
           (ap (λ (y : List Bool). flagsOf y d) (w .1) ∙ no-flight (flagsOf flying d) (stepIn x) d (sym (c .before .is-in-flight .ensures) ∙ w .0 .left))
           ∙ v .2 d,
     ))
@@ -97,8 +95,7 @@ returns c =
     let a = l .before .args in
     let g = flagsOf (l .loop .flying) in
     fun-ext g (λ d. flagsOf (a .table) d || anyOf (flies d) (stepsOf (a .t2)))
-    (λ d. sym (or-false (g d))
-    ∙ sym (ap (λ (y : List Step). g d || anyOf (flies d) y) (rest-none (a .t2 .steps) (l .loop .j) (a .t2 .count) (l .loop .inv .0) (c .loop-test .left))) ∙ l .loop .inv .2 d)
+    (λ d. sym (any-end (flies d) (rest-none (a .t2 .steps) (l .loop .j) (a .t2 .count) (l .loop .inv .0) (c .loop-test .left)) (g d)) ∙ l .loop .inv .2 d)
 
 pub flights-spec : {M : Type 1} → statement M
 flights-spec =

@@ -1,9 +1,8 @@
 -- `slot::progress::advanced` meets its contract. Assumes nothing.
 use borrow.Author.Needs.{needs}
-use native.Mathlib.Omega.{arith}
-use mathlib.Core.Path.{_≡_, _∙_}
-use lib.ListN.{length}
+use mathlib.Core.Path.{_∙_}
 use Rattle.routine.proofs.Laws.{length-mapped}
+use Rattle.slot.proofs.Laws.{steps-held}
 use Rattle.slot.proofs.ProgressLaws.{advance-first, change-past, change-at}
 use Rattle.slot.proofs.progress.advanced.Statement.{statement}
 use Rattle.slot.proofs.progress.advanced.Tie as tie
@@ -14,9 +13,7 @@ to-do-at-requires c κs = search needs
 returns : tie.Need-returns
 returns c =
     let b = c .before .before in
-    let n : length (b .args .slot .steps) ≡ 8 = search (needs, length-mapped) in
-    let f = b .pre .fits in
-    (b .pre, change-past _ _ advance-first (b .args .slot) _ _ (c .before .to-do-at .ensures) (omega arith) (c .if1 .taken))
+    (b .pre, change-past _ _ advance-first (b .args .slot) _ _ (c .before .to-do-at .ensures) (steps-held (b .args .slot) (b .pre) (search (needs, length-mapped))) (c .if1 .taken))
 
 with-stage-requires : tie.Need-with-stage-requires
 with-stage-requires c κs = search needs

@@ -1,36 +1,27 @@
 -- `slot::progress::has_finished` meets its contract. Assumes nothing.
 use borrow.Author.Needs.{needs}
-use Prim.Native.Nat.{ℕ, _-_, _≤_}
-use native.Mathlib.Omega.{arith}
+use Prim.Native.Nat.{_-_, _≤_}
 use mathlib.Core.Path.{_≡_, refl, sym, ap, _∙_}
-use mathlib.Core.Bool.{Bool, true, false, not, _&&_}
+use mathlib.Core.Bool.{true, false, not}
 use mathlib.Core.Logic.{⊎-elim}
 use lib.ListN.{length, getD}
 use Rattle.routine.proofs.Laws.{length-mapped}
-use Rattle.rules.specs.State.{Step}
 use Rattle.rules.specs.Tables.{anyOf}
-use Rattle.rules.specs.Progress.{isOn, isAnswered, finished}
+use Rattle.rules.specs.Progress.{finished}
 use Rattle.slot.specs.View.{stepIn, stepsIn, memberOf}
-use Rattle.slot.proofs.ProgressLaws.{noStep, rest, any-more, any-found, any-end, on-this, on-other}
+use Rattle.slot.proofs.Laws.{any-end, any-here, any-more, zeroStep, steps-held, rest, rest-next, rest-none, unanswered, on-this, on-other}
 use Rattle.slot.proofs.progress.has_finished.Statement.{statement}
 use Rattle.slot.proofs.progress.has_finished.Tie as tie
 
--- what the loop looks for
-abbrev seen : ℕ → Step → Bool
-seen d x = isOn d x && not (isAnswered (x .status))
-
 abbrev Inv-loop : tie.InvT-loop
-Inv-loop device slot count j₀ j = (j ≤ count) × (anyOf (seen device) (rest j count (slot .steps)) ≡ anyOf (seen device) (stepsIn count (slot .steps)))
+Inv-loop device slot count j₀ j = (j ≤ count) × (anyOf (unanswered device) (rest j count (slot .steps)) ≡ anyOf (unanswered device) (stepsIn count (slot .steps)))
 
 abbrev μ-loop : tie.MeasureT-loop
 μ-loop device slot count j₀ j = count - j
 
 -- the array holds the routine's steps
 held : (c : tie.Start Inv-loop μ-loop) → c .args .t1 .count ≤ length (c .args .t1 .steps)
-held c =
-    let n : length (c .args .t1 .steps) ≡ 8 = search (needs, length-mapped) in
-    let f = c .pre .fits in
-    omega arith
+held c = steps-held (c .args .t1) (c .pre) (search (needs, length-mapped))
 
 loop-holds : tie.Need-loop-holds Inv-loop μ-loop
 loop-holds c = (search needs, refl)
@@ -50,9 +41,9 @@ returns c =
     let i = c .before .before in
     let l = i .before .before .before .before in
     let d = l .before .before .args .device in
-    let x = stepIn (getD (l .before .before .args .t1 .steps) (l .before .loop .j) noStep) in
-    let e : seen d x ≡ true = on-this d x _ (i .if1 .taken) ∙ ap not (sym (c .before .is-answered .ensures)) ∙ c .if2 .taken in
-    ap not (sym (any-found (seen d) _ _ _ noStep (l .loop-test .taken) (held (l .before .before)) e) ∙ l .before .loop .inv .1)
+    let x = stepIn (getD (l .before .before .args .t1 .steps) (l .before .loop .j) zeroStep) in
+    let e : unanswered d x ≡ true = on-this d x _ (i .if1 .taken) ∙ ap not (sym (c .before .is-answered .ensures)) ∙ c .if2 .taken in
+    ap not (sym (any-here (unanswered d) (rest-next _ _ _ zeroStep (l .loop-test .taken) (held (l .before .before))) e) ∙ l .before .loop .inv .1)
 
 add-j : tie.Need-add-j Inv-loop μ-loop
 add-j c = search needs
@@ -64,16 +55,16 @@ loop-again : tie.Need-loop-again Inv-loop μ-loop
 loop-again c =
     let l = c .before .before .before .before in
     let d = l .before .before .args .device in
-    let x = stepIn (getD (l .before .before .args .t1 .steps) (l .before .loop .j) noStep) in
-    let e : seen d x ≡ false = ⊎-elim {C = seen d x ≡ false}
+    let x = stepIn (getD (l .before .before .args .t1 .steps) (l .before .loop .j) zeroStep) in
+    let e : unanswered d x ≡ false = ⊎-elim {C = unanswered d x ≡ false}
     (λ w. on-this d x _ (w .0 .taken) ∙ ap not (sym (w .1 .ensures)) ∙ w .2 .left)
     (λ w. on-other d x _ (w .left))
     (c .if1 .came) in
-    (search needs, sym (any-more (seen d) _ _ _ noStep (l .loop-test .taken) (held (l .before .before)) e) ∙ l .before .loop .inv .1)
+    (search needs, any-more (unanswered d) (rest-next _ _ _ zeroStep (l .loop-test .taken) (held (l .before .before))) false false (sym e) ∙ l .before .loop .inv .1)
 
 returns-2 : tie.Need-returns-2 Inv-loop μ-loop
 unfolding finished memberOf
-returns-2 c = ap not (sym (any-end (seen (c .before .before .args .device)) _ _ _ (c .before .loop .inv .0) (c .loop-test .left)) ∙ c .before .loop .inv .1)
+returns-2 c = ap not (sym (any-end (unanswered (c .before .before .args .device)) (rest-none _ _ _ (c .before .loop .inv .0) (c .loop-test .left)) false) ∙ c .before .loop .inv .1)
 
 pub has-finished-spec : {M : Type 1} → statement M
 has-finished-spec =

@@ -8,7 +8,8 @@ use Rattle.routine.proofs.Laws.{length-mapped}
 use Rattle.rules.specs.Progress.{isInFlight}
 use Rattle.slot.specs.View.{stepsIn}
 use Rattle.slot.specs.Places.{firstAt}
-use Rattle.slot.proofs.ProgressLaws.{rest, first-more, first-found, first-end}
+use Rattle.slot.proofs.Laws.{steps-held, rest}
+use Rattle.slot.proofs.ProgressLaws.{first-here, first-more, first-end}
 use Rattle.slot.proofs.progress.in_flight_at.Statement.{statement}
 use Rattle.slot.proofs.progress.in_flight_at.Tie as tie
 
@@ -20,10 +21,7 @@ abbrev μ-loop : tie.MeasureT-loop
 
 -- the array holds the routine's steps
 held : (c : tie.Start Inv-loop μ-loop) → c .args .t1 .count ≤ length (c .args .t1 .steps)
-held c =
-    let n : length (c .args .t1 .steps) ≡ 8 = search (needs, length-mapped) in
-    let f = c .pre .fits in
-    omega arith
+held c = steps-held (c .args .t1) (c .pre) (search (needs, length-mapped))
 
 loop-holds : tie.Need-loop-holds Inv-loop μ-loop
 loop-holds c = (search needs, omega arith)
@@ -40,7 +38,7 @@ is-in-flight-requires c κs = search needs
 returns : tie.Need-returns Inv-loop μ-loop
 returns c =
     let l = c .before .before .before in
-    sym (first-found (λ x. isInFlight (x .status)) _ _ _ _ (l .loop-test .taken) (held (l .before .before)) (sym (c .before .is-in-flight .ensures) ∙ c .if1 .taken)) ∙ l .before .loop .inv .1
+    sym (first-here (λ x. isInFlight (x .status)) _ _ _ _ (l .loop-test .taken) (held (l .before .before)) (sym (c .before .is-in-flight .ensures) ∙ c .if1 .taken)) ∙ l .before .loop .inv .1
 
 add-j : tie.Need-add-j Inv-loop μ-loop
 add-j c = search needs

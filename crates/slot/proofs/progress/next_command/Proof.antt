@@ -1,20 +1,17 @@
 -- `slot::progress::next_command` meets its contract. Assumes nothing.
 use borrow.Author.Needs.{needs}
 use Prim.Native.Nat.{_≤_}
-use native.Mathlib.Omega.{arith}
-use mathlib.Core.Path.{_≡_, sym}
+use mathlib.Core.Path.{sym}
 use lib.ListN.{length}
 use Rattle.routine.proofs.Laws.{length-mapped}
+use Rattle.slot.proofs.Laws.{steps-held}
 use Rattle.slot.proofs.ProgressLaws.{next-none, next-found}
 use Rattle.slot.proofs.progress.next_command.Statement.{statement}
 use Rattle.slot.proofs.progress.next_command.Tie as tie
 
 -- the array holds the routine's steps
 held : (c : tie.Start) → c .args .t1 .count ≤ length (c .args .t1 .steps)
-held c =
-    let n : length (c .args .t1 .steps) ≡ 8 = search (needs, length-mapped) in
-    let f = c .pre .fits in
-    omega arith
+held c = steps-held (c .args .t1) (c .pre) (search (needs, length-mapped))
 
 to-do-at-requires : tie.Need-to-do-at-requires
 to-do-at-requires c κs = search needs

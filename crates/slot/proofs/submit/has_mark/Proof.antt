@@ -4,7 +4,7 @@ use borrow.Author.Tests.{eq-eqb, ne-eqb}
 use Prim.Native.Nat.{ℕ, _-_, _<_, _≤_}
 use native.Mathlib.Omega.{arith}
 use mathlib.Core.Path.{_≡_, refl, sym, ap, _∙_}
-use mathlib.Core.Bool.{Bool}
+use mathlib.Core.Bool.{Bool, false}
 use mathlib.Core.List.{List}
 use lib.Dec.{eqb}
 use lib.ListN.{length, take, getD}
@@ -14,7 +14,8 @@ use Rattle.routine.specs.declared.Command.{Command}
 use Rattle.routine.proofs.Laws.{length-mapped, commandsOf-held}
 use Rattle.rules.specs.Tables.{anyOf}
 use Rattle.slot.specs.View.{marksOf}
-use Rattle.slot.proofs.SubmitLaws.{command-at, any-here, any-more, any-end}
+use Rattle.slot.proofs.Laws.{slice-next, slice-none, any-end, any-here, any-more}
+use Rattle.slot.proofs.SubmitLaws.{command-at}
 use Rattle.slot.proofs.submit.has_mark.Statement.{statement}
 use Rattle.slot.proofs.submit.has_mark.Tie as tie
 
@@ -67,7 +68,7 @@ returns : tie.Need-returns Inv-loop μ-loop
 returns c =
     let l = c .before .before .before .before in
     let s = l .before in
-    sym (whole s (marked (s .args .t1) (s .args .id)) ∙ sym (l .loop .inv .1) ∙ any-here _ _ _ _ (c .before .before .before .loop-test .taken) (held s) (eq-eqb _ _ (c .if1 .taken)))
+    sym (whole s (marked (s .args .t1) (s .args .id)) ∙ sym (l .loop .inv .1) ∙ any-here _ (slice-next _ _ _ zeroCommand (c .before .before .before .loop-test .taken) (held s)) (eq-eqb _ _ (c .if1 .taken)))
 
 add-j : tie.Need-add-j Inv-loop μ-loop
 add-j c = search needs
@@ -79,13 +80,13 @@ loop-again : tie.Need-loop-again Inv-loop μ-loop
 loop-again c =
     let l = c .before .before .before .before in
     let s = l .before in
-    (search needs, sym (any-more (marked (s .args .t1) (s .args .id)) _ _ _ (c .before .before .before .loop-test .taken) (held s) (ne-eqb _ _ (c .if1 .left))) ∙ l .loop .inv .1)
+    (search needs, any-more (marked (s .args .t1) (s .args .id)) (slice-next _ _ _ zeroCommand (c .before .before .before .loop-test .taken) (held s)) false false (sym (ne-eqb _ _ (c .if1 .left))) ∙ l .loop .inv .1)
 
 returns-2 : tie.Need-returns-2 Inv-loop μ-loop
 returns-2 c =
     let l = c .before in
     let s = l .before in
-    sym (whole s (marked (s .args .t1) (s .args .id)) ∙ sym (l .loop .inv .1) ∙ any-end _ _ _ _ (l .loop .inv .0) (c .loop-test .left))
+    sym (whole s (marked (s .args .t1) (s .args .id)) ∙ sym (l .loop .inv .1) ∙ any-end _ (slice-none _ _ _ (l .loop .inv .0) (c .loop-test .left)) false)
 
 pub has-mark-spec : {M : Type 1} → statement M
 has-mark-spec =
