@@ -5,8 +5,8 @@
 
 A record (two bytes of length before it) is kind, N, K, the first id in four bytes, and then the calls, each 40 bytes long: a letter (`S` submission, `N` turn,
 `P` report, `C` cancel, `F` failure, `R` restart), a byte (the number of commands, the code, or the device), and then four bytes of id, two of setting, or four
-for each command; all low byte first. Or kind 1 and a book. What is printed for it are the lines of document 01's line program; of a book, `accepted` or the
-refusal. The output of the examples is that of document 01; the model must give it too. That of the histories is the model's.
+for each command; all low byte first. Or kind 1 and a book. What is printed for it are the lines of document 01's line program; of a book, a line for
+each routine and then `end`, or the refusal. The output of the examples is that of document 01; the model must give it too. That of the histories is the model's.
 """
 import os
 import random

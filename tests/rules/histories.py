@@ -10,10 +10,11 @@ def history(rng):
     first = rng.choice([1] * 9 + [LAST_ID - 9])
     # Weights of submission, turn, report, cancel, failure, restart, and a call that is odd.
     weights = rng.choice([[12, 40, 34, 3, 3, 4, 2], [10, 40, 34, 8, 1, 2, 1], [14, 34, 26, 3, 8, 12, 2], [60, 20, 10, 1, 1, 2, 3]])
+    devices = rng.choice([min(n, 4)] * 3 + [n])
     hub = Hub(n, k, first)
     calls, answers = [], []
     for _ in range(CALLS):
-        call = any_call(rng, hub, min(n, 4), weights)
+        call = any_call(rng, hub, devices, weights)
         calls.append(call)
         answers.append(hub.call(call))
     return (n, k, first), calls, answers, hub.lines()
@@ -35,7 +36,7 @@ def any_call(rng, hub, devices, weights):
     if not flying and kind == "report" and rng.random() < 0.9:
         kind = "turn"
     if kind == "submit":
-        return ("submit", [(rng.randrange(devices), rng.randrange(2), rng.choice([-1000, -3, 0, 5, 5, 70, 1000])) for _ in range(rng.randint(1, 4))])
+        return ("submit", [(rng.randrange(devices), rng.randrange(2), rng.choice([-1000, -3, 0, 5, 5, 70, 1000])) for _ in range(rng.choice([1, 1, 2, 2, 3, 4, 8]))])
     if kind == "turn":
         return ("turn", pick(rng, [r for r in running if r.flight is None], hub))
     if kind == "report":

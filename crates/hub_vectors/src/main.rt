@@ -10,17 +10,6 @@ ghost use Rattle.hub.specs.Valid.{Valid};
 // A record's first byte: is it a book?
 const BOOK: usize = 1;
 
-// A book: whether it is accepted.
-fn run_book(book: &[u8]) {
-    let verdict = book::check(book);
-    let Verdict::Refused(refusal) = verdict else {
-        io::write_all(STDOUT_FILENO, b"accepted\n");
-        return;
-    };
-    book_print::print_refusal(refusal);
-    io::write_all(STDOUT_FILENO, b"\n");
-}
-
 // The calls behind the opening, and then the device lines.
 fn run_calls(opened: hub::Hub, bytes: &[u8])
     requires { ⌜ Valid opened ⌝ }
@@ -51,7 +40,7 @@ fn run_hub(bytes: &[u8]) {
 fn run_record(bytes: &[u8]) {
     if records::byte_at(bytes, 0) == BOOK {
         if 0 < bytes.len() {
-            run_book(&bytes[1..]);
+            book_print::print_book(&bytes[1..]);
         }
         return;
     }

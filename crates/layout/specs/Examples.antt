@@ -15,7 +15,8 @@ use Rattle.layout.specs.Numbers.{twoBytes, fourBytes, twoAt, fourAt, bit
 use Rattle.layout.specs.Layout.{commandBytes, bookBytes, countOf, offsetAt, lengthAt, commandAt}
 use Rattle.layout.specs.Reading.{headCheck, lengthFits, placedCheck, placedChecks, bookCheck, pairNext, nextOf}
 use Rattle.layout.specs.Writing.{routinesCheck, writeCheck, writtenOf, bufferAfter}
-use Rattle.layout.specs.declared.Item.the-variants.{Handed, End}
+use Rattle.layout.specs.declared.Item.{Item}
+use Rattle.layout.specs.declared.Item.the-variants.{Handed, End, Refused as NotRead}
 use Rattle.layout.specs.declared.Written.the-variants.{Length, Refused as NotWritten}
 
 -- All that a computation opens.
@@ -26,13 +27,14 @@ calc = tt
 abbrev command : ℕ → ℕ → ℤ → Command
 command d t s = record { device = d; tag = t; setting = s }
 
--- A book, and what the check of it gives.
+-- A book, what the check of it gives, and what reading it gives first.
 pub record Example : Type 0 where
   pub book : List ℕ
   pub verdict : Verdict
+  pub first : Item
 
 abbrev pub Holds : Example → Type 0
-Holds e = bookCheck (e .book) ≡ e .verdict
+Holds e = (bookCheck (e .book) ≡ e .verdict) × (nextOf (e .book) 0 .item ≡ e .first)
 
 abbrev pub AllHold : List Example → Type 0
 AllHold [] = Unit {0}
@@ -40,11 +42,11 @@ AllHold (e ∷ l) = Holds e × AllHold l
 
 -- ★ "Book `00 00` is empty and accepted"
 abbrev pub emptyBook : Example
-emptyBook = record { book = 0 ∷ 0 ∷ []; verdict = Accepted }
+emptyBook = record { book = 0 ∷ 0 ∷ []; verdict = Accepted; first = End }
 
 -- ★ "`00` is refused (18)"
 abbrev pub cutBook : Example
-cutBook = record { book = 0 ∷ []; verdict = Refused (Number 18) }
+cutBook = record { book = 0 ∷ []; verdict = Refused (Number 18); first = NotRead (Number 18) }
 
 -- Those with ★.
 abbrev pub bookExamples : List Example
@@ -52,7 +54,7 @@ bookExamples = emptyBook ∷ cutBook ∷ []
 
 pub book-examples-hold : AllHold bookExamples
 unfolding calc
-book-examples-hold = (refl, (refl, tt))
+book-examples-hold = ((refl, refl), ((refl, refl), tt))
 
 -- Two routines, of two commands and one: device 0 to 50 and lamp 31, best-effort, to −1,000; device 0 to 70.
 abbrev two : List (List Command)

@@ -9,7 +9,7 @@ use lib.Dec.{eqb}
 use Rattle.routine.specs.Choice.{if_then_else_}
 use Rattle.routine.specs.Routine.{zeroCommand}
 use Rattle.routine.specs.declared.Command.{Command}
-use Rattle.rules.specs.Tables.{put}
+use Rattle.rules.specs.Tables.{put, Each}
 use Rattle.rules.specs.State.{Member, State}
 use Rattle.rules.specs.Answers.{Call, failure, restart, Answer, down, up, Result}
 use Rattle.rules.specs.Progress.{Flight, flight}
@@ -23,7 +23,7 @@ use Rattle.rules.specs.Order.{Event, failure-of, restart-of}
 use Rattle.rules.specs.Demand3.{doneOnes}
 use Rattle.rules.specs.HubOrder.{doneSteps}
 use Rattle.rules.specs.Attach.{attach, oneRestart}
-use Rattle.rules.proofs.Lists.{byIf, put-same, put-other, put-keeps, fold-++, Each, each-mid, each-drop, each-insert, NotIn, ids-fresh, ids-right}
+use Rattle.rules.proofs.Lists.{byIf, put-same, put-other, put-keeps, fold-++, each-mid, each-drop, each-insert, NotIn, ids-fresh, ids-right}
 use Rattle.rules.proofs.Groups.{Group, ids, alone, with, leaving, attachEvent, other-ids}
 use Rattle.rules.proofs.Same.{Pairwise, Same, same-refl, same-placed, same-leaving, same-attached, same-each}
 use Rattle.rules.proofs.Steps.{leftSteps, answeredSteps, send-step, skip-step, done-step, done-gains, fail-step, fail-done, Fresh, fresh-newcomer}

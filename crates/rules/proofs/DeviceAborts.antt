@@ -9,7 +9,7 @@ use borrow.Author.Tests.{eqb-true, eq-eqb, ne-eqb}
 use lib.Dec.{eqb}
 use lib.IntN.{ℤ}
 use Rattle.routine.specs.Choice.{if_then_else_}
-use Rattle.rules.specs.Tables.{anyOf, put, sameSetting}
+use Rattle.rules.specs.Tables.{anyOf, put, sameSetting, Each}
 use Rattle.rules.specs.State.{Member, State}
 use Rattle.rules.specs.Answers.{Call, failure, restart, Back, Answer, down, up, Result}
 use Rattle.rules.specs.Progress.{inFlightOn}
@@ -20,7 +20,7 @@ use Rattle.rules.specs.History.{Account, noteAnswer, noteAnswers}
 use Rattle.rules.specs.Order.{Event, failure-of, restart-of}
 use Rattle.rules.specs.World.{sent-for, Message, Device, receives, putBack, putAllBack, drops, dropReported, devicesAfter, devicesAfterAll}
 use Rattle.rules.specs.Attach.{attachTo, settleRestarts, attachAt, attach, oneRestart}
-use Rattle.rules.proofs.Lists.{byIf, t≠f, this-or-other, same-setting, put-same, put-other, put-keeps, fold-++, Each, each-++, each-right, each-mid, each-drop, NotIn}
+use Rattle.rules.proofs.Lists.{byIf, t≠f, this-or-other, same-setting, put-same, put-other, put-keeps, fold-++, each-++, each-right, each-mid, each-drop, NotIn}
 use Rattle.rules.proofs.Groups.{Group, members, ids, foundAt, leaving, attachEvent, other-ids}
 use Rattle.rules.proofs.Same.{Pairwise, Same, same-leaving, same-attached}
 use Rattle.rules.proofs.Steps.{flight-on}

@@ -13,7 +13,8 @@ use Rattle.rules.specs.Report.{codeDone, skipReport}
 use Rattle.rules.specs.History.{Account}
 use Rattle.rules.specs.Order.{Event}
 use Rattle.rules.specs.World.{Device}
-use Rattle.rules.proofs.Lists.{Each, each-mid}
+use Rattle.rules.specs.Tables.{Each}
+use Rattle.rules.proofs.Lists.{each-mid}
 use Rattle.rules.proofs.Groups.{Group, with, foundAt}
 use Rattle.rules.proofs.Invariant.{HubOk, FliesUp, EventsOk, Tells, DeviceOk, Honest}
 use Rattle.rules.proofs.View.{failedMember, Moves, places, commits, sends, skips, dones, misses, aborts, fails, restarts}

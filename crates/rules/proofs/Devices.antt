@@ -10,7 +10,7 @@ use borrow.Author.Tests.{eq-eqb, ne-eqb}
 use lib.IntN.{ℤ}
 use Rattle.routine.specs.Choice.{if_then_else_}
 use Rattle.routine.specs.declared.Command.{Command}
-use Rattle.rules.specs.Tables.{put, sameSetting}
+use Rattle.rules.specs.Tables.{put, sameSetting, Each}
 use Rattle.rules.specs.State.{Step, Member, State}
 use Rattle.rules.specs.Answers.{Call, submit, turn, report, placed, Result}
 use Rattle.rules.specs.Progress.{inFlightOn, next, Flight, flight, withSteps}
@@ -21,7 +21,7 @@ use Rattle.rules.specs.Report.{doneReport, backIfChanged, skippedState, 
 use Rattle.rules.specs.Submit.{blocks, upToLast, pastLast, pass, newcomer, place}
 use Rattle.rules.specs.History.{reported-done, reported-failed, not-sent, Account, placedAccount, sentAccount, answeredAccount}
 use Rattle.rules.specs.World.{Origin, sent-for, Message, Device, receives, putAllBack, without, drops}
-use Rattle.rules.proofs.Lists.{byIf, t≠f, this-or-other, same-setting, put-same, put-other, Each, each-++, each-right, each-mid, each-map, ids-fresh}
+use Rattle.rules.proofs.Lists.{byIf, t≠f, this-or-other, same-setting, put-same, put-other, each-++, each-right, each-mid, each-map, ids-fresh}
 use Rattle.rules.proofs.Groups.{Group, members, ids, alone, with, passAll, foundAt, members-++, other-ids}
 use Rattle.rules.proofs.Same.{same-placed}
 use Rattle.rules.proofs.Steps.{InTurn, send-step, skip-step, done-step, done-after, fail-step, fail-after, grounded, unbegun-after, fresh-newcomer}

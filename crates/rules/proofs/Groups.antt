@@ -16,7 +16,8 @@ use Rattle.rules.specs.Submit.{pass}
 use Rattle.rules.specs.Order.{Event, failure-of, restart-of, Entry, routine, event}
 use Rattle.rules.specs.HubOrder.{entryOf}
 use Rattle.rules.specs.Attach.{later, attachTo, oneRestart}
-use Rattle.rules.proofs.Lists.{byIf, Each, NotIn, In, IdsOk, ids-other, ids-not-zero, in-other}
+use Rattle.rules.specs.Tables.{Each}
+use Rattle.rules.proofs.Lists.{byIf, NotIn, In, IdsOk, ids-other, ids-not-zero, in-other}
 
 pub record Group : Type 0 where
   pub member : Member

@@ -8,7 +8,7 @@ use lib.Dec.{eqb}
 use lib.IntN.{ℤ, pos}
 use Rattle.routine.specs.Choice.{if_then_else_}
 use Rattle.routine.specs.declared.Command.{Command}
-use Rattle.rules.specs.Tables.{anyOf}
+use Rattle.rules.specs.Tables.{anyOf, Each}
 use Rattle.rules.specs.State.{State}
 use Rattle.rules.specs.Answers.{Call, submit, turn, report, failure, restart, cancel}
 use Rattle.rules.specs.Progress.{begun, finished, inFlightOn, Flight, flight}
@@ -20,7 +20,7 @@ use Rattle.rules.specs.Order.{Event, failure-of, restart-of, Entry, rout
 use Rattle.rules.specs.World.{Origin, put-back, sent-for, sameOrigin, Message, Device}
 use Rattle.rules.specs.Demand3.{doneOnes}
 use Rattle.rules.specs.HubOrder.{doneSteps}
-use Rattle.rules.proofs.Lists.{Each, IdsOk}
+use Rattle.rules.proofs.Lists.{IdsOk}
 use Rattle.rules.proofs.Groups.{Group, members, ids, flat, entryIds, isOf, lastRestart}
 use Rattle.rules.proofs.Steps.{InTurn, leftSteps, answeredSteps}
 

@@ -10,7 +10,7 @@ use lib.Dec.{eqb}
 use lib.IntN.{ℤ, pos, negsuc}
 use Rattle.routine.specs.Choice.{if_then_else_}
 use Rattle.routine.proofs.Laws.{or-false, and-true}
-use Rattle.rules.specs.Tables.{anyOf, put, sameSetting}
+use Rattle.rules.specs.Tables.{anyOf, Each, put, sameSetting}
 
 -- ---- tests
 
@@ -75,10 +75,6 @@ fold-++ all n c [] l a = ap (all l) (sym (n a))
 fold-++ all n c (x ∷ k) l a = c x (k ++ l) a ∙ fold-++ all n c k l (all (x ∷ []) a) ∙ ap (all l) (sym (c x k a))
 
 -- ---- predicates over lists
-
-abbrev pub Each {ℓ} : {A : Type ℓ} → (A → Type 0) → List A → Type 0
-Each P [] = Unit {0}
-Each P (x ∷ l) = P x × Each P l
 
 pub each-++ {ℓ} : {A : Type ℓ} (P : A → Type 0) (a b : List A) → Each P a → Each P b → Each P (a ++ b)
 each-++ P [] b h k = k

@@ -10,7 +10,7 @@ use native.Mathlib.Omega.{arith}
 use borrow.Author.Tests.{not-true, not-false}
 use Rattle.routine.specs.Choice.{if_then_else_}
 use Rattle.routine.specs.declared.Command.{Command}
-use Rattle.rules.specs.Tables.{anyOf}
+use Rattle.rules.specs.Tables.{anyOf, Each}
 use Rattle.rules.specs.State.{Member, State}
 use Rattle.rules.specs.Progress.{begun, finished, next, Flight, flight}
 use Rattle.rules.specs.Due.{due}
@@ -18,7 +18,7 @@ use Rattle.rules.specs.Sequence.{isRunning, withMark, change}
 use Rattle.rules.specs.Turn.{holds, firstHolding, markBegun, commit, commitTurn, sendTurn, skipTurn}
 use Rattle.rules.specs.Report.{doneReport, skippedState, skipReport}
 use Rattle.rules.specs.Events.{isHalfway}
-use Rattle.rules.proofs.Lists.{byIf, t≠f, and-left, and-right, this-or-other, put-same, put-other, Each, each-++, each-left, each-right, each-mid, each-swap, IsNot, NotIn, In, IdsOk, ids-other, ids-not-zero}
+use Rattle.rules.proofs.Lists.{byIf, t≠f, and-left, and-right, this-or-other, put-same, put-other, each-++, each-left, each-right, each-mid, each-swap, IsNot, NotIn, In, IdsOk, ids-other, ids-not-zero}
 use Rattle.rules.proofs.Groups.{Group, members, ids, isOf, with, foundAt, members-++, ids-++, ids-swap}
 use Rattle.rules.proofs.Steps.{InTurn, AnsweredOne, send-step, skip-step, done-step, fail-step, none-left, left-finished, left-grounded}
 use Rattle.rules.proofs.Invariant.{Quiet, Fin, AtMark, whole, part, Upto, here, there, MarkOk, unmarked, marked, Shut, Turns, HubOk}

@@ -11,7 +11,7 @@ use borrow.Author.Tests.{eqb-true, eq-eqb, ne-eqb}
 use lib.Dec.{eqb}
 use lib.IntN.{ℤ}
 use Rattle.routine.specs.Choice.{if_then_else_}
-use Rattle.rules.specs.Tables.{anyOf, put}
+use Rattle.rules.specs.Tables.{anyOf, put, Each}
 use Rattle.rules.specs.State.{State}
 use Rattle.rules.specs.Answers.{Call, Result}
 use Rattle.rules.specs.Progress.{inFlightOn, Flight, flight}
@@ -19,7 +19,7 @@ use Rattle.rules.specs.Due.{due}
 use Rattle.rules.specs.Settle.{settle}
 use Rattle.rules.specs.History.{Outcome, Account, answeredAccount, endedAccount, noteAnswers}
 use Rattle.rules.specs.World.{Origin, put-back, sent-for, sameOrigin, Message, Device, takes, without, drops, devicesAfterAll}
-use Rattle.rules.proofs.Lists.{byIf, t≠f, eqb-sym, put-other, Each, each-mid, each-drop, each-insert, each-map, NotIn, In, in-other}
+use Rattle.rules.proofs.Lists.{byIf, t≠f, eqb-sym, put-other, each-mid, each-drop, each-insert, each-map, NotIn, In, in-other}
 use Rattle.rules.proofs.Groups.{Group, members, ids, stillHeld, each-held}
 use Rattle.rules.proofs.Same.{Pairwise, pair, Same, same-each}
 use Rattle.rules.proofs.Steps.{InTurn, done-step, finished-grounded, unbegun-grounded}

@@ -11,7 +11,7 @@ use lib.Dec.{leb, eqb}
 use lib.IntN.{ℤ}
 use Rattle.routine.specs.Choice.{if_then_else_}
 use Rattle.routine.specs.declared.Command.{Command}
-use Rattle.rules.specs.Tables.{anyOf}
+use Rattle.rules.specs.Tables.{anyOf, Each}
 use Rattle.rules.specs.State.{Member, State}
 use Rattle.rules.specs.Answers.{Result}
 use Rattle.rules.specs.Progress.{isOn, isAnswered, begun, finished}
@@ -22,7 +22,7 @@ use Rattle.rules.specs.Submit.{blocks, upToLast, pastLast, stepOf, newco
 use Rattle.rules.specs.Events.{isHalfway}
 use Rattle.rules.specs.Order.{Event, failure-of, restart-of}
 use Rattle.rules.specs.Attach.{attachTo, attachAt, attach, oneRestart}
-use Rattle.rules.proofs.Lists.{byIf, t≠f, or-left, or-right, this-or-other, Each, each-++, each-left, each-right, each-mid, each-drop, each-insert, each-map, anyOf-++, IsNot, NotIn, IdsOk, ids-drop, ids-insert, ids-left, ids-other, ids-not-zero, in-other}
+use Rattle.rules.proofs.Lists.{byIf, t≠f, or-left, or-right, this-or-other, each-++, each-left, each-right, each-mid, each-drop, each-insert, each-map, anyOf-++, IsNot, NotIn, IdsOk, ids-drop, ids-insert, ids-left, ids-other, ids-not-zero, in-other}
 use Rattle.rules.proofs.Groups.{Group, members, ids, deviceOf, isOf, alone, passAll, foundAt, addEvents, addToLast, leaving, addEvent, attachEvent, stillHeld, members-++, ids-++, members-pass, added-is, attach-miss, last-in, last-not-zero}
 use Rattle.rules.proofs.Same.{Pairwise, pair, pairs-each, pairs-placed, pairs-last, pairs-attached, Same, same-refl, same-pass, same-moved, same-added, same-placed, same-leaving, same-attached, same-each, same-ids}
 use Rattle.rules.proofs.Steps.{InTurn, leftSteps, fresh-newcomer}

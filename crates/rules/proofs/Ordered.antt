@@ -9,7 +9,7 @@ use lib.Dec.{eqb}
 use lib.IntN.{ℤ, pos}
 use Rattle.routine.specs.Choice.{if_then_else_}
 use Rattle.routine.specs.declared.Command.{Command}
-use Rattle.rules.specs.Tables.{put}
+use Rattle.rules.specs.Tables.{put, Each}
 use Rattle.rules.specs.State.{Step, Member, State}
 use Rattle.rules.specs.Answers.{Call, failure, restart, Answer, down, up, Result}
 use Rattle.rules.specs.Sequence.{lastIdOr, withSequence, withUp, withMark}
@@ -22,7 +22,7 @@ use Rattle.rules.specs.History.{Account}
 use Rattle.rules.specs.Order.{Event, failure-of, restart-of, Entry, routine, event, Order, beforeNext, behindRoutine, hasRoutine, putAfter, edit, editOrder, goes, gains, noted, orderAfter, orderAfterAll, entries}
 use Rattle.rules.specs.HubOrder.{doneSteps, entryOf}
 use Rattle.rules.specs.Attach.{settleRestarts, attach, oneRestart}
-use Rattle.rules.proofs.Lists.{eqb-sym, fold-++, Each, each-left, each-right, each-mid, each-insert, each-swap, IsNot, NotIn, IdsOk, ids-drop, ids-insert, ids-other, ids-not-zero, ids-left, ids-right}
+use Rattle.rules.proofs.Lists.{eqb-sym, fold-++, each-left, each-right, each-mid, each-insert, each-swap, IsNot, NotIn, IdsOk, ids-drop, ids-insert, ids-other, ids-not-zero, ids-left, ids-right}
 use Rattle.rules.proofs.Groups.{Group, members, ids, flat, entryIds, deviceOf, lastRestart, alone, with, changed, passAll, foundAt, leaving, leadOf, addEvent, attachEvent, leadWith, ids-++, flat-++, ids-swap, flat-pass, events-++, flat-leaving, flat-cut, flat-added, attach-miss, attach-hit, last-not-zero}
 use Rattle.rules.proofs.Same.{same-placed, same-leaving, same-attached, same-ids}
 use Rattle.rules.proofs.Steps.{send-step, skip-step, done-gains, fail-done, fresh-newcomer}

@@ -8,7 +8,8 @@ use lib.IntN.{ℤ}
 use Rattle.rules.specs.Submit.{pass}
 use Rattle.rules.specs.Order.{Event}
 use Rattle.rules.specs.Attach.{attachTo}
-use Rattle.rules.proofs.Lists.{byIf, Each}
+use Rattle.rules.specs.Tables.{Each}
+use Rattle.rules.proofs.Lists.{byIf}
 use Rattle.rules.proofs.Groups.{Group, ids, lastRestart, with, passAll, addEvents, addToLast, leaving, addEvent, attachEvent, added-is}
 
 -- ---- two lists, one by one

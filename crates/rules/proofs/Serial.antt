@@ -7,7 +7,7 @@ use lib.Dec.{eqb}
 use lib.IntN.{ℤ, pos}
 use Rattle.routine.specs.Choice.{if_then_else_}
 use Rattle.routine.specs.declared.Command.{Command}
-use Rattle.rules.specs.Tables.{put}
+use Rattle.rules.specs.Tables.{put, Each}
 use Rattle.rules.specs.State.{State}
 use Rattle.rules.specs.Sequence.{withSequence}
 use Rattle.rules.specs.Due.{afterMember, afterMembers, due}
@@ -16,7 +16,7 @@ use Rattle.rules.specs.Order.{Event, failure-of, restart-of, Entry, rout
 use Rattle.rules.specs.Serial.{DeviceState, runCommand, runCommands, serialRun}
 use Rattle.rules.specs.Demand3.{Begins}
 use Rattle.rules.specs.HubOrder.{doneSteps, entryOf}
-use Rattle.rules.proofs.Lists.{byIf, eqb-sym, put-keeps, Each, IdsOk}
+use Rattle.rules.proofs.Lists.{byIf, eqb-sym, put-keeps, IdsOk}
 use Rattle.rules.proofs.Groups.{Group, members, ids, flat, entryIds, stillHeld, entryIds-++, entryIds-events}
 use Rattle.rules.proofs.Invariant.{HubOk, FirstRuns, setCommands, setAfter, upAfter, EventsOk, OrderOk}
 use Rattle.rules.proofs.Runs.{set-++, set-flat, settled-alone}

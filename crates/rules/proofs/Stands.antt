@@ -8,7 +8,7 @@ use borrow.Author.Tests.{eqb-false, eq-eqb, ne-eqb}
 use lib.Dec.{eqb}
 use Rattle.routine.specs.Choice.{if_then_else_}
 use Rattle.routine.specs.declared.Command.{Command}
-use Rattle.rules.specs.Tables.{anyOf, put}
+use Rattle.rules.specs.Tables.{anyOf, put, Each}
 use Rattle.rules.specs.State.{Step, State}
 use Rattle.rules.specs.Answers.{Call, failure, restart, Answer, down, up, Result}
 use Rattle.rules.specs.Sequence.{withUp}
@@ -21,7 +21,7 @@ use Rattle.rules.specs.Order.{Event, failure-of, restart-of, Entry, rout
 use Rattle.rules.specs.Serial.{DeviceState, allUp, runEntry}
 use Rattle.rules.specs.Demand3.{Finds, afterAnswered, AllFind, doneOnes, CommandsStand}
 use Rattle.rules.specs.HubOrder.{doneSteps}
-use Rattle.rules.proofs.Lists.{or-left, or-right, put-same, put-other, put-keeps, Each, each-++, each-left, each-right, each-mid, IsNot, NotIn, IdsOk, ids-fresh, ids-other}
+use Rattle.rules.proofs.Lists.{or-left, or-right, put-same, put-other, put-keeps, each-++, each-left, each-right, each-mid, IsNot, NotIn, IdsOk, ids-fresh, ids-other}
 use Rattle.rules.proofs.Groups.{Group, ids, flat, entryIds, deviceOf, alone, changed, passAll, leaving, leadOf, attachEvent, leadWith, flat-++, entryIds-++, entryIds-flat, flat-pass, flat-leaving}
 use Rattle.rules.proofs.Steps.{leftSteps, skip-step, done-step, fail-step, unbegun-answered}
 use Rattle.rules.proofs.Invariant.{Quiet, HubOk, FliesUp, upEvent, upAfter, OrderOk, commandsIn, Tells}

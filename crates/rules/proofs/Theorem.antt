@@ -13,7 +13,7 @@ use Rattle.routine.specs.Refusals.{devices-out-of-range, pass-limit-out-of-rang
 use Rattle.routine.specs.declared.Verdict.{Verdict}
 use Rattle.routine.specs.declared.Verdict.the-variants.{Accepted, Refused}
 use Rattle.routine.proofs.Laws.{both-accept, not-refused}
-use Rattle.rules.specs.Tables.{anyOf}
+use Rattle.rules.specs.Tables.{anyOf, Each}
 use Rattle.rules.specs.State.{highestPassLimit, State}
 use Rattle.rules.specs.Answers.{Call, submit, turn, report, failure, restart, cancel, Answer, refused, wait, Result}
 use Rattle.rules.specs.Due.{due}
@@ -30,7 +30,7 @@ use Rattle.rules.specs.World.{Message, Device, takes, World, Act, calls,
 use Rattle.rules.specs.Demand3.{orderIn, NoneRuns, isBack, committedPart, EndState, Begins, CommandsStand, Statement}
 use Rattle.rules.specs.HubOrder.{entryOf, routinesIn, OrderIsHubs}
 use Rattle.rules.specs.Attach.{oneRestart, attach}
-use Rattle.rules.proofs.Lists.{byIf, t≠f, fold-++, Each, anyOf-++}
+use Rattle.rules.proofs.Lists.{byIf, t≠f, fold-++, anyOf-++}
 use Rattle.rules.proofs.Groups.{Group, members, flat, stillHeld, each-held}
 use Rattle.rules.proofs.Invariant.{unmarked, HubOk, FliesUp, FirstRuns, OrderOk, Tells, backTo, Comes, has, goes-back, OneFlies, DeviceAt, dead, free, busy, DeviceOk, Honest}
 use Rattle.rules.proofs.View.{Gone, nobody, somebody, Moves, places, commits, sends, skips, dones, misses, aborts, fails, restarts, Seen, is-refused, waits, moves, see}

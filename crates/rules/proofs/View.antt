@@ -13,7 +13,7 @@ use Rattle.routine.specs.declared.Command.{Command}
 use Rattle.routine.specs.declared.Refusal.{Refusal}
 use Rattle.routine.specs.declared.Verdict.{Verdict}
 use Rattle.routine.specs.declared.Verdict.the-variants.{Accepted, Refused}
-use Rattle.rules.specs.Tables.{anyOf, put}
+use Rattle.rules.specs.Tables.{anyOf, put, Each}
 use Rattle.rules.specs.State.{in-flight, was-done, was-skipped, Member, State}
 use Rattle.rules.specs.Answers.{Call, submit, turn, report, failure, restart, cancel, refused, placed, wait, down, up, Result, unlessRefused}
 use Rattle.rules.specs.Progress.{isMust, next, Flight, flight, advance, answerFlight, withSteps}
@@ -29,7 +29,7 @@ use Rattle.rules.specs.Cancel.{cancelFound, cancelOf}
 use Rattle.rules.specs.Calls.{resultOf}
 use Rattle.rules.specs.Order.{Event, failure-of, restart-of}
 use Rattle.rules.specs.Attach.{attach, oneRestart}
-use Rattle.rules.proofs.Lists.{byIf, and-left, and-right, Each, each-map}
+use Rattle.rules.proofs.Lists.{byIf, and-left, and-right, each-map}
 use Rattle.rules.proofs.Groups.{Group, members, alone, with, passAll, foundAt, leaving, leadOf, attachEvent, leadWith}
 use Rattle.rules.proofs.Invariant.{Calm}
 

@@ -11,6 +11,11 @@ abbrev pub anyOf {ℓ} : {A : Type ℓ} → (A → Bool) → List A → Bool
 anyOf p [] = false
 anyOf p (x ∷ l) = p x || anyOf p l
 
+-- Does this hold of each of the list?
+abbrev pub Each {ℓ} : {A : Type ℓ} → (A → Type 0) → List A → Type 0
+Each P [] = Unit {0}
+Each P (x ∷ l) = P x × Each P l
+
 -- The table with v at i.
 abbrev pub put {ℓ} : {A : Type ℓ} → (ℕ → A) → ℕ → A → ℕ → A
 put f i v j = if eqb j i then v else f j

@@ -7,7 +7,8 @@ use native.Mathlib.Omega.{arith}
 use lib.ListN.{length, drop, take, getD, set, length-map, take-append-drop, drop-of-length-le, List·getD-map}
 use lib.Seq.{length-take-le, take-suc, drop-cons, split-at, getD-take, set-split, take-set-lt}
 use Rattle.rules.specs.State.{maxHeld, Member}
-use Rattle.rules.proofs.Lists.{Each, each-++, each-left, each-right}
+use Rattle.rules.specs.Tables.{Each}
+use Rattle.rules.proofs.Lists.{each-++, each-left, each-right}
 use Rattle.slot.specs.View.{memberOf}
 use Rattle.slot.specs.Valid.{SlotOk}
 use Rattle.slot.specs.declared.Slot.{Slot}

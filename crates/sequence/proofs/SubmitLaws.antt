@@ -20,7 +20,8 @@ use Rattle.slot.specs.View.{memberOf}
 use Rattle.slot.specs.Valid.{SlotOk}
 use Rattle.slot.specs.declared.Slot.{Slot}
 use Rattle.sequence.specs.View.{zeroSlot, membersOf, upTo, past}
-use Rattle.sequence.specs.Valid.{SequenceOk, Gap, CanPass, RoomToPass}
+use Rattle.slot.specs.Valid.{CanPass}
+use Rattle.sequence.specs.Valid.{SequenceOk, Gap, RoomToPass}
 use Rattle.sequence.specs.Tests.{blocksBy}
 use Rattle.sequence.specs.declared.Sequence.{Sequence}
 use Rattle.sequence.proofs.Laws.{length-membersOf, members-from, members-end, members-to, length-to, withSlot, slot-replaced}

@@ -1,3 +1,4 @@
 pub mod View
 pub mod Valid
 pub mod Tests
+pub mod Contract

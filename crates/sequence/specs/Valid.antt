@@ -1,12 +1,9 @@
 -- What holds of the sequence, and of places in it. Assumes nothing.
-use mathlib.Core.Path.{_≡_}
-use mathlib.Core.Bool.{true}
 use mathlib.Core.List.{List}
 use Prim.Native.Nat.{ℕ, _<_, _≤_}
 use Rattle.rules.specs.State.{maxHeld, Member}
-use Rattle.rules.specs.Sequence.{isRunning}
-use Rattle.rules.proofs.Lists.{Each}
-use Rattle.slot.specs.Valid.{SlotOk}
+use Rattle.rules.specs.Tables.{Each}
+use Rattle.slot.specs.Valid.{SlotOk, CanPass}
 use Rattle.sequence.specs.View.{slotsOf}
 use Rattle.sequence.specs.declared.Sequence.{Sequence}
 use Rattle.sequence.specs.declared.Place.{Place}
@@ -28,9 +25,6 @@ abbrev pub PlaceOk : Sequence → Place → Type 0
 PlaceOk q (At i) = Stands q i
 PlaceOk q Nowhere = Unit {0}
 
--- A pass count of 8 bits can count once more.
-abbrev pub CanPass : Member → Type 0
-CanPass m = isRunning m ≡ true → m .passed < 255
-
+-- Each of these can be passed once more.
 abbrev pub RoomToPass : List Member → Type 0
 RoomToPass l = Each CanPass l

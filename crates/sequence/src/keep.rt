@@ -76,7 +76,7 @@ pub fn replace(sequence: Sequence, at: usize, slot: Slot) -> Sequence
     changed
 }
 
-// The slots from a place on move up, and the place is free for another.
+// The slots from a place on move up, and another takes the place.
 fn shift_up(slots: [Slot; MAX_HELD], len: usize, at: usize, slot: Slot) -> [Slot; MAX_HELD]
     requires { ⌜ (len < maxHeld) × (at ≤ len) ⌝ }
     ensures { λ r. ⌜ take (len + 1) r ≡ take at (take len slots) ++ (slot ∷ drop at (take len slots)) ⌝ }

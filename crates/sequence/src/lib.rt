@@ -13,8 +13,8 @@ pub const MAX_HELD: usize = 16;
 
 // The first `len` of the slots, in the sequence's order.
 pub struct Sequence {
-    pub slots: [Slot; MAX_HELD],
-    pub len: usize,
+    slots: [Slot; MAX_HELD],
+    len: usize,
 }
 
 // Where a routine stands in the sequence.

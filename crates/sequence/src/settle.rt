@@ -7,12 +7,10 @@ use routine::MAX_DEVICES;
 use slot::due;
 ghost use mathlib.Core.Path.{_≡_};
 ghost use Prim.Native.Nat.{_<_};
-ghost use Rattle.rules.specs.State.{State};
 ghost use Rattle.rules.specs.Sequence.{moveMarks};
-ghost use Rattle.rules.specs.Settle.{settleFrom};
 ghost use Rattle.slot.specs.View.{marksOf};
-ghost use Rattle.sequence.specs.View.{membersOf, past, held};
-ghost use Rattle.sequence.specs.Valid.{SequenceOk, Gap};
+ghost use Rattle.sequence.specs.Valid.{SequenceOk};
+ghost use Rattle.sequence.specs.Contract.{JoinsCommitted, SettlesCommitted};
 
 // Marks that were one id become another.
 pub fn move_marks(marks: [u32; MAX_DEVICES], from: u32, to: u32) -> [u32; MAX_DEVICES]
@@ -38,8 +36,7 @@ fn join_committed(
     marks: [u32; MAX_DEVICES],
 ) -> Joined
     requires { ⌜ SequenceOk sequence ⌝ }
-    ensures { λ r. ⌜ (Gap sequence (r .count))
-        × ((s : State) → settleFrom (held s settings marks (membersOf sequence)) (membersOf sequence) ≡ held s (r .settings) (r .marks) (past sequence (r .count))) ⌝ }
+    ensures { λ r. ⌜ JoinsCommitted sequence settings marks r ⌝ }
 {
     let mut settled = settings;
     let mut moved = marks;
@@ -70,8 +67,7 @@ pub fn settle_committed(
     marks: [u32; MAX_DEVICES],
 ) -> Settled
     requires { ⌜ SequenceOk sequence ⌝ }
-    ensures { λ r. ⌜ (SequenceOk (r .sequence))
-        × ((s : State) → settleFrom (held s settings marks (membersOf sequence)) (membersOf sequence) ≡ held s (r .settings) (r .marks) (membersOf (r .sequence))) ⌝ }
+    ensures { λ r. ⌜ SettlesCommitted sequence settings marks r ⌝ }
 {
     let joined = join_committed(sequence, settings, marks);
     let count = joined.count;

@@ -11,11 +11,12 @@ ghost use Prim.Native.Nat.{_<_, _≤_};
 ghost use lib.ListN.{length};
 ghost use Rattle.routine.specs.Routine.{maxCommands, commandsOf};
 ghost use Rattle.rules.specs.State.{maxHeld};
-ghost use Rattle.rules.specs.Submit.{upToLast, pastLast, pass};
+ghost use Rattle.rules.specs.Submit.{pass};
 ghost use Rattle.slot.specs.View.{marksOf, memberOf};
 ghost use Rattle.slot.specs.Valid.{SlotOk, CommandsOk};
 ghost use Rattle.sequence.specs.View.{membersOf, upTo, past};
 ghost use Rattle.sequence.specs.Valid.{SequenceOk, Gap, RoomToPass};
+ghost use Rattle.sequence.specs.Contract.{PastLatest};
 ghost use Rattle.sequence.specs.Tests.{blocksBy};
 
 // Must a newcomer follow this routine? "the marks of its devices; every running routine that has been passed K times"
@@ -41,9 +42,7 @@ pub fn past_latest(
     routine: Routine,
 ) -> usize
     requires { ⌜ (SequenceOk sequence) × (routine .count ≤ maxCommands) × CommandsOk (commandsOf routine) ⌝ }
-    ensures { λ r. ⌜ (Gap sequence r)
-        × (upTo sequence r ≡ upToLast (blocksBy (marksOf marks) limit (commandsOf routine)) (membersOf sequence))
-        × (past sequence r ≡ pastLast (blocksBy (marksOf marks) limit (commandsOf routine)) (membersOf sequence)) ⌝ }
+    ensures { λ r. ⌜ PastLatest sequence (blocksBy (marksOf marks) limit (commandsOf routine)) r ⌝ }
 {
     let len = sequence.len;
     let mut at: usize = 0;

@@ -1,4 +1,4 @@
-// Passes along the sequence: what devices are due, and which have a command in flight. Document 01, "Abort of R".
+// Passes along the sequence: what devices are due, and which have a command in flight; and events attached to a routine of it. Document 01, "Abort of R".
 use crate::Place;
 use crate::Sequence;
 use crate::find;
@@ -54,16 +54,16 @@ pub fn in_flight(sequence: Sequence) -> [bool; MAX_DEVICES]
     requires { ⌜ SequenceOk sequence ⌝ }
     ensures { λ r. ⌜ flagsOf r ≡ (λ d. anyOf (inFlightOn d) (membersOf sequence)) ⌝ }
 {
-    let mut flying = [false; MAX_DEVICES];
+    let mut busy = [false; MAX_DEVICES];
     let len = sequence.len;
     let mut i: usize = 0;
     while i < len {
         let slot = sequence.slots[i];
-        let more = due::flights(flying, slot);
-        flying = more;
+        let more = due::flights(busy, slot);
+        busy = more;
         i += 1;
     }
-    flying
+    busy
 }
 
 // The routine with this id gets the restarts.

@@ -12,10 +12,10 @@ use lib.ListN.{length, take, getD, set, replicate, length-map, List·getD-map}
 use lib.Seq.{slice, slice-cons, slice-empty, length-take-le, getD-take, getD-set-same, getD-set-other}
 use Rattle.routine.specs.Choice.{if_then_else_}
 use Rattle.routine.specs.Routine.{maxDevices, maxCommands, zeroCommand}
-use Rattle.rules.specs.Tables.{anyOf, put}
+use Rattle.rules.specs.Tables.{anyOf, put, Each}
 use Rattle.rules.specs.State.{Step}
 use Rattle.rules.specs.Progress.{isOn, isAnswered}
-use Rattle.rules.proofs.Lists.{Each, eqb-sym}
+use Rattle.rules.proofs.Lists.{eqb-sym}
 use Rattle.slot.specs.View.{stepIn, stepsIn, stepsOf}
 use Rattle.slot.specs.Valid.{StepOk, SlotOk}
 use Rattle.slot.specs.declared.Stage.the-variants.{ToDo}

@@ -14,7 +14,7 @@ use Rattle.routine.specs.Choice.{if_then_else_}
 use Rattle.routine.proofs.Laws.{byTest}
 use Rattle.rules.specs.State.{Status, to-do, in-flight, was-done, was-skipped, Step}
 use Rattle.rules.specs.Progress.{isToDo, isInFlight, next, Flight, flightOr, flight, withStatus, advance, answerFlight, withSteps}
-use Rattle.rules.proofs.Lists.{Each}
+use Rattle.rules.specs.Tables.{Each}
 use Rattle.slot.specs.View.{statusOf, stepIn, stepsIn, stepsOf, memberOf}
 use Rattle.slot.specs.Valid.{StepOk, SlotOk}
 use Rattle.slot.specs.Places.{firstAt, firstToDo, firstInFlight, setStatus}

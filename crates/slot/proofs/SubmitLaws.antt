@@ -10,7 +10,7 @@ use Rattle.routine.specs.declared.Command.{Command}
 use Rattle.routine.specs.declared.Routine.{Routine}
 use Rattle.routine.proofs.Laws.{commandsOf-held}
 use Rattle.rules.specs.Submit.{stepOf}
-use Rattle.rules.proofs.Lists.{Each}
+use Rattle.rules.specs.Tables.{Each}
 use Rattle.slot.specs.View.{stepIn, stepsIn}
 use Rattle.slot.specs.Valid.{CommandOk, CommandsOk, StepOk}
 use Rattle.slot.specs.declared.SlotStep.{SlotStep}

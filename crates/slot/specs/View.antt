@@ -32,8 +32,11 @@ abbrev pub nextOf : Next → Option Command
 nextOf (Left c) = some c
 nextOf NothingLeft = none
 
+abbrev pub flightIn : SentCommand → Flight
+flightIn x = record { command = x .command; dueThen = x .«due_then» }
+
 abbrev pub flightOf : Pending → Option Flight
-flightOf (Sent x) = some (record { command = x .command; dueThen = x .«due_then» })
+flightOf (Sent x) = some (flightIn x)
 flightOf NothingSent = none
 
 -- ---- arrays, one entry a device, as tables: what they hold past the end is what a hub just opened has

@@ -92,7 +92,7 @@ pub fn flights(table: [bool; MAX_DEVICES], slot: Slot) -> [bool; MAX_DEVICES]
     requires { ⌜ SlotOk slot ⌝ }
     ensures { λ r. ⌜ flagsOf r ≡ (λ d. flagsOf table d || inFlightOn d (memberOf slot)) ⌝ }
 {
-    let mut flying = table;
+    let mut busy = table;
     let count = slot.count;
     let mut j: usize = 0;
     while j < count {
@@ -101,9 +101,9 @@ pub fn flights(table: [bool; MAX_DEVICES], slot: Slot) -> [bool; MAX_DEVICES]
         if stages::is_in_flight(stage) {
             let command = step.command;
             let device = command.device as usize;
-            flying[device] = true;
+            busy[device] = true;
         }
         j += 1;
     }
-    flying
+    busy
 }

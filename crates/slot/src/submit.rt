@@ -7,16 +7,16 @@ use routine::MAX_COMMANDS;
 use routine::MAX_DEVICES;
 use routine::Routine;
 ghost use mathlib.Core.Path.{_≡_};
-ghost use mathlib.Core.Bool.{true};
+ghost use mathlib.Core.Bool.{false};
 ghost use mathlib.Core.List.{map};
-ghost use Prim.Native.Nat.{_<_, _≤_};
+ghost use Prim.Native.Nat.{suc, _<_, _≤_};
 ghost use lib.Dec.{eqb};
+ghost use Rattle.routine.specs.Choice.{if_then_else_};
 ghost use Rattle.routine.specs.Routine.{maxCommands, commandsOf};
 ghost use Rattle.rules.specs.Tables.{anyOf};
-ghost use Rattle.rules.specs.Sequence.{isRunning};
 ghost use Rattle.rules.specs.Submit.{stepOf, newcomer, pass};
 ghost use Rattle.slot.specs.View.{marksOf, stepsIn, memberOf};
-ghost use Rattle.slot.specs.Valid.{SlotOk, CommandsOk};
+ghost use Rattle.slot.specs.Valid.{SlotOk, CommandsOk, highestPassed, CanPass};
 
 // The routine's commands, all to do.
 fn to_do(routine: Routine) -> [SlotStep; MAX_COMMANDS]
@@ -80,16 +80,26 @@ pub fn has_mark(marks: [u32; MAX_DEVICES], routine: Routine, id: u32) -> bool
     false
 }
 
+// A pass count once a newcomer stands ahead: a committed routine is not passed.
+fn passed_more(committed: bool, passed: u8) -> u8
+    requires { ⌜ (committed ≡ false → passed < highestPassed) ⌝ }
+    ensures { λ r. ⌜ r ≡ (if committed then passed else suc passed) ⌝ }
+{
+    if committed {
+        return passed;
+    }
+    passed + 1
+}
+
 // "Every running routine now behind it has been passed once more."
 pub fn passed_once(slot: Slot) -> Slot
-    requires { ⌜ (SlotOk slot) × (isRunning (memberOf slot) ≡ true → slot .passed < 255) ⌝ }
+    requires { ⌜ (SlotOk slot) × (CanPass (memberOf slot)) ⌝ }
     ensures { λ r. ⌜ (SlotOk r) × (memberOf r ≡ pass (memberOf slot)) ⌝ }
 {
-    if slot.committed {
-        return slot;
-    }
+    let committed = slot.committed;
+    let passed = slot.passed;
+    let more = passed_more(committed, passed);
     let mut changed = slot;
-    let passed = changed.passed;
-    changed.passed = passed + 1;
+    changed.passed = more;
     changed
 }

@@ -16,13 +16,13 @@ use Rattle.routine.specs.declared.Refusal.{Refusal}
 use Rattle.routine.specs.declared.Routine.{Routine}
 use Rattle.routine.specs.declared.Verdict.the-variants.{Accepted, Refused}
 use Rattle.routine.proofs.Laws.{both-accept, not-refused, byTest, length-commandsOf}
-use Rattle.rules.specs.Tables.{anyOf}
+use Rattle.rules.specs.Tables.{anyOf, Each}
 use Rattle.rules.specs.State.{maxHeld, highestId, Member, State}
 use Rattle.rules.specs.Answers.{placed, turnedDown}
 use Rattle.rules.specs.Sequence.{isRunning, lastIdOr}
 use Rattle.rules.specs.Settle.{settling}
 use Rattle.rules.specs.Submit.{submitCheck, blocks, upToLast, pastLast, pass, newcomer, place, submitOf}
-use Rattle.rules.proofs.Lists.{Each, each-map, or-left, or-right}
+use Rattle.rules.proofs.Lists.{each-map, or-left, or-right}
 use Rattle.slot.specs.View.{marksOf}
 use Rattle.slot.specs.Valid.{CommandsOk}
 use Rattle.sequence.specs.View.{membersOf}

@@ -23,7 +23,8 @@ use Rattle.rules.specs.Sequence.{Found, find, runs, withSequence, withMark, cha
 use Rattle.rules.specs.Abort.{abort}
 use Rattle.rules.specs.Settle.{settling}
 use Rattle.rules.specs.Turn.{firstHolding, markBegun, commit, commitTurn, nextBecomes, sendTurn, skipTurn, proceed, waitOr, turnNext, turnFlight, turnFound, turnOf}
-use Rattle.rules.proofs.Lists.{t≠f, Each}
+use Rattle.rules.specs.Tables.{Each}
+use Rattle.rules.proofs.Lists.{t≠f}
 use Rattle.slot.specs.View.{stepsOf, marksOf, memberOf, nextOf, flightOf}
 use Rattle.slot.specs.Valid.{StepOk, SlotOk}
 use Rattle.slot.specs.declared.Slot.{Slot}

@@ -18,11 +18,11 @@ use Rattle.sequence.proofs.walk.in_flight.Statement.{statement}
 use Rattle.sequence.proofs.walk.in_flight.Tie as tie
 
 abbrev Inv-loop : tie.InvT-loop
-Inv-loop sequence flying₀ len i₀ flying i =
-    (i ≤ len) × ((d : ℕ) → flagsOf flying d || anyOf (inFlightOn d) (drop i (membersOf sequence)) ≡ anyOf (inFlightOn d) (membersOf sequence))
+Inv-loop sequence busy₀ len i₀ busy i =
+    (i ≤ len) × ((d : ℕ) → flagsOf busy d || anyOf (inFlightOn d) (drop i (membersOf sequence)) ≡ anyOf (inFlightOn d) (membersOf sequence))
 
 abbrev μ-loop : tie.MeasureT-loop
-μ-loop sequence flying₀ len i₀ flying i = len - i
+μ-loop sequence busy₀ len i₀ busy i = len - i
 
 -- the array's length
 long : (c : tie.Start Inv-loop μ-loop) → length (c .args .t1 .slots) ≡ maxHeld
@@ -52,7 +52,7 @@ loop-again c =
     let a = b .before .before in (
       search needs,
       λ d.
-          any-more (inFlightOn d) (members-from (a .args .t1) (long a) (a .pre) _ (b .loop-test .taken)) (flagsOf (b .before .loop .flying) d) _ (ap (λ (f : ℕ → Bool). f d) (c .flights .ensures))
+          any-more (inFlightOn d) (members-from (a .args .t1) (long a) (a .pre) _ (b .loop-test .taken)) (flagsOf (b .before .loop .busy) d) _ (ap (λ (f : ℕ → Bool). f d) (c .flights .ensures))
           ∙ b .before .loop .inv .1 d,
     )
 

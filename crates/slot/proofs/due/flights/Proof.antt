@@ -22,10 +22,10 @@ abbrev flies : ℕ → Step → Bool
 flies d x = isOn d x && isInFlight (x .status)
 
 abbrev Inv-loop : tie.InvT-loop
-Inv-loop slot flying₀ count j₀ flying j = (j ≤ count) × (length flying ≡ 32) × ((d : ℕ) → flagsOf flying d || anyOf (flies d) (rest j count (slot .steps)) ≡ flagsOf flying₀ d || anyOf (flies d) (stepsIn count (slot .steps)))
+Inv-loop slot busy₀ count j₀ busy j = (j ≤ count) × (length busy ≡ 32) × ((d : ℕ) → flagsOf busy d || anyOf (flies d) (rest j count (slot .steps)) ≡ flagsOf busy₀ d || anyOf (flies d) (stepsIn count (slot .steps)))
 
 abbrev μ-loop : tie.MeasureT-loop
-μ-loop slot flying₀ count j₀ flying j = count - j
+μ-loop slot busy₀ count j₀ busy j = count - j
 
 -- the array's length
 long : (c : tie.In-loop Inv-loop μ-loop) → length (c .before .before .args .t2 .steps) ≡ 8
@@ -50,8 +50,8 @@ is-in-flight-requires c κs = search needs
 cast-device : tie.Need-cast-device Inv-loop μ-loop
 cast-device c = search needs
 
-array-write-flying : tie.Need-array-write-flying Inv-loop μ-loop
-array-write-flying c = below (c .before .before .before .before .before)
+array-write-busy : tie.Need-array-write-busy Inv-loop μ-loop
+array-write-busy c = below (c .before .before .before .before .before)
 
 add-j : tie.Need-add-j Inv-loop μ-loop
 add-j c = search needs
@@ -67,23 +67,23 @@ loop-again c =
     let j = l .before .loop .j in
     let x = getD (s .steps) j zeroStep in
     let at = x .command .device in
-    let flying = l .before .loop .flying in
+    let busy = l .before .loop .busy in
     let k = steps-held s (l .before .before .pre) (long l) in
     ⊎-elim
     (λ w. (
       search needs,
-      ap length (w .3) ∙ length-set flying at true ∙ v .1,
-      λ d. any-more (flies d) (rest-next (s .steps) j (s .count) zeroStep (l .loop-test .taken) k) (flagsOf flying d) (flagsOf (c .if1 .flying) d)
+      ap length (w .3) ∙ length-set busy at true ∙ v .1,
+      λ d. any-more (flies d) (rest-next (s .steps) j (s .count) zeroStep (l .loop-test .taken) k) (flagsOf busy d) (flagsOf (c .if1 .busy) d)
           (ap (λ (y : List Bool). flagsOf y d) (w .3)
-          ∙ set-put (λ z. z) flying at true false (omega (arith, v .1, below l)) d
-          ∙ flight-put (flagsOf flying) (stepIn x) d (sym (c .before .is-in-flight .ensures) ∙ w .0 .taken))
+          ∙ set-put (λ z. z) busy at true false (omega (arith, v .1, below l)) d
+          ∙ flight-put (flagsOf busy) (stepIn x) d (sym (c .before .is-in-flight .ensures) ∙ w .0 .taken))
           ∙ v .2 d,
     ))
     (λ w. (
       search needs,
       ap length (w .1) ∙ v .1,
-      λ d. any-more (flies d) (rest-next (s .steps) j (s .count) zeroStep (l .loop-test .taken) k) (flagsOf flying d) (flagsOf (c .if1 .flying) d)
-          (ap (λ (y : List Bool). flagsOf y d) (w .1) ∙ no-flight (flagsOf flying d) (stepIn x) d (sym (c .before .is-in-flight .ensures) ∙ w .0 .left))
+      λ d. any-more (flies d) (rest-next (s .steps) j (s .count) zeroStep (l .loop-test .taken) k) (flagsOf busy d) (flagsOf (c .if1 .busy) d)
+          (ap (λ (y : List Bool). flagsOf y d) (w .1) ∙ no-flight (flagsOf busy d) (stepIn x) d (sym (c .before .is-in-flight .ensures) ∙ w .0 .left))
           ∙ v .2 d,
     ))
     (c .if1 .came)
@@ -93,7 +93,7 @@ unfolding inFlightOn memberOf
 returns c =
     let l = c .before in
     let a = l .before .args in
-    let g = flagsOf (l .loop .flying) in
+    let g = flagsOf (l .loop .busy) in
     fun-ext g (λ d. flagsOf (a .table) d || anyOf (flies d) (stepsOf (a .t2)))
     (λ d. sym (any-end (flies d) (rest-none (a .t2 .steps) (l .loop .j) (a .t2 .count) (l .loop .inv .0) (c .loop-test .left)) (g d)) ∙ l .loop .inv .2 d)
 
@@ -108,7 +108,7 @@ flights-spec =
     element-copy-out-step
     is-in-flight-requires
     cast-device
-    array-write-flying
+    array-write-busy
     add-j
     loop-less
     loop-again

@@ -4,7 +4,7 @@ use mathlib.Core.Path.{sym, subst}
 use mathlib.Core.Bool.{false}
 use Rattle.routine.specs.Routine.{commandsOf}
 use Rattle.rules.specs.Submit.{newcomer}
-use Rattle.rules.proofs.Lists.{Each}
+use Rattle.rules.specs.Tables.{Each}
 use Rattle.slot.specs.View.{memberOf}
 use Rattle.slot.specs.Valid.{StepOk}
 use Rattle.slot.proofs.SubmitLaws.{steps-fit}

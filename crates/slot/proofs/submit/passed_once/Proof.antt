@@ -1,9 +1,7 @@
 -- `slot::submit::passed_once` meets its contract. Assumes nothing.
-use borrow.Author.Needs.{needs}
-use mathlib.Core.Path.{ap, sym, _∙_}
-use mathlib.Core.Bool.{Bool, not}
-use Prim.Native.Nat.{ℕ, suc, _<_}
-use native.Mathlib.Numerals.{add-one}
+use mathlib.Core.Path.{_≡_, refl, ap, _∙_}
+use mathlib.Core.Bool.{Bool, true, false, not}
+use Prim.Native.Nat.{ℕ, suc}
 use Rattle.routine.specs.Choice.{if_then_else_}
 use Rattle.rules.specs.State.{Member}
 use Rattle.rules.specs.Sequence.{isRunning}
@@ -17,28 +15,21 @@ use Rattle.slot.proofs.submit.passed_once.Tie as tie
 abbrev withPassed : Slot → ℕ → Member
 withPassed s n = record { id = s .id; steps = stepsOf s; passed = n; committed = s .committed; restarts = restartsOf (s .restarts) }
 
--- the member passed, committed or not
-abbrev passedWhen : Slot → Bool → Member
-passedWhen s b = withPassed s (if not b then suc (s .passed) else s .passed)
+-- "running" is "not committed"
+turned : (b : Bool) (n : ℕ) → (if b then n else suc n) ≡ (if not b then suc n else n)
+turned true n = refl
+turned false n = refl
+
+passed-more-requires : tie.Need-passed-more-requires
+unfolding memberOf isRunning
+passed-more-requires c κs = λ e. c .pre .1 (ap not e)
 
 returns : tie.Need-returns
 unfolding memberOf pass isRunning
 returns c =
     let s = c .before .args .slot in
-    (c .before .pre .0, ap (passedWhen s) (sym (c .if1 .taken)))
-
-add-changed : tie.Need-add-changed
-unfolding memberOf isRunning
-add-changed c = let h : c .before .args .slot .passed < 255 = c .before .pre .1 (ap not (c .if1 .left)) in search needs
-
-returns-2 : tie.Need-returns-2
-unfolding memberOf pass isRunning
-returns-2 c =
-    let s = c .before .args .slot in
-    let k = c .before .pre .0 in (
-      record { fits = k .fits; devices-fit = k .devices-fit; has-id = k .has-id },
-      ap (withPassed s) (add-one (s .passed)) ∙ ap (passedWhen s) (sym (c .if1 .left)),
-    )
+    let k = c .before .pre .0 in
+    (record { fits = k .fits; devices-fit = k .devices-fit; has-id = k .has-id }, ap (withPassed s) (c .passed-more .ensures ∙ turned (s .committed) (s .passed)))
 
 pub passed-once-spec : {M : Type 1} → statement M
-passed-once-spec = tie.close (tie.spec returns add-changed returns-2)
+passed-once-spec = tie.close (tie.spec passed-more-requires returns)
