@@ -1,24 +1,22 @@
 -- Laws that the proofs of this crate, and those above it, cite. Assumes nothing.
 use mathlib.Core.Path.{_≡_, refl, sym, ap, _∙_}
 use mathlib.Core.Bool.{Bool, true, false, not, _&&_, _||_, or-true, or-false}
-use mathlib.Core.List.{List, [], _∷_, _++_, map, map-append, append-assoc, append-nil}
+use mathlib.Core.List.{List, [], _∷_, _++_, append-assoc, append-nil}
 use mathlib.Core.Option.{none, some}
 use Prim.Native.Nat.{ℕ, zero, suc, _+_, _-_, _<_, _≤_}
 use native.Mathlib.Numerals.{add-one}
 use native.Mathlib.Omega.{arith}
-use borrow.Author.Tests.{eq-eqb, ne-eqb, not-true, not-false}
+use borrow.Author.Tests.{not-true, not-false}
 use lib.IntN.{ℤ}
-use lib.ListN.{length, take, getD, set, replicate}
-use lib.Seq.{take-suc-set}
 use Rattle.routine.specs.Choice.{if_then_else_}
 use Rattle.routine.specs.Refusals.{refusalOf}
 use Rattle.routine.specs.declared.Refusal.the-variants.{Number}
 use Rattle.rules.specs.Tables.{sameSetting}
 use Rattle.rules.specs.State.{Member, State}
 use Rattle.rules.specs.Answers.{Back, aborted, turnedDown}
-use Rattle.rules.specs.Sequence.{Found, find, runs, lastIdOr, withSequence, withSettled, withMark, moveMarks}
+use Rattle.rules.specs.Sequence.{Found, find, runs, lastIdOr, withSequence, withMark, moveMarks}
 use Rattle.rules.specs.Due.{due}
-use Rattle.rules.specs.Attach.{attachAt, settleRestarts, attach}
+use Rattle.rules.specs.Attach.{attach}
 use Rattle.rules.specs.Abort.{leave, isPutBack, putBacks, abort}
 use Rattle.rules.specs.Settle.{settling}
 use Rattle.rules.specs.Cancel.{cancelFound, cancelOf}
@@ -28,15 +26,15 @@ use Rattle.slot.specs.declared.Slot.{Slot}
 use Rattle.sequence.specs.View.{membersOf, upTo}
 use Rattle.sequence.specs.declared.Sequence.{Sequence}
 use Rattle.sequence.proofs.Laws.{there-ahead}
-use Rattle.state.specs.View.{upOf, stateOf, found, backOf, backsOf}
+use Rattle.state.specs.View.{upOf, stateOf, found, backsOf}
 use Rattle.state.specs.Valid.{Stood}
-use Rattle.abort.specs.PutBacks.{isBackBy, backsBy, TablesAre}
 use Rattle.state.specs.Contract.{StepGives}
-use Rattle.abort.specs.Contract.{Aborts}
 use Rattle.state.specs.declared.HubState.{HubState}
 use Rattle.state.specs.declared.Answer.the-variants.{Aborted}
 use Rattle.state.specs.declared.First.the-variants.{NoAbort}
-use Rattle.state.specs.declared.PutBack.{PutBack}
+use Rattle.state.proofs.Laws.{stateWith, id-is}
+use Rattle.abort.specs.PutBacks.{isBackBy, backsBy, TablesAre}
+use Rattle.abort.specs.Contract.{Aborts}
 use Rattle.abort.specs.declared.Tables.{Tables}
 use Rattle.abort.specs.declared.AfterAbort.{AfterAbort}
 
@@ -63,12 +61,6 @@ module _ (up others own : Bool) (before after : ℤ) where
 pub test-read : (t : Tables) (d : ℕ) (r u : Bool) (x y : ℤ) → r ≡ (u && not (flagsOf (t .others) d) && (not (sameSetting x y) || flagsOf (t .own) d)) →
     u ≡ upOf (t .up) d → x ≡ settingsOf (t .before) d → y ≡ settingsOf (t .after) d → r ≡ isBackBy t d
 test-read t d r u x y e p q s = e ∙ (λ i. p i && not (flagsOf (t .others) d) && (not (sameSetting (q i) (s i)) || flagsOf (t .own) d))
-
--- no device has a command in flight
-pub no-flags : (n d : ℕ) → flagsOf (replicate n false) d ≡ false
-no-flags zero d = refl
-no-flags (suc n) zero = refl
-no-flags (suc n) (suc d) = no-flags n d
 
 -- ---- the list of put-backs
 
@@ -105,18 +97,10 @@ unfolding leave
 leave-by s f m before e b =
     λ i. attach (b i) (e i .restarts) (withMark (withSequence s (f .ahead ++ f .behind)) (moveMarks (e i .id) (b i) (s .mark)))
 
--- the hub with the sequence and the marks that the code puts together
+-- the state with the sequence and the marks that the code puts together
 pub left-gives : (h : HubState) (i : ℕ) (s : Slot) (before : ℕ) (q : Sequence) (marks : List ℕ) → Stood h i s → before ≡ lastIdOr 0 (upTo (h .sequence) i) →
     membersOf q ≡ found h i .ahead ++ found h i .behind → marksOf marks ≡ moveMarks (s .id) before (marksOf (h .mark)) →
-    attach before (restartsOf (s .restarts)) (stateOf (record {
-      devices = h .devices;
-      «pass_limit» = h .«pass_limit»;
-      «next_id» = h .«next_id»;
-      sequence = q;
-      settled = h .settled;
-      up = h .up;
-      mark = marks;
-    })) ≡ leave (stateOf h) (found h i)
+    attach before (restartsOf (s .restarts)) (stateOf (stateWith h q (h .settled) (h .up) marks)) ≡ leave (stateOf h) (found h i)
 unfolding stateOf memberOf
 left-gives h i s before q marks o b w m =
     (λ j. attach before (restartsOf (s .restarts)) (withMark (withSequence (stateOf h) (w j)) (m j)))
@@ -132,16 +116,15 @@ backs-are-by h i s g t l o a v e =
     ∙ backs-by (stateOf h) (memberOf s) (stateOf g) 0 (h .devices)
     ∙ (λ j. putBacks (stateOf h) (o .slot-is j) (v j) 0 (h .devices))
 
--- as a call's one answer
-pub abort-gives : (h : HubState) (i : ℕ) (s : Slot) (a : AfterAbort) → Stood h i s → Aborts h i a →
-    StepGives h (record { state = a .state; first = NoAbort; answer = Aborted (s .id); backs = a .backs }) (settling (abort (stateOf h) (found h i)))
-unfolding abort memberOf
-abort-gives h i s a o p = record {
-  valid = p .valid;
-  gives = λ j. settling (record { state = p .leaves j; answers = aborted (o .slot-is j .id) (p .backs-are j) ∷ [] });
-  backs-told = sym (append-nil (backsOf (a .backs)));
-  same-state = λ e. t≠f (sym e);
-}
+module _ (h : HubState) (i : ℕ) (s : Slot) (a : AfterAbort) (o : Stood h i s) (p : Aborts h i a) where
+  -- what it answers
+  pub abort-answers : record { state = stateOf (a .state); answers = aborted (s .id) (backsOf (a .backs)) ∷ [] } ≡ abort (stateOf h) (found h i)
+  unfolding abort
+  abort-answers = λ j. record { state = p .leaves j; answers = aborted (id-is h i s o j) (p .backs-are j) ∷ [] }
+
+  -- as a call's one answer
+  pub abort-gives : StepGives h (record { state = a .state; first = NoAbort; answer = Aborted (s .id); backs = a .backs }) (settling (abort (stateOf h) (found h i)))
+  abort-gives = record { valid = p .valid; gives = ap settling abort-answers; backs-told = sym (append-nil (backsOf (a .backs))); same-state = λ e. t≠f (sym e) }
 
 -- ---- the ways out of a cancel
 module _ (s : State) (i : ℕ) where

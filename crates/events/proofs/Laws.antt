@@ -12,31 +12,32 @@ use Rattle.routine.specs.Refusals.{refusalOf}
 use Rattle.routine.specs.declared.Refusal.the-variants.{Number}
 use Rattle.rules.specs.Tables.{put}
 use Rattle.rules.specs.State.{State}
-use Rattle.rules.specs.Answers.{Back, aborted, down, up, Result, turnedDown}
+use Rattle.rules.specs.Answers.{Back, Answer as Told, down, up, Result, turnedDown}
 use Rattle.rules.specs.Sequence.{find, withUp}
 use Rattle.rules.specs.Attach.{oneRestart, attach}
-use Rattle.rules.specs.Abort.{abort}
 use Rattle.rules.specs.Settle.{settling}
 use Rattle.rules.specs.Events.{isHalfway, abortIfAny, abortHalfway, failureResult, restartResult, failureOf, restartOf}
 use Rattle.rules.proofs.Lists.{t≠f}
-use Rattle.slot.specs.View.{restartsOf, memberOf}
+use Rattle.slot.specs.View.{restartsOf}
 use Rattle.slot.specs.declared.Restart.{Restart}
 use Rattle.slot.specs.declared.Slot.{Slot}
 use Rattle.slot.proofs.Laws.{set-put, fun-ext}
-use Rattle.sequence.specs.View.{membersOf, there, foundAt}
+use Rattle.sequence.specs.View.{membersOf, foundAt}
 use Rattle.sequence.specs.declared.Place.{Place}
 use Rattle.sequence.specs.declared.Place.the-variants.{At, Nowhere}
 use Rattle.state.specs.View.{upOf, stateOf, backsOf, firstOf, backsIn}
-use Rattle.state.specs.Valid.{StateOk}
+use Rattle.state.specs.Valid.{StateOk, Stood}
 use Rattle.state.specs.Contract.{StepGives}
-use Rattle.abort.specs.Contract.{Aborts}
-use Rattle.events.specs.Contract.{AbortsHalfway}
 use Rattle.state.specs.declared.HubState.{HubState}
 use Rattle.state.specs.declared.Answer.the-variants.{Down, Up}
 use Rattle.state.specs.declared.First.{First}
 use Rattle.state.specs.declared.First.the-variants.{NoAbort, Abort}
 use Rattle.state.specs.declared.PutBacks.{PutBacks}
+use Rattle.state.proofs.Laws.{stateWith, valid-with, found-as}
+use Rattle.abort.specs.Contract.{Aborts}
 use Rattle.abort.specs.declared.AfterAbort.{AfterAbort}
+use Rattle.abort.proofs.Laws.{abort-answers}
+use Rattle.events.specs.Contract.{AbortsHalfway}
 use Rattle.events.specs.declared.Halfway.{Halfway}
 
 -- ---- the abort that an event brings
@@ -44,41 +45,33 @@ use Rattle.events.specs.declared.Halfway.{Halfway}
 module _ (h : HubState) (d : ℕ) (p : Place) (f : foundAt (h .sequence) p ≡ find (isHalfway d) (membersOf (h .sequence))) where
   -- no running routine has begun D and not finished it
   pub none-aborts : (b : PutBacks) → StateOk h → p ≡ Nowhere → backsOf b ≡ [] → AbortsHalfway h d (record { state = h; first = NoAbort; backs = b })
-  unfolding abortHalfway stateOf
-  none-aborts b v e k = record { valid = v; gives = ap (abortIfAny (stateOf h)) (sym (ap (foundAt (h .sequence)) e) ∙ f); backs-told = k }
+  unfolding abortHalfway
+  none-aborts b v e k = record { valid = v; gives = sym (ap (abortIfAny (stateOf h)) (found-as h (isHalfway d) p f Nowhere e)); backs-told = k }
 
   -- the one at this place has
-  pub one-aborts : (i : ℕ) (s : Slot) (a : AfterAbort) → p ≡ At i → memberOf s ≡ there (h .sequence) i .it → Aborts h i a →
+  pub one-aborts : (i : ℕ) (s : Slot) (a : AfterAbort) → p ≡ At i → Stood h i s → Aborts h i a →
       AbortsHalfway h d (record { state = a .state; first = Abort (s .id); backs = a .backs })
-  unfolding abortHalfway abort stateOf memberOf
-  one-aborts i s a e m g =
-      record {
-        valid = g .valid;
-        gives =
-            (λ j. record { state = g .leaves j; answers = aborted (m j .id) (g .backs-are j) ∷ [] })
-            ∙ ap (abortIfAny (stateOf h)) (sym (ap (foundAt (h .sequence)) e) ∙ f);
-        backs-told = sym (append-nil (backsOf (a .backs)));
-      }
+  unfolding abortHalfway
+  one-aborts i s a e o g = record {
+    valid = g .valid;
+    gives = abort-answers h i s a o g ∙ sym (ap (abortIfAny (stateOf h)) (found-as h (isHalfway d) p f (At i) e));
+    backs-told = sym (append-nil (backsOf (a .backs)));
+  }
 
 -- ---- the event
 
 -- D is up, or down
 abbrev pub setUp : HubState → ℕ → Bool → HubState
-setUp h d v =
-    record { devices = h .devices; «pass_limit» = h .«pass_limit»; «next_id» = h .«next_id»; sequence = h .sequence; settled = h .settled; up = set (h .up) d v; mark = h .mark }
+setUp h d v = stateWith h (h .sequence) (h .settled) (set (h .up) d v) (h .mark)
 
 view-up : (h : HubState) (d : ℕ) (v : Bool) → d < length (h .up) → stateOf (setUp h d v) ≡ withUp (stateOf h) (put (stateOf h .up) d v)
 unfolding stateOf
 view-up h d v k = ap (withUp (stateOf h)) (fun-ext (upOf (set (h .up) d v)) (put (upOf (h .up)) d v) (set-put (λ (t : Bool). t) (h .up) d v true k))
 
 -- the event's own answer puts nothing back
-down-backs : (x : First) (l : List Back) (d i : ℕ) → backsIn (firstOf x l) ≡ backsIn (firstOf x l ++ (down d i ∷ []))
-down-backs NoAbort l d i = refl
-down-backs (Abort j) l d i = refl
-
-up-backs : (x : First) (l : List Back) (d i : ℕ) → backsIn (firstOf x l) ≡ backsIn (firstOf x l ++ (up d i ∷ []))
-up-backs NoAbort l d i = refl
-up-backs (Abort j) l d i = refl
+own-backs : (x : First) (l : List Back) (a : Told) → backsIn (a ∷ []) ≡ [] → backsIn (firstOf x l) ≡ backsIn (firstOf x l ++ (a ∷ []))
+own-backs NoAbort l a e = sym e
+own-backs (Abort j) l a e = ap (λ (b : List Back). l ++ b) (sym e)
 
 -- after the abort: the answer of a failure
 abbrev thenDown : ℕ → Result → Result
@@ -91,7 +84,7 @@ failed-gives h d a k g =
     record {
       valid = g .valid;
       gives = ap (λ (r : Result). settling (thenDown d r)) (g .gives ∙ ap (abortHalfway d) (view-up h d false k));
-      backs-told = g .backs-told ∙ down-backs (a .first) (backsOf (a .backs)) d (getD (a .state .mark) d 0);
+      backs-told = g .backs-told ∙ own-backs (a .first) (backsOf (a .backs)) (down d (getD (a .state .mark) d 0)) refl;
       same-state = λ e. t≠f (sym e);
     }
 
@@ -101,20 +94,20 @@ thenUp d e r =
     let t = attach (r .state .mark d) e (r .state) in
     record { state = withUp t (put (t .up) d true); answers = r .answers ++ (up d (r .state .mark d) ∷ []) }
 
--- g: the hub with the restart attached
+-- g: the state with the restart attached
 pub restarted-gives : (h : HubState) (d : ℕ) (v : ℤ) (a : Halfway) (rs : List Restart) (g : HubState) → d < length (g .up) → AbortsHalfway h d a → restartsOf rs ≡ oneRestart d v →
     StateOk g → stateOf g ≡ attach (getD (a .state .mark) d 0) (restartsOf rs) (stateOf (a .state)) →
     StepGives h (record { state = setUp g d true; first = a .first; answer = Up d (getD (a .state .mark) d 0); backs = a .backs }) (settling (restartResult (stateOf h) d v))
 unfolding restartResult stateOf
 restarted-gives h d v a rs g k b e w t =
     record {
-      valid = record { devices-fit = w .devices-fit; some-id = w .some-id; ids-fit = w .ids-fit; sequence-ok = w .sequence-ok };
+      valid = valid-with g _ _ _ _ w (w .sequence-ok);
       gives =
           ap (λ (s : State). settling (record { state = s; answers = firstOf (a .first) (backsOf (a .backs)) ++ (up d (getD (a .state .mark) d 0) ∷ []) }))
           (view-up g d true k ∙ ap (λ (s : State). withUp s (put (s .up) d true)) t)
           ∙ ap (λ (o : ℕ → Option ℤ). settling (thenUp d o (record { state = stateOf (a .state); answers = firstOf (a .first) (backsOf (a .backs)) }))) e
           ∙ ap (λ (r : Result). settling (thenUp d (oneRestart d v) r)) (b .gives);
-      backs-told = b .backs-told ∙ up-backs (a .first) (backsOf (a .backs)) d (getD (a .state .mark) d 0);
+      backs-told = b .backs-told ∙ own-backs (a .first) (backsOf (a .backs)) (up d (getD (a .state .mark) d 0)) refl;
       same-state = λ x. t≠f (sym x);
     }
 

@@ -1,17 +1,16 @@
 -- Laws for the proofs of the public calls. Assumes nothing.
 use mathlib.Core.Path.{_≡_, refl, sym, ap, _∙_, subst}
-use mathlib.Core.Bool.{Bool, true, false}
+use mathlib.Core.Bool.{true, false}
 use mathlib.Core.List.{List, [], _∷_}
 use Prim.Native.Nat.{ℕ}
 use types.Run.{OneOf, miss}
 use denote.Enum.Declared.{tagOf}
-use Rattle.rules.specs.State.{State}
 use Rattle.rules.specs.Answers.{Result}
 use Rattle.rules.specs.Settle.{settle, settling}
 use Rattle.rules.proofs.Lists.{t≠f}
 use Rattle.state.specs.View.{stateOf, backsOf, answersOf, answersIn as stepAnswers, resultIn as stepResult, backsIn}
 use Rattle.state.specs.Valid.{StateOk}
-use Rattle.state.specs.Contract.{changesNothing, settleFor, StepGives}
+use Rattle.state.specs.Contract.{changesNothing, settleFor, afterSettling, StepGives}
 use Rattle.state.specs.declared.HubState.{HubState}
 use Rattle.state.specs.declared.Answer.{Answer}
 use Rattle.state.specs.declared.Answer.the-variants.{Refused, Placed, Wait, Sent, Done, Skipped, Committed, Aborted, Down, Up}
@@ -22,13 +21,25 @@ use Rattle.hub.specs.Contract.{Gives, SettledStep}
 use Rattle.hub.specs.declared.Hub.{Hub}
 use Rattle.hub.specs.declared.Outcome.{Outcome}
 
+-- an outcome with the answers of its step answers the same
+same-answers : (step : StepOutcome) (o : Outcome) → o .first ≡ step .first → o .answer ≡ step .answer → o .backs ≡ step .backs → answersIn o ≡ stepAnswers step
+same-answers step o e f g = λ i. answersOf (e i) (f i) (g i)
+
 -- an outcome with this state and the answers of its step
 abbrev pub Wraps : HubState → StepOutcome → Outcome → Type 0
 Wraps s step o = (o .hub .state ≡ s) × (o .first ≡ step .first) × (o .answer ≡ step .answer) × (o .backs ≡ step .backs)
 
--- it answers what the step does
-same-answers : (s : HubState) (step : StepOutcome) (o : Outcome) → Wraps s step o → answersIn o ≡ stepAnswers step
-same-answers s step o w = λ i. answersOf (w .1 i) (w .2 i) (w .3 i)
+-- it is the outcome of the settled step, if this state is its state
+wraps-settled : (s : HubState) (step : StepOutcome) (o : Outcome) → Wraps s step o → StateOk s → record { state = stateOf s; answers = stepAnswers step } ≡ afterSettling step →
+    (changesNothing (step .answer) ≡ true → s ≡ step .state) → SettledStep step o
+wraps-settled s step o w v e k = record {
+  valid = subst StateOk (sym (w .0)) v;
+  gives = (λ i. record { state = stateOf (w .0 i); answers = same-answers step o (w .1) (w .2) (w .3) i }) ∙ e;
+  same-first = w .1;
+  same-answer = w .2;
+  same-backs = w .3;
+  same-state = λ t. w .0 ∙ k t;
+}
 
 -- the answers that are no refusal, and those that are no wait, by their numbers
 abbrev pub notRefused : List ℕ
@@ -53,36 +64,21 @@ settles (Up d i) h k = (refl, λ r. refl)
 -- a step with such an answer has settled
 pub step-settles : (s : HubState) (step : StepOutcome) (o : Outcome) → OneOf notRefused (tagOf the-type (step .answer)) → OneOf notWait (tagOf the-type (step .answer)) →
     StateOk s → stateOf s ≡ settle (stateOf (step .state)) → Wraps s step o → SettledStep step o
-step-settles s step o h k v e w = record {
-  valid = subst StateOk (sym (w .0)) v;
-  gives =
-      (λ i. record { state = (ap stateOf (w .0) ∙ e) i; answers = same-answers s step o w i }) ∙ sym (settles (step .answer) h k .1 (stepResult step));
-  same-first = w .1;
-  same-answer = w .2;
-  same-backs = w .3;
-  same-state = λ t. t≠f (sym t ∙ settles (step .answer) h k .0);
-}
+step-settles s step o h k v e w =
+    let f = settles (step .answer) h k in
+    wraps-settled s step o w v ((λ i. record { state = e i; answers = stepAnswers step }) ∙ sym (f .1 (stepResult step))) (λ t. t≠f (sym t ∙ f .0))
 
 -- after a refusal or a wait it stands
 pub step-stands : (step : StepOutcome) (o : Outcome) (a : Answer) → step .answer ≡ a → ((r : Result) → settleFor a r ≡ r) → StateOk (step .state) → Wraps (step .state) step o →
     SettledStep step o
-step-stands step o a e f v w = record {
-  valid = subst StateOk (sym (w .0)) v;
-  gives =
-      (λ i. record { state = stateOf (w .0 i); answers = same-answers (step .state) step o w i })
-      ∙ sym (ap (λ (b : Answer). settleFor b (stepResult step)) e ∙ f (stepResult step));
-  same-first = w .1;
-  same-answer = w .2;
-  same-backs = w .3;
-  same-state = λ t. w .0;
-}
+step-stands step o a e f v w = wraps-settled (step .state) step o w v (sym (ap (λ (b : Answer). settleFor b (stepResult step)) e ∙ f (stepResult step))) (λ t. refl)
 
 -- a step that has settled gives what the call's contract says
 pub settled-gives : (h : Hub) (step : StepOutcome) (o : Outcome) (result : Result) → StepGives (h .state) step result → SettledStep step o → Gives h o result
 settled-gives h step o result g s = record {
   valid = s .valid;
   gives = s .gives ∙ g .gives;
-  backs-told = ap backsOf (s .same-backs) ∙ g .backs-told ∙ sym (λ i. backsIn (answersOf (s .same-first i) (s .same-answer i) (s .same-backs i)));
+  backs-told = ap backsOf (s .same-backs) ∙ g .backs-told ∙ sym (ap backsIn (same-answers step o (s .same-first) (s .same-answer) (s .same-backs)));
   same-hub = λ e.
       let k : changesNothing (step .answer) ≡ true = sym (ap changesNothing (s .same-answer)) ∙ e in
       λ i. record { state = (s .same-state k ∙ g .same-state k) i };

@@ -1,8 +1,8 @@
 -- Laws for the proofs of the opening. Assumes nothing.
-use mathlib.Core.Path.{_≡_, refl, sym, ap, _∙_}
-use mathlib.Core.Bool.{Bool, true, _||_}
-use mathlib.Core.List.{List, []}
-use Prim.Native.Nat.{ℕ, zero, suc, _<_, _≤_}
+use mathlib.Core.Path.{_≡_, sym, ap, _∙_}
+use mathlib.Core.Bool.{true, _||_}
+use mathlib.Core.List.{[]}
+use Prim.Native.Nat.{ℕ, suc, _<_, _≤_}
 use native.Mathlib.Omega.{arith}
 use borrow.Author.Tests.{lt-ltb, le-ltb, ltb-false, eq-eqb, ne-eqb, eqb-false}
 use lib.Dec.{eqb, ltb}
@@ -61,11 +61,7 @@ module _ (n k first : ℕ) where
       let b = both-accept limit id (a .1) in
       let m = ltb-false maxDevices n (or-false (eqb n 0) (ltb maxDevices n) (not-refused devices-out-of-range _ (a .0)) .1) in
       let f = eqb-false first 0 (not-refused first-id-0 _ (b .1)) in
-      (m, positive first f)
-    where
-      positive : (m : ℕ) → (m ≡ 0 → ⊥) → 0 < m
-      positive zero f = absurd (f refl)
-      positive (suc m) f = omega arith
+      (m, omega (arith, f))
 
   -- the state of the hub that is made
   abbrev pub freshState : Sequence → HubState

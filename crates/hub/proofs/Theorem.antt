@@ -6,11 +6,12 @@ use Rattle.rules.specs.Open.{opened, openIf, openOf}
 use Rattle.rules.specs.Calls.{resultOf}
 use Rattle.rules.specs.Order.{entries}
 use Rattle.rules.specs.Serial.{allUp}
-use Rattle.rules.specs.World.{World, accounts, Act, calls, takes-one, afterCall, worldAfter, worldAfterAll, Premised, PremiseAll, newWorld}
+use Rattle.rules.specs.World.{World, accounts, Act, calls, takes-one, afterCall, worldAfter, worldAfterAll, Premised, PremiseAll}
 use Rattle.rules.specs.Demand3.{orderIn, EndState, Begins, CommandsStand, Demand3}
 use Rattle.rules.proofs.Theorem.{demand-3}
 use Rattle.hub.specs.View.{view, resultIn}
 use Rattle.hub.specs.Valid.{Valid}
+use Rattle.hub.specs.Contract.{Gives}
 use Rattle.hub.specs.Demand3.{HubCall, submits, turns, reports, fails, restarts, cancels, callOf, Meets, HubAct, called, device-takes, Chain, hubAfter, worldThenAll, PremiseThenAll, newWorldOf, HubDemand3, HubStatement}
 use Rattle.hub.specs.declared.Hub.{Hub}
 use Rattle.hub.specs.declared.Outcome.{Outcome}
@@ -21,24 +22,16 @@ actOf (called c o v) = calls (callOf c) v
 actOf (device-takes d k) = takes-one d k
 
 -- an outcome that meets the contract is what the rules give
-met : (h : Hub) (c : HubCall) (o : Outcome) → Meets h c o → resultIn o ≡ resultOf (view h) (callOf c)
-met h (submits r) o m = m .gives
-met h (turns i) o m = m .gives
-met h (reports i code) o m = m .gives
-met h (fails d) o m = m .gives
-met h (restarts d v) o m = m .gives
-met h (cancels i) o m = m .gives
-
-met-valid : (h : Hub) (c : HubCall) (o : Outcome) → Meets h c o → Valid (o .hub)
-met-valid h (submits r) o m = m .valid
-met-valid h (turns i) o m = m .valid
-met-valid h (reports i code) o m = m .valid
-met-valid h (fails d) o m = m .valid
-met-valid h (restarts d v) o m = m .valid
-met-valid h (cancels i) o m = m .valid
+met : (h : Hub) (c : HubCall) (o : Outcome) → Meets h c o → Gives h o (resultOf (view h) (callOf c))
+met h (submits r) o m = m
+met h (turns i) o m = m
+met h (reports i code) o m = m
+met h (fails d) o m = m
+met h (restarts d v) o m = m
+met h (cancels i) o m = m
 
 met-in : (w : World) (h : Hub) → w .state ≡ view h → (c : HubCall) (o : Outcome) → Meets h c o → resultIn o ≡ resultOf (w .state) (callOf c)
-met-in w h e c o m = met h c o m ∙ ap (λ s. resultOf s (callOf c)) (sym e)
+met-in w h e c o m = met h c o m .gives ∙ ap (λ s. resultOf s (callOf c)) (sym e)
 
 -- so the outcomes make the same world as the rules
 worlds : (w : World) (h : Hub) (acts : List HubAct) → w .state ≡ view h → Chain h acts → worldThenAll w acts ≡ worldAfterAll w (map actOf acts)
@@ -84,7 +77,7 @@ carried h acts ch d = record {
 -- every hub of the chain is valid, so that the next call may be made
 pub chain-valid : (h : Hub) (acts : List HubAct) → Valid h → Chain h acts → Valid (hubAfter h acts)
 chain-valid h [] v ch = v
-chain-valid h (called c o x ∷ l) v ch = chain-valid (o .hub) l (met-valid h c o (ch .0)) (ch .1)
+chain-valid h (called c o x ∷ l) v ch = chain-valid (o .hub) l (met h c o (ch .0) .valid) (ch .1)
 chain-valid h (device-takes d k ∷ l) v ch = chain-valid h l v ch
 
 -- Demand 3.

@@ -1,58 +1,50 @@
 -- Laws that the proofs of this crate, and those above it, cite. Assumes nothing.
-use mathlib.Core.Path.{_≡_, refl, sym, ap, _∙_, subst}
+use mathlib.Core.Path.{_≡_, refl, sym, ap, _∙_}
 use mathlib.Core.Logic.{_≢_}
 use mathlib.Core.Bool.{true, false}
-use mathlib.Core.List.{List, [], _∷_, _++_, map, append-nil}
+use mathlib.Core.List.{[], _∷_, _++_, append-nil}
 use mathlib.Core.Option.{none, some}
-use Prim.Native.Nat.{ℕ, zero, suc, _<_, _≤_}
-use native.Mathlib.Omega.{arith}
+use Prim.Native.Nat.{ℕ, _<_, _≤_}
 use borrow.Author.Tests.{lt-ltb, le-ltb, eq-eqb, ne-eqb}
 use lib.IntN.{ℤ}
-use lib.ListN.{length, take}
 use Rattle.routine.specs.Refusals.{refusalOf}
-use Rattle.routine.specs.declared.Refusal.{Refusal}
 use Rattle.routine.specs.declared.Refusal.the-variants.{Number}
 use Rattle.rules.specs.Tables.{sameSetting}
-use Rattle.rules.specs.State.{Status, was-done, was-skipped, Member, State}
-use Rattle.rules.specs.Answers.{Result, turnedDown, done, skipped}
+use Rattle.rules.specs.State.{Status, was-done, was-skipped, State}
+use Rattle.rules.specs.Answers.{turnedDown, done, skipped}
 use Rattle.rules.specs.Progress.{Flight, flight, answerFlight, withSteps}
 use Rattle.rules.specs.Due.{due}
-use Rattle.rules.specs.Sequence.{Found, find, runs, withSequence, change}
+use Rattle.rules.specs.Sequence.{Found, find, runs, change}
 use Rattle.rules.specs.Abort.{abort}
 use Rattle.rules.specs.Settle.{settling}
 use Rattle.rules.specs.Report.{codeDone, codeFailed, doneReport, backIfChanged, skippedState, skipReport, reported, reportFlight, reportFound, reportOf}
-use Rattle.rules.specs.Cancel.{cancelFound, cancelOf}
 use Rattle.rules.proofs.Lists.{t≠f}
-use Rattle.slot.specs.View.{stepsOf, memberOf, flightOf}
+use Rattle.slot.specs.View.{stepsOf, memberOf, flightIn}
 use Rattle.slot.specs.declared.Slot.{Slot}
 use Rattle.slot.specs.declared.SentCommand.{SentCommand}
-use Rattle.slot.specs.declared.Pending.{Pending}
-use Rattle.sequence.specs.View.{membersOf, foundAt}
-use Rattle.sequence.specs.Valid.{SequenceOk}
+use Rattle.sequence.specs.View.{membersOf}
 use Rattle.sequence.specs.declared.Sequence.{Sequence}
-use Rattle.sequence.specs.declared.Place.{Place}
-use Rattle.sequence.specs.declared.Place.the-variants.{At, Nowhere}
-use Rattle.state.specs.View.{stateOf, found, flightIn, backOf, backsOf}
+use Rattle.state.specs.View.{stateOf, found, backsOf}
 use Rattle.state.specs.Valid.{StateOk, Stood}
 use Rattle.state.specs.Contract.{StepGives, Plain}
 use Rattle.state.specs.declared.HubState.{HubState}
-use Rattle.state.specs.declared.Answer.the-variants.{Refused, Done, Skipped}
+use Rattle.state.specs.declared.Answer.the-variants.{Done, Skipped}
 use Rattle.state.specs.declared.First.the-variants.{NoAbort}
-use Rattle.state.specs.declared.PutBack.{PutBack}
 use Rattle.state.specs.declared.PutBacks.{PutBacks}
 use Rattle.state.specs.declared.StepOutcome.{StepOutcome}
-use Rattle.state.proofs.Laws.{plain-gives, stateWith, id-is, flight-is}
+use Rattle.state.proofs.Laws.{plain-gives, stateWith, id-is, view-changed}
 
--- the hub once the command in flight of the routine at a place got this status
+-- ---- the command in flight of the routine at a place
+
+-- the state once it got this status
 abbrev pub answeredAt : HubState → ℕ → Status → State
 answeredAt h at st = change (stateOf h) (found h at) (withSteps (found h at .it) (answerFlight st (found h at .it .steps)))
 
+-- that is the state with the routine replaced in the sequence
 pub answered-view : (h : HubState) (at : ℕ) (s after : Slot) (st : Status) (q : Sequence) → Stood h at s → memberOf after ≡ withSteps (memberOf s) (answerFlight st (stepsOf s)) →
-    membersOf q ≡ found h at .ahead ++ (memberOf after ∷ found h at .behind) → stateOf (stateWith h (h .settled) (h .mark) q) ≡ answeredAt h at st
+    membersOf q ≡ found h at .ahead ++ (memberOf after ∷ found h at .behind) → stateOf (stateWith h q (h .settled) (h .up) (h .mark)) ≡ answeredAt h at st
 unfolding stateOf memberOf
-answered-view h at s after st q stood e k =
-    ap (withSequence (stateOf h))
-    (k ∙ ap (λ (m : Member). found h at .ahead ++ (m ∷ found h at .behind)) (e ∙ ap (λ (m : Member). withSteps m (answerFlight st (m .steps))) (stood .slot-is)))
+answered-view h at s after st q stood e k = view-changed h at s stood after q k (λ m. withSteps m (answerFlight st (m .steps))) e (h .mark) _ refl
 
 -- ---- the device of a command that is skipped
 
@@ -64,15 +56,6 @@ module _ (d : ℕ) (now before : ℤ) where
   pub back-changed : (u : ℤ) → u ≡ now → sameSetting now before ≡ false → record { device = d; setting = u } ∷ [] ≡ backIfChanged d now before
   unfolding backIfChanged
   back-changed u k e = rw (e, k)
-
--- no device is put back: none is counted
-pub none-put-back : (b : PutBacks) → length (b .items) ≡ 32 → backsOf b ≡ [] → b .count ≡ 0
-none-put-back b h e = go (b .count) (b .items) h e
-  where
-    go : (n : ℕ) (l : List PutBack) → length l ≡ 32 → map backOf (take n l) ≡ [] → n ≡ 0
-    go zero l k z = refl
-    go (suc n) [] k z = absurd (omega (arith, k))
-    go (suc n) (x ∷ l) k z = absurd (omega (arith, ap length z))
 
 -- ---- what a report gives
 

@@ -26,8 +26,8 @@ ghost use Rattle.rules.specs.Progress.{answerFlight, withSteps};
 ghost use Rattle.rules.specs.Sequence.{change};
 ghost use Rattle.rules.specs.Report.{doneReport, backIfChanged, skipReport, reported, reportOf};
 ghost use Rattle.rules.specs.Settle.{settling};
-ghost use Rattle.slot.specs.View.{statusOf};
-ghost use Rattle.state.specs.View.{stateOf, found, backsOf, flightIn};
+ghost use Rattle.slot.specs.View.{statusOf, flightIn};
+ghost use Rattle.state.specs.View.{stateOf, found, backsOf};
 ghost use Rattle.state.specs.Valid.{StateOk, Stood};
 ghost use Rattle.state.specs.Contract.{StepGives};
 

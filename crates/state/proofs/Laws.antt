@@ -2,7 +2,7 @@
 use mathlib.Core.Path.{_≡_, refl, sym, ap, _∙_, subst}
 use mathlib.Core.Bool.{Bool, true}
 use mathlib.Core.List.{List, [], _∷_, _++_, map, map-append}
-use mathlib.Core.Option.{Option, none, some}
+use mathlib.Core.Option.{Option}
 use Prim.Native.Nat.{ℕ, zero, suc, _+_, _<_, _≤_}
 use native.Mathlib.Numerals.{add-one}
 use native.Mathlib.Omega.{arith}
@@ -11,21 +11,22 @@ use lib.IntN.{ℤ, pos}
 use lib.ListN.{length, take, getD, set, List·getD-eq-default}
 use lib.Seq.{take-suc-set}
 use Rattle.routine.specs.declared.Refusal.{Refusal}
-use Rattle.rules.specs.State.{Member, State}
+use Rattle.rules.specs.State.{highestId, Member, State}
 use Rattle.rules.specs.Answers.{Result, turnedDown}
-use Rattle.rules.specs.Sequence.{find, withSequence, withSettled}
+use Rattle.rules.specs.Sequence.{find, withSequence, withSettled, withMark, change}
 use Rattle.rules.specs.Due.{afterMembers, due}
 use Rattle.rules.specs.Attach.{attachAt, settleRestarts, attach}
 use Rattle.rules.specs.Settle.{settleFrom, settle}
 use Rattle.rules.specs.Progress.{flight}
-use Rattle.slot.specs.View.{settingsOf, stepsOf, memberOf, flightOf}
+use Rattle.slot.specs.View.{settingsOf, marksOf, stepsOf, memberOf, flightOf}
+use Rattle.slot.specs.Valid.{SlotOk}
 use Rattle.slot.specs.declared.Slot.{Slot}
 use Rattle.slot.specs.declared.Pending.{Pending}
 use Rattle.sequence.specs.View.{membersOf, foundAt, held}
-use Rattle.sequence.specs.Valid.{SequenceOk}
+use Rattle.sequence.specs.Valid.{SequenceOk, Stands, PlaceOk}
 use Rattle.sequence.specs.declared.Sequence.{Sequence}
 use Rattle.sequence.specs.declared.Place.{Place}
-use Rattle.sequence.specs.declared.Place.the-variants.{At, Nowhere}
+use Rattle.sequence.specs.declared.Place.the-variants.{At}
 use Rattle.state.specs.View.{stateOf, found, backOf, answerOf, firstOf, answersIn, backsIn}
 use Rattle.state.specs.Valid.{StateOk, Stood}
 use Rattle.state.specs.Contract.{changesNothing, settleFor, StepGives, Plain}
@@ -52,12 +53,8 @@ plain-gives h g a o result p v e b k = record {
     told = λ i. firstOf (p .first-is i) (p .backs-are i) ++ (answerOf (p .answer-is i) (p .backs-are i) ∷ [])
 
 -- a call that is turned down
-pub refused-gives : (h : HubState) (r : Refusal) (o : StepOutcome) → Plain h (Refused r) o → StateOk h → StepGives h o (turnedDown r (stateOf h))
-refused-gives h r o p v = plain-gives h h (Refused r) o (turnedDown r (stateOf h)) p v refl refl (λ t. refl)
-
--- the call gives the refusal that the definition gives
-pub turned-down : (h : HubState) (r : Refusal) (o : StepOutcome) (result : Result) → Plain h (Refused r) o → StateOk h → turnedDown r (stateOf h) ≡ result → StepGives h o result
-turned-down h r o result p v e = subst (StepGives h o) e (refused-gives h r o p v)
+pub refused-gives : (h : HubState) (r : Refusal) (o : StepOutcome) (result : Result) → Plain h (Refused r) o → StateOk h → turnedDown r (stateOf h) ≡ result → StepGives h o result
+refused-gives h r o result p v e = plain-gives h h (Refused r) o result p v e refl (λ t. refl)
 
 -- ---- the list of put-backs
 
@@ -86,35 +83,38 @@ module _ (i : ℕ) (e : ℕ → Option ℤ) (s : State) where
 
 -- ---- a changed state
 
--- these settings of the settled part, marks and sequence instead of the state's own
-abbrev pub stateWith : HubState → List ℤ → List ℕ → Sequence → HubState
-stateWith h settings marks q = record {
+-- this next id, this sequence and these tables instead of the state's own
+abbrev pub changedState : HubState → ℕ → Sequence → List ℤ → List Bool → List ℕ → HubState
+changedState h next q settled up mark = record {
   devices = h .devices;
   «pass_limit» = h .«pass_limit»;
-  «next_id» = h .«next_id»;
+  «next_id» = next;
   sequence = q;
-  settled = settings;
-  up = h .up;
-  mark = marks;
+  settled = settled;
+  up = up;
+  mark = mark;
 }
 
-module _ (h : HubState) (settings : List ℤ) (marks : List ℕ) (q : Sequence) where
-  pub valid-with : StateOk h → SequenceOk q → StateOk (stateWith h settings marks q)
-  valid-with v k = record { devices-fit = v .devices-fit; some-id = v .some-id; ids-fit = v .ids-fit; sequence-ok = k }
+-- the next id stays
+abbrev pub stateWith : HubState → Sequence → List ℤ → List Bool → List ℕ → HubState
+stateWith h q settled up mark = changedState h (h .«next_id») q settled up mark
 
-  -- what settling leaves
-  pub settled-view :
-      ((s : State) → settleFrom (held s (h .settled) (h .mark) (membersOf (h .sequence))) (membersOf (h .sequence)) ≡ held s settings marks (membersOf q)) →
-      stateOf (stateWith h settings marks q) ≡ settle (stateOf h)
-  unfolding stateOf settle
-  settled-view e = sym (e (stateOf h))
+module _ (h : HubState) (q : Sequence) (settled : List ℤ) (up : List Bool) (mark : List ℕ) (v : StateOk h) (ok : SequenceOk q) where
+  -- it is valid, whatever the tables hold
+  pub changed-valid : (next : ℕ) → 0 < next → next ≤ suc highestId → StateOk (changedState h next q settled up mark)
+  changed-valid next some fit = record { devices-fit = v .devices-fit; some-id = some; ids-fit = fit; sequence-ok = ok }
+
+  pub valid-with : StateOk (stateWith h q settled up mark)
+  valid-with = changed-valid (h .«next_id») (v .some-id) (v .ids-fit)
+
+-- what settling leaves
+pub settled-view : (h : HubState) (q : Sequence) (settled : List ℤ) (mark : List ℕ) →
+    ((s : State) → settleFrom (held s (h .settled) (h .mark) (membersOf (h .sequence))) (membersOf (h .sequence)) ≡ held s settled mark (membersOf q)) →
+    stateOf (stateWith h q settled (h .up) mark) ≡ settle (stateOf h)
+unfolding stateOf settle
+settled-view h q settled mark e = sym (e (stateOf h))
 
 -- ---- what is read off a state
-
--- the number of devices
-pub view-devices : (h : HubState) → stateOf h .devices ≡ h .devices
-unfolding stateOf
-view-devices h = refl
 
 -- below an array's end it does not matter what is read past it
 pub any-default {ℓ} : {A : Type ℓ} (l : List A) (i : ℕ) (x y : A) → i < length l → getD l i x ≡ getD l i y
@@ -131,34 +131,49 @@ pub up-read : (h : HubState) (d : ℕ) (z : Bool) → d < length (h .up) → sta
 unfolding stateOf
 up-read h d z k = any-default (h .up) d true z k
 
--- what a device is due, past the array and in it
-pub due-past : (h : HubState) (d : ℕ) → length (h .settled) ≤ d → due (stateOf h) d ≡ afterMembers d (membersOf (h .sequence)) (pos 0)
-unfolding stateOf due
-due-past h d k = ap (λ (v : ℤ). afterMembers d (membersOf (h .sequence)) v) (List·getD-eq-default (h .settled) (pos 0) k)
-
+-- what a device is due, by the array and past it
 pub due-read : (h : HubState) (d : ℕ) → due (stateOf h) d ≡ afterMembers d (membersOf (h .sequence)) (settingsOf (h .settled) d)
 unfolding stateOf due
 due-read h d = refl
 
+pub due-past : (h : HubState) (d : ℕ) → length (h .settled) ≤ d → due (stateOf h) d ≡ afterMembers d (membersOf (h .sequence)) (pos 0)
+due-past h d k = due-read h d ∙ ap (λ (v : ℤ). afterMembers d (membersOf (h .sequence)) v) (List·getD-eq-default (h .settled) (pos 0) k)
+
 -- ---- the routine at a place
 
-module _ (h : HubState) (test : Member → Bool) (p : Place) (e : foundAt (h .sequence) p ≡ find test (membersOf (h .sequence))) where
-  -- no routine passes the test
-  pub found-none : p ≡ Nowhere → find test (stateOf h .sequence) ≡ none
-  unfolding stateOf
-  found-none k = sym e ∙ ap (foundAt (h .sequence)) k
+-- what a search gave
+pub found-as : (h : HubState) (test : Member → Bool) (p : Place) → foundAt (h .sequence) p ≡ find test (membersOf (h .sequence)) → (r : Place) → p ≡ r →
+    find test (stateOf h .sequence) ≡ foundAt (h .sequence) r
+unfolding stateOf
+found-as h test p e r k = sym e ∙ ap (foundAt (h .sequence)) k
 
-  -- the first that does stands at this place
-  pub found-at : (at : ℕ) → p ≡ At at → find test (stateOf h .sequence) ≡ some (found h at)
-  unfolding stateOf
-  found-at at k = sym e ∙ ap (foundAt (h .sequence)) k
+-- a routine stands at the place that was found
+pub stands-at : (q : Sequence) (p : Place) (at : ℕ) → p ≡ At at → PlaceOk q p → Stands q at
+stands-at q p at e ok = subst (PlaceOk q) e ok
+
+-- it is the one that was read there
+pub stood-at : (h : HubState) (p : Place) (at : ℕ) (s : Slot) → p ≡ At at → PlaceOk (h .sequence) p → SlotOk s × (memberOf s ≡ found h at .it) → Stood h at s
+stood-at h p at s e ok k = record { stands = stands-at (h .sequence) p at e ok; slot-ok = k .0; slot-is = k .1 }
 
 module _ (h : HubState) (at : ℕ) (s : Slot) (stood : Stood h at s) where
+  -- its id and its steps
   pub id-is : s .id ≡ found h at .it .id
   unfolding memberOf
   id-is = ap (λ (m : Member). m .id) (stood .slot-is)
 
-  -- its command in flight
-  pub flight-is : (p : Pending) → flightOf p ≡ flight (stepsOf s) → flight (found h at .it .steps) ≡ flightOf p
+  pub stood-steps : stepsOf s ≡ found h at .it .steps
   unfolding memberOf
-  flight-is p e = ap (λ (m : Member). flight (m .steps)) (sym (stood .slot-is)) ∙ sym e
+  stood-steps = ap (λ (m : Member). m .steps) (stood .slot-is)
+
+  -- its command in flight
+  pub flight-as : (p : Pending) → flightOf p ≡ flight (stepsOf s) → (r : Pending) → p ≡ r → flight (found h at .it .steps) ≡ flightOf r
+  flight-as p e r k = sym (e ∙ ap flight stood-steps) ∙ ap flightOf k
+
+  -- it becomes another, and the marks these
+  pub view-changed : (t : Slot) (q : Sequence) → membersOf q ≡ found h at .ahead ++ (memberOf t ∷ found h at .behind) → (become : Member → Member) → memberOf t ≡ become (memberOf s) →
+      (marks : List ℕ) (mark : ℕ → ℕ) → marksOf marks ≡ mark →
+      stateOf (stateWith h q (h .settled) (h .up) marks) ≡ withMark (change (stateOf h) (found h at) (become (found h at .it))) mark
+  unfolding stateOf
+  view-changed t q e become p marks mark k =
+      let l = e ∙ ap (λ (m : Member). found h at .ahead ++ (m ∷ found h at .behind)) (p ∙ ap become (stood .slot-is)) in
+      λ i. withMark (withSequence (stateOf h) (l i)) (k i)

@@ -2,6 +2,7 @@
 use mathlib.Core.Path.{_≡_}
 use mathlib.Core.Bool.{Bool, true, false}
 use mathlib.Core.List.{[]}
+use Rattle.routine.specs.Choice.{if_then_else_}
 use Rattle.rules.specs.Answers.{Result}
 use Rattle.rules.specs.Settle.{settling}
 use Rattle.state.specs.View.{backsOf, answersIn, resultIn, backsIn}
@@ -27,16 +28,7 @@ changesNothing (Up d i) = false
 
 -- What the rules give after a call with this answer: its result settles unless nothing changed.
 abbrev pub settleFor : Answer → Result → Result
-settleFor (Refused r) result = result
-settleFor (Placed p) result = settling result
-settleFor (Wait i j) result = result
-settleFor (Sent x) result = settling result
-settleFor (Done i) result = settling result
-settleFor (Skipped i) result = settling result
-settleFor (Committed i) result = settling result
-settleFor (Aborted i) result = settling result
-settleFor (Down d i) result = settling result
-settleFor (Up d i) result = settling result
+settleFor a result = if changesNothing a then result else settling result
 
 abbrev pub afterSettling : StepOutcome → Result
 afterSettling o = settleFor (o .answer) (resultIn o)

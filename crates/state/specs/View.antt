@@ -6,10 +6,8 @@ use Prim.Native.Nat.{ℕ}
 use lib.ListN.{take, getD}
 use Rattle.rules.specs.State.{State}
 use Rattle.rules.specs.Answers.{Back, Answer as Told, refused, placed, wait, send, done, skipped, committed, aborted, down, up, Result}
-use Rattle.rules.specs.Progress.{Flight}
 use Rattle.rules.specs.Sequence.{Found}
 use Rattle.slot.specs.View.{settingsOf, marksOf}
-use Rattle.slot.specs.declared.SentCommand.{SentCommand}
 use Rattle.sequence.specs.View.{membersOf, there}
 use Rattle.state.specs.declared.HubState.{HubState}
 use Rattle.state.specs.declared.Answer.{Answer}
@@ -40,9 +38,6 @@ stateOf h = record {
 -- The routine at a place of the sequence, with those ahead of it and those behind it.
 abbrev pub found : HubState → ℕ → Found
 found h i = there (h .sequence) i
-
-abbrev pub flightIn : SentCommand → Flight
-flightIn x = record { command = x .command; dueThen = x .«due_then» }
 
 -- ---- answers
 

@@ -26,12 +26,14 @@ use Rattle.rules.proofs.Lists.{each-map, or-left, or-right}
 use Rattle.slot.specs.View.{marksOf}
 use Rattle.slot.specs.Valid.{CommandsOk}
 use Rattle.sequence.specs.View.{membersOf}
-use Rattle.sequence.specs.Valid.{SequenceOk, CanPass, RoomToPass}
+use Rattle.slot.specs.Valid.{CanPass}
+use Rattle.sequence.specs.Valid.{SequenceOk, RoomToPass}
 use Rattle.sequence.specs.Tests.{blocksBy}
 use Rattle.sequence.specs.declared.Sequence.{Sequence}
 use Rattle.state.specs.View.{stateOf}
 use Rattle.state.specs.Valid.{StateOk}
 use Rattle.state.specs.declared.HubState.{HubState}
+use Rattle.state.proofs.Laws.{changedState, changed-valid}
 
 -- ---- the check of a submit, by its tests
 
@@ -123,7 +125,7 @@ module _ (mark : ℕ → ℕ) (limit : ℕ) (cs : List Command) (k : limit ≤ 2
 -- ---- the submit
 
 -- turned down, or accepted
-pub submit-refused : (s : State) (cs : List Command) (r : Refusal) → submitCheck s cs ≡ Refused r → submitOf s cs ≡ turnedDown r s
+pub submit-refused : (s : State) (cs : List Command) (r : Refusal) → submitCheck s cs ≡ Refused r → turnedDown r s ≡ submitOf s cs
 unfolding submitOf
 submit-refused s cs r e = rw e
 
@@ -132,26 +134,13 @@ submit-accepted : (s : State) (cs : List Command) → submitCheck s cs ≡ Accep
 unfolding submitOf
 submit-accepted s cs e = rw e
 
--- The hub with this sequence and the next id given.
+-- the state with this sequence and the next id given
 abbrev pub withNewcomer : HubState → Sequence → HubState
-withNewcomer h q = record {
-  devices = h .devices;
-  «pass_limit» = h .«pass_limit»;
-  «next_id» = h .«next_id» + 1;
-  sequence = q;
-  settled = h .settled;
-  up = h .up;
-  mark = h .mark;
-}
+withNewcomer h q = changedState h (h .«next_id» + 1) q (h .settled) (h .up) (h .mark)
 
 -- it is valid
 pub newcomer-valid : (h : HubState) (q : Sequence) → StateOk h → h .«next_id» ≤ highestId → SequenceOk q → StateOk (withNewcomer h q)
-newcomer-valid h q v k ok = record {
-  devices-fit = v .devices-fit;
-  some-id = omega arith;
-  ids-fit = omega arith;
-  sequence-ok = ok;
-}
+newcomer-valid h q v k ok = changed-valid h q _ _ _ v ok (h .«next_id» + 1) (omega arith) (omega arith)
 
 -- and the submit gives it, with the answer
 module _ (h : HubState) (cs : List Command) (q : Sequence) (front back : List Member) (m : Member) (after : ℕ) where

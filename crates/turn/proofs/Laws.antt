@@ -4,7 +4,7 @@ use mathlib.Core.Logic.{_≢_}
 use mathlib.Core.Bool.{Bool, true, false}
 use mathlib.Core.List.{List, [], _∷_, _++_}
 use mathlib.Core.Option.{some}
-use Prim.Native.Nat.{ℕ, zero, suc, _<_}
+use Prim.Native.Nat.{ℕ, _<_}
 use native.Mathlib.Omega.{arith}
 use borrow.Author.Tests.{eq-eqb, ne-eqb}
 use lib.IntN.{ℤ}
@@ -19,7 +19,7 @@ use Rattle.rules.specs.State.{Status, in-flight, was-skipped, Step, Member}
 use Rattle.rules.specs.Answers.{wait, send, skipped, committed}
 use Rattle.rules.specs.Progress.{isToDo, begun, next, flight, advance, withSteps}
 use Rattle.rules.specs.Due.{due}
-use Rattle.rules.specs.Sequence.{Found, find, runs, withSequence, withMark, change}
+use Rattle.rules.specs.Sequence.{Found, find, runs, change}
 use Rattle.rules.specs.Abort.{abort}
 use Rattle.rules.specs.Settle.{settling}
 use Rattle.rules.specs.Turn.{firstHolding, markBegun, commit, commitTurn, nextBecomes, sendTurn, skipTurn, proceed, waitOr, turnNext, turnFlight, turnFound, turnOf}
@@ -48,7 +48,7 @@ use Rattle.state.specs.Contract.{StepGives, Plain}
 use Rattle.state.specs.declared.HubState.{HubState}
 use Rattle.state.specs.declared.Answer.the-variants.{Refused, Wait, Sent as ToSend, Skipped, Committed}
 use Rattle.state.specs.declared.StepOutcome.{StepOutcome}
-use Rattle.state.proofs.Laws.{stateWith, valid-with, id-is, any-default, plain-gives, refused-gives}
+use Rattle.state.proofs.Laws.{plain-gives, refused-gives, stateWith, valid-with, up-read, found-as, id-is, stood-steps, flight-as, view-changed}
 
 -- ---- marks
 
@@ -71,38 +71,26 @@ pub wait-search : (h : HubState) (i : ℕ) (c : Command) (x : Holder) → holder
 wait-search h i c x e y p =
     ap (waitOr (stateOf h) (found h i) c) (sym (ap holderOf p) ∙ e ∙ ap (firstHolding (c .device)) (sym (there-ahead (h .sequence) i)))
 
--- ---- a changed hub
+-- ---- what a turn gives
 
 module _ (h : HubState) (i : ℕ) (s : Slot) (k : Stood h i s) where
   -- the routine becomes another
   module _ (t : Slot) (q : Sequence) (e : membersOf q ≡ found h i .ahead ++ (memberOf t ∷ found h i .behind)) where
-    view-changed : (m : Member) (marks : List ℕ) (mark : ℕ → ℕ) → memberOf t ≡ m → marksOf marks ≡ mark →
-        stateOf (stateWith h (h .settled) marks q) ≡ withMark (change (stateOf h) (found h i) m) mark
-    unfolding stateOf
-    view-changed m marks mark p r =
-        let l : membersOf q ≡ found h i .ahead ++ (m ∷ found h i .behind) = e ∙ ap (λ (x : Member). found h i .ahead ++ (x ∷ found h i .behind)) p in
-        λ j. withMark (withSequence (stateOf h) (l j)) (r j)
-
     -- the next command gets a status, and its device the mark if R begins it by that
     pub next-view : (c : Command) (st : Status) (marks : List ℕ) → memberOf t ≡ withSteps (memberOf s) (advance st (stepsOf s)) →
         marksOf marks ≡ markBegun (memberOf s) (c .device) (marksOf (h .mark)) →
-        stateOf (stateWith h (h .settled) marks q) ≡ nextBecomes (stateOf h) (found h i) c st
+        stateOf (stateWith h q (h .settled) (h .up) marks) ≡ nextBecomes (stateOf h) (found h i) c st
     unfolding stateOf memberOf
     next-view c st marks p r =
-        view-changed _ marks _ (p ∙ ap (λ (m : Member). withSteps m (advance st (m .steps))) (k .slot-is))
-        (r ∙ ap (λ (m : Member). markBegun m (c .device) (marksOf (h .mark))) (k .slot-is))
+        view-changed h i s k t q e (λ m. withSteps m (advance st (m .steps))) p marks _ (r ∙ ap (λ (m : Member). markBegun m (c .device) (marksOf (h .mark))) (k .slot-is))
 
     -- "No command left: committed."
-    pub commit-gives : (o : StepOutcome) → StateOk h → SequenceOk q → memberOf t ≡ commit (memberOf s) → Plain (stateWith h (h .settled) (h .mark) q) (Committed (s .id)) o →
-        StepGives h o (settling (commitTurn (stateOf h) (found h i)))
+    pub commit-gives : (o : StepOutcome) → StateOk h → SequenceOk q → memberOf t ≡ commit (memberOf s) →
+        Plain (stateWith h q (h .settled) (h .up) (h .mark)) (Committed (s .id)) o → StepGives h o (settling (commitTurn (stateOf h) (found h i)))
     unfolding stateOf commitTurn
     commit-gives o v ok p a =
-        let w : stateOf (stateWith h (h .settled) (h .mark) q) ≡ change (stateOf h) (found h i) (commit (found h i .it)) =
-        view-changed _ (h .mark) _ (p ∙ ap commit (k .slot-is)) refl in
-        plain-gives h _ _ o _ a (valid-with h (h .settled) (h .mark) q v ok)
-        (λ j. settling (record { state = w j; answers = committed (id-is h i s k j) ∷ [] }))
-        refl
-        (λ z. t≠f (sym z))
+        let w : stateOf (stateWith h q (h .settled) (h .up) (h .mark)) ≡ change (stateOf h) (found h i) (commit (found h i .it)) = view-changed h i s k t q e commit p (h .mark) _ refl in
+        plain-gives h _ _ o _ a (valid-with h q _ _ _ v ok) (λ j. settling (record { state = w j; answers = committed (id-is h i s k j) ∷ [] })) refl (λ z. t≠f (sym z))
 
   -- "Otherwise the command is sent and is in flight."
   pub send-gives : (g : HubState) (c : Command) (d : ℤ) (o : StepOutcome) → StateOk g → d ≡ due (stateOf h) (c .device) → stateOf g ≡ nextBecomes (stateOf h) (found h i) c (in-flight d) →
@@ -129,19 +117,14 @@ module _ (h : HubState) (i : ℕ) (s : Slot) (k : Stood h i s) where
 -- ---- "If D is down"
 
 module _ (h : HubState) (f : Found) (c : Command) (z : Bool) (b : c .device < length (h .up)) where
-  -- whether the device is up
-  up-read : (t : Bool) → getD (h .up) (c .device) z ≡ t → stateOf h .up (c .device) ≡ t
-  unfolding stateOf
-  up-read t e = any-default (h .up) (c .device) true z b ∙ e
-
   pub proceed-up : getD (h .up) (c .device) z ≡ true → settling (sendTurn (stateOf h) f c) ≡ proceed (stateOf h) f c
-  proceed-up e = rw (up-read true e)
+  proceed-up e = rw (up-read h (c .device) z b ∙ e)
 
   pub proceed-must : getD (h .up) (c .device) z ≡ false → c .tag ≡ 0 → settling (abort (stateOf h) f) ≡ proceed (stateOf h) f c
-  proceed-must e m = rw (up-read false e, eq-eqb (c .tag) 0 m)
+  proceed-must e m = rw (up-read h (c .device) z b ∙ e, eq-eqb (c .tag) 0 m)
 
   pub proceed-skip : getD (h .up) (c .device) z ≡ false → c .tag ≢ 0 → settling (skipTurn (stateOf h) f c) ≡ proceed (stateOf h) f c
-  proceed-skip e m = rw (up-read false e, ne-eqb (c .tag) 0 m)
+  proceed-skip e m = rw (up-read h (c .device) z b ∙ e, ne-eqb (c .tag) 0 m)
 
 -- ---- the ways of a turn
 
@@ -162,27 +145,20 @@ next-below s n c ok e p = next-in (stepsOf s) c (ok .devices-fit) (sym e ∙ ap 
 module _ (h : HubState) (id : ℕ) (p : Place) (e : foundAt (h .sequence) p ≡ find (runs id) (membersOf (h .sequence))) where
   -- 10: no running routine has this id
   pub turn-nowhere : (o : StepOutcome) → StateOk h → p ≡ Nowhere → Plain h (Refused (Number 10)) o → StepGives h o (turnOf (stateOf h) id)
-  unfolding turnOf stateOf refusalOf
-  turn-nowhere o v a r =
-      subst (StepGives h o) (ap (turnFound (stateOf h)) (sym (ap (foundAt (h .sequence)) a) ∙ e)) (refused-gives h (Number 10) o r v)
+  unfolding turnOf refusalOf
+  turn-nowhere o v a r = refused-gives h (Number 10) o _ r v (sym (ap (turnFound (stateOf h)) (found-as h (runs id) p e Nowhere a)))
 
-  module _ (i : ℕ) (a : p ≡ At i) (s : Slot) (m : memberOf s ≡ found h i .it) (x : Pending) (y : flightOf x ≡ flight (stepsOf s)) where
-    turn-at : turnFlight (stateOf h) (found h i) (flightOf x) ≡ turnOf (stateOf h) id
-    unfolding turnOf stateOf memberOf
-    turn-at =
-        ap (turnFlight (stateOf h) (found h i)) (y ∙ ap (λ (n : Member). flight (n .steps)) m)
-        ∙ ap (turnFound (stateOf h)) (sym (ap (foundAt (h .sequence)) a) ∙ e)
+  module _ (i : ℕ) (a : p ≡ At i) (s : Slot) (k : Stood h i s) (x : Pending) (y : flightOf x ≡ flight (stepsOf s)) where
+    -- the command in flight decides
+    turn-at : (r : Pending) → x ≡ r → turnFlight (stateOf h) (found h i) (flightOf r) ≡ turnOf (stateOf h) id
+    unfolding turnOf
+    turn-at r b = sym (ap (turnFound (stateOf h)) (found-as h (runs id) p e (At i) a) ∙ ap (turnFlight (stateOf h) (found h i)) (flight-as h i s k x y r b))
 
     -- 11: turn with a command in flight
     pub turn-sent : (o : StepOutcome) (c : SentCommand) → StateOk h → x ≡ Sent c → Plain h (Refused (Number 11)) o → StepGives h o (turnOf (stateOf h) id)
     unfolding refusalOf
-    turn-sent o c v b r =
-        subst (StepGives h o) (ap (λ (z : Pending). turnFlight (stateOf h) (found h i) (flightOf z)) (sym b) ∙ turn-at) (refused-gives h (Number 11) o r v)
+    turn-sent o c v b r = refused-gives h (Number 11) o _ r v (turn-at (Sent c) b)
 
     -- no command is in flight: the next one
     pub turn-next : (n : Next) → x ≡ NothingSent → nextOf n ≡ next (stepsOf s) → (r : Next) → n ≡ r → turnNext (stateOf h) (found h i) (nextOf r) ≡ turnOf (stateOf h) id
-    unfolding memberOf
-    turn-next n b w r z =
-        ap (turnNext (stateOf h) (found h i)) (sym (ap nextOf z) ∙ w ∙ ap (λ (l : Member). next (l .steps)) m)
-        ∙ ap (λ (u : Pending). turnFlight (stateOf h) (found h i) (flightOf u)) (sym b)
-        ∙ turn-at
+    turn-next n b w r z = ap (turnNext (stateOf h) (found h i)) (sym (ap nextOf z) ∙ w ∙ ap next (stood-steps h i s k)) ∙ turn-at NothingSent b

@@ -14,10 +14,10 @@ use Rattle.routine.proofs.Laws.{length-mapped}
 use Rattle.rules.specs.Answers.{Back}
 use Rattle.slot.specs.View.{settingsOf}
 use Rattle.state.specs.View.{backsOf}
-use Rattle.abort.specs.PutBacks.{isBackBy, backsBy}
 use Rattle.state.specs.declared.PutBacks.{PutBacks}
-use Rattle.abort.proofs.Laws.{test-read, backs-more, backs-same, backs-end}
 use Rattle.state.proofs.Laws.{backs-none, any-default}
+use Rattle.abort.specs.PutBacks.{isBackBy, backsBy}
+use Rattle.abort.proofs.Laws.{test-read, backs-more, backs-same, backs-end}
 use Rattle.abort.proofs.put_backs.Statement.{statement}
 use Rattle.abort.proofs.put_backs.Tie as tie
 

@@ -18,8 +18,8 @@ unfolding stateOf
 returns c =
     let s = c .before .before .before in
     let a = s .args in
-    subst (StepGives (a .state) (c .refused .result)) (failure-14 (stateOf (a .state)) (a .device) (c .before .if1 .taken))
-    (refused-gives (a .state) (Number 14) (c .refused .result) (c .refused .ensures) (s .pre))
+    refused-gives (a .state) (Number 14) _ _ (c .refused .ensures) (s .pre)
+    (failure-14 (stateOf (a .state)) (a .device) (c .before .if1 .taken))
 
 is-up-requires : tie.Need-is-up-requires
 is-up-requires c κs = search needs
@@ -33,8 +33,8 @@ returns-2 c =
     let u = c .before .before in
     let s = u .before .before .before in
     let a = s .args in
-    subst (StepGives (a .state) (c .refused2 .result)) (failure-15 (stateOf (a .state)) (a .device) (u .before .if1 .left) (sym (u .is-up .ensures) ∙ not-true (u .is-up .result) (c .before .if2 .taken)))
-    (refused-gives (a .state) (Number 15) (c .refused2 .result) (c .refused2 .ensures) (s .pre))
+    refused-gives (a .state) (Number 15) _ _ (c .refused2 .ensures) (s .pre)
+    (failure-15 (stateOf (a .state)) (a .device) (u .before .if1 .left) (sym (u .is-up .ensures) ∙ not-true (u .is-up .result) (c .before .if2 .taken)))
 
 failed-requires : tie.Need-failed-requires
 failed-requires c κs = search needs

@@ -23,8 +23,8 @@ unfolding stateOf
 returns c =
     let s = c .before .before .before in
     let a = s .args in
-    subst (StepGives (a .state) (c .refused .result)) (restart-14 (stateOf (a .state)) (a .device) (a .setting) (c .before .if1 .taken))
-    (refused-gives (a .state) (Number 14) (c .refused .result) (c .refused .ensures) (s .pre))
+    refused-gives (a .state) (Number 14) _ _ (c .refused .ensures) (s .pre)
+    (restart-14 (stateOf (a .state)) (a .device) (a .setting) (c .before .if1 .taken))
 
 is-up-requires : tie.Need-is-up-requires
 is-up-requires c κs = search needs
@@ -38,8 +38,8 @@ returns-2 c =
     let u = c .before .before in
     let s = u .before .before .before in
     let a = s .args in
-    subst (StepGives (a .state) (c .refused2 .result)) (restart-16 (stateOf (a .state)) (a .device) (a .setting) (u .before .if1 .left) (sym (u .is-up .ensures) ∙ c .before .if2 .taken))
-    (refused-gives (a .state) (Number 16) (c .refused2 .result) (c .refused2 .ensures) (s .pre))
+    refused-gives (a .state) (Number 16) _ _ (c .refused2 .ensures) (s .pre)
+    (restart-16 (stateOf (a .state)) (a .device) (a .setting) (u .before .if1 .left) (sym (u .is-up .ensures) ∙ c .before .if2 .taken))
 
 in-range-requires : tie.Need-in-range-requires
 in-range-requires c κs = search needs
@@ -55,9 +55,8 @@ returns-3 c =
     let s = u .before .before .before in
     let a = s .args in
     let z = toZ-ofZ (s .fits .setting) in
-    subst (StepGives (a .state) (c .refused3 .result))
+    refused-gives (a .state) (Number 17) _ _ (c .refused3 .ensures) (s .pre)
     (restart-17 (stateOf (a .state)) (a .device) (a .setting) (u .before .if1 .left) (sym (u .is-up .ensures) ∙ r .before .if2 .left) (ap inRange (sym z) ∙ sym (r .in-range .ensures) ∙ not-true (r .in-range .result) (c .before .if3 .taken)))
-    (refused-gives (a .state) (Number 17) (c .refused3 .result) (c .refused3 .ensures) (s .pre))
 
 restarted-requires : tie.Need-restarted-requires
 restarted-requires c κs = search needs

@@ -1,7 +1,7 @@
 -- `report::answered` meets its contract. Assumes nothing.
 use Rattle.slot.specs.View.{statusOf}
-use Rattle.report.proofs.Laws.{answered-view}
 use Rattle.state.proofs.Laws.{valid-with}
+use Rattle.report.proofs.Laws.{answered-view}
 use Rattle.report.proofs.answered.Statement.{statement}
 use Rattle.report.proofs.answered.Tie as tie
 
@@ -17,7 +17,7 @@ returns : tie.Need-returns
 returns c =
     let l = c .before .before .before in
     let a = c .before .answered in (
-      valid-with (l .args .state) _ _ _ (l .pre .0) (c .replace .ensures .0),
+      valid-with _ _ _ _ _ (l .pre .0) (c .replace .ensures .0),
       answered-view (l .args .state) (l .args .at) (l .args .slot) (a .result) (statusOf (l .args .stage)) (c .replace .result) (l .pre .1) (a .ensures .1) (c .replace .ensures .1),
     )
 

@@ -9,7 +9,8 @@ use mir.Syntax.{w16}
 use Rattle.routine.proofs.Laws.{length-mapped}
 use Rattle.rules.specs.Tables.{sameSetting}
 use Rattle.rules.specs.Answers.{Back}
-use Rattle.report.proofs.Laws.{back-same, back-changed, none-put-back}
+use Rattle.state.proofs.Laws.{backs-none}
+use Rattle.report.proofs.Laws.{back-same, back-changed}
 use Rattle.report.proofs.back_if_changed.Statement.{statement}
 use Rattle.report.proofs.back_if_changed.Tie as tie
 
@@ -36,7 +37,7 @@ with-back-requires : tie.Need-with-back-requires
 with-back-requires c κs =
     let r = c .before .before .no-backs in
     let n : length (r .result .items) ≡ 32 = search (needs, length-mapped) in
-    let z = none-put-back (r .result) n (r .ensures) in
+    let z = backs-none (r .result .items) (r .result .count) (omega (arith, n)) (r .ensures) in
     omega (arith, z)
 
 returns-2 : tie.Need-returns-2

@@ -1,7 +1,8 @@
 -- `report::reported_on` meets its contract. Assumes nothing.
 use borrow.Author.Needs.{needs}
 use mathlib.Core.Path.{subst}
-use Rattle.state.specs.View.{stateOf, found, flightIn}
+use Rattle.slot.specs.View.{flightIn}
+use Rattle.state.specs.View.{stateOf, found}
 use Rattle.state.specs.Contract.{StepGives}
 use Rattle.report.proofs.Laws.{reported-done, reported-abort, reported-skip}
 use Rattle.report.proofs.reported_on.Statement.{statement}

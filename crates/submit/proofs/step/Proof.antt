@@ -1,8 +1,7 @@
 -- `submit::step` meets its contract. Assumes nothing.
 use borrow.Author.Needs.{needs}
-use mathlib.Core.Path.{sym, _∙_, subst}
+use mathlib.Core.Path.{sym, _∙_}
 use Rattle.state.specs.View.{stateOf}
-use Rattle.state.specs.Contract.{StepGives}
 use Rattle.state.proofs.Laws.{refused-gives}
 use Rattle.submit.proofs.Laws.{submit-refused}
 use Rattle.submit.proofs.step.Statement.{statement}
@@ -32,7 +31,7 @@ returns-2 : tie.Need-returns-2
 returns-2 c =
     let l = c .before .before .before .before in
     let h = l .before .args .state in
-    subst (StepGives h (c .turned-down .result)) (sym (submit-refused (stateOf h) _ _ (sym (l .check .ensures) ∙ c .before .before .verdict .given .1))) (refused-gives h _ _ (c .turned-down .ensures) (l .before .pre))
+    refused-gives h _ _ _ (c .turned-down .ensures) (l .before .pre) (submit-refused (stateOf h) _ _ (sym (l .check .ensures) ∙ c .before .before .verdict .given .1))
 
 pub step-spec : {M : Type 1} → statement M
 step-spec =

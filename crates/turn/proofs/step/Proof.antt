@@ -4,10 +4,10 @@ use mathlib.Core.Path.{_≡_, subst}
 use Rattle.rules.specs.Turn.{turnNext, turnOf}
 use Rattle.slot.specs.View.{nextOf}
 use Rattle.slot.specs.declared.Next.{Next}
-use Rattle.sequence.specs.Valid.{PlaceOk}
 use Rattle.state.specs.View.{stateOf, found}
 use Rattle.state.specs.Valid.{Stood}
 use Rattle.state.specs.Contract.{StepGives}
+use Rattle.state.proofs.Laws.{stands-at, stood-at}
 use Rattle.turn.proofs.Laws.{next-below, turn-nowhere, turn-sent, turn-next}
 use Rattle.turn.proofs.step.Statement.{statement}
 use Rattle.turn.proofs.step.Tie as tie
@@ -31,8 +31,8 @@ returns c =
 
 slot-at-requires : tie.Need-slot-at-requires
 slot-at-requires c κs =
-    let l = c .before .before .before .before .before in
-    (l .pre .sequence-ok, subst (PlaceOk _) (c .before .place .given .1) (c .before .before .before .running .ensures .0))
+    let r = c .before .before .before in
+    (r .before .before .pre .sequence-ok, stands-at _ _ _ (c .before .place .given .1) (r .running .ensures .0))
 
 -- the routine that was read stands at the place that was found
 stood : (c : tie.After-slot-at) →
@@ -40,11 +40,7 @@ stood : (c : tie.After-slot-at) →
     Stood (k .before .before .before .before .before .args .state) (k .before .place .given .0 .0) (c .slot-at .result)
 stood c =
     let k = c .before in
-    record {
-      stands = subst (PlaceOk _) (k .before .place .given .1) (k .before .before .before .running .ensures .0);
-      slot-ok = c .slot-at .ensures .0;
-      slot-is = c .slot-at .ensures .1;
-    }
+    stood-at _ _ _ _ (k .before .place .given .1) (k .before .before .before .running .ensures .0) (c .slot-at .ensures)
 
 -- no command of it is in flight: its next command decides
 goes-on : (c : tie.After-next-command) (r : Next) →
@@ -57,7 +53,7 @@ goes-on c r e =
     let k = q .before .before in
     let l = k .before .before .before .before .before in
     turn-next (l .args .state) (l .args .id) _ (k .before .before .before .running .ensures .1) _ (k .before .place .given .1)
-    (q .before .slot-at .result) (q .before .slot-at .ensures .1) _ (q .pending .ensures)
+    _ (stood (q .before)) _ (q .pending .ensures)
     _ (c .before .enum-told2 .given .1) (c .next-command .ensures) r e
 
 pending-requires : tie.Need-pending-requires
@@ -78,7 +74,7 @@ returns-2 c =
     let k = q .before .before in
     let l = k .before .before .before .before .before in
     turn-sent (l .args .state) (l .args .id) _ (k .before .before .before .running .ensures .1) _ (k .before .place .given .1)
-    (q .before .slot-at .result) (q .before .slot-at .ensures .1) _ (q .pending .ensures) _ _ (l .pre) (c .before .enum-told3 .given .1) (c .refused2 .ensures)
+    _ (stood (q .before)) _ (q .pending .ensures) _ _ (l .pre) (c .before .enum-told3 .given .1) (c .refused2 .ensures)
 
 next-command-requires : tie.Need-next-command-requires
 next-command-requires c κs = search needs

@@ -3,19 +3,12 @@ use borrow.Author.Needs.{needs}
 use mathlib.Core.Path.{subst}
 use Rattle.routine.specs.declared.Refusal.the-variants.{Number}
 use Rattle.rules.specs.Sequence.{runs}
-use Rattle.sequence.specs.Valid.{Stands, PlaceOk}
-use Rattle.sequence.specs.declared.Place.{Place}
-use Rattle.state.specs.View.{stateOf, found}
+use Rattle.state.specs.View.{stateOf}
 use Rattle.state.specs.Contract.{StepGives}
-use Rattle.state.proofs.Laws.{found-none, found-at, turned-down}
+use Rattle.state.proofs.Laws.{refused-gives, found-as, stands-at, stood-at}
 use Rattle.abort.proofs.Laws.{cancel-nowhere, cancel-on}
 use Rattle.abort.proofs.cancel.step.Statement.{statement}
 use Rattle.abort.proofs.cancel.step.Tie as tie
-
--- a routine stands at the place that was found
-stands : (c : tie.After-known-told) → Stands (c .before .before .before .before .before .args .state .sequence) (c .before .place .given .0 .0)
-stands c =
-    subst (λ (p : Place). PlaceOk (c .before .before .before .before .before .args .state .sequence) p) (c .before .place .given .1) (c .before .before .before .running .ensures .0)
 
 running-requires : tie.Need-running-requires
 running-requires c κs = c .before .pre .sequence-ok
@@ -33,27 +26,25 @@ returns : tie.Need-returns
 returns c =
     let r = c .before .before .before in
     let l = r .before .before in
-    turned-down (l .args .state) (Number 10) (c .refused .result) _ (c .refused .ensures) (l .pre)
-    (cancel-nowhere (stateOf (l .args .state)) (l .args .id) (found-none (l .args .state) (runs (l .args .id)) (r .running .result) (r .running .ensures .1) (c .before .enum-told .given .1)))
+    refused-gives (l .args .state) (Number 10) _ _ (c .refused .ensures) (l .pre)
+    (cancel-nowhere (stateOf (l .args .state)) (l .args .id) (found-as (l .args .state) (runs (l .args .id)) _ (r .running .ensures .1) _ (c .before .enum-told .given .1)))
 
 slot-at-requires : tie.Need-slot-at-requires
-slot-at-requires c κs = (c .before .before .before .before .before .pre .sequence-ok, stands c)
+slot-at-requires c κs =
+    let r = c .before .before .before in
+    (r .before .before .pre .sequence-ok, stands-at _ _ _ (c .before .place .given .1) (r .running .ensures .0))
 
 step-requires : tie.Need-step-requires
-step-requires c κs = (
-  c .before .before .before .before .before .before .pre,
-  record { stands = stands (c .before); slot-ok = c .slot-at .ensures .0; slot-is = c .slot-at .ensures .1 },
-)
+step-requires c κs =
+    let r = c .before .before .before .before in
+    (r .before .before .pre, stood-at _ _ _ _ (c .before .before .place .given .1) (r .running .ensures .0) (c .slot-at .ensures))
 
 returns-2 : tie.Need-returns-2
 returns-2 c =
-    let k = c .before .before in
-    let r = k .before .before .before in
+    let k = c .before .before .before in
+    let r = k .before .before in
     let a = r .before .before .args in
-    let at = k .before .place .given .0 .0 in
-    subst (StepGives (a .state) (c .step .result))
-    (cancel-on (stateOf (a .state)) (a .id) (found (a .state) at) (found-at (a .state) (runs (a .id)) (r .running .result) (r .running .ensures .1) at (k .before .place .given .1)))
-    (c .step .ensures)
+    subst (StepGives (a .state) _) (cancel-on (stateOf (a .state)) (a .id) _ (found-as (a .state) (runs (a .id)) _ (r .running .ensures .1) _ (k .place .given .1))) (c .step .ensures)
 
 pub step-spec : {M : Type 1} → statement M
 step-spec =

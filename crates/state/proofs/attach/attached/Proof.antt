@@ -8,7 +8,7 @@ use Rattle.rules.specs.State.{Member}
 use Rattle.rules.specs.Sequence.{withSequence, withSettled}
 use Rattle.slot.specs.View.{restartsOf}
 use Rattle.state.specs.View.{stateOf}
-use Rattle.state.proofs.Laws.{attach-settled, attach-routine}
+use Rattle.state.proofs.Laws.{valid-with, attach-settled, attach-routine}
 use Rattle.state.proofs.attach.attached.Statement.{statement}
 use Rattle.state.proofs.attach.attached.Tie as tie
 
@@ -20,10 +20,9 @@ unfolding stateOf
 returns c =
     let b = c .before .before in
     let a = b .before in
-    let v = a .pre in
     let h = a .args .state in
     let k = attach-settled (a .args .id) (restartsOf (a .args .restarts)) (stateOf h) (b .if1 .taken) in (
-      record { devices-fit = v .devices-fit; some-id = v .some-id; ids-fit = v .ids-fit; sequence-ok = v .sequence-ok },
+      valid-with h _ _ _ _ (a .pre) (a .pre .sequence-ok),
       ap (λ (x : ℕ → ℤ). withSettled (stateOf h) x) (c .settle-restarts .ensures) ∙ sym k,
     )
 
@@ -35,10 +34,9 @@ unfolding stateOf
 returns-2 c =
     let b = c .before .before in
     let a = b .before in
-    let v = a .pre in
     let h = a .args .state in
     let k = attach-routine (a .args .id) (restartsOf (a .args .restarts)) (stateOf h) (b .if1 .left) in (
-      record { devices-fit = v .devices-fit; some-id = v .some-id; ids-fit = v .ids-fit; sequence-ok = c .attach-at .ensures .0 },
+      valid-with h _ _ _ _ (a .pre) (c .attach-at .ensures .0),
       ap (λ (l : List Member). withSequence (stateOf h) l) (c .attach-at .ensures .1) ∙ sym k,
     )
 

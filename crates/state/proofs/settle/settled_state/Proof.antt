@@ -12,7 +12,7 @@ returns c =
     let a = c .before .before .before in
     let e = a .settle-committed .ensures in
     let h = a .before .before .before .before .args .state in
-    (valid-with h _ _ _ (a .before .before .before .before .pre) (e .0), settled-view h _ _ _ (e .1))
+    (valid-with h _ _ _ _ (a .before .before .before .before .pre) (e .0), settled-view h _ _ _ (e .1))
 
 pub settled-state-spec : {M : Type 1} → statement M
 settled-state-spec = tie.close (tie.spec settle-committed-requires returns)
