@@ -124,7 +124,7 @@ module _ (h : HubState) (i : ℕ) (s : Slot) (a : AfterAbort) (o : Stood h i s) 
 
   -- as a call's one answer
   pub abort-gives : StepGives h (record { state = a .state; first = NoAbort; answer = Aborted (s .id); backs = a .backs }) (settling (abort (stateOf h) (found h i)))
-  abort-gives = record { valid = p .valid; gives = ap settling abort-answers; backs-told = sym (append-nil (backsOf (a .backs))); same-state = λ e. t≠f (sym e) }
+  abort-gives = record { valid = p .valid; gives = ap settling abort-answers; backs-fit = p .backs-fit; backs-told = sym (append-nil (backsOf (a .backs))); same-state = λ e. t≠f (sym e) }
 
 -- ---- the ways out of a cancel
 module _ (s : State) (i : ℕ) where

@@ -6,7 +6,6 @@ use state::HubState;
 use state::NOT_RUNNING;
 use state::StepOutcome;
 use state::answers;
-ghost use mathlib.Core.Path.{_≡_};
 ghost use Rattle.rules.specs.Cancel.{cancelOf};
 ghost use Rattle.state.specs.View.{stateOf};
 ghost use Rattle.state.specs.Valid.{StateOk};

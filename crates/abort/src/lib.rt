@@ -20,13 +20,13 @@ ghost use mathlib.Core.Bool.{not, _&&_, _||_};
 ghost use Prim.Native.Nat.{_≤_};
 ghost use Rattle.routine.specs.Routine.{maxDevices};
 ghost use Rattle.rules.specs.Tables.{sameSetting};
-ghost use Rattle.rules.specs.Abort.{leave, putBacks, abort};
+ghost use Rattle.rules.specs.Abort.{leave, abort};
 ghost use Rattle.rules.specs.Settle.{settling};
 ghost use Rattle.rules.specs.Progress.{inFlightOn};
 ghost use Rattle.slot.specs.View.{settingsOf, flagsOf, memberOf};
 ghost use Rattle.slot.specs.Valid.{SlotOk};
-ghost use Rattle.state.specs.View.{stateOf, found, backsOf, upOf};
-ghost use Rattle.state.specs.Valid.{StateOk, Stood};
+ghost use Rattle.state.specs.View.{stateOf, found, backsOf};
+ghost use Rattle.state.specs.Valid.{StateOk, BacksOk, Stood};
 ghost use Rattle.state.specs.Contract.{StepGives};
 ghost use Rattle.abort.specs.Contract.{Aborts};
 ghost use Rattle.abort.specs.PutBacks.{isBackBy, backsBy, TablesAre};
@@ -83,7 +83,7 @@ pub struct Tables {
 // "These go out by rising device."
 fn put_backs(devices: u8, tables: Tables) -> PutBacks
     requires { ⌜ devices ≤ maxDevices ⌝ }
-    ensures { λ r. ⌜ backsOf r ≡ backsBy (isBackBy tables) (settingsOf (tables .after)) 0 devices ⌝ }
+    ensures { λ r. ⌜ (BacksOk r) × (backsOf r ≡ backsBy (isBackBy tables) (settingsOf (tables .after)) 0 devices) ⌝ }
 {
     let mut backs = answers::no_backs();
     let count = devices as usize;

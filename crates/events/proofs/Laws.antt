@@ -26,7 +26,7 @@ use Rattle.sequence.specs.View.{membersOf, foundAt}
 use Rattle.sequence.specs.declared.Place.{Place}
 use Rattle.sequence.specs.declared.Place.the-variants.{At, Nowhere}
 use Rattle.state.specs.View.{upOf, stateOf, backsOf, firstOf, backsIn}
-use Rattle.state.specs.Valid.{StateOk, Stood}
+use Rattle.state.specs.Valid.{StateOk, Stood, BacksOk}
 use Rattle.state.specs.Contract.{StepGives}
 use Rattle.state.specs.declared.HubState.{HubState}
 use Rattle.state.specs.declared.Answer.the-variants.{Down, Up}
@@ -44,9 +44,9 @@ use Rattle.events.specs.declared.Halfway.{Halfway}
 
 module _ (h : HubState) (d : ℕ) (p : Place) (f : foundAt (h .sequence) p ≡ find (isHalfway d) (membersOf (h .sequence))) where
   -- no running routine has begun D and not finished it
-  pub none-aborts : (b : PutBacks) → StateOk h → p ≡ Nowhere → backsOf b ≡ [] → AbortsHalfway h d (record { state = h; first = NoAbort; backs = b })
+  pub none-aborts : (b : PutBacks) → StateOk h → p ≡ Nowhere → BacksOk b → backsOf b ≡ [] → AbortsHalfway h d (record { state = h; first = NoAbort; backs = b })
   unfolding abortHalfway
-  none-aborts b v e k = record { valid = v; gives = sym (ap (abortIfAny (stateOf h)) (found-as h (isHalfway d) p f Nowhere e)); backs-told = k }
+  none-aborts b v e c k = record { valid = v; backs-fit = c; gives = sym (ap (abortIfAny (stateOf h)) (found-as h (isHalfway d) p f Nowhere e)); backs-told = k }
 
   -- the one at this place has
   pub one-aborts : (i : ℕ) (s : Slot) (a : AfterAbort) → p ≡ At i → Stood h i s → Aborts h i a →
@@ -55,6 +55,7 @@ module _ (h : HubState) (d : ℕ) (p : Place) (f : foundAt (h .sequence) p ≡ f
   one-aborts i s a e o g = record {
     valid = g .valid;
     gives = abort-answers h i s a o g ∙ sym (ap (abortIfAny (stateOf h)) (found-as h (isHalfway d) p f (At i) e));
+    backs-fit = g .backs-fit;
     backs-told = sym (append-nil (backsOf (a .backs)));
   }
 
@@ -84,6 +85,7 @@ failed-gives h d a k g =
     record {
       valid = g .valid;
       gives = ap (λ (r : Result). settling (thenDown d r)) (g .gives ∙ ap (abortHalfway d) (view-up h d false k));
+      backs-fit = g .backs-fit;
       backs-told = g .backs-told ∙ own-backs (a .first) (backsOf (a .backs)) (down d (getD (a .state .mark) d 0)) refl;
       same-state = λ e. t≠f (sym e);
     }
@@ -107,6 +109,7 @@ restarted-gives h d v a rs g k b e w t =
           (view-up g d true k ∙ ap (λ (s : State). withUp s (put (s .up) d true)) t)
           ∙ ap (λ (o : ℕ → Option ℤ). settling (thenUp d o (record { state = stateOf (a .state); answers = firstOf (a .first) (backsOf (a .backs)) }))) e
           ∙ ap (λ (r : Result). settling (thenUp d (oneRestart d v) r)) (b .gives);
+      backs-fit = b .backs-fit;
       backs-told = b .backs-told ∙ own-backs (a .first) (backsOf (a .backs)) (up d (getD (a .state .mark) d 0)) refl;
       same-state = λ x. t≠f (sym x);
     }

@@ -3,7 +3,7 @@ use mathlib.Core.Path.{_≡_}
 use Prim.Native.Nat.{ℕ}
 use Rattle.rules.specs.Events.{abortHalfway}
 use Rattle.state.specs.View.{stateOf, backsOf, firstOf, backsIn}
-use Rattle.state.specs.Valid.{StateOk}
+use Rattle.state.specs.Valid.{StateOk, BacksOk}
 use Rattle.state.specs.declared.HubState.{HubState}
 use Rattle.events.specs.declared.Halfway.{Halfway}
 
@@ -11,4 +11,5 @@ use Rattle.events.specs.declared.Halfway.{Halfway}
 pub record AbortsHalfway (h : HubState) (device : ℕ) (a : Halfway) : Type 0 where
   pub valid : StateOk (a .state)
   pub gives : record { state = stateOf (a .state); answers = firstOf (a .first) (backsOf (a .backs)) } ≡ abortHalfway device (stateOf h)
+  pub backs-fit : BacksOk (a .backs)
   pub backs-told : backsOf (a .backs) ≡ backsIn (firstOf (a .first) (backsOf (a .backs)))

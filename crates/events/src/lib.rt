@@ -13,7 +13,6 @@ use state::RESTART_SETTING;
 use state::StepOutcome;
 use state::answers;
 use state::attach;
-ghost use mathlib.Core.Path.{_≡_};
 ghost use Prim.Native.Nat.{_<_};
 ghost use Rattle.routine.specs.Routine.{maxDevices};
 ghost use Rattle.rules.specs.Events.{failureResult, restartResult, failureOf, restartOf};

@@ -9,7 +9,7 @@ use Rattle.rules.specs.Answers.{Result}
 use Rattle.rules.specs.Settle.{settle, settling}
 use Rattle.rules.proofs.Lists.{t≠f}
 use Rattle.state.specs.View.{stateOf, backsOf, answersOf, answersIn as stepAnswers, resultIn as stepResult, backsIn}
-use Rattle.state.specs.Valid.{StateOk}
+use Rattle.state.specs.Valid.{StateOk, BacksOk}
 use Rattle.state.specs.Contract.{changesNothing, settleFor, afterSettling, StepGives}
 use Rattle.state.specs.declared.HubState.{HubState}
 use Rattle.state.specs.declared.Answer.{Answer}
@@ -78,6 +78,7 @@ pub settled-gives : (h : Hub) (step : StepOutcome) (o : Outcome) (result : Resul
 settled-gives h step o result g s = record {
   valid = s .valid;
   gives = s .gives ∙ g .gives;
+  backs-fit = subst BacksOk (sym (s .same-backs)) (g .backs-fit);
   backs-told = ap backsOf (s .same-backs) ∙ g .backs-told ∙ sym (ap backsIn (same-answers step o (s .same-first) (s .same-answer) (s .same-backs)));
   same-hub = λ e.
       let k : changesNothing (step .answer) ≡ true = sym (ap changesNothing (s .same-answer)) ∙ e in

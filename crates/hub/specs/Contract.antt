@@ -15,6 +15,7 @@ use Rattle.rules.specs.Report.{reportOf}
 use Rattle.rules.specs.Events.{failureOf, restartOf}
 use Rattle.rules.specs.Cancel.{cancelOf}
 use Rattle.state.specs.View.{backsOf, backsIn}
+use Rattle.state.specs.Valid.{BacksOk}
 use Rattle.state.specs.Contract.{changesNothing, afterSettling}
 use Rattle.state.specs.declared.StepOutcome.{StepOutcome}
 use Rattle.hub.specs.View.{view, answersIn, resultIn}
@@ -29,11 +30,12 @@ pub record Opens (n k first : ℕ) (o : Opened) : Type 0 where
   pub gives : openIf (o .verdict) (view (o .hub)) ≡ openOf n k first
   pub no-hub : (r : Refusal) → o .verdict ≡ Refused r → view (o .hub) ≡ newHub 1 0 1
 
--- A call on the hub h gives what the rules give: the answers and, as the rules see it, the next hub, which is valid again. Its list of put-backs is that of the
--- answers. Where nothing changes, it is the same hub, whole.
+-- A call on the hub h gives what the rules give: the answers and, as the rules see it, the next hub, which is valid again. Its list of put-backs fits its
+-- array and is that of the answers. Where nothing changes, it is the same hub, whole.
 pub record Gives (h : Hub) (o : Outcome) (result : Result) : Type 0 where
   pub valid : Valid (o .hub)
   pub gives : resultIn o ≡ result
+  pub backs-fit : BacksOk (o .backs)
   pub backs-told : backsOf (o .backs) ≡ backsIn (answersIn o)
   pub same-hub : changesNothing (o .answer) ≡ true → o .hub ≡ h
 

@@ -10,7 +10,7 @@ use Rattle.routine.specs.declared.Verdict.the-variants.{Accepted}
 use Rattle.rules.specs.Answers.{Call, submit, turn, report, failure, restart, cancel}
 use Rattle.rules.specs.Order.{entries}
 use Rattle.rules.specs.Serial.{allUp}
-use Rattle.rules.specs.World.{World, accounts, Act, takes-one, worldAfter, afterCall, Premised, newWorld}
+use Rattle.rules.specs.World.{World, accounts, takes-one, worldAfter, afterCall, Premised, newWorld}
 use Rattle.rules.specs.Demand3.{orderIn, EndState, Begins, CommandsStand}
 use Rattle.hub.specs.View.{view, answersIn, resultIn}
 use Rattle.hub.specs.Contract.{Opens, Submitted, Turned, Reported, Cancelled, Failed, Restarted}

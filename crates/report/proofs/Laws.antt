@@ -25,7 +25,7 @@ use Rattle.slot.specs.declared.SentCommand.{SentCommand}
 use Rattle.sequence.specs.View.{membersOf}
 use Rattle.sequence.specs.declared.Sequence.{Sequence}
 use Rattle.state.specs.View.{stateOf, found, backsOf}
-use Rattle.state.specs.Valid.{StateOk, Stood}
+use Rattle.state.specs.Valid.{StateOk, Stood, BacksOk}
 use Rattle.state.specs.Contract.{StepGives, Plain}
 use Rattle.state.specs.declared.HubState.{HubState}
 use Rattle.state.specs.declared.Answer.the-variants.{Done, Skipped}
@@ -68,16 +68,17 @@ module _ (h g : HubState) (at : ℕ) (s : Slot) (stood : Stood h at s) (v : Stat
       refl
       (λ z. t≠f (sym z))
 
-  pub skip-gives : (sent : SentCommand) (b : PutBacks) → stateOf g ≡ answeredAt h at was-skipped →
+  pub skip-gives : (sent : SentCommand) (b : PutBacks) → BacksOk b → stateOf g ≡ answeredAt h at was-skipped →
       backsOf b ≡ backIfChanged (sent .command .device) (due (stateOf g) (sent .command .device)) (sent .«due_then») →
       StepGives h (record { state = g; first = NoAbort; answer = Skipped (s .id); backs = b }) (settling (skipReport (stateOf h) (found h at) (flightIn sent)))
   unfolding skipReport skippedState
-  skip-gives sent b e k =
+  skip-gives sent b c e k =
       let d = sent .command .device in
       let l : backsOf b ≡ backIfChanged d (due (answeredAt h at was-skipped) d) (sent .«due_then») = k ∙ ap (λ (t : State). backIfChanged d (due t d) (sent .«due_then»)) e in
       record {
         valid = v;
         gives = ap settling (λ i. record { state = e i; answers = skipped (id-is h at s stood i) (l i) ∷ [] });
+        backs-fit = c;
         backs-told = sym (append-nil (backsOf b));
         same-state = λ z. t≠f (sym z);
       }

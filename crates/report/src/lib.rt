@@ -28,7 +28,7 @@ ghost use Rattle.rules.specs.Report.{doneReport, backIfChanged, skipReport, rep
 ghost use Rattle.rules.specs.Settle.{settling};
 ghost use Rattle.slot.specs.View.{statusOf, flightIn};
 ghost use Rattle.state.specs.View.{stateOf, found, backsOf};
-ghost use Rattle.state.specs.Valid.{StateOk, Stood};
+ghost use Rattle.state.specs.Valid.{StateOk, BacksOk, Stood};
 ghost use Rattle.state.specs.Contract.{StepGives};
 
 // The command in flight gets this stage.
@@ -55,7 +55,7 @@ fn done(state: HubState, at: usize, slot: Slot) -> StepOutcome
 
 // "its device is then sent its due setting if that is another than when the command was sent"
 fn back_if_changed(device: u8, now: i16, before: i16) -> PutBacks
-    ensures { λ r. ⌜ backsOf r ≡ backIfChanged device now before ⌝ }
+    ensures { λ r. ⌜ (BacksOk r) × (backsOf r ≡ backIfChanged device now before) ⌝ }
 {
     let none = answers::no_backs();
     if due::same_setting(now, before) {

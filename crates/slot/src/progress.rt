@@ -8,7 +8,6 @@ use crate::Stage;
 use crate::stages;
 ghost use mathlib.Core.Path.{_≡_};
 ghost use Prim.Native.Nat.{_<_};
-ghost use lib.ListN.{length};
 ghost use Rattle.rules.specs.Progress.{begun, finished, next, flight, advance, answerFlight, withSteps};
 ghost use Rattle.rules.specs.Turn.{commit};
 ghost use Rattle.slot.specs.View.{statusOf, stepsOf, memberOf, nextOf, flightOf};

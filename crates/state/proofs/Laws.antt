@@ -45,6 +45,7 @@ pub plain-gives : (h g : HubState) (a : Answer) (o : StepOutcome) (result : Resu
 plain-gives h g a o result p v e b k = record {
   valid = subst StateOk (sym (p .state-is)) v;
   gives = (λ i. settleFor (p .answer-is i) (record { state = stateOf (p .state-is i); answers = told i })) ∙ e;
+  backs-fit = p .backs-fit;
   backs-told = p .backs-are ∙ sym b ∙ sym (ap backsIn told);
   same-state = λ t. p .state-is ∙ k (sym (ap changesNothing (p .answer-is)) ∙ t);
 }
@@ -61,12 +62,6 @@ refused-gives h r o result p v e = plain-gives h h (Refused r) o result p v e re
 -- one more
 pub backs-longer : (l : List PutBack) (n : ℕ) (b : PutBack) → n < length l → map backOf (take (n + 1) (set l n b)) ≡ map backOf (take n l) ++ (backOf b ∷ [])
 backs-longer l n b h = rw (add-one n, take-suc-set l n b h) (map-append backOf (take n l) (b ∷ []))
-
--- where there are none the count is 0
-pub backs-none : (l : List PutBack) (n : ℕ) → 0 < length l → map backOf (take n l) ≡ [] → n ≡ 0
-backs-none l zero h e = refl
-backs-none [] (suc n) h e = absurd (omega (arith, h))
-backs-none (b ∷ l) (suc n) h e = let z = ap length e in absurd (omega (arith, z))
 
 -- ---- restarts attached to an id
 

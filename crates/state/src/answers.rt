@@ -16,7 +16,7 @@ ghost use Rattle.state.specs.Contract.{Plain};
 
 // No device is put back.
 pub fn no_backs() -> PutBacks
-    ensures { λ r. ⌜ backsOf r ≡ [] ⌝ }
+    ensures { λ r. ⌜ (r .count ≡ 0) × (backsOf r ≡ []) ⌝ }
 {
     let none = PutBack {
         device: 0,

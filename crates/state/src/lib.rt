@@ -78,7 +78,7 @@ pub struct Sent {
     pub command: Command,
 }
 
-// What a call answers.
+// What a call answers. A wait has the id and the id it waits on; an event its device and the id it follows; the others the routine's id.
 pub enum Answer {
     Refused(Refusal),
     Placed(Placed),

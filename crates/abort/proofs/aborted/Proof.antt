@@ -21,7 +21,8 @@ returns c =
     record {
       valid = g .left .ensures .0;
       leaves = g .left .ensures .1;
-      backs-are = backs-are-by (a .args .state) (a .args .at) (a .args .slot) (g .left .result) (t .tables-of .result) _ (a .pre .1) (t .tables-of .ensures) (g .left .ensures .1) (c .put-backs .ensures);
+      backs-fit = c .put-backs .ensures .0;
+      backs-are = backs-are-by (a .args .state) (a .args .at) (a .args .slot) (g .left .result) (t .tables-of .result) _ (a .pre .1) (t .tables-of .ensures) (g .left .ensures .1) (c .put-backs .ensures .1);
     }
 
 pub aborted-spec : {M : Type 1} → statement M

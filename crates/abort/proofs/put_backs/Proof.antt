@@ -15,7 +15,7 @@ use Rattle.rules.specs.Answers.{Back}
 use Rattle.slot.specs.View.{settingsOf}
 use Rattle.state.specs.View.{backsOf}
 use Rattle.state.specs.declared.PutBacks.{PutBacks}
-use Rattle.state.proofs.Laws.{backs-none, any-default}
+use Rattle.state.proofs.Laws.{any-default}
 use Rattle.abort.specs.PutBacks.{isBackBy, backsBy}
 use Rattle.abort.proofs.Laws.{test-read, backs-more, backs-same, backs-end}
 use Rattle.abort.proofs.put_backs.Statement.{statement}
@@ -36,12 +36,10 @@ no-backs-requires c κs = search needs
 loop-holds : tie.Need-loop-holds Inv-loop μ-loop
 loop-holds c =
     let t = c .before .args .t2 in
-    let b = c .no-backs .result in
-    let l : length (b .items) ≡ 32 = search (needs, length-mapped) in
-    let z = backs-none (b .items) (b .count) (omega (arith, l)) (c .no-backs .ensures) in
+    let z = c .no-backs .ensures .0 in
     let n = c .before .args .devices in
     let e : n - 0 ≡ n = omega arith in
-    (search needs, omega (arith, z), λ i. c .no-backs .ensures i ++ backsBy (isBackBy t) (settingsOf (t .after)) 0 (e i))
+    (search needs, omega (arith, z), λ i. c .no-backs .ensures .1 i ++ backsBy (isBackBy t) (settingsOf (t .after)) 0 (e i))
 
 element-copy-out-up : tie.Need-element-copy-out-up Inv-loop μ-loop
 element-copy-out-up c = search needs
@@ -116,8 +114,10 @@ loop-again c =
 returns : tie.Need-returns Inv-loop μ-loop
 returns c =
     let v = c .before .loop .inv in
-    let t = c .before .before .before .args .t2 in
-    sym (backs-end (isBackBy t) (settingsOf (t .after)) (backsOf (c .before .loop .backs)) (c .before .loop .d) (c .before .before .before .args .devices) (c .loop-test .left)) ∙ v .2
+    let t = c .before .before .before .args .t2 in (
+      omega (arith, v .0, v .1, c .before .before .before .pre),
+      sym (backs-end (isBackBy t) (settingsOf (t .after)) (backsOf (c .before .loop .backs)) (c .before .loop .d) (c .before .before .before .args .devices) (c .loop-test .left)) ∙ v .2,
+    )
 
 pub put-backs-spec : {M : Type 1} → statement M
 put-backs-spec =

@@ -1,5 +1,6 @@
 -- `events::abort_halfway` meets its contract. Assumes nothing.
 use borrow.Author.Needs.{needs}
+use native.Mathlib.Omega.{arith}
 use Rattle.state.specs.Valid.{Stood}
 use Rattle.state.proofs.Laws.{stands-at, stood-at}
 use Rattle.events.proofs.Laws.{none-aborts, one-aborts}
@@ -22,7 +23,8 @@ returns : tie.Need-returns
 returns c =
     let m = c .before .before .before in
     let s = m .before .before in
-    none-aborts (s .args .state) (s .args .device) _ (m .halfway .ensures .1) _ (s .pre) (c .before .enum-told .given .1) (c .no-backs .ensures)
+    let z = c .no-backs .ensures .0 in
+    none-aborts (s .args .state) (s .args .device) _ (m .halfway .ensures .1) _ (s .pre) (c .before .enum-told .given .1) (omega (arith, z)) (c .no-backs .ensures .1)
 
 slot-at-requires : tie.Need-slot-at-requires
 slot-at-requires c κs =

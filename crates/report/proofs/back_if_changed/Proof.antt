@@ -3,13 +3,10 @@ use borrow.Author.Needs.{needs}
 use native.Mathlib.Omega.{arith}
 use mathlib.Core.Path.{_≡_, sym, ap, _∙_}
 use mathlib.Core.List.{List, [], _∷_, _++_}
-use lib.ListN.{length}
 use mir.Val.{toZ, ofZ}
 use mir.Syntax.{w16}
-use Rattle.routine.proofs.Laws.{length-mapped}
 use Rattle.rules.specs.Tables.{sameSetting}
 use Rattle.rules.specs.Answers.{Back}
-use Rattle.state.proofs.Laws.{backs-none}
 use Rattle.report.proofs.Laws.{back-same, back-changed}
 use Rattle.report.proofs.back_if_changed.Statement.{statement}
 use Rattle.report.proofs.back_if_changed.Tie as tie
@@ -31,13 +28,12 @@ tested c =
 returns : tie.Need-returns
 returns c =
     let a = c .before .before .before .args in
-    c .before .before .no-backs .ensures ∙ sym (back-same (a .device) (a .now) (a .before) (tested (c .before) ∙ c .if1 .taken))
+    let z = c .before .before .no-backs .ensures .0 in
+    (omega (arith, z), c .before .before .no-backs .ensures .1 ∙ sym (back-same (a .device) (a .now) (a .before) (tested (c .before) ∙ c .if1 .taken)))
 
 with-back-requires : tie.Need-with-back-requires
 with-back-requires c κs =
-    let r = c .before .before .no-backs in
-    let n : length (r .result .items) ≡ 32 = search (needs, length-mapped) in
-    let z = backs-none (r .result .items) (r .result .count) (omega (arith, n)) (r .ensures) in
+    let z = c .before .before .no-backs .ensures .0 in
     omega (arith, z)
 
 returns-2 : tie.Need-returns-2
@@ -46,9 +42,12 @@ returns-2 c =
     let a = l .before .args in
     let n : toZ w16 (ofZ w16 (a .now)) ≡ a .now = search needs in
     let u = toZ w16 (ofZ w16 (a .now)) in
-    c .with-back .ensures .1
-    ∙ ap (λ (b : List Back). b ++ (record { device = a .device; setting = u } ∷ [])) (l .no-backs .ensures)
-    ∙ back-changed (a .device) (a .now) (a .before) u n (tested (c .before .before) ∙ c .before .if1 .left)
+    let z = l .no-backs .ensures .0 in (
+      omega (arith, z, c .with-back .ensures .0),
+      c .with-back .ensures .1
+          ∙ ap (λ (b : List Back). b ++ (record { device = a .device; setting = u } ∷ [])) (l .no-backs .ensures .1)
+          ∙ back-changed (a .device) (a .now) (a .before) u n (tested (c .before .before) ∙ c .before .if1 .left),
+    )
 
 pub back-if-changed-spec : {M : Type 1} → statement M
 back-if-changed-spec =

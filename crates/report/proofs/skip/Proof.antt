@@ -24,8 +24,8 @@ returns c =
     let s = l .before .args .sent in
     let n : toZ w16 (ofZ w16 (d .result)) ≡ d .result = search needs in
     let b : toZ w16 (ofZ w16 (s .«due_then»)) ≡ s .«due_then» = search needs in
-    skip-gives (l .before .args .state) (l .answered .result) (l .before .args .at) (l .before .args .slot) (l .before .pre .1) (l .answered .ensures .0) s (c .back-if-changed .result) (l .answered .ensures .1)
-    (c .back-if-changed .ensures ∙ (λ i. backIfChanged (s .command .device) ((n ∙ d .ensures) i) (b i)))
+    skip-gives (l .before .args .state) (l .answered .result) (l .before .args .at) (l .before .args .slot) (l .before .pre .1) (l .answered .ensures .0) s (c .back-if-changed .result) (c .back-if-changed .ensures .0) (l .answered .ensures .1)
+    (c .back-if-changed .ensures .1 ∙ (λ i. backIfChanged (s .command .device) ((n ∙ d .ensures) i) (b i)))
 
 pub skip-spec : {M : Type 1} → statement M
 skip-spec =
