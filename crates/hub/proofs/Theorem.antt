@@ -1,19 +1,25 @@
 -- Demand 3 of this hub: the theorem of the rules, carried along a chain of calls. Assumes nothing.
 use mathlib.Core.Path.{_≡_, refl, sym, ap, _∙_, subst}
 use mathlib.Core.List.{List, [], _∷_, _++_, map, map-append}
+use Prim.Native.Nat.{ℕ}
+use Rattle.routine.specs.declared.Verdict.the-variants.{Accepted}
+use Rattle.rules.specs.State.{State}
 use Rattle.rules.specs.Answers.{Result}
+use Rattle.rules.specs.Due.{due}
 use Rattle.rules.specs.Open.{opened, openIf, openOf}
 use Rattle.rules.specs.Calls.{resultOf}
 use Rattle.rules.specs.Order.{entries}
 use Rattle.rules.specs.Serial.{allUp}
 use Rattle.rules.specs.World.{World, accounts, Act, calls, takes-one, afterCall, worldAfter, worldAfterAll, Premised, PremiseAll}
 use Rattle.rules.specs.Demand3.{orderIn, EndState, Begins, CommandsStand, Demand3}
-use Rattle.rules.proofs.Theorem.{demand-3}
+use Rattle.rules.specs.HubOrder.{IsHubs}
+use Rattle.rules.proofs.Theorem.{demand-3, hub-order}
 use Rattle.hub.specs.View.{view, resultIn}
 use Rattle.hub.specs.Valid.{Valid}
-use Rattle.hub.specs.Contract.{Gives}
-use Rattle.hub.specs.Demand3.{HubCall, submits, turns, reports, fails, restarts, cancels, callOf, Meets, HubAct, called, device-takes, Chain, hubAfter, worldThenAll, PremiseThenAll, newWorldOf, HubDemand3, HubStatement}
+use Rattle.hub.specs.Contract.{Opens, Gives}
+use Rattle.hub.specs.Demand3.{HubCall, submits, turns, reports, fails, restarts, cancels, callOf, Meets, HubAct, called, device-takes, Chain, hubAfter, worldThenAll, PremiseThenAll, newWorldOf, HubDemand3, HubStatement, ReadersStatement}
 use Rattle.hub.specs.declared.Hub.{Hub}
+use Rattle.hub.specs.declared.Opened.{Opened}
 use Rattle.hub.specs.declared.Outcome.{Outcome}
 
 -- what happens, without the outcomes
@@ -80,8 +86,24 @@ chain-valid h [] v ch = v
 chain-valid h (called c o x ∷ l) v ch = chain-valid (o .hub) l (met h c o (ch .0) .valid) (ch .1)
 chain-valid h (device-takes d k ∷ l) v ch = chain-valid h l v ch
 
+-- the state in the world is that of the hub that the last call left
+state-then : (w : World) (h : Hub) (acts : List HubAct) → w .state ≡ view h → worldThenAll w acts .state ≡ view (hubAfter h acts)
+state-then w h [] e = e
+state-then w h (called c o v ∷ l) e = state-then (afterCall w (callOf c) v (resultIn o)) (o .hub) l refl
+state-then w h (device-takes d k ∷ l) e = state-then (worldAfter w (takes-one d k)) h l e
+
+-- an accepted opening gives the rules' hub
+opens-as : (n k first : ℕ) (o : Opened) → Opens n k first o → o .verdict ≡ Accepted → openOf n k first ≡ opened (view (o .hub))
+opens-as n k first o op accepted = sym (op .gives) ∙ ap (λ v. openIf v (view (o .hub))) accepted
+
 -- Demand 3.
 pub hub-demand-3 : HubStatement
 hub-demand-3 n k first o op accepted acts ch =
-    let e : openOf n k first ≡ opened (view (o .hub)) = sym (op .gives) ∙ ap (λ v. openIf v (view (o .hub))) accepted in
-    carried (o .hub) acts ch (demand-3 n k first (view (o .hub)) e (map actOf acts))
+    carried (o .hub) acts ch (demand-3 n k first (view (o .hub)) (opens-as n k first o op accepted) (map actOf acts))
+
+-- What the readers tell.
+pub hub-readers : ReadersStatement
+hub-readers n k first o op accepted acts ch d =
+    let h = o .hub in
+    let i = subst IsHubs (sym (worlds (newWorldOf h) h acts refl ch)) (hub-order n k first (view h) (opens-as n k first o op accepted) (map actOf acts)) in
+    i .devices-are d ∙ ap (λ (s : State). record { up = s .up d; setting = due s d }) (state-then (newWorldOf h) h acts refl)

@@ -8,8 +8,9 @@ use Rattle.routine.specs.Routine.{commandsOf}
 use Rattle.routine.specs.declared.Routine.{Routine}
 use Rattle.routine.specs.declared.Verdict.the-variants.{Accepted}
 use Rattle.rules.specs.Answers.{Call, submit, turn, report, failure, restart, cancel}
+use Rattle.rules.specs.Due.{due}
 use Rattle.rules.specs.Order.{entries}
-use Rattle.rules.specs.Serial.{allUp}
+use Rattle.rules.specs.Serial.{allUp, serialRun}
 use Rattle.rules.specs.World.{World, accounts, takes-one, worldAfter, afterCall, Premised, newWorld}
 use Rattle.rules.specs.Demand3.{orderIn, EndState, Begins, CommandsStand}
 use Rattle.hub.specs.View.{view, answersIn, resultIn}
@@ -95,6 +96,16 @@ pub record HubDemand3 (h : Hub) (acts : List HubAct) : Type 0 where
       let w = worldThenAll (newWorldOf h) acts in
       CommandsStand (accounts w) (entries (orderIn w)) allUp
 
+-- What the readers tell of each device, whether it is up and its due setting, is what the serial run in the hub's order gives, running routines included.
+abbrev pub ReadersTell : Hub → List HubAct → Type 0
+ReadersTell h acts =
+    let s = view (hubAfter h acts) in
+    (d : ℕ) → serialRun (entries (orderIn (worldThenAll (newWorldOf h) acts))) allUp d ≡ record { up = s .up d; setting = due s d }
+
 -- Demand 3, for every accepted opening and every chain.
 abbrev pub HubStatement : Type 0
 HubStatement = (n k first : ℕ) (o : Opened) → Opens n k first o → o .verdict ≡ Accepted → (acts : List HubAct) → Chain (o .hub) acts → HubDemand3 (o .hub) acts
+
+-- And what the readers tell. The proof is `hub-readers`.
+abbrev pub ReadersStatement : Type 0
+ReadersStatement = (n k first : ℕ) (o : Opened) → Opens n k first o → o .verdict ≡ Accepted → (acts : List HubAct) → Chain (o .hub) acts → ReadersTell (o .hub) acts
