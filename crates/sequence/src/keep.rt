@@ -13,13 +13,15 @@ ghost use Prim.Native.Nat.{_+_, _-_, _<_, _≤_};
 ghost use lib.ListN.{length, take, drop};
 ghost use Rattle.rules.specs.State.{maxHeld};
 ghost use Rattle.rules.specs.Sequence.{lastIdOr};
-ghost use Rattle.slot.specs.View.{memberOf};
+ghost use Rattle.slot.specs.View.{stepsOf, memberOf};
 ghost use Rattle.slot.specs.Valid.{SlotOk};
 ghost use Rattle.sequence.specs.View.{membersOf, there, upTo, past};
 ghost use Rattle.sequence.specs.Valid.{SequenceOk, Stands, Gap};
 
-// What an unused place holds.
-fn blank() -> Slot {
+// What an unused place holds: a routine of no commands.
+fn blank() -> Slot
+    ensures { λ r. ⌜ stepsOf r ≡ [] ⌝ }
+{
     let command = Command {
         device: 0,
         tag: 0,

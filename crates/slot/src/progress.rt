@@ -15,7 +15,7 @@ ghost use Rattle.slot.specs.Valid.{SlotOk};
 ghost use Rattle.slot.specs.Places.{firstToDo, firstInFlight, setStatus};
 
 // The index of the next command, the first that is neither sent nor skipped; the count if there is none.
-pub fn to_do_at(slot: Slot) -> usize
+fn to_do_at(slot: Slot) -> usize
     requires { ⌜ SlotOk slot ⌝ }
     ensures { λ r. ⌜ r ≡ firstToDo (stepsOf slot) ⌝ }
 {
@@ -33,7 +33,7 @@ pub fn to_do_at(slot: Slot) -> usize
 }
 
 // The index of the command in flight; the count if there is none.
-pub fn in_flight_at(slot: Slot) -> usize
+fn in_flight_at(slot: Slot) -> usize
     requires { ⌜ SlotOk slot ⌝ }
     ensures { λ r. ⌜ r ≡ firstInFlight (stepsOf slot) ⌝ }
 {
