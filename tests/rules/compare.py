@@ -17,6 +17,7 @@ from histories import CALLS, history
 
 ROOT = os.path.dirname(os.path.dirname(os.path.dirname(os.path.abspath(__file__))))
 
+
 # ---- as text of the definitions
 
 def whole(z):
