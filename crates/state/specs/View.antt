@@ -1,5 +1,5 @@
 -- The hub's state read as the state of the rules, and a step's outcome as their answers. For each case of each enum it is set out here which answer of document 01 it
--- is, and with which values. (For `Refusal` and `Verdict` that stands in crate `routine`: the number, and the index if there is one.) Assumes nothing.
+-- is, and with which values. (For `Refusal` that is `refusalOf` of crate `routine`: for each cause of the table its case, number and index.) Assumes nothing.
 use mathlib.Core.Bool.{Bool, true}
 use mathlib.Core.List.{List, [], _∷_, _++_, map}
 use Prim.Native.Nat.{ℕ}
