@@ -11,6 +11,7 @@ use state::HubState;
 use state::PutBacks;
 ghost use mathlib.Core.Path.{_≡_};
 ghost use Rattle.rules.specs.Due.{due};
+ghost use Rattle.rules.specs.Open.{newHub};
 ghost use Rattle.hub.specs.View.{view};
 ghost use Rattle.hub.specs.Valid.{Valid};
 ghost use Rattle.hub.specs.Contract.{Opens, Submitted, Turned, Reported, Cancelled, Failed, Restarted};
@@ -131,4 +132,11 @@ pub fn due_setting(hub: Hub, device: u8) -> i16
 {
     let state = hub.state;
     state::due_setting(state, device)
+}
+
+// A hub of no devices: one that is not opened. Every call on it that names a device or a routine is turned down.
+pub fn closed() -> Hub
+    ensures { λ r. ⌜ (Valid r) × (view r ≡ newHub 0 0 1) ⌝ }
+{
+    opening::new_hub(0, 0, 1)
 }

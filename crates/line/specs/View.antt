@@ -1,0 +1,25 @@
+-- A hub read as the hub of the last accepted `O`, and a line's call as one of the rules. Assumes nothing.
+use mathlib.Core.Option.{Option, none, some}
+use lib.Dec.{eqb}
+use Rattle.routine.specs.Choice.{if_then_else_}
+use Rattle.routine.specs.Routine.{commandsOf}
+use Rattle.routine.specs.declared.Routine.{Routine}
+use Rattle.rules.specs.State.{State}
+use Rattle.rules.specs.Answers.{Call as Told, submit, turn, report, failure, restart, cancel}
+use Rattle.line_reader.specs.declared.Call.{Call}
+use Rattle.line_reader.specs.declared.Call.the-variants.{Submit, Turn, Report, Cancel, Fail, Restart}
+use Rattle.hub.specs.View.{view}
+use Rattle.hub.specs.declared.Hub.{Hub}
+
+-- A hub of no devices stands for none: an accepted `O` has one device at least.
+unfoldable pub hubIn : Hub → Option State
+hubIn h = if eqb (view h .devices) 0 then none else some (view h)
+
+-- For each case of the enum which call it is. A submission's commands stand beside it.
+abbrev pub callIn : Call → Routine → Told
+callIn Submit r = submit (commandsOf r)
+callIn (Turn i) r = turn i
+callIn (Report i code) r = report i code
+callIn (Cancel i) r = cancel i
+callIn (Fail d) r = failure d
+callIn (Restart d v) r = restart d v

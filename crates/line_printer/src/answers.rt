@@ -1,0 +1,123 @@
+// The words of answers: document 01, "The line program".
+use crate::text::put_end;
+use crate::text::put_number;
+use crate::text::put_one;
+use crate::text::put_setting;
+use crate::text::put_two;
+use crate::text::put_word;
+use routine::Refusal;
+use state::Answer;
+use state::First;
+use state::PutBacks;
+use state::Sent;
+ghost use Prim.Native.Nat.{_+_, _<_, _^_};
+ghost use Rattle.rules.specs.Answers.{send, skipped, aborted};
+ghost use Rattle.line_rules.specs.Printing.{asLine, refusalText, backText, answerText, answersText};
+ghost use Rattle.state.specs.View.{backsOf, answerOf, firstOf};
+ghost use Rattle.state.specs.Valid.{BacksOk};
+ghost use Rattle.line_printer.specs.Put.{halfText, PutShort};
+
+// The word, the number, and the index if there is one; no line's end.
+pub fn put_refused(out: &mut [u8], at: usize, refusal: Refusal) -> usize
+    requires { ⌜ at + halfText < 2 ^ 64 ⌝ }
+    ensures { λ r. ⌜ PutShort halfText (now (out .entry)) (now (out .exit)) at r (refusalText refusal) ⌝ }
+{
+    match refusal {
+        Refusal::Number(number) => put_one(out, at, b"refused ", number as u64),
+        Refusal::Indexed(number, index) => put_two(out, at, b"refused ", number as u64, b" ", index as u64),
+    }
+}
+
+// "`back` a count, then device and setting for each"
+fn put_backs(out: &mut [u8], at: usize, backs: PutBacks) -> usize
+    requires { ⌜ (at + halfText < 2 ^ 64) × BacksOk backs ⌝ }
+    ensures { λ r. ⌜ PutShort halfText (now (out .entry)) (now (out .exit)) at r (backText (backsOf backs)) ⌝ }
+{
+    let count = backs.count;
+    let mut to = put_one(out, at, b" back ", count as u64);
+    let mut i = 0;
+    while i < count {
+        let back = backs.items[i];
+        let named = put_one(out, to, b" ", back.device as u64);
+        let from = put_word(out, named, b" ");
+        let setting = back.setting;
+        to = put_setting(out, from, setting);
+        i += 1;
+    }
+    to
+}
+
+// "`aborted 1 back 0`"
+fn put_aborted(out: &mut [u8], at: usize, id: u32, backs: PutBacks) -> usize
+    requires { ⌜ (at + halfText < 2 ^ 64) × BacksOk backs ⌝ }
+    ensures { λ r. ⌜ PutShort halfText (now (out .entry)) (now (out .exit)) at r (answerText (aborted id (backsOf backs))) ⌝ }
+{
+    let named = put_one(out, at, b"aborted ", id as u64);
+    put_backs(out, named, backs)
+}
+
+// "an abort caused by `F` or `R` is printed first, on a line of its own"
+pub fn put_first(out: &mut [u8], at: usize, first: First, backs: PutBacks) -> usize
+    requires { ⌜ (at + halfText < 2 ^ 64) × BacksOk backs ⌝ }
+    ensures { λ r. ⌜ PutShort halfText (now (out .entry)) (now (out .exit)) at r (answersText (firstOf first (backsOf backs))) ⌝ }
+{
+    match first {
+        First::NoAbort => at,
+        First::Abort(id) => {
+            let end = put_aborted(out, at, id, backs);
+            put_end(out, end)
+        }
+    }
+}
+
+// "`send` has id, device, setting"
+fn put_sent(out: &mut [u8], at: usize, sent: Sent) -> usize
+    requires { ⌜ at + halfText < 2 ^ 64 ⌝ }
+    ensures { λ r. ⌜ PutShort halfText (now (out .entry)) (now (out .exit)) at r (answerText (send (sent .id) (sent .command))) ⌝ }
+{
+    let command = sent.command;
+    let named = put_two(out, at, b"send ", sent.id as u64, b" ", command.device as u64);
+    let from = put_word(out, named, b" ");
+    let setting = command.setting;
+    put_setting(out, from, setting)
+}
+
+// "`skipped 1` (followed by `back` in the same form where a setting was sent back)"
+fn put_skipped(out: &mut [u8], at: usize, id: u32, backs: PutBacks) -> usize
+    requires { ⌜ (at + halfText < 2 ^ 64) × BacksOk backs ⌝ }
+    ensures { λ r. ⌜ PutShort halfText (now (out .entry)) (now (out .exit)) at r (answerText (skipped id (backsOf backs))) ⌝ }
+{
+    let named = put_one(out, at, b"skipped ", id as u64);
+    if backs.count == 0 {
+        return named;
+    }
+    put_backs(out, named, backs)
+}
+
+// An answer, without its line's end.
+fn put_words(out: &mut [u8], at: usize, answer: Answer, backs: PutBacks) -> usize
+    requires { ⌜ (at + halfText < 2 ^ 64) × BacksOk backs ⌝ }
+    ensures { λ r. ⌜ PutShort halfText (now (out .entry)) (now (out .exit)) at r (answerText (answerOf answer (backsOf backs))) ⌝ }
+{
+    match answer {
+        Answer::Refused(refusal) => put_refused(out, at, refusal),
+        Answer::Placed(placed) => put_two(out, at, b"placed ", placed.id as u64, b" after ", placed.after as u64),
+        Answer::Wait(id, other) => put_two(out, at, b"wait ", id as u64, b" on ", other as u64),
+        Answer::Sent(sent) => put_sent(out, at, sent),
+        Answer::Done(id) => put_one(out, at, b"done ", id as u64),
+        Answer::Skipped(id) => put_skipped(out, at, id, backs),
+        Answer::Committed(id) => put_one(out, at, b"committed ", id as u64),
+        Answer::Aborted(id) => put_aborted(out, at, id, backs),
+        Answer::Down(device, id) => put_two(out, at, b"down ", device as u64, b" after ", id as u64),
+        Answer::Up(device, id) => put_two(out, at, b"up ", device as u64, b" after ", id as u64),
+    }
+}
+
+// An answer, on a line.
+pub fn put_answer(out: &mut [u8], at: usize, answer: Answer, backs: PutBacks) -> usize
+    requires { ⌜ (at + halfText < 2 ^ 64) × BacksOk backs ⌝ }
+    ensures { λ r. ⌜ PutShort halfText (now (out .entry)) (now (out .exit)) at r (asLine (answerText (answerOf answer (backsOf backs)))) ⌝ }
+{
+    let end = put_words(out, at, answer, backs);
+    put_end(out, end)
+}

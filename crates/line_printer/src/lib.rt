@@ -1,0 +1,65 @@
+// The lines that the line program prints, put into a lent buffer from a place on: document 01, "The line program". What lies past the buffer's end is
+// counted and not put, so that a line can be measured on a buffer of no bytes.
+mod text;
+mod answers;
+
+use routine::Refusal;
+use state::Answer;
+use state::First;
+use state::PutBacks;
+ghost use Prim.Native.Nat.{_+_, _<_, _^_};
+ghost use Rattle.line_rules.specs.Text.{bytes};
+ghost use Rattle.line_rules.specs.Printing.{asLine, refusalText, answersText};
+ghost use Rattle.state.specs.View.{answersOf};
+ghost use Rattle.state.specs.Valid.{BacksOk};
+ghost use Rattle.line_printer.specs.Put.{maxText, PutShort, deviceTextOf};
+
+// No line's answers, and no device line, are longer.
+pub const MAX_TEXT: usize = 800;
+
+// "prints `unread`"
+pub fn put_unread(out: &mut [u8], at: usize) -> usize
+    requires { ⌜ at + maxText < 2 ^ 64 ⌝ }
+    ensures { λ r. ⌜ PutShort maxText (now (out .entry)) (now (out .exit)) at r (asLine (bytes "unread")) ⌝ }
+{
+    text::put_word(out, at, b"unread\n")
+}
+
+pub fn put_opened(out: &mut [u8], at: usize) -> usize
+    requires { ⌜ at + maxText < 2 ^ 64 ⌝ }
+    ensures { λ r. ⌜ PutShort maxText (now (out .entry)) (now (out .exit)) at r (asLine (bytes "opened")) ⌝ }
+{
+    text::put_word(out, at, b"opened\n")
+}
+
+// "Refusals print `refused`, the number and the index if there is one."
+pub fn put_refusal(out: &mut [u8], at: usize, refusal: Refusal) -> usize
+    requires { ⌜ at + maxText < 2 ^ 64 ⌝ }
+    ensures { λ r. ⌜ PutShort maxText (now (out .entry)) (now (out .exit)) at r (asLine (refusalText refusal)) ⌝ }
+{
+    let end = answers::put_refused(out, at, refusal);
+    text::put_end(out, end)
+}
+
+// The answers of a call that is not turned down, each on a line of its own; what is put back belongs to the one that has it.
+pub fn put_answers(out: &mut [u8], at: usize, first: First, answer: Answer, backs: PutBacks) -> usize
+    requires { ⌜ (at + maxText < 2 ^ 64) × BacksOk backs ⌝ }
+    ensures { λ r. ⌜ PutShort maxText (now (out .entry)) (now (out .exit)) at r (answersText (answersOf first answer backs)) ⌝ }
+{
+    let from = answers::put_first(out, at, first, backs);
+    answers::put_answer(out, from, answer, backs)
+}
+
+// "one line a device, with its due setting if it is up"
+pub fn put_device(out: &mut [u8], at: usize, device: u8, up: bool, due: i16) -> usize
+    requires { ⌜ at + maxText < 2 ^ 64 ⌝ }
+    ensures { λ r. ⌜ PutShort maxText (now (out .entry)) (now (out .exit)) at r (asLine (deviceTextOf device up due)) ⌝ }
+{
+    let named = text::put_one(out, at, b"device ", device as u64);
+    if up {
+        let told = text::put_word(out, named, b" up ");
+        let end = text::put_setting(out, told, due);
+        return text::put_end(out, end);
+    }
+    text::put_word(out, named, b" down\n")
+}

@@ -1,0 +1,37 @@
+-- How what a line says is held: for each case of the enums, which line of document 01 it is, and with which values. Assumes nothing.
+use mathlib.Core.List.{List, [], _∷_}
+use Rattle.routine.specs.Routine.{noRoutine, withCommand}
+use Rattle.routine.specs.declared.Command.{Command}
+use Rattle.routine.specs.declared.Routine.{Routine}
+use Rattle.rules.specs.Answers.{Call as Told, submit, turn, report, failure, restart, cancel}
+use Rattle.line_rules.specs.Reading.{Line as Said, opening, calling, unread}
+use Rattle.line_reader.specs.declared.Call.{Call}
+use Rattle.line_reader.specs.declared.Call.the-variants.{Submit, Turn, Report, Cancel, Fail, Restart}
+use Rattle.line_reader.specs.declared.Line.the-variants.{Open, Calling, Unread}
+use Rattle.line_reader.specs.declared.LineRead.{LineRead}
+
+-- A routine put together command by command, behind those that it holds. It counts past the eighth and holds eight: a longer one is turned down for its count.
+unfoldable pub together : Routine → List Command → Routine
+together r [] = r
+together r (c ∷ cs) = together (withCommand r c) cs
+
+abbrev pub heldCall : Told → Call
+heldCall (submit cs) = Submit
+heldCall (turn i) = Turn i
+heldCall (report i code) = Report i code
+heldCall (failure d) = Fail d
+heldCall (restart d v) = Restart d v
+heldCall (cancel i) = Cancel i
+
+abbrev pub heldRoutine : Told → Routine
+heldRoutine (submit cs) = together noRoutine cs
+heldRoutine (turn i) = noRoutine
+heldRoutine (report i code) = noRoutine
+heldRoutine (failure d) = noRoutine
+heldRoutine (restart d v) = noRoutine
+heldRoutine (cancel i) = noRoutine
+
+abbrev pub heldLine : Said → LineRead
+heldLine (opening n k first) = record { line = Open n k first; routine = noRoutine }
+heldLine (calling c) = record { line = Calling (heldCall c); routine = heldRoutine c }
+heldLine unread = record { line = Unread; routine = noRoutine }

@@ -1,0 +1,50 @@
+-- Pieces by their places: how far a piece reaches, and the words of a line from a place on. Assumes nothing.
+use mathlib.Core.List.{List, [], _∷_}
+use mathlib.Core.Option.{Option, none, some}
+use Prim.Native.Nat.{ℕ, suc, _+_}
+use lib.Dec.{leb, eqb}
+use lib.IntN.{ℤ}
+use lib.ListN.{length, take, drop}
+use Rattle.routine.specs.Choice.{if_then_else_}
+use Rattle.line_rules.specs.Text.{space}
+use Rattle.line_rules.specs.Pieces.{pieces}
+use Rattle.line_rules.specs.Reading.{numberUpTo, setting}
+use Rattle.line_reader.specs.declared.numbers.Number.{Number}
+use Rattle.line_reader.specs.declared.numbers.Number.the-variants.{Found, Missing}
+use Rattle.line_reader.specs.declared.numbers.Setting.{Setting}
+use Rattle.line_reader.specs.declared.numbers.Setting.the-variants.{Found as SettingFound, Missing as SettingMissing}
+
+-- How many bytes come before the first such byte.
+unfoldable pub reach : ℕ → List ℕ → ℕ
+reach byte [] = 0
+reach byte (b ∷ bs) = if eqb b byte then 0 else suc (reach byte bs)
+
+-- The word that begins at a place of a line, and where it ends.
+unfoldable pub wordAt : List ℕ → ℕ → List ℕ
+wordAt line at = take (reach space (drop at line)) (drop at line)
+
+unfoldable pub wordEnd : List ℕ → ℕ → ℕ
+wordEnd line at = at + reach space (drop at line)
+
+-- The words of a line from a place on; past the line's end there are none.
+unfoldable pub wordsFrom : List ℕ → ℕ → List (List ℕ)
+wordsFrom line at = if leb at (length line) then pieces space (drop at line) else []
+
+-- A number of that word, as it is held.
+abbrev pub heldNumber : Option ℕ → ℕ → Number
+heldNumber none end = Missing
+heldNumber (some n) end = Found n end
+
+-- One that was read to the end of its word: a word of no bytes is none.
+abbrev pub foundFrom : ℕ → ℕ → ℕ → Number
+foundFrom value from end = if eqb from end then Missing else Found value end
+
+unfoldable pub numberAt : ℕ → List ℕ → ℕ → Number
+numberAt highest line at = heldNumber (numberUpTo highest (wordAt line at)) (wordEnd line at)
+
+abbrev pub heldSetting : Option ℤ → ℕ → Setting
+heldSetting none end = SettingMissing
+heldSetting (some v) end = SettingFound v end
+
+unfoldable pub settingAt : List ℕ → ℕ → Setting
+settingAt line at = heldSetting (setting (wordAt line at)) (wordEnd line at)

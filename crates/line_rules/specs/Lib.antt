@@ -1,0 +1,6 @@
+pub mod Text
+pub mod Pieces
+pub mod Reading
+pub mod Printing
+pub mod Program
+pub mod Examples

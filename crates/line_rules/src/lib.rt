@@ -1,0 +1,1 @@
+// The line program as definitions: document 01, "The line program". No code.
