@@ -1,5 +1,6 @@
 // The routine book, read as crate `layout` defines it. Document 01, "The routine book".
 mod bytes;
+pub mod reader;
 mod reading;
 
 use layout::COUNT_SIZE;

@@ -1,0 +1,28 @@
+// The reader of a routine book: document 01, "The routine book". Two thin functions over a struct that holds the lent book; the work is
+// `next`, on a plain slice.
+use layout::Next;
+ghost use mathlib.Core.Path.{_≡_};
+ghost use Rattle.book.specs.Reader.{Advanced};
+
+// The lent book and a position in it. Nobody else can set the position.
+pub struct BookReader<'a> {
+    book: &'a [u8],
+    position: usize,
+}
+
+// A reader at the beginning of a book.
+pub fn start<'a>(book: &'a [u8]) -> BookReader<'a>
+    ensures { λ r. ⌜ (r .book ≡ book .entry) × (r .position ≡ 0) ⌝ }
+{
+    BookReader { book, position: 0 }
+}
+
+// The next step of reading; the reader is moved on. The first step checks the whole book.
+pub fn advance<'s, 'a>(reader: &'s mut BookReader<'a>) -> Next
+    ensures { λ r. ⌜ Advanced (now (reader .entry)) (now (reader .exit)) r ⌝ }
+{
+    let held = *reader;
+    let step = crate::next(held.book, held.position);
+    reader.position = step.position;
+    step
+}
