@@ -1,12 +1,50 @@
--- What the reader gives. Assumes nothing.
+-- The reader of a book: what its two functions give, and what a whole reading gives by them. Document 01: "The reader holds the lent book and a position
+-- in it and, the whole book having been checked first, hands out routine by routine, then the end." The theorem stands in proofs/Theorem.antt.
+-- Assumes nothing.
 use mathlib.Core.Path.{_≡_}
-use denote.Ref.{now}
-use Rattle.layout.specs.Reading.{nextOf}
+use mathlib.Core.List.{List, []}
+use Prim.Native.Nat.{ℕ, suc, _<_, _≤_}
+use lib.ListN.{length, getD}
+use denote.Ref.{RefT, now}
+use Rattle.routine.specs.Routine.{commandsOf, noRoutine}
+use Rattle.routine.specs.declared.Command.{Command}
+use Rattle.routine.specs.declared.Refusal.{Refusal}
+use Rattle.routine.specs.declared.Verdict.the-variants.{Accepted, Refused}
+use Rattle.layout.specs.Claims.{Hands}
+use Rattle.layout.specs.Reading.{bookCheck, nextOf}
+use Rattle.layout.specs.declared.Item.the-variants.{Handed, End, Refused as RefusedBook}
 use Rattle.layout.specs.declared.Next.{Next}
 use Rattle.book.specs.declared.reader.BookReader.{BookReader}
 
--- A step of a reader: what is read at its position, and the reader is moved on in the same book.
+-- ---- the contracts
+
+-- `start`: a reader at the beginning of the lent book.
+pub record Started (book : RefT (List ℕ)) (reader : BookReader) : Type 0 where
+  pub holds : reader .book ≡ book
+  pub beginning : reader .position ≡ 0
+
+-- `advance`: the step of reading at the reader's position; the reader is moved on in the same book.
 pub record Advanced (before after : BookReader) (step : Next) : Type 0 where
   pub read : step ≡ nextOf (now (before .book)) (before .position)
   pub same-book : after .book ≡ before .book
   pub moved-on : after .position ≡ step .position
+
+-- ---- a whole reading
+
+-- n steps from a reader just started: step k is an `advance` of the reader that the step before left.
+pub record Reading (book : RefT (List ℕ)) (n : ℕ) (reader : ℕ → BookReader) (step : ℕ → Next) : Type 0 where
+  pub started : Started book (reader 0)
+  pub advanced : (k : ℕ) → k < n → Advanced (reader k) (reader (suc k)) (step k)
+
+-- What the steps hand out of book b.
+pub record Reads (b : List ℕ) (n : ℕ) (step : ℕ → Next) : Type 0 where
+  -- The whole book has been checked first: of a refused one no routine is ever handed out. Each step gives its refusal, and the position stays 0.
+  pub refused :
+      (r : Refusal) → bookCheck b ≡ Refused r → (k : ℕ) → k < n → step k ≡ record { item = RefusedBook r; routine = noRoutine; position = 0 }
+  -- Of an accepted one (which has such routines: `ReadThenWrite`) routine by routine, then the end.
+  pub accepted : (rs : List (List Command)) → bookCheck b ≡ Accepted → Hands b 0 rs → (k : ℕ) → k < n →
+      (k < length rs → (step k .item ≡ Handed) × (commandsOf (step k .routine) ≡ getD rs k [])) × (length rs ≤ k → step k .item ≡ End)
+
+abbrev pub RoutineByRoutine : Type 0
+RoutineByRoutine =
+    (book : RefT (List ℕ)) (n : ℕ) (reader : ℕ → BookReader) (step : ℕ → Next) → Reading book n reader step → Reads (now book) n step

@@ -1,8 +1,7 @@
 // The reader of a routine book: document 01, "The routine book". Two thin functions over a struct that holds the lent book; the work is
 // `next`, on a plain slice.
 use layout::Next;
-ghost use mathlib.Core.Path.{_≡_};
-ghost use Rattle.book.specs.Reader.{Advanced};
+ghost use Rattle.book.specs.Reader.{Started, Advanced};
 
 // The lent book and a position in it. Nobody else can set the position.
 pub struct BookReader<'a> {
@@ -12,7 +11,7 @@ pub struct BookReader<'a> {
 
 // A reader at the beginning of a book.
 pub fn start<'a>(book: &'a [u8]) -> BookReader<'a>
-    ensures { λ r. ⌜ (r .book ≡ book .entry) × (r .position ≡ 0) ⌝ }
+    ensures { λ r. ⌜ Started (book .entry) r ⌝ }
 {
     BookReader { book, position: 0 }
 }
