@@ -74,13 +74,14 @@ module _ (book : RefT (List ℕ)) where
   stays r e (suc k) reader step s c =
       let a = c 0 (omega arith) in
       let p = a .moved-on ∙ ap (λ (x : Next). x .position) (first-refused r e (reader 0) (reader 1) (step 0) s a) in
-      stays r e k (λ i. reader (suc i)) (λ i. step (suc i)) (record { holds = a .same-book ∙ s .holds; beginning = p }) (λ i l. c (suc i) (omega arith))
+      stays r e k (λ i. reader (suc i)) (λ i. step (suc i)) (record { holds = a .same-book ∙ s .holds; beginning = p })
+      (λ i l. c (suc i) (omega arith))
 
   -- From a position these routines are handed out: so they are by the steps of a reader there.
   hands-out : (k : ℕ) (rs : List (List Command)) (reader : ℕ → BookReader) (step : ℕ → Next) → reader 0 .book ≡ book →
       ((i : ℕ) → i ≤ k → Advanced (reader i) (reader (suc i)) (step i)) → Hands (now book) (reader 0 .position) rs →
       (k < length rs → (step k .item ≡ Handed) × (commandsOf (step k .routine) ≡ getD rs k [])) × (length rs ≤ k → step k .item ≡ End)
-  hands-out zero [] reader step e c (ends x) = (λ l. absurd (omega arith), λ l. ap item (step-is _ _ _ e (c 0 l)) ∙ x)
+  hands-out zero [] reader step e c (ends x) = (λ l. absurd (omega arith), λ l. ap item (step-is _ _ _ e (c 0 (omega arith))) ∙ x)
   hands-out zero (r ∷ rs) reader step e c (hands x y z) =
       let s = step-is _ _ _ e (c 0 (omega arith)) in
       (λ l. (ap item s ∙ x, ap (λ (u : Next). commandsOf (u .routine)) s ∙ y), λ l. absurd (omega arith))
