@@ -8,7 +8,7 @@ use lib.Dec.{leb, ltb, eqb}
 use lib.ListN.{length, getD}
 use denote.Ref.{RefT, now}
 use Rattle.routine.specs.Choice.{if_then_else_}
-use Rattle.routine.specs.Routine.{commandsOf, noRoutine}
+use Rattle.routine.specs.Routine.{commandsOf}
 use Rattle.routine.specs.declared.Command.{Command}
 use Rattle.routine.specs.declared.Refusal.{Refusal}
 use Rattle.routine.specs.declared.Verdict.{Verdict}
@@ -18,10 +18,10 @@ use Rattle.layout.specs.Layout.{countSize, pairSize, offsetSize, pairsEnd, coun
 use Rattle.layout.specs.Numbers.{fourAt}
 use Rattle.layout.specs.Reading.{bookCheck, lengthFits, endAt, pairNext, nextOf}
 use Rattle.layout.specs.declared.Item.{Item}
-use Rattle.layout.specs.declared.Item.the-variants.{Handed, End, Refused as RefusedBook}
+use Rattle.layout.specs.declared.Item.the-variants.{Handed, End}
 use Rattle.layout.specs.declared.Next.{Next}
 use Rattle.layout.proofs.Laws.{next-first, next-later, next-refused}
-use Rattle.book.specs.Reader.{Started, Advanced, RoutineByRoutine}
+use Rattle.book.specs.Reader.{Started, Advanced, turnsDown, RoutineByRoutine}
 use Rattle.book.specs.declared.reader.BookReader.{BookReader}
 
 abbrev item : Next → Item
@@ -63,13 +63,13 @@ module _ (book : RefT (List ℕ)) where
   step-is before after s e a = a .read ∙ ap (λ (c : RefT (List ℕ)). nextOf (now c) (before .position)) e
 
   first-refused : (r : Refusal) → bookCheck (now book) ≡ Refused r → (before after : BookReader) (s : Next) → Started book before →
-      Advanced before after s → s ≡ record { item = RefusedBook r; routine = noRoutine; position = 0 }
+      Advanced before after s → s ≡ turnsDown r
   first-refused r e before after s b a =
       step-is before after s (b .holds) a ∙ ap (nextOf (now book)) (b .beginning) ∙ next-refused (now book) r e
 
-  -- Of a refused book each step gives the refusal, and the reader stays at the beginning.
+  -- A refused book is turned down at each step: the reader stays at the beginning.
   stays : (r : Refusal) → bookCheck (now book) ≡ Refused r → (k : ℕ) (reader : ℕ → BookReader) (step : ℕ → Next) → Started book (reader 0) →
-      ((i : ℕ) → i ≤ k → Advanced (reader i) (reader (suc i)) (step i)) → step k ≡ record { item = RefusedBook r; routine = noRoutine; position = 0 }
+      ((i : ℕ) → i ≤ k → Advanced (reader i) (reader (suc i)) (step i)) → step k ≡ turnsDown r
   stays r e zero reader step s c = first-refused r e (reader 0) (reader 1) (step 0) s (c 0 (omega arith))
   stays r e (suc k) reader step s c =
       let a = c 0 (omega arith) in

@@ -36,15 +36,19 @@ pub record Reading (book : RefT (List ℕ)) (n : ℕ) (reader : ℕ → BookRead
   pub started : Started book (reader 0)
   pub advanced : (k : ℕ) → k < n → Advanced (reader k) (reader (suc k)) (step k)
 
+-- The step that turns a book down: the refusal, no routine, and the position is still 0.
+abbrev pub turnsDown : Refusal → Next
+turnsDown r = record { item = RefusedBook r; routine = noRoutine; position = 0 }
+
 -- What the steps hand out of book b.
 pub record Reads (b : List ℕ) (n : ℕ) (step : ℕ → Next) : Type 0 where
-  -- The whole book has been checked first: of a refused one no routine is ever handed out. Each step gives its refusal, and the position stays 0.
-  pub refused :
-      (r : Refusal) → bookCheck b ≡ Refused r → (k : ℕ) → k < n → step k ≡ record { item = RefusedBook r; routine = noRoutine; position = 0 }
+  -- The whole book has been checked first: of a refused one no routine is ever handed out, since each step turns it down.
+  pub refused : (r : Refusal) → bookCheck b ≡ Refused r → (k : ℕ) → k < n → step k ≡ turnsDown r
   -- Of an accepted one (which has such routines: `ReadThenWrite`) routine by routine, then the end.
   pub accepted : (rs : List (List Command)) → bookCheck b ≡ Accepted → Hands b 0 rs → (k : ℕ) → k < n →
       (k < length rs → (step k .item ≡ Handed) × (commandsOf (step k .routine) ≡ getD rs k [])) × (length rs ≤ k → step k .item ≡ End)
 
+-- For every reading: "the whole book having been checked first, hands out routine by routine, then the end".
 abbrev pub RoutineByRoutine : Type 0
 RoutineByRoutine =
     (book : RefT (List ℕ)) (n : ℕ) (reader : ℕ → BookReader) (step : ℕ → Next) → Reading book n reader step → Reads (now book) n step

@@ -1,7 +1,7 @@
--- `book::reader::start` meets its contract: a walk of its MIR, by hand. A reader is made of the book lent and a number, in the result's local.
+-- `book::reader::start` meets its contract: a walk of its MIR, by hand. A reader is made of the lent book and 0, in the result's local.
 -- A `&[u8]` is Copy, so what it owns is had twice: once for the parameter at exit, and once inside the result. Assumes nothing.
-use mathlib.Core.Path.{_≡_, refl}
-use Prim.Native.Nat.{ℕ, _<_, _^_}
+use mathlib.Core.Path.{refl}
+use Prim.Native.Nat.{ℕ}
 use mathlib.Core.List.{List, [], _∷_}
 use lib.Dec.{lit<}
 use lib.ListN.{length}
@@ -55,8 +55,8 @@ module _ {M : Type 1} (𝓤 : URA M) (H : Heap 𝓤) (A : Atoms 𝓤) (W : Given
   abbrev v : Val
   v = sliceVal (s .ptr) (length (s .now))
 
-  abbrev made : ℕ → BookReader
-  made n = record { book = s; position = n }
+  abbrev made : BookReader
+  made = record { book = s; position = 0 }
 
   abbrev at : List Val × Unit {0}
   at = (v ∷ [], tt)
@@ -67,18 +67,17 @@ module _ {M : Type 1} (𝓤 : URA M) (H : Heap 𝓤) (A : Atoms 𝓤) (W : Given
   abbrev Own : Fml
   Own = ShrSlice (named 0) κ u8 .own s (v ∷ [])
 
-  -- the number made is the beginning
-  exits : (n : ℕ) → n ≡ 0 → n < 2 ^ 64 → ent 𝓤 (onEntry 𝓤 H A f.signature (κ, tt) (q, tt) (s, tt) at) (Post (T′.lowered (made n)))
-  exits n e fits =
+  exits : ent 𝓤 (onEntry 𝓤 H A f.signature (κ, tt) (q, tt) (s, tt) at) (Post (T′.lowered made))
+  exits =
       qed W ((‵ (flft κ q) ⊛ ‵ ftrue) ∷ ‵ (owns (ShrSlice (named 0) κ u8 ∷ []) (s, tt) at) ∷ []) ∵
       suffices ! _ (ends-at 𝓤 H A f.ended stayed (f.clauses 𝓤 H A mem run) W
-      (((κ, tt), (q, tt), tt, (s, tt), at), tt) (T′.lowered (made n)) (made n) (tt, tt) (tt, tt)) $
-      says ! (record { holds = refl; beginning = e }) $
+      (((κ, tt), (q, tt), tt, (s, tt), at), tt) (T′.lowered made) made (tt, tt) (tt, tt)) $
+      says ! (record { holds = refl; beginning = refl }) $
       frame ! $ fsplit ! $ use1 W (‵ Own ⊛ ‵ Own) (shr-slice-copy 𝓤 H A W (named 0) κ u8 .twice s (v ∷ [])) $ split ! $
       move ! (0 ∷ 2 ∷ []) $ fjoin ! $ frame ! $
       -- [what the book owns]: it and the position's facts together are what the struct owns
-      nothing ! $ owned ! usize (Is usize) (uint-makes 𝓤 H A W w64) n _ (refl, fits) $ fjoin ! $ move ! (1 ∷ 0 ∷ []) $ fjoin ! $
-      by ! (own-shut 𝓤 H A W (T.the-type α) (T′.the-laws α) (s, (n, tt)))
+      nothing ! $ owned ! usize (Is usize) (uint-makes 𝓤 H A W w64) 0 _ (refl, lit< tt) $ fjoin ! $ move ! (1 ∷ 0 ∷ []) $ fjoin ! $
+      by ! (own-shut 𝓤 H A W (T.the-type α) (T′.the-laws α) (s, (0, tt)))
 
   module _ (C : Calls 𝓤 H) (Λ : Loops 𝓤 H) where
     walk : Is (ShrSlice (named 0) κ u8) s (v ∷ []) →
@@ -89,7 +88,7 @@ module _ {M : Type 1} (𝓤 : URA M) (H : Heap 𝓤) (A : Atoms 𝓤) (W : Given
         alloc1 ! (λ l₀. alloc1 ! (λ l₁. alloc0 ! $ params1 ! $ pass1 ! (init ! 0 refl typed) $ pass0 ! $
         assigns ! (agg ! (and-then ! (load ! (from ! (stop !)) (look ! 0 refl)) (and-then ! (lit ! tt) (no-more !)))) (from ! (stop !))
         (init ! 2 refl (tt, (typed .1, (record { fits = lit< tt }, tt)))) $
-        returns ! (look ! 2 refl) $ forget ! 0 refl $ forget ! 2 refl $ move ! (2 ∷ 3 ∷ []) $ free1 ! $ free1 ! $ free0 ! $ by ! (exits _ refl (lit< tt))))
+        returns ! (look ! 2 refl) $ forget ! 0 refl $ forget ! 2 refl $ move ! (2 ∷ 3 ∷ []) $ free1 ! $ free1 ! $ free0 ! $ by ! exits))
 
 module _ {M : Type 1} (𝓤 : URA M) (H : Heap 𝓤) (A : Atoms 𝓤) (W : Given 𝓤 H A) (mem : Memory → SProp 𝓤) (run : Routine → Fun 𝓤) where
   start-walks : (C : Calls 𝓤 H) (Λ : Loops 𝓤 H) → Walks 𝓤 H A f.ended stayed (WpFn 𝓤 H C Λ code.function) (f.clauses 𝓤 H A mem run)
