@@ -1,0 +1,9 @@
+//! The line program from standard input to standard output.
+
+use std::io::{self, Read, Write};
+
+fn main() -> io::Result<()> {
+    let mut input = Vec::new();
+    io::stdin().lock().read_to_end(&mut input)?;
+    io::stdout().lock().write_all(&reference::run(&input))
+}

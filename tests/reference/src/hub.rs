@@ -1,0 +1,537 @@
+//! The hub: devices, the sequence of routines, and the calls on them. Each call changes the hub in place; a refused one
+//! changes nothing.
+
+pub const MOST_DEVICES: usize = 32;
+pub const MOST_COMMANDS: usize = 8;
+pub const MOST_ROUTINES: usize = 16;
+pub const MOST_PASSES: u8 = 8;
+pub const LAST_ID: u32 = u32::MAX;
+
+/// Settings go from the negative of this to this.
+pub const MOST_SETTING: i16 = 1000;
+
+/// The settled part, where an id is expected.
+pub const SETTLED: u32 = 0;
+
+pub const MUST: u8 = 0;
+pub const BEST_EFFORT: u8 = 1;
+
+pub const DONE: u8 = 0;
+pub const FAILED: u8 = 1;
+
+#[derive(Clone, Copy, Debug, Default, PartialEq, Eq)]
+pub struct Command {
+    pub device: u8,
+    pub tag: u8,
+    pub setting: i16,
+}
+
+/// Why a call was turned down: the number in document 01's table, and the command's index where the table has one.
+#[derive(Clone, Copy, Debug, PartialEq, Eq)]
+pub struct Refusal {
+    pub number: u8,
+    pub index: Option<u8>,
+}
+
+fn refused<T>(number: u8) -> Result<T, Refusal> {
+    Err(Refusal { number, index: None })
+}
+
+/// Settings sent back to devices, by rising device. A routine has at most eight devices, so it leaves no more behind.
+#[derive(Clone, Copy, Debug, Default, PartialEq, Eq)]
+pub struct Backs {
+    count: usize,
+    list: [(u8, i16); MOST_COMMANDS],
+}
+
+impl Backs {
+    fn push(&mut self, device: u8, setting: i16) {
+        self.list[self.count] = (device, setting);
+        self.count += 1;
+    }
+
+    pub fn as_slice(&self) -> &[(u8, i16)] {
+        &self.list[..self.count]
+    }
+}
+
+#[derive(Clone, Copy, Debug, PartialEq, Eq)]
+pub struct Aborted {
+    pub id: u32,
+    pub backs: Backs,
+}
+
+#[derive(Clone, Copy, Debug, PartialEq, Eq)]
+pub enum Answer {
+    Opened,
+    Placed { id: u32, after: u32 },
+    Committed { id: u32 },
+    Wait { id: u32, on: u32 },
+    Send { id: u32, device: u8, setting: i16 },
+    Done { id: u32 },
+    Skipped { id: u32, backs: Backs },
+    Aborted(Aborted),
+    Down { device: u8, after: u32, aborted: Option<Aborted> },
+    Up { device: u8, after: u32, aborted: Option<Aborted> },
+}
+
+/// The restarts attached to a routine. Only the last one of a device can ever count, so only that is kept; failures
+/// never count for a due setting, so they are not kept at all.
+#[derive(Clone, Debug)]
+struct Restarts {
+    devices: u32,
+    settings: [i16; MOST_DEVICES],
+}
+
+impl Restarts {
+    fn none() -> Restarts {
+        Restarts { devices: 0, settings: [0; MOST_DEVICES] }
+    }
+
+    fn get(&self, device: u8) -> Option<i16> {
+        (self.devices >> device & 1 == 1).then(|| self.settings[device as usize])
+    }
+
+    fn attach(&mut self, device: u8, setting: i16) {
+        self.devices |= 1 << device;
+        self.settings[device as usize] = setting;
+    }
+}
+
+/// The numbers of the bits that are set, rising.
+fn bits(mut set: u32) -> impl Iterator<Item = u8> {
+    std::iter::from_fn(move || {
+        if set == 0 {
+            return None;
+        }
+        let lowest = set.trailing_zeros() as u8;
+        set &= set - 1;
+        Some(lowest)
+    })
+}
+
+/// A routine of the sequence.
+#[derive(Clone, Debug)]
+struct Routine {
+    id: u32,
+    commands: [Command; MOST_COMMANDS],
+    count: u8,
+    /// Commands are answered in turn: so many of the first are.
+    answered: u8,
+    /// Which of the answered were done, a bit each; the others were skipped.
+    done: u8,
+    /// The first unanswered command is in flight.
+    in_flight: bool,
+    /// The due setting of the device of the command in flight, when that was sent.
+    due_at_send: i16,
+    passed: u8,
+    committed: bool,
+    restarts: Restarts,
+}
+
+impl Routine {
+    fn commands(&self) -> &[Command] {
+        &self.commands[..self.count as usize]
+    }
+
+    fn answered(&self) -> &[Command] {
+        &self.commands[..self.answered as usize]
+    }
+
+    fn unanswered(&self) -> &[Command] {
+        &self.commands[self.answered as usize..self.count as usize]
+    }
+
+    fn next(&self) -> Option<Command> {
+        self.unanswered().first().copied()
+    }
+
+    fn command_in_flight(&self) -> Option<Command> {
+        if self.in_flight {
+            self.next()
+        } else {
+            None
+        }
+    }
+
+    fn has_begun(&self, device: u8) -> bool {
+        self.answered().iter().any(|c| c.device == device) || self.is_in_flight_on(device)
+    }
+
+    fn has_left(&self, device: u8) -> bool {
+        self.unanswered().iter().any(|c| c.device == device)
+    }
+
+    fn is_in_flight_on(&self, device: u8) -> bool {
+        self.command_in_flight().is_some_and(|c| c.device == device)
+    }
+
+    fn is_done(&self, index: usize) -> bool {
+        self.done >> index & 1 == 1
+    }
+
+    /// The setting that stands last for a device after the routine's done commands and then its restarts.
+    fn last_setting(&self, device: u8) -> Option<i16> {
+        self.restarts.get(device).or_else(|| {
+            let commands = self.answered().iter().enumerate().rev();
+            commands.filter(|(i, c)| c.device == device && self.is_done(*i)).map(|(_, c)| c.setting).next()
+        })
+    }
+
+    fn answer_next(&mut self, done: bool) {
+        self.done |= (done as u8) << self.answered;
+        self.answered += 1;
+        self.in_flight = false;
+    }
+}
+
+/// What a caller may see of a routine of the sequence.
+#[derive(Clone, Copy, Debug)]
+pub struct Glance {
+    pub id: u32,
+    pub running: bool,
+    pub in_flight: bool,
+    /// The command in flight, or the next to be sent.
+    pub next: Option<Command>,
+    /// The due setting of its device when the command in flight was sent.
+    pub due_at_send: i16,
+    pub answered: usize,
+}
+
+#[derive(Clone, Debug)]
+pub struct Hub {
+    device_count: u8,
+    pass_limit: u8,
+    /// None once the last id was given.
+    next_id: Option<u32>,
+    /// A bit for each device that is down.
+    down: u32,
+    marks: [u32; MOST_DEVICES],
+    /// What the settled part leaves behind: for each device the setting that stands last in it.
+    settled: [i16; MOST_DEVICES],
+    sequence: Vec<Routine>,
+}
+
+impl Hub {
+    pub fn open(device_count: u8, pass_limit: u8, first_id: u32) -> Result<Hub, Refusal> {
+        if device_count == 0 || device_count as usize > MOST_DEVICES {
+            return refused(1);
+        }
+        if pass_limit > MOST_PASSES {
+            return refused(2);
+        }
+        if first_id == 0 {
+            return refused(3);
+        }
+        Ok(Hub {
+            device_count,
+            pass_limit,
+            next_id: Some(first_id),
+            down: 0,
+            marks: [SETTLED; MOST_DEVICES],
+            settled: [0; MOST_DEVICES],
+            sequence: Vec::with_capacity(MOST_ROUTINES),
+        })
+    }
+
+    // ---- the calls
+
+    pub fn submit(&mut self, commands: &[Command]) -> Result<Answer, Refusal> {
+        if commands.is_empty() || commands.len() > MOST_COMMANDS {
+            return refused(4);
+        }
+        for (i, command) in commands.iter().enumerate() {
+            if let Some(number) = self.fault(command) {
+                return Err(Refusal { number, index: Some(i as u8) });
+            }
+        }
+        if self.sequence.len() == MOST_ROUTINES {
+            return refused(8);
+        }
+        let Some(id) = self.next_id else {
+            return refused(9);
+        };
+        self.next_id = id.checked_add(1);
+
+        let at = self.place_for(commands);
+        for behind in &mut self.sequence[at..] {
+            if !behind.committed {
+                behind.passed += 1;
+            }
+        }
+        let mut routine = Routine {
+            id,
+            commands: [Command::default(); MOST_COMMANDS],
+            count: commands.len() as u8,
+            answered: 0,
+            done: 0,
+            in_flight: false,
+            due_at_send: 0,
+            passed: 0,
+            committed: false,
+            restarts: Restarts::none(),
+        };
+        routine.commands[..commands.len()].copy_from_slice(commands);
+        self.sequence.insert(at, routine);
+        let after = self.id_before(at);
+        self.settle();
+        Ok(Answer::Placed { id, after })
+    }
+
+    pub fn turn(&mut self, id: u32) -> Result<Answer, Refusal> {
+        let at = self.running(id)?;
+        if self.sequence[at].in_flight {
+            return refused(11);
+        }
+        let Some(command) = self.sequence[at].next() else {
+            self.sequence[at].committed = true;
+            self.settle();
+            return Ok(Answer::Committed { id });
+        };
+        let device = command.device;
+        // The wait comes before the look at the device: a must on a down device may first wait.
+        if let Some(ahead) = self.sequence[..at].iter().find(|r| !r.committed && r.has_left(device)) {
+            return Ok(Answer::Wait { id, on: ahead.id });
+        }
+        if !self.is_up(device) && command.tag == MUST {
+            let aborted = self.abort(at);
+            self.settle();
+            return Ok(Answer::Aborted(aborted));
+        }
+        if !self.sequence[at].has_begun(device) {
+            self.marks[device as usize] = id;
+        }
+        if !self.is_up(device) {
+            self.sequence[at].answer_next(false);
+            self.settle();
+            return Ok(Answer::Skipped { id, backs: Backs::default() });
+        }
+        let due = self.due_setting(device);
+        let routine = &mut self.sequence[at];
+        routine.in_flight = true;
+        routine.due_at_send = due;
+        self.settle();
+        Ok(Answer::Send { id, device, setting: command.setting })
+    }
+
+    pub fn report(&mut self, id: u32, code: u8) -> Result<Answer, Refusal> {
+        let at = self.running(id)?;
+        let Some(command) = self.sequence[at].command_in_flight() else {
+            return refused(12);
+        };
+        let answer = match code {
+            DONE => {
+                self.sequence[at].answer_next(true);
+                Answer::Done { id }
+            }
+            // The command is still in flight for the abort: its device is to be sent its due setting.
+            FAILED if command.tag == MUST => Answer::Aborted(self.abort(at)),
+            FAILED => {
+                self.sequence[at].answer_next(false);
+                let mut backs = Backs::default();
+                let due = self.due_setting(command.device);
+                if due != self.sequence[at].due_at_send {
+                    backs.push(command.device, due);
+                }
+                Answer::Skipped { id, backs }
+            }
+            _ => return refused(13),
+        };
+        self.settle();
+        Ok(answer)
+    }
+
+    pub fn cancel(&mut self, id: u32) -> Result<Answer, Refusal> {
+        let at = self.running(id)?;
+        let aborted = self.abort(at);
+        self.settle();
+        Ok(Answer::Aborted(aborted))
+    }
+
+    pub fn fail(&mut self, device: u8) -> Result<Answer, Refusal> {
+        if device >= self.device_count {
+            return refused(14);
+        }
+        if !self.is_up(device) {
+            return refused(15);
+        }
+        self.down |= 1 << device;
+        let aborted = self.abort_amid(device);
+        // The abort may have moved the mark. The event itself leaves no setting, so there is nothing to attach.
+        let after = self.marks[device as usize];
+        self.settle();
+        Ok(Answer::Down { device, after, aborted })
+    }
+
+    pub fn restart(&mut self, device: u8, setting: i16) -> Result<Answer, Refusal> {
+        if device >= self.device_count {
+            return refused(14);
+        }
+        if self.is_up(device) {
+            return refused(16);
+        }
+        if !in_range(setting) {
+            return refused(17);
+        }
+        // The device is still down while the abort goes out.
+        let aborted = self.abort_amid(device);
+        let after = self.marks[device as usize];
+        match self.position(after) {
+            Some(at) => self.sequence[at].restarts.attach(device, setting),
+            None => self.settled[device as usize] = setting,
+        }
+        self.down &= !(1 << device);
+        self.settle();
+        Ok(Answer::Up { device, after, aborted })
+    }
+
+    // ---- what can be seen
+
+    pub fn device_count(&self) -> u8 {
+        self.device_count
+    }
+
+    pub fn is_up(&self, device: u8) -> bool {
+        self.down >> device & 1 == 0
+    }
+
+    /// The setting of the last, in the hub's order, of the done commands on the device and its restarts.
+    pub fn due_setting(&self, device: u8) -> i16 {
+        let last = self.sequence.iter().rev().find_map(|r| r.last_setting(device));
+        last.unwrap_or(self.settled[device as usize])
+    }
+
+    /// The routines of the sequence, in its order.
+    pub fn routines(&self) -> impl Iterator<Item = Glance> + '_ {
+        self.sequence.iter().map(|r| Glance {
+            id: r.id,
+            running: !r.committed,
+            in_flight: r.in_flight,
+            next: r.next(),
+            due_at_send: r.due_at_send,
+            answered: r.answered as usize,
+        })
+    }
+
+    pub fn routine_count(&self) -> usize {
+        self.sequence.len()
+    }
+
+    // ---- parts of the calls
+
+    fn fault(&self, command: &Command) -> Option<u8> {
+        if command.device >= self.device_count {
+            Some(5)
+        } else if !in_range(command.setting) {
+            Some(6)
+        } else if command.tag > BEST_EFFORT {
+            Some(7)
+        } else {
+            None
+        }
+    }
+
+    fn position(&self, id: u32) -> Option<usize> {
+        self.sequence.iter().position(|r| r.id == id)
+    }
+
+    fn running(&self, id: u32) -> Result<usize, Refusal> {
+        match self.position(id) {
+            Some(at) if !self.sequence[at].committed => Ok(at),
+            _ => refused(10),
+        }
+    }
+
+    fn id_before(&self, at: usize) -> u32 {
+        if at == 0 {
+            SETTLED
+        } else {
+            self.sequence[at - 1].id
+        }
+    }
+
+    /// Directly behind the last routine that a newcomer may not pass.
+    fn place_for(&self, commands: &[Command]) -> usize {
+        let bars = |r: &Routine| {
+            let passed_enough = !r.committed && r.passed >= self.pass_limit;
+            passed_enough || commands.iter().any(|c| self.marks[c.device as usize] == r.id)
+        };
+        self.sequence.iter().rposition(bars).map_or(0, |at| at + 1)
+    }
+
+    /// Aborts the running routine that has begun the device and not finished it, if there is one. There is never more
+    /// than one: a routine behind it waits before it begins the device, and newcomers go behind the device's mark.
+    fn abort_amid(&mut self, device: u8) -> Option<Aborted> {
+        let at = self.sequence.iter().position(|r| !r.committed && r.has_begun(device) && r.has_left(device))?;
+        Some(self.abort(at))
+    }
+
+    fn abort(&mut self, at: usize) -> Aborted {
+        // Only the routine's done commands leave the order, so no other device's due setting can change.
+        let routine = &self.sequence[at];
+        let in_flight = routine.command_in_flight().map_or(0, |c| 1u32 << c.device);
+        let touched = routine.answered().iter().fold(in_flight, |set, c| set | 1 << c.device);
+        let mut due_before = [0; MOST_DEVICES];
+        for device in bits(touched) {
+            due_before[device as usize] = self.due_setting(device);
+        }
+        #[cfg(debug_assertions)]
+        let all_before: Vec<i16> = (0..self.device_count).map(|d| self.due_setting(d)).collect();
+
+        let before = self.id_before(at);
+        let gone = self.sequence.remove(at);
+        for mark in &mut self.marks[..self.device_count as usize] {
+            if *mark == gone.id {
+                *mark = before;
+            }
+        }
+        for device in bits(gone.restarts.devices) {
+            let setting = gone.restarts.settings[device as usize];
+            if at == 0 {
+                self.settled[device as usize] = setting;
+            } else {
+                self.sequence[at - 1].restarts.attach(device, setting);
+            }
+        }
+
+        #[cfg(debug_assertions)]
+        for device in 0..self.device_count {
+            let unchanged = all_before[device as usize] == self.due_setting(device);
+            assert!(unchanged || touched >> device & 1 == 1);
+        }
+        let mut backs = Backs::default();
+        for device in bits(touched) {
+            let due = self.due_setting(device);
+            let disturbed = due != due_before[device as usize] || in_flight >> device & 1 == 1;
+            let taken = self.sequence.iter().any(|r| r.is_in_flight_on(device));
+            if disturbed && self.is_up(device) && !taken {
+                backs.push(device, due);
+            }
+        }
+        Aborted { id: gone.id, backs }
+    }
+
+    /// The committed routines at the front join the settled part, each with its restarts behind it.
+    fn settle(&mut self) {
+        let count = self.sequence.iter().take_while(|r| r.committed).count();
+        for routine in self.sequence.drain(..count) {
+            for (i, command) in routine.commands().iter().enumerate() {
+                if routine.is_done(i) {
+                    self.settled[command.device as usize] = command.setting;
+                }
+            }
+            for device in bits(routine.restarts.devices) {
+                self.settled[device as usize] = routine.restarts.settings[device as usize];
+            }
+            for mark in &mut self.marks[..self.device_count as usize] {
+                if *mark == routine.id {
+                    *mark = SETTLED;
+                }
+            }
+        }
+    }
+}
+
+fn in_range(setting: i16) -> bool {
+    (-MOST_SETTING..=MOST_SETTING).contains(&setting)
+}
