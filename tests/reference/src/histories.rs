@@ -71,19 +71,30 @@ enum Action {
     Submit,
     Advance,
     Cancel,
+    Scene,
     Failure,
     Restart,
     Refused,
     Reopen,
 }
 
-const ACTIONS: [Action; 7] =
-    [Action::Submit, Action::Advance, Action::Cancel, Action::Failure, Action::Restart, Action::Refused, Action::Reopen];
+const ACTIONS: [Action; 8] = [
+    Action::Submit,
+    Action::Advance,
+    Action::Cancel,
+    Action::Scene,
+    Action::Failure,
+    Action::Restart,
+    Action::Refused,
+    Action::Reopen,
+];
 
 struct Habit {
-    weights: [usize; 7],
+    weights: [usize; 8],
     /// So many submissions come first.
     first: (i64, i64),
+    /// With so many running, most submissions give way to the routines that are there.
+    enough: usize,
     most_commands: i64,
     most_devices: i64,
     /// In a hundred: best-effort commands, failed reports, turns of routines that must wait.
@@ -96,8 +107,9 @@ struct Habit {
 const HABITS: [Habit; 7] = [
     // An ordinary sitting.
     Habit {
-        weights: [20, 65, 3, 4, 4, 3, 1],
+        weights: [20, 61, 3, 4, 4, 4, 3, 1],
         first: (1, 4),
+        enough: 5,
         most_commands: 8,
         most_devices: 6,
         best_effort: 40,
@@ -107,8 +119,9 @@ const HABITS: [Habit; 7] = [
     },
     // Short routines on few devices, many cancelled: settings go back.
     Habit {
-        weights: [22, 60, 10, 2, 3, 2, 1],
+        weights: [20, 55, 9, 8, 2, 3, 2, 1],
         first: (2, 5),
+        enough: 4,
         most_commands: 3,
         most_devices: 3,
         best_effort: 60,
@@ -118,8 +131,9 @@ const HABITS: [Habit; 7] = [
     },
     // Devices go down and come back all the time.
     Habit {
-        weights: [20, 50, 3, 12, 12, 2, 1],
+        weights: [18, 50, 3, 6, 10, 10, 2, 1],
         first: (2, 5),
+        enough: 4,
         most_commands: 5,
         most_devices: 5,
         best_effort: 60,
@@ -129,8 +143,9 @@ const HABITS: [Habit; 7] = [
     },
     // A full sequence.
     Habit {
-        weights: [25, 60, 3, 3, 3, 3, 1],
+        weights: [25, 58, 3, 2, 3, 3, 3, 1],
         first: (14, 19),
+        enough: 17,
         most_commands: 4,
         most_devices: 8,
         best_effort: 30,
@@ -140,8 +155,9 @@ const HABITS: [Habit; 7] = [
     },
     // Much is refused.
     Habit {
-        weights: [15, 40, 3, 5, 5, 30, 2],
+        weights: [15, 40, 3, 1, 5, 5, 30, 1],
         first: (1, 3),
+        enough: 5,
         most_commands: 4,
         most_devices: 4,
         best_effort: 40,
@@ -151,8 +167,9 @@ const HABITS: [Habit; 7] = [
     },
     // The ids run out.
     Habit {
-        weights: [30, 50, 5, 4, 4, 3, 4],
+        weights: [25, 55, 5, 2, 4, 4, 3, 2],
         first: (1, 4),
+        enough: 4,
         most_commands: 2,
         most_devices: 4,
         best_effort: 40,
@@ -162,8 +179,9 @@ const HABITS: [Habit; 7] = [
     },
     // Long routines over many devices.
     Habit {
-        weights: [15, 72, 3, 3, 3, 2, 1],
+        weights: [15, 69, 3, 4, 3, 3, 2, 1],
         first: (2, 6),
+        enough: 6,
         most_commands: 8,
         most_devices: 32,
         best_effort: 40,
@@ -247,11 +265,17 @@ impl Sitting {
     // ---- lines
 
     fn act(&mut self) {
+        if self.program.hub().is_none() {
+            return self.open();
+        }
         let action = ACTIONS[self.random.weighed(&self.habit.weights)];
         match action {
+            Action::Submit if self.running().len() >= self.habit.enough && self.random.percent(75) => self.advance(),
             Action::Submit => self.submit(),
             Action::Advance => self.advance(),
             Action::Cancel => self.cancel(),
+            Action::Scene if self.random.percent(50) => self.undercut(),
+            Action::Scene => self.event_amid(),
             Action::Failure => self.failure(),
             Action::Restart => self.restart(),
             Action::Refused => self.refused_or_early(),
@@ -302,6 +326,11 @@ impl Sitting {
     }
 
     fn submit(&mut self) {
+        // Out of ids, a few more are asked for; then a new hub is opened.
+        let spent = self.program.hub().is_some_and(|hub| !hub.has_ids_left());
+        if spent && self.random.percent(70) {
+            return if self.running().is_empty() { self.open() } else { self.advance() };
+        }
         let count = self.random.between(1, self.habit.most_commands);
         let commands = self.commands(count);
         self.say(submission(&commands));
@@ -313,15 +342,24 @@ impl Sitting {
             return self.submit();
         }
         let free: Vec<Glance> = running.iter().filter(|r| r.in_flight || !self.waits(r)).copied().collect();
-        let from = if free.is_empty() || self.random.percent(self.habit.waits) { &running } else { &free };
+        let moved: Vec<Glance> = running.iter().filter(|r| self.due_moved(r)).copied().collect();
+        let from = if !moved.is_empty() && self.random.percent(40) {
+            &moved
+        } else if free.is_empty() || self.random.percent(self.habit.waits) {
+            &running
+        } else {
+            &free
+        };
         let routine = *self.random.pick(from);
         if !routine.in_flight {
             return self.say(format!("N {}", routine.id));
         }
-        let mut failed = self.habit.failed;
+        // A failed must ends its routine: rarer, so that routines get on.
+        let must = routine.next.is_some_and(|c| c.tag == MUST);
+        let mut failed = if must { self.habit.failed / 2 } else { self.habit.failed };
         if self.due_moved(&routine) {
             // A failed report now sends a setting back.
-            failed = failed.max(50);
+            failed = failed.max(60);
         }
         let letter = if self.random.percent(failed) { 'B' } else { 'D' };
         self.say(format!("{letter} {}", routine.id));
@@ -352,6 +390,71 @@ impl Sitting {
         let from = if begun.is_empty() || self.random.percent(30) { &running } else { &begun };
         let id = self.random.pick(from).id;
         self.say(format!("C {id}"));
+    }
+
+    /// Cancels a routine that did a device on which a later one has a command in flight; first, if there is no such
+    /// pair, two submissions and turns that mostly bring it about.
+    fn undercut(&mut self) {
+        if self.cancel_below_flight() {
+            return;
+        }
+        let n = self.device_count() as usize;
+        let up = self.devices(true);
+        if n == 1 || up.is_empty() {
+            return self.cancel();
+        }
+        let device = *self.random.pick(&up) as usize;
+        let other = (device + 1 + self.random.below(n - 1)) % n;
+        let tag = if self.random.percent(80) { BEST_EFFORT } else { MUST };
+        let settings = [self.setting(), self.setting(), self.setting()];
+        self.say(format!("S {device} 0 {} {other} 1 {}", settings[0], settings[1]));
+        self.say_of_newest("ND");
+        self.say(format!("S {device} {tag} {}", settings[2]));
+        self.say_of_newest("N");
+        if self.random.percent(70) {
+            self.cancel_below_flight();
+        }
+    }
+
+    fn cancel_below_flight(&mut self) -> bool {
+        let running = self.running();
+        for (at, later) in running.iter().enumerate().filter(|(_, r)| r.in_flight) {
+            let device = later.next.map_or(0, |c| c.device);
+            if let Some(earlier) = running[..at].iter().rev().find(|r| r.done_devices >> device & 1 == 1) {
+                self.say(format!("C {}", earlier.id));
+                return true;
+            }
+        }
+        false
+    }
+
+    /// A routine that did one device and is amid another, which then goes down or comes back.
+    fn event_amid(&mut self) {
+        let (up, down) = (self.devices(true), self.devices(false));
+        let lame = !down.is_empty() && self.random.percent(65);
+        let device = *self.random.pick(if lame || up.is_empty() { &down } else { &up });
+        let others: Vec<u8> = up.into_iter().filter(|&d| d != device).collect();
+        if others.is_empty() {
+            return self.restart();
+        }
+        let other = *self.random.pick(&others);
+        let settings = [self.setting(), self.setting(), self.setting()];
+        let tag = self.random.below(2);
+        self.say(format!("S {other} 0 {} {device} 1 {} {device} {tag} {}", settings[0], settings[1], settings[2]));
+        self.say_of_newest("NDN");
+        if self.random.percent(80) {
+            let setting = self.setting();
+            let line = if lame { format!("R {device} {setting}") } else { format!("F {device}") };
+            self.say(line);
+        }
+    }
+
+    fn say_of_newest(&mut self, letters: &str) {
+        for letter in letters.chars() {
+            if let Some(id) = self.running().iter().map(|r| r.id).max() {
+                self.say(format!("{letter} {id}"));
+            }
+        }
     }
 
     fn failure(&mut self) {

@@ -196,6 +196,8 @@ pub struct Glance {
     /// The due setting of its device when the command in flight was sent.
     pub due_at_send: i16,
     pub answered: usize,
+    /// A bit for each device on which a command was done.
+    pub done_devices: u32,
 }
 
 #[derive(Clone, Debug)]
@@ -410,11 +412,16 @@ impl Hub {
             next: r.next(),
             due_at_send: r.due_at_send,
             answered: r.answered as usize,
+            done_devices: (0..r.answered).filter(|&i| r.is_done(i.into())).fold(0, |set, i| set | 1 << r.commands[i as usize].device),
         })
     }
 
     pub fn routine_count(&self) -> usize {
         self.sequence.len()
+    }
+
+    pub fn has_ids_left(&self) -> bool {
+        self.next_id.is_some()
     }
 
     // ---- parts of the calls
