@@ -18,12 +18,12 @@ impl Random {
     pub fn new(seed: u64, index: u64) -> Random {
         // Mixed twice, so that neighbouring seeds and indexes have nothing in common.
         let mut first = Random { state: seed };
-        let mixed = first.next();
+        let mixed = first.draw();
         let mut second = Random { state: mixed ^ index.wrapping_mul(0xD1B5_4A32_D192_ED03) };
-        Random { state: second.next() }
+        Random { state: second.draw() }
     }
 
-    pub fn next(&mut self) -> u64 {
+    pub fn draw(&mut self) -> u64 {
         self.state = self.state.wrapping_add(0x9E37_79B9_7F4A_7C15);
         let mut mixed = self.state;
         mixed = (mixed ^ (mixed >> 30)).wrapping_mul(0xBF58_476D_1CE4_E5B9);
@@ -33,12 +33,12 @@ impl Random {
 
     /// From 0 up to, not including, a number.
     pub fn below(&mut self, end: usize) -> usize {
-        (self.next() % end as u64) as usize
+        (self.draw() % end as u64) as usize
     }
 
     /// From one number to another, both included.
     pub fn between(&mut self, from: i64, to: i64) -> i64 {
-        from + (self.next() % (to - from + 1) as u64) as i64
+        from + (self.draw() % (to - from + 1) as u64) as i64
     }
 
     /// True so many times in a hundred.
@@ -809,7 +809,7 @@ fn byte_soup(random: &mut Random) -> Vec<u8> {
     let length = random.below(1500);
     let likely = b"ONSDBCFR  0123456789-\n\n";
     let every = random.percent(40);
-    (0..length).map(|_| if every { random.next() as u8 } else { *random.pick(likely) }).collect()
+    (0..length).map(|_| if every { random.draw() as u8 } else { *random.pick(likely) }).collect()
 }
 
 // ---- the two kinds
@@ -829,7 +829,7 @@ pub fn damaged(seed: u64, index: u64) -> Vec<u8> {
         10..=69 => {
             // Damaged line by line, the hub following what is left of each.
             let damage = *random.pick(&[5, 15, 30, 60]);
-            let again = Random { state: random.next() };
+            let again = Random { state: random.draw() };
             let mut text = Sitting::new(again, damage).whole();
             if random.percent(20) {
                 damage_text(&mut random, &mut text);
@@ -838,7 +838,7 @@ pub fn damaged(seed: u64, index: u64) -> Vec<u8> {
         }
         _ => {
             // Damaged when it was finished: the lines behind may have lost their sense.
-            let again = Random { state: random.next() };
+            let again = Random { state: random.draw() };
             let mut text = Sitting::new(again, 0).whole();
             for _ in 0..random.between(1, 8) {
                 damage_text(&mut random, &mut text);
