@@ -103,12 +103,12 @@ static const char key_page_sitting[] =
     PAGE_STYLE
     "<h1>Answer key</h1>\n"
     "<h2 id=\"sitting-title\">Sitting</h2>\n"
-    "<pre id=\"sitting\" tabindex=\"0\" aria-labelledby=\"sitting-title\">\n";
+    "<pre id=\"sitting\" role=\"region\" tabindex=\"0\" aria-labelledby=\"sitting-title\">\n";
 
 static const char key_page_key[] =
     "</pre>\n"
     "<h2 id=\"key-title\">Key</h2>\n"
-    "<pre id=\"key\" tabindex=\"0\" aria-labelledby=\"key-title\">\n";
+    "<pre id=\"key\" role=\"region\" tabindex=\"0\" aria-labelledby=\"key-title\">\n";
 
 static const char key_page_end[] =
     "</pre>\n"
