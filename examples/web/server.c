@@ -316,7 +316,7 @@ static enum MHD_Result take_piece(void *closure, enum MHD_ValueKind kind, const 
 static bool read_multipart(struct MHD_Connection *connection, struct request *request)
 {
     struct MHD_PostProcessor *processor = MHD_create_post_processor(connection, 4096, take_piece, request);
-    if (processor == NULL)
+    if (processor == NULL) /* the header names no boundary */
         return false;
     enum MHD_Result read = MHD_post_process(processor, (const char *) place(&request->body), request->body.length);
     return MHD_destroy_post_processor(processor) == MHD_YES && read == MHD_YES && request->has_field;
