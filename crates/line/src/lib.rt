@@ -35,7 +35,10 @@ pub fn step(hub: Hub, line: &[u8], out: &mut [u8]) -> Written
     ensures { λ r. ⌜ Steps hub (now (line .entry)) (now (out .entry)) (now (out .exit)) r ⌝ }
 {
     if out.len() < MAX_TEXT {
-        return Written { hub, result: TOO_SHORT };
+        return Written {
+            hub,
+            result: TOO_SHORT,
+        };
     }
     let stepped = lines::step_at(hub, line, out, 0);
     Written {

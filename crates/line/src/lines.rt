@@ -8,7 +8,9 @@ use routine::Verdict;
 use state::Answer;
 ghost use Prim.Native.Nat.{_+_, _<_, _^_};
 ghost use Rattle.rules.specs.Calls.{resultOf};
-ghost use Rattle.line_rules.specs.Reading.{Line as Said, readLine};
+ghost use Rattle.rules.specs.Open.{openOf};
+ghost use Rattle.line_rules.specs.Reading.{readLine};
+ghost use Rattle.line_rules.specs.Printing.{asLine, deviceText};
 ghost use Rattle.line_rules.specs.Program.{step, printsUnread, printsOpening, printsCall, endText};
 ghost use Rattle.line_printer.specs.Put.{maxText, PutShort};
 ghost use Rattle.hub.specs.View.{view};
@@ -47,7 +49,14 @@ fn put_unread(hub: Hub, out: &mut [u8], at: usize) -> Stepped
 }
 
 // "A later accepted `O` starts a new hub", a refused one leaves the old.
-fn put_opening(hub: Hub, devices: u8, pass_limit: u8, first_id: u32, out: &mut [u8], at: usize) -> Stepped
+fn put_opening(
+    hub: Hub,
+    devices: u8,
+    pass_limit: u8,
+    first_id: u32,
+    out: &mut [u8],
+    at: usize,
+) -> Stepped
     requires { ⌜ (Valid hub) × (at + maxText < 2 ^ 64) ⌝ }
     ensures { λ r. ⌜ StepsAt (now (out .entry)) (now (out .exit)) at r (printsOpening (hubIn hub) (openOf devices «pass_limit» «first_id»)) ⌝ }
 {
@@ -96,7 +105,14 @@ pub fn step_at(hub: Hub, line: &[u8], out: &mut [u8], at: usize) -> Stepped
     let said = read.line;
     let routine = read.routine;
     match said {
-        Line::Open(devices, pass_limit, first_id) => put_opening(hub, devices, pass_limit, first_id, out, at),
+        Line::Open(devices, pass_limit, first_id) => put_opening(
+            hub,
+            devices,
+            pass_limit,
+            first_id,
+            out,
+            at,
+        ),
         Line::Calling(call) => put_call(hub, call, routine, out, at),
         Line::Unread => put_unread(hub, out, at),
     }

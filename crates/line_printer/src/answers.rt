@@ -24,7 +24,14 @@ pub fn put_refused(out: &mut [u8], at: usize, refusal: Refusal) -> usize
 {
     match refusal {
         Refusal::Number(number) => put_one(out, at, b"refused ", number as u64),
-        Refusal::Indexed(number, index) => put_two(out, at, b"refused ", number as u64, b" ", index as u64),
+        Refusal::Indexed(number, index) => put_two(
+            out,
+            at,
+            b"refused ",
+            number as u64,
+            b" ",
+            index as u64,
+        ),
     }
 }
 
@@ -76,7 +83,14 @@ fn put_sent(out: &mut [u8], at: usize, sent: Sent) -> usize
     ensures { λ r. ⌜ PutShort halfText (now (out .entry)) (now (out .exit)) at r (answerText (send (sent .id) (sent .command))) ⌝ }
 {
     let command = sent.command;
-    let named = put_two(out, at, b"send ", sent.id as u64, b" ", command.device as u64);
+    let named = put_two(
+        out,
+        at,
+        b"send ",
+        sent.id as u64,
+        b" ",
+        command.device as u64,
+    );
     let from = put_word(out, named, b" ");
     let setting = command.setting;
     put_setting(out, from, setting)
@@ -101,14 +115,28 @@ fn put_words(out: &mut [u8], at: usize, answer: Answer, backs: PutBacks) -> usiz
 {
     match answer {
         Answer::Refused(refusal) => put_refused(out, at, refusal),
-        Answer::Placed(placed) => put_two(out, at, b"placed ", placed.id as u64, b" after ", placed.after as u64),
+        Answer::Placed(placed) => put_two(
+            out,
+            at,
+            b"placed ",
+            placed.id as u64,
+            b" after ",
+            placed.after as u64,
+        ),
         Answer::Wait(id, other) => put_two(out, at, b"wait ", id as u64, b" on ", other as u64),
         Answer::Sent(sent) => put_sent(out, at, sent),
         Answer::Done(id) => put_one(out, at, b"done ", id as u64),
         Answer::Skipped(id) => put_skipped(out, at, id, backs),
         Answer::Committed(id) => put_one(out, at, b"committed ", id as u64),
         Answer::Aborted(id) => put_aborted(out, at, id, backs),
-        Answer::Down(device, id) => put_two(out, at, b"down ", device as u64, b" after ", id as u64),
+        Answer::Down(device, id) => put_two(
+            out,
+            at,
+            b"down ",
+            device as u64,
+            b" after ",
+            id as u64,
+        ),
         Answer::Up(device, id) => put_two(out, at, b"up ", device as u64, b" after ", id as u64),
     }
 }

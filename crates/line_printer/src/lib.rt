@@ -1,7 +1,7 @@
 // The lines that the line program prints, put into a lent buffer from a place on: document 01, "The line program". What lies past the buffer's end is
 // counted and not put, so that a line can be measured on a buffer of no bytes.
-mod text;
 mod answers;
+mod text;
 
 use routine::Refusal;
 use state::Answer;
@@ -42,7 +42,13 @@ pub fn put_refusal(out: &mut [u8], at: usize, refusal: Refusal) -> usize
 }
 
 // The answers of a call that is not turned down, each on a line of its own; what is put back belongs to the one that has it.
-pub fn put_answers(out: &mut [u8], at: usize, first: First, answer: Answer, backs: PutBacks) -> usize
+pub fn put_answers(
+    out: &mut [u8],
+    at: usize,
+    first: First,
+    answer: Answer,
+    backs: PutBacks,
+) -> usize
     requires { ⌜ (at + maxText < 2 ^ 64) × BacksOk backs ⌝ }
     ensures { λ r. ⌜ PutShort maxText (now (out .entry)) (now (out .exit)) at r (answersText (answersOf first answer backs)) ⌝ }
 {

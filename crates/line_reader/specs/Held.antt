@@ -1,10 +1,15 @@
 -- How what a line says is held: for each case of the enums, which line of document 01 it is, and with which values. Assumes nothing.
 use mathlib.Core.List.{List, [], _∷_}
+use mathlib.Core.Option.{Option, none, some}
+use Prim.Native.Nat.{ℕ}
+use lib.Dec.{eqb}
+use Rattle.routine.specs.Choice.{if_then_else_}
 use Rattle.routine.specs.Routine.{noRoutine, withCommand}
 use Rattle.routine.specs.declared.Command.{Command}
 use Rattle.routine.specs.declared.Routine.{Routine}
 use Rattle.rules.specs.Answers.{Call as Told, submit, turn, report, failure, restart, cancel}
-use Rattle.line_rules.specs.Reading.{Line as Said, opening, calling, unread}
+use Rattle.rules.specs.Report.{codeDone, codeFailed}
+use Rattle.line_rules.specs.Reading.{Line as Said, opening, calling, unread, highest32, numberUpTo}
 use Rattle.line_reader.specs.declared.Call.{Call}
 use Rattle.line_reader.specs.declared.Call.the-variants.{Submit, Turn, Report, Cancel, Fail, Restart}
 use Rattle.line_reader.specs.declared.Line.the-variants.{Open, Calling, Unread}
@@ -35,3 +40,21 @@ abbrev pub heldLine : Said → LineRead
 heldLine (opening n k first) = record { line = Open n k first; routine = noRoutine }
 heldLine (calling c) = record { line = Calling (heldCall c); routine = heldRoutine c }
 heldLine unread = record { line = Unread; routine = noRoutine }
+
+-- A letter that an id follows: `N`, `D`, `B`, `C`. Any other is unread.
+abbrev pub idCall : ℕ → ℕ → Said
+idCall letter i =
+    if eqb letter 78 then calling (turn i)
+    else if eqb letter 68 then calling (report i codeDone)
+    else if eqb letter 66 then calling (report i codeFailed)
+    else if eqb letter 67 then calling (cancel i)
+    else unread
+
+abbrev pub idCallWith : ℕ → Option ℕ → Said
+idCallWith letter none = unread
+idCallWith letter (some i) = idCall letter i
+
+unfoldable pub idLine : ℕ → List (List ℕ) → Said
+idLine letter [] = unread
+idLine letter (w ∷ []) = idCallWith letter (numberUpTo highest32 w)
+idLine letter (w ∷ v ∷ ws) = unread

@@ -1,14 +1,18 @@
 -- Pieces by their places: how far a piece reaches, and the words of a line from a place on. Assumes nothing.
+use mathlib.Core.Path.{_≡_}
+use mathlib.Core.Bool.{true, false}
 use mathlib.Core.List.{List, [], _∷_}
 use mathlib.Core.Option.{Option, none, some}
-use Prim.Native.Nat.{ℕ, suc, _+_}
+use Prim.Native.Nat.{ℕ, suc, _+_, _≤_}
 use lib.Dec.{leb, eqb}
 use lib.IntN.{ℤ}
 use lib.ListN.{length, take, drop}
 use Rattle.routine.specs.Choice.{if_then_else_}
 use Rattle.line_rules.specs.Text.{space}
 use Rattle.line_rules.specs.Pieces.{pieces}
-use Rattle.line_rules.specs.Reading.{numberUpTo, setting}
+use Rattle.line_rules.specs.Reading.{numberUpTo, setting, commands}
+use Rattle.routine.specs.declared.Command.{Command}
+use Rattle.line_reader.specs.declared.calls.CommandRead.{CommandRead}
 use Rattle.line_reader.specs.declared.numbers.Number.{Number}
 use Rattle.line_reader.specs.declared.numbers.Number.the-variants.{Found, Missing}
 use Rattle.line_reader.specs.declared.numbers.Setting.{Setting}
@@ -48,3 +52,12 @@ heldSetting (some v) end = SettingFound v end
 
 unfoldable pub settingAt : List ℕ → ℕ → Setting
 settingAt line at = heldSetting (setting (wordAt line at)) (wordEnd line at)
+
+abbrev pub commandBehind : Command → Option (List Command) → Option (List Command)
+commandBehind c none = none
+commandBehind c (some cs) = some (c ∷ cs)
+
+-- A command that begins at a place within a line, and the commands behind it; if there is none, the line has another shape.
+pub record CommandAt (line : List ℕ) (from : ℕ) (r : CommandRead) : Type 0 where
+  pub found-one : r .found ≡ true → (from ≤ r .end) × (r .end ≤ length line) × (commands (wordsFrom line from) ≡ commandBehind (r .command) (commands (wordsFrom line (suc (r .end)))))
+  pub found-none : r .found ≡ false → from ≤ length line → commands (wordsFrom line from) ≡ none

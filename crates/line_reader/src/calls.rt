@@ -9,7 +9,16 @@ use crate::numbers::Setting;
 use crate::numbers::number_at;
 use crate::numbers::setting_at;
 use routine::Command;
-use routine::Routine;
+ghost use mathlib.Core.Path.{_≡_};
+ghost use mathlib.Core.Bool.{false};
+ghost use mathlib.Core.List.{[], _∷_};
+ghost use mathlib.Core.Logic.{_≢_};
+ghost use Rattle.routine.specs.Routine.{noRoutine};
+ghost use Rattle.rules.specs.Answers.{failure};
+ghost use Rattle.line_rules.specs.Pieces.{wordsOf};
+ghost use Rattle.line_rules.specs.Reading.{highest8, unread as notRead, openingLine, restartLine, submitLine, oneNumber, lineWith, lineBy};
+ghost use Rattle.line_reader.specs.Held.{idCall, idLine, heldLine};
+ghost use Rattle.line_reader.specs.Places.{wordsFrom, CommandAt};
 
 // Letters of 01's lines.
 const OPEN: u8 = 79;
@@ -40,17 +49,26 @@ const CODE_DONE: u8 = 0;
 
 const CODE_FAILED: u8 = 1;
 
-fn without_routine(line: Line) -> LineRead {
+fn without_routine(line: Line) -> LineRead
+    ensures { λ r. ⌜ (r .line ≡ line) × (r .routine ≡ noRoutine) ⌝ }
+{
     let none = routine::empty();
-    LineRead { line, routine: none }
+    LineRead {
+        line,
+        routine: none,
+    }
 }
 
-pub fn unread() -> LineRead {
+pub fn unread() -> LineRead
+    ensures { λ r. ⌜ r ≡ heldLine notRead ⌝ }
+{
     without_routine(Line::Unread)
 }
 
 // "`O` N K first"
-fn open_line(line: &[u8]) -> Line {
+fn open_line(line: &[u8]) -> Line
+    ensures { λ r. ⌜ r ≡ heldLine (openingLine (wordsFrom (now (line .entry)) 2)) .line ⌝ }
+{
     let devices = number_at(line, BEHIND_LETTER, HIGHEST_8);
     let Number::Found(n, n_end) = devices else {
         return Line::Unread;
@@ -70,7 +88,9 @@ fn open_line(line: &[u8]) -> Line {
 }
 
 // "`R` device setting"
-fn restart_line(line: &[u8]) -> Line {
+fn restart_line(line: &[u8]) -> Line
+    ensures { λ r. ⌜ r ≡ heldLine (restartLine (wordsFrom (now (line .entry)) 2)) .line ⌝ }
+{
     let device = number_at(line, BEHIND_LETTER, HIGHEST_8);
     let Number::Found(d, d_end) = device else {
         return Line::Unread;
@@ -86,7 +106,9 @@ fn restart_line(line: &[u8]) -> Line {
 }
 
 // "`F` device"
-fn fail_line(line: &[u8]) -> Line {
+fn fail_line(line: &[u8]) -> Line
+    ensures { λ r. ⌜ r ≡ heldLine (oneNumber highest8 failure (wordsFrom (now (line .entry)) 2)) .line ⌝ }
+{
     let device = number_at(line, BEHIND_LETTER, HIGHEST_8);
     let Number::Found(d, end) = device else {
         return Line::Unread;
@@ -98,7 +120,9 @@ fn fail_line(line: &[u8]) -> Line {
 }
 
 // The call of a letter that an id follows.
-fn id_call(letter: u8, id: u32) -> Line {
+fn id_call(letter: u8, id: u32) -> Line
+    ensures { λ r. ⌜ r ≡ heldLine (idCall letter id) .line ⌝ }
+{
     if letter == TURN {
         return Line::Calling(Call::Turn(id));
     }
@@ -115,7 +139,9 @@ fn id_call(letter: u8, id: u32) -> Line {
 }
 
 // "`N` id (turn), `D` id (done), `B` id (failed), `C` id (cancel)"
-fn id_line(line: &[u8], letter: u8) -> Line {
+fn id_line(line: &[u8], letter: u8) -> Line
+    ensures { λ r. ⌜ r ≡ heldLine (idLine letter (wordsFrom (now (line .entry)) 2)) .line ⌝ }
+{
     let number = number_at(line, BEHIND_LETTER, HIGHEST_32);
     let Number::Found(id, end) = number else {
         return Line::Unread;
@@ -133,7 +159,9 @@ struct CommandRead {
     end: usize,
 }
 
-fn no_command() -> CommandRead {
+fn no_command() -> CommandRead
+    ensures { λ r. ⌜ r .found ≡ false ⌝ }
+{
     let command = Command {
         device: 0,
         tag: 0,
@@ -147,7 +175,9 @@ fn no_command() -> CommandRead {
 }
 
 // "device tag setting"
-fn command_at(line: &[u8], from: usize) -> CommandRead {
+fn command_at(line: &[u8], from: usize) -> CommandRead
+    ensures { λ r. ⌜ CommandAt (now (line .entry)) from r ⌝ }
+{
     let device = number_at(line, from, HIGHEST_8);
     let Number::Found(d, d_end) = device else {
         return no_command();
@@ -173,7 +203,9 @@ fn command_at(line: &[u8], from: usize) -> CommandRead {
 }
 
 // "`S` device tag setting repeated"; "`S` alone is a routine of 0 commands".
-fn submit_line(line: &[u8]) -> LineRead {
+fn submit_line(line: &[u8]) -> LineRead
+    ensures { λ r. ⌜ r ≡ heldLine (submitLine (wordsFrom (now (line .entry)) 2)) ⌝ }
+{
     let mut routine = routine::empty();
     let mut at = BEHIND_LETTER;
     while at <= line.len() {
@@ -192,7 +224,10 @@ fn submit_line(line: &[u8]) -> LineRead {
 }
 
 // The lines that hold no routine.
-fn plain_line(line: &[u8], letter: u8) -> Line {
+fn plain_line(line: &[u8], letter: u8) -> Line
+    requires { ⌜ letter ≢ 83 ⌝ }
+    ensures { λ r. ⌜ r ≡ heldLine (lineWith (letter ∷ []) (wordsFrom (now (line .entry)) 2)) .line ⌝ }
+{
     if letter == OPEN {
         return open_line(line);
     }
@@ -206,7 +241,9 @@ fn plain_line(line: &[u8], letter: u8) -> Line {
 }
 
 // A letter alone is the first word, or there is another shape.
-pub fn by_letter(line: &[u8]) -> LineRead {
+pub fn by_letter(line: &[u8]) -> LineRead
+    ensures { λ r. ⌜ r ≡ heldLine (lineBy (wordsOf (now (line .entry)))) ⌝ }
+{
     if line.len() == 0 {
         return unread();
     }

@@ -1,0 +1,316 @@
+use borrow.Author.Needs.{needs}
+use Rattle.line_printer.proofs.answers.put_words.Statement.{statement}
+use Rattle.line_printer.proofs.answers.put_words.Tie as tie
+use Rattle.line_printer.proofs.answers.put_words.Reads as reads
+use Rattle.line_printer.proofs.answers.put_words.Lts as lts
+use Rattle.line_printer.proofs.answers.put_aborted.Reads as put-aborted-reads
+use Rattle.line_printer.proofs.answers.put_refused.Reads as put-refused-reads
+use Rattle.line_printer.proofs.answers.put_sent.Reads as put-sent-reads
+use Rattle.line_printer.proofs.answers.put_skipped.Reads as put-skipped-reads
+use Rattle.line_printer.proofs.text.put_one.Reads as put-one-reads
+use Rattle.line_printer.proofs.text.put_two.Reads as put-two-reads
+
+-- src/answers.rt:103:25
+enum-known-answer : tie.Need-enum-known-answer
+enum-known-answer c = search needs
+
+-- src/answers.rt:103:37
+put-refused-requires : tie.Need-put-refused-requires
+put-refused-requires c κs = search needs
+
+-- src/answers.rt:104:24
+enum-known-answer-2 : tie.Need-enum-known-answer-2
+enum-known-answer-2 c = search needs
+
+-- src/answers.rt:104:52
+slice-aggregate-put-two : tie.Need-slice-aggregate-put-two
+slice-aggregate-put-two c = search needs
+
+-- src/answers.rt:104:64
+cast-put-two : tie.Need-cast-put-two
+cast-put-two c = search needs
+
+-- src/answers.rt:104:82
+slice-aggregate-put-two-2 : tie.Need-slice-aggregate-put-two-2
+slice-aggregate-put-two-2 c = search needs
+
+-- src/answers.rt:104:94
+cast-put-two-2 : tie.Need-cast-put-two-2
+cast-put-two-2 c = search needs
+
+-- src/answers.rt:104:35
+put-two-requires : tie.Need-put-two-requires
+put-two-requires c κs = ?
+
+-- src/answers.rt:105:22
+enum-known-answer-3 : tie.Need-enum-known-answer-3
+enum-known-answer-3 c = search needs
+
+-- src/answers.rt:105:53
+slice-aggregate-put-two-3 : tie.Need-slice-aggregate-put-two-3
+slice-aggregate-put-two-3 c = search needs
+
+-- src/answers.rt:105:63
+cast-put-two-3 : tie.Need-cast-put-two-3
+cast-put-two-3 c = search needs
+
+-- src/answers.rt:105:74
+slice-aggregate-put-two-4 : tie.Need-slice-aggregate-put-two-4
+slice-aggregate-put-two-4 c = search needs
+
+-- src/answers.rt:105:83
+cast-put-two-4 : tie.Need-cast-put-two-4
+cast-put-two-4 c = search needs
+
+-- src/answers.rt:105:36
+put-two-requires-2 : tie.Need-put-two-requires-2
+put-two-requires-2 c κs = ?
+
+-- src/answers.rt:106:22
+enum-known-answer-4 : tie.Need-enum-known-answer-4
+enum-known-answer-4 c = search needs
+
+-- src/answers.rt:106:31
+put-sent-requires : tie.Need-put-sent-requires
+put-sent-requires c κs = search needs
+
+-- src/answers.rt:107:22
+enum-known-answer-5 : tie.Need-enum-known-answer-5
+enum-known-answer-5 c = search needs
+
+-- src/answers.rt:107:46
+slice-aggregate-put-one : tie.Need-slice-aggregate-put-one
+slice-aggregate-put-one c = search needs
+
+-- src/answers.rt:107:56
+cast-put-one : tie.Need-cast-put-one
+cast-put-one c = search needs
+
+-- src/answers.rt:107:29
+put-one-requires : tie.Need-put-one-requires
+put-one-requires c κs = ?
+
+-- src/answers.rt:108:25
+enum-known-answer-6 : tie.Need-enum-known-answer-6
+enum-known-answer-6 c = search needs
+
+-- src/answers.rt:108:32
+put-skipped-requires : tie.Need-put-skipped-requires
+put-skipped-requires c κs = search needs
+
+-- src/answers.rt:109:27
+enum-known-answer-7 : tie.Need-enum-known-answer-7
+enum-known-answer-7 c = search needs
+
+-- src/answers.rt:109:51
+slice-aggregate-put-one-2 : tie.Need-slice-aggregate-put-one-2
+slice-aggregate-put-one-2 c = search needs
+
+-- src/answers.rt:109:66
+cast-put-one-2 : tie.Need-cast-put-one-2
+cast-put-one-2 c = search needs
+
+-- src/answers.rt:109:34
+put-one-requires-2 : tie.Need-put-one-requires-2
+put-one-requires-2 c κs = ?
+
+-- src/answers.rt:110:25
+enum-known-answer-8 : tie.Need-enum-known-answer-8
+enum-known-answer-8 c = search needs
+
+-- src/answers.rt:110:32
+put-aborted-requires : tie.Need-put-aborted-requires
+put-aborted-requires c κs = search needs
+
+-- src/answers.rt:111:22
+enum-known-answer-9 : tie.Need-enum-known-answer-9
+enum-known-answer-9 c = search needs
+
+-- src/answers.rt:111:54
+slice-aggregate-put-two-5 : tie.Need-slice-aggregate-put-two-5
+slice-aggregate-put-two-5 c = search needs
+
+-- src/answers.rt:111:64
+cast-put-two-5 : tie.Need-cast-put-two-5
+cast-put-two-5 c = search needs
+
+-- src/answers.rt:111:79
+slice-aggregate-put-two-6 : tie.Need-slice-aggregate-put-two-6
+slice-aggregate-put-two-6 c = search needs
+
+-- src/answers.rt:111:91
+cast-put-two-6 : tie.Need-cast-put-two-6
+cast-put-two-6 c = search needs
+
+-- src/answers.rt:111:37
+put-two-requires-3 : tie.Need-put-two-requires-3
+put-two-requires-3 c κs = ?
+
+-- src/answers.rt:112:20
+enum-known-answer-10 : tie.Need-enum-known-answer-10
+enum-known-answer-10 c = search needs
+
+-- src/answers.rt:112:52
+slice-aggregate-put-two-7 : tie.Need-slice-aggregate-put-two-7
+slice-aggregate-put-two-7 c = search needs
+
+-- src/answers.rt:112:60
+cast-put-two-7 : tie.Need-cast-put-two-7
+cast-put-two-7 c = search needs
+
+-- src/answers.rt:112:75
+slice-aggregate-put-two-8 : tie.Need-slice-aggregate-put-two-8
+slice-aggregate-put-two-8 c = search needs
+
+-- src/answers.rt:112:87
+cast-put-two-8 : tie.Need-cast-put-two-8
+cast-put-two-8 c = search needs
+
+-- src/answers.rt:112:35
+put-two-requires-4 : tie.Need-put-two-requires-4
+put-two-requires-4 c κs = ?
+
+-- src/answers.rt:98:1
+same-length : tie.Need-same-length
+same-length c = search needs
+
+-- src/answers.rt:98:1
+returns : tie.Need-returns
+returns c = ?
+
+-- src/answers.rt:98:1
+same-length-2 : tie.Need-same-length-2
+same-length-2 c = search needs
+
+-- src/answers.rt:98:1
+returns-2 : tie.Need-returns-2
+returns-2 c = ?
+
+-- src/answers.rt:98:1
+same-length-3 : tie.Need-same-length-3
+same-length-3 c = search needs
+
+-- src/answers.rt:98:1
+returns-3 : tie.Need-returns-3
+returns-3 c = ?
+
+-- src/answers.rt:98:1
+same-length-4 : tie.Need-same-length-4
+same-length-4 c = search needs
+
+-- src/answers.rt:98:1
+returns-4 : tie.Need-returns-4
+returns-4 c = ?
+
+-- src/answers.rt:98:1
+same-length-5 : tie.Need-same-length-5
+same-length-5 c = search needs
+
+-- src/answers.rt:98:1
+returns-5 : tie.Need-returns-5
+returns-5 c = ?
+
+-- src/answers.rt:98:1
+same-length-6 : tie.Need-same-length-6
+same-length-6 c = search needs
+
+-- src/answers.rt:98:1
+returns-6 : tie.Need-returns-6
+returns-6 c = ?
+
+-- src/answers.rt:98:1
+same-length-7 : tie.Need-same-length-7
+same-length-7 c = search needs
+
+-- src/answers.rt:98:1
+returns-7 : tie.Need-returns-7
+returns-7 c = ?
+
+-- src/answers.rt:98:1
+same-length-8 : tie.Need-same-length-8
+same-length-8 c = search needs
+
+-- src/answers.rt:98:1
+returns-8 : tie.Need-returns-8
+returns-8 c = ?
+
+-- src/answers.rt:98:1
+same-length-9 : tie.Need-same-length-9
+same-length-9 c = search needs
+
+-- src/answers.rt:98:1
+returns-9 : tie.Need-returns-9
+returns-9 c = ?
+
+-- src/answers.rt:98:1
+same-length-10 : tie.Need-same-length-10
+same-length-10 c = search needs
+
+-- src/answers.rt:98:1
+returns-10 : tie.Need-returns-10
+returns-10 c = ?
+
+pub put-words-spec : {M : Type 1} → statement M
+put-words-spec =
+    tie.close
+    (tie.spec
+    enum-known-answer
+    put-refused-requires
+    enum-known-answer-2
+    slice-aggregate-put-two
+    cast-put-two
+    slice-aggregate-put-two-2
+    cast-put-two-2
+    put-two-requires
+    enum-known-answer-3
+    slice-aggregate-put-two-3
+    cast-put-two-3
+    slice-aggregate-put-two-4
+    cast-put-two-4
+    put-two-requires-2
+    enum-known-answer-4
+    put-sent-requires
+    enum-known-answer-5
+    slice-aggregate-put-one
+    cast-put-one
+    put-one-requires
+    enum-known-answer-6
+    put-skipped-requires
+    enum-known-answer-7
+    slice-aggregate-put-one-2
+    cast-put-one-2
+    put-one-requires-2
+    enum-known-answer-8
+    put-aborted-requires
+    enum-known-answer-9
+    slice-aggregate-put-two-5
+    cast-put-two-5
+    slice-aggregate-put-two-6
+    cast-put-two-6
+    put-two-requires-3
+    enum-known-answer-10
+    slice-aggregate-put-two-7
+    cast-put-two-7
+    slice-aggregate-put-two-8
+    cast-put-two-8
+    put-two-requires-4
+    same-length
+    returns
+    same-length-2
+    returns-2
+    same-length-3
+    returns-3
+    same-length-4
+    returns-4
+    same-length-5
+    returns-5
+    same-length-6
+    returns-6
+    same-length-7
+    returns-7
+    same-length-8
+    returns-8
+    same-length-9
+    returns-9
+    same-length-10
+    returns-10)

@@ -1,0 +1,26 @@
+use borrow.Author.Needs.{needs}
+use Rattle.line_printer.proofs.text.put_one.Statement.{statement}
+use Rattle.line_printer.proofs.text.put_one.Tie as tie
+use Rattle.line_printer.proofs.text.put_one.Reads as reads
+use Rattle.line_printer.proofs.text.put_one.Lts as lts
+use Rattle.line_printer.proofs.text.put_number.Reads as put-number-reads
+use Rattle.line_printer.proofs.text.put_word.Reads as put-word-reads
+
+-- src/text.rt:74:9
+put-word-requires : tie.Need-put-word-requires
+put-word-requires c κs = ?
+
+-- src/text.rt:75:5
+put-number-requires : tie.Need-put-number-requires
+put-number-requires c κs = ?
+
+-- src/text.rt:70:1
+same-length : tie.Need-same-length
+same-length c = search needs
+
+-- src/text.rt:70:1
+returns : tie.Need-returns
+returns c = ?
+
+pub put-one-spec : {M : Type 1} → statement M
+put-one-spec = tie.close (tie.spec put-word-requires put-number-requires same-length returns)
