@@ -41,8 +41,9 @@ pub fn step(hub: Hub, line: &[u8], out: &mut [u8]) -> Written
         };
     }
     let stepped = lines::step_at(hub, line, out, 0);
+    let next = stepped.hub;
     Written {
-        hub: stepped.hub,
+        hub: next,
         result: stepped.at as i64,
     }
 }

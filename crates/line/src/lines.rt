@@ -64,10 +64,8 @@ fn put_opening(
     let verdict = opened.verdict;
     let Verdict::Refused(refusal) = verdict else {
         let end = line_printer::put_opened(out, at);
-        return Stepped {
-            hub: opened.hub,
-            at: end,
-        };
+        let new = opened.hub;
+        return Stepped { hub: new, at: end };
     };
     let end = line_printer::put_refusal(out, at, refusal);
     Stepped { hub, at: end }
@@ -87,10 +85,8 @@ fn put_call(hub: Hub, call: Call, routine: Routine, out: &mut [u8], at: usize) -
         let first = outcome.first;
         let backs = outcome.backs;
         let end = line_printer::put_answers(out, at, first, answer, backs);
-        return Stepped {
-            hub: outcome.hub,
-            at: end,
-        };
+        let next = outcome.hub;
+        return Stepped { hub: next, at: end };
     };
     let end = line_printer::put_refusal(out, at, refusal);
     Stepped { hub, at: end }

@@ -52,7 +52,8 @@ fn text_length(hub: Hub, input: &[u8], room: usize) -> usize
     if room < ran.at {
         return ran.at;
     }
-    lines::put_devices(ran.hub, &mut nowhere, ran.at)
+    let next = ran.hub;
+    lines::put_devices(next, &mut nowhere, ran.at)
 }
 
 // The whole program.
@@ -69,9 +70,10 @@ pub fn run_by_value(hub: Hub, input: &[u8], out: &mut [u8]) -> Written
         };
     }
     let ran = run_lines(hub, input, out, room);
-    let end = lines::put_devices(ran.hub, out, ran.at);
+    let next = ran.hub;
+    let end = lines::put_devices(next, out, ran.at);
     Written {
-        hub: ran.hub,
+        hub: next,
         result: end as i64,
     }
 }

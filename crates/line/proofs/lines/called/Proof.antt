@@ -1,0 +1,106 @@
+use borrow.Author.Needs.{needs}
+use Rattle.line.proofs.lines.called.Statement.{statement}
+use Rattle.line.proofs.lines.called.Tie as tie
+use Rattle.line.proofs.lines.called.Reads as reads
+use Rattle.line.proofs.lines.called.Lts as lts
+use Rattle.hub.proofs.cancel.Reads as cancel-reads
+use Rattle.hub.proofs.fail.Reads as fail-reads
+use Rattle.hub.proofs.report.Reads as report-reads
+use Rattle.hub.proofs.restart.Reads as restart-reads
+use Rattle.hub.proofs.submit.Reads as submit-reads
+use Rattle.hub.proofs.turn.Reads as turn-reads
+
+-- src/lines.rt:34:25
+enum-told : tie.Need-enum-told
+enum-told c = search needs
+
+-- src/lines.rt:34:25
+submit-requires : tie.Need-submit-requires
+submit-requires c κs = search needs
+
+-- src/lines.rt:35:20
+enum-known-call : tie.Need-enum-known-call
+enum-known-call c = search needs
+
+-- src/lines.rt:35:27
+turn-requires : tie.Need-turn-requires
+turn-requires c κs = search needs
+
+-- src/lines.rt:36:22
+enum-known-call-2 : tie.Need-enum-known-call-2
+enum-known-call-2 c = search needs
+
+-- src/lines.rt:36:35
+report-requires : tie.Need-report-requires
+report-requires c κs = search needs
+
+-- src/lines.rt:37:22
+enum-known-call-3 : tie.Need-enum-known-call-3
+enum-known-call-3 c = search needs
+
+-- src/lines.rt:37:29
+cancel-requires : tie.Need-cancel-requires
+cancel-requires c κs = search needs
+
+-- src/lines.rt:38:20
+enum-known-call-4 : tie.Need-enum-known-call-4
+enum-known-call-4 c = search needs
+
+-- src/lines.rt:38:31
+fail-requires : tie.Need-fail-requires
+fail-requires c κs = search needs
+
+-- src/lines.rt:39:23
+enum-known-call-5 : tie.Need-enum-known-call-5
+enum-known-call-5 c = search needs
+
+-- src/lines.rt:39:43
+restart-requires : tie.Need-restart-requires
+restart-requires c κs = search needs
+
+-- src/lines.rt:29:1
+returns : tie.Need-returns
+returns c = ?
+
+-- src/lines.rt:29:1
+returns-2 : tie.Need-returns-2
+returns-2 c = ?
+
+-- src/lines.rt:29:1
+returns-3 : tie.Need-returns-3
+returns-3 c = ?
+
+-- src/lines.rt:29:1
+returns-4 : tie.Need-returns-4
+returns-4 c = ?
+
+-- src/lines.rt:29:1
+returns-5 : tie.Need-returns-5
+returns-5 c = ?
+
+-- src/lines.rt:29:1
+returns-6 : tie.Need-returns-6
+returns-6 c = ?
+
+pub called-spec : {M : Type 1} → statement M
+called-spec =
+    tie.close
+    (tie.spec
+    enum-told
+    submit-requires
+    enum-known-call
+    turn-requires
+    enum-known-call-2
+    report-requires
+    enum-known-call-3
+    cancel-requires
+    enum-known-call-4
+    fail-requires
+    enum-known-call-5
+    restart-requires
+    returns
+    returns-2
+    returns-3
+    returns-4
+    returns-5
+    returns-6)

@@ -1,0 +1,94 @@
+// The line program from standard input to standard output: document 01, "The line program". It reads in pieces, so that an input may have any length; each line
+// goes through `line::step`.
+mod pieces;
+
+use hub::Hub;
+use libc::STDERR_FILENO;
+use libc::STDIN_FILENO;
+use libc::STDOUT_FILENO;
+ghost use Prim.Native.Nat.{_≤_};
+ghost use lib.ListN.{length};
+ghost use Rattle.hub.specs.Valid.{Valid};
+
+extern "C" {
+    fn signal(number: i32, handler: usize) -> usize;
+}
+
+const SIGPIPE: i32 = 13;
+
+// C's SIG_IGN.
+const IGNORED: usize = 1;
+
+// How the reading ended: the hub, how much of a last line without its end is held, and whether all went well.
+struct Read {
+    hub: Hub,
+    held: usize,
+    good: bool,
+}
+
+// One piece behind the held bytes of a line: its lines go out, and the rest is held.
+fn piece_in(hub: Hub, held: usize, got: usize, input: &mut [u8], out: &mut [u8]) -> Read
+    requires { ⌜ (Valid hub) × (held + got ≤ length (now input)) ⌝ }
+    ensures { λ r. ⌜ (Valid (r .hub)) × (r .held ≤ 129) ⌝ }
+{
+    let filled = held + got;
+    let fed = pieces::lines_in(hub, &input[..filled], out);
+    let next = fed.hub;
+    let good = fed.good;
+    let kept = pieces::keep(input, fed.from, filled);
+    Read {
+        hub: next,
+        held: kept,
+        good,
+    }
+}
+
+fn say(message: &[u8]) {
+    io::write_all(STDERR_FILENO, b"plot_hub: ");
+    io::write_all(STDERR_FILENO, message);
+    io::write_all(STDERR_FILENO, b"\n");
+}
+
+// Piece by piece to the end of the input. Nothing says that an input ends, so the loop counts its turns down.
+fn read_all(input: &mut [u8], out: &mut [u8]) -> Read
+    requires { ⌜ 65536 ≤ length (now input) ⌝ }
+    ensures { λ r. ⌜ (Valid (r .hub)) × (r .held ≤ 129) ⌝ }
+{
+    let mut hub = line::no_hub();
+    let mut held = 0usize;
+    let mut turns = u64::MAX;
+    while turns > 0 {
+        let answer = libc::read(STDIN_FILENO, &mut input[held..]);
+        if answer < 0 {
+            say(b"standard input cannot be read");
+            return Read { hub, held, good: false };
+        }
+        if answer == 0 {
+            return Read { hub, held, good: true };
+        }
+        let got = pieces::least(answer as usize, input.len() - held);
+        let read = piece_in(hub, held, got, input, out);
+        if !read.good {
+            say(b"standard output cannot be written");
+            return read;
+        }
+        hub = read.hub;
+        held = read.held;
+        turns -= 1;
+    }
+    Read { hub, held, good: false }
+}
+
+fn main() {
+    signal(SIGPIPE, IGNORED);
+    let mut input = io::large_buffer();
+    let mut out = io::large_buffer();
+    let read = read_all(&mut input, &mut out);
+    if read.good {
+        let hub = read.hub;
+        let held = read.held;
+        if !pieces::finish(hub, &input[..held], &mut out) {
+            say(b"standard output cannot be written");
+        }
+    }
+}
