@@ -1,0 +1,71 @@
+//! What the two test programs share.
+
+/// Random numbers that are the same for the same seed, on every machine.
+pub struct Random(u64);
+
+impl Random {
+    /// The row of numbers that belongs to this seed and index.
+    pub fn new(seed: u64, index: u64) -> Random {
+        let mut start = Random(seed ^ 0x706c_6f74_2068_7562);
+        let mixed = start.next().wrapping_add(index.wrapping_mul(0x9e6c_63d0_876a_68ee));
+        Random(Random(mixed).next())
+    }
+
+    pub fn next(&mut self) -> u64 {
+        self.0 = self.0.wrapping_add(0x9e37_79b9_7f4a_7c15);
+        let mut z = self.0;
+        z = (z ^ (z >> 30)).wrapping_mul(0xbf58_476d_1ce4_e5b9);
+        z = (z ^ (z >> 27)).wrapping_mul(0x94d0_49bb_1331_11eb);
+        z ^ (z >> 31)
+    }
+
+    /// From 0 to one below the bound.
+    pub fn below(&mut self, bound: usize) -> usize {
+        (self.next() % bound as u64) as usize
+    }
+
+    pub fn between(&mut self, least: i64, most: i64) -> i64 {
+        least + (self.next() % (most - least + 1) as u64) as i64
+    }
+
+    /// True in so many of a hundred cases.
+    pub fn chance(&mut self, percent: usize) -> bool {
+        self.below(100) < percent
+    }
+
+    pub fn pick<'a, T>(&mut self, from: &'a [T]) -> &'a T {
+        &from[self.below(from.len())]
+    }
+}
+
+/// Bytes as a person can read them, line by line.
+pub fn readable(bytes: &[u8]) -> String {
+    bytes.split_inclusive(|&b| b == 10).map(|line| format!("    {}\n", line.escape_ascii())).collect()
+}
+
+/// An environment variable, or else this.
+pub fn setting(name: &str, otherwise: &str) -> String {
+    std::env::var(name).unwrap_or_else(|_| otherwise.to_string())
+}
+
+/// The command that calls this test program again, with the variables that it was called with.
+pub fn again(variables: &[&str], words: &str) -> String {
+    let mut command = String::new();
+    for name in variables {
+        if let Ok(value) = std::env::var(name) {
+            command += &format!("{name}='{value}' ");
+        }
+    }
+    command + &std::env::args().next().unwrap_or_default() + " " + words
+}
+
+/// A number given on the command line.
+pub fn number(word: Option<&String>, what: &str) -> u64 {
+    match word.map(|word| word.parse()) {
+        Some(Ok(number)) => number,
+        _ => {
+            eprintln!("{what} must be a number");
+            std::process::exit(2)
+        }
+    }
+}
