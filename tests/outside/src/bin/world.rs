@@ -1,1 +1,927 @@
-fn main(){}
+//! Demand 3 tried on the line program of the archive: simulated devices, and the hub's order built from text alone.
+//!
+//!     world COUNT SEED        so many random histories
+//!     world one SEED INDEX    one of them, with every line, answer and move of a device
+//!
+//! A history is made while it runs: what is called next depends on the answers. From calls and answers, and nothing else,
+//! this program keeps the order, as document 01's paragraph "The hub's order" says, and the devices, as "The devices"
+//! says. After every call it checks that
+//!   - the settled part of before stands unchanged at the beginning of the order;
+//!   - in the order's serial run every done command finds its device up, and every skipped one was reported failed or
+//!     finds it down;
+//!   - the device lines printed at the end of the input so far are those of the serial run;
+//!   - if no routine runs: whatever the working devices still take of what was sent to them, once every setting put back
+//!     is carried out they have the settings of the serial run.
+
+use outside::{again, number, Random};
+use std::collections::{BTreeMap, HashSet};
+use std::process::ExitCode;
+use std::sync::atomic::{AtomicU64, Ordering};
+use std::sync::Mutex;
+use std::thread;
+
+// ---- the archive
+
+mod archive {
+    extern "C" {
+        fn plot_hub_run(input: *const u8, input_length: usize, output: *mut u8, output_length: usize) -> i64;
+    }
+
+    /// What the line program prints for this input.
+    pub fn run(input: &[u8]) -> Result<Vec<u8>, String> {
+        let mut output = vec![0; 4096];
+        loop {
+            // SAFETY: both pointers are of ranges as long as said; the ranges are apart, since one of them is lent mutably.
+            let result = unsafe { plot_hub_run(input.as_ptr(), input.len(), output.as_mut_ptr(), output.len()) };
+            match usize::try_from(result) {
+                Ok(length) if length <= output.len() => {
+                    output.truncate(length);
+                    return Ok(output);
+                }
+                Err(_) if result == -21 && output.len() < 1 << 24 => output = vec![0; output.len() * 4],
+                _ => return Err(format!("the call with a buffer of {} has the result {result}", output.len())),
+            }
+        }
+    }
+}
+
+// ---- calls and answers as text
+
+#[derive(Clone, Copy, PartialEq, Debug)]
+struct Command {
+    device: usize,
+    tag: u8,
+    setting: i64,
+}
+
+/// A setting sent back to a device.
+type Back = (usize, i64);
+
+#[derive(Clone, Debug)]
+enum Call {
+    Submit(Vec<Command>),
+    Turn(u64),
+    Done(u64),
+    Failed(u64),
+    Cancel(u64),
+    Failure(usize),
+    Restart(usize, i64),
+    /// A line that tells nothing, whatever it is; its answer must be a refusal or `unread`.
+    Idle(String),
+}
+
+impl Call {
+    fn line(&self) -> String {
+        match self {
+            Call::Submit(commands) => {
+                commands.iter().fold("S".to_string(), |line, c| line + &format!(" {} {} {}", c.device, c.tag, c.setting))
+            }
+            Call::Turn(id) => format!("N {id}"),
+            Call::Done(id) => format!("D {id}"),
+            Call::Failed(id) => format!("B {id}"),
+            Call::Cancel(id) => format!("C {id}"),
+            Call::Failure(device) => format!("F {device}"),
+            Call::Restart(device, setting) => format!("R {device} {setting}"),
+            Call::Idle(line) => line.clone(),
+        }
+    }
+}
+
+#[derive(Clone, Debug)]
+enum Answer {
+    Placed { id: u64, after: u64 },
+    Send { id: u64, device: usize, setting: i64 },
+    Wait { id: u64 },
+    Skipped { id: u64, back: Vec<Back> },
+    Committed { id: u64 },
+    Aborted { id: u64, back: Vec<Back> },
+    Done { id: u64 },
+    Down { device: usize, after: u64 },
+    Up { device: usize, after: u64 },
+    Refused,
+    Unread,
+}
+
+impl Answer {
+    fn read(line: &str) -> Option<Answer> {
+        let words: Vec<&str> = line.split(' ').collect();
+        let id = |at: usize| words.get(at)?.parse::<u64>().ok();
+        let device = |at: usize| words.get(at)?.parse::<usize>().ok();
+        let setting = |at: usize| words.get(at)?.parse::<i64>().ok();
+        let long = |count: usize| (words.len() == count).then_some(());
+        // `back`, a count, then device and setting for each, up to the line's end.
+        let back = |at: usize| {
+            let count = device(at + 1)?;
+            (words.len() == at + 2 + 2 * count && words[at] == "back").then_some(())?;
+            (0..count).map(|i| Some((device(at + 2 + 2 * i)?, setting(at + 3 + 2 * i)?))).collect::<Option<Vec<Back>>>()
+        };
+        Some(match words[0] {
+            "placed" if words.get(2) == Some(&"after") => long(4).and(Some(Answer::Placed { id: id(1)?, after: id(3)? }))?,
+            "send" => long(4).and(Some(Answer::Send { id: id(1)?, device: device(2)?, setting: setting(3)? }))?,
+            "wait" if words.get(2) == Some(&"on") => long(4).and(id(3)).and(Some(Answer::Wait { id: id(1)? }))?,
+            "skipped" if words.len() == 2 => Answer::Skipped { id: id(1)?, back: Vec::new() },
+            "skipped" => Answer::Skipped { id: id(1)?, back: back(2)? },
+            "committed" => long(2).and(Some(Answer::Committed { id: id(1)? }))?,
+            "aborted" => Answer::Aborted { id: id(1)?, back: back(2)? },
+            "done" => long(2).and(Some(Answer::Done { id: id(1)? }))?,
+            "down" if words.get(2) == Some(&"after") => long(4).and(Some(Answer::Down { device: device(1)?, after: id(3)? }))?,
+            "up" if words.get(2) == Some(&"after") => long(4).and(Some(Answer::Up { device: device(1)?, after: id(3)? }))?,
+            "refused" => {
+                id(1)?;
+                (words.len() == 2 || (words.len() == 3 && id(2).is_some())).then_some(Answer::Refused)?
+            }
+            "unread" => long(1).and(Some(Answer::Unread))?,
+            _ => return None,
+        })
+    }
+}
+
+/// What a device line says: the setting if the device is up.
+type Line = Option<i64>;
+
+fn device_line(line: &str, device: usize) -> Option<Line> {
+    let words: Vec<&str> = line.split(' ').collect();
+    match words[..] {
+        ["device", d, "up", setting] if d == device.to_string() => setting.parse().ok().map(Some),
+        ["device", d, "down"] if d == device.to_string() => Some(None),
+        _ => None,
+    }
+}
+
+// ---- the hub's order
+
+#[derive(Clone, Copy, PartialEq, Debug)]
+enum Answered {
+    Done { device: usize, setting: i64 },
+    ReportedFailed,
+    SkippedAsDown { device: usize },
+}
+
+#[derive(Clone, PartialEq, Debug)]
+enum Entry {
+    /// Its answered commands in turn.
+    Routine { id: u64, commands: Vec<Answered>, committed: bool },
+    Failure(usize),
+    Restart(usize, i64),
+}
+
+impl Entry {
+    fn is_routine(&self) -> bool {
+        matches!(self, Entry::Routine { .. })
+    }
+}
+
+/// A list with a bar that ends the settled part.
+#[derive(Default)]
+struct Order {
+    entries: Vec<Entry>,
+    bar: usize,
+}
+
+impl Order {
+    fn place_of(&self, wanted: u64) -> Result<usize, String> {
+        let found = |entry: &Entry| matches!(entry, Entry::Routine { id, .. } if *id == wanted);
+        self.entries.iter().position(found).ok_or(format!("routine {wanted} is not in the order"))
+    }
+
+    /// Before the next routine behind the one it follows, or last; after 0, before the first routine behind the bar, or last.
+    fn insert(&mut self, entry: Entry, after: u64) -> Result<(), String> {
+        let behind = if after == 0 { self.bar } else { self.place_of(after)? + 1 };
+        let next = self.entries[behind..].iter().position(Entry::is_routine);
+        self.entries.insert(next.map_or(self.entries.len(), |i| behind + i), entry);
+        Ok(())
+    }
+
+    /// The routine goes, its events stay.
+    fn remove(&mut self, id: u64) -> Result<(), String> {
+        let at = self.place_of(id)?;
+        self.entries.remove(at);
+        Ok(())
+    }
+
+    fn answered(&mut self, wanted: u64, command: Answered) -> Result<(), String> {
+        let at = self.place_of(wanted)?;
+        if let Entry::Routine { commands, .. } = &mut self.entries[at] {
+            commands.push(command);
+        }
+        Ok(())
+    }
+
+    fn commit(&mut self, wanted: u64) -> Result<(), String> {
+        let at = self.place_of(wanted)?;
+        if let Entry::Routine { committed, .. } = &mut self.entries[at] {
+            *committed = true;
+        }
+        Ok(())
+    }
+
+    /// The bar goes before the first routine not committed, or to the end.
+    fn move_bar(&mut self) {
+        let running = |entry: &Entry| matches!(entry, Entry::Routine { committed: false, .. });
+        self.bar = self.entries.iter().position(running).unwrap_or(self.entries.len());
+    }
+
+    fn settled(&self) -> &[Entry] {
+        &self.entries[..self.bar]
+    }
+
+    /// Runs it from all devices up at 0. Err: a command stands where it must not.
+    fn serial_run(&self, device_count: usize) -> Result<Vec<(bool, i64)>, String> {
+        let mut devices = vec![(true, 0); device_count];
+        for entry in &self.entries {
+            match entry {
+                Entry::Failure(device) => devices[*device].0 = false,
+                Entry::Restart(device, setting) => devices[*device] = (true, *setting),
+                Entry::Routine { id, commands, .. } => {
+                    for command in commands {
+                        match *command {
+                            Answered::Done { device, .. } if !devices[device].0 => {
+                                return Err(format!("a done command of routine {id} finds device {device} down"));
+                            }
+                            Answered::Done { device, setting } => devices[device].1 = setting,
+                            Answered::SkippedAsDown { device } if devices[device].0 => {
+                                return Err(format!("a command that routine {id} skipped was not reported failed and finds device {device} up"));
+                            }
+                            Answered::SkippedAsDown { .. } | Answered::ReportedFailed => {}
+                        }
+                    }
+                }
+            }
+        }
+        Ok(devices)
+    }
+}
+
+// ---- the devices
+
+#[derive(Clone, Copy)]
+struct Sent {
+    ticket: usize,
+    setting: i64,
+    is_back: bool,
+}
+
+#[derive(Clone, Default)]
+struct Device {
+    /// The setting it has.
+    actual: i64,
+    /// What was sent to it and lies behind the last it took.
+    sent: Vec<Sent>,
+    /// Its last accepted event is a failure.
+    failed: bool,
+}
+
+// ---- routines, as the answers tell of them
+
+#[derive(Clone, Copy)]
+struct Flight {
+    device: usize,
+    setting: i64,
+    ticket: usize,
+}
+
+struct Routine {
+    commands: Vec<Command>,
+    /// So many of them are answered.
+    answered: usize,
+    flight: Option<Flight>,
+}
+
+/// How often something happened that a history must reach for the checks to say anything.
+#[derive(Clone, Copy)]
+enum Seen {
+    Calls,
+    Refusals,
+    Settled,
+    SendTakenAfterAbort,
+    BackOvertaken,
+    SendOvertaken,
+    FailureInFlight,
+    FailureLeavesOther,
+    RestartAtOther,
+    AbortByFailure,
+    AbortByRestart,
+    BackByAbort,
+    BackBySkip,
+    SkippedAsDown,
+    CommittedBehindRunning,
+    PlacedAhead,
+    FullSequence,
+    EndStates,
+}
+
+const SEEN: [(Seen, &str); 18] = [
+    (Seen::Calls, "calls"),
+    (Seen::Refusals, "refused or unread"),
+    (Seen::Settled, "entries settled"),
+    (Seen::SendTakenAfterAbort, "sent commands taken after their routine's abort"),
+    (Seen::BackOvertaken, "put-back settings overtaken"),
+    (Seen::SendOvertaken, "sent commands overtaken"),
+    (Seen::FailureInFlight, "failures with a command in flight"),
+    (Seen::FailureLeavesOther, "failures that left another setting"),
+    (Seen::RestartAtOther, "restarts at another setting than the serial run's before"),
+    (Seen::AbortByFailure, "aborts by a failure"),
+    (Seen::AbortByRestart, "aborts by a restart"),
+    (Seen::BackByAbort, "settings put back by an abort"),
+    (Seen::BackBySkip, "settings put back by a skip"),
+    (Seen::SkippedAsDown, "commands skipped as down"),
+    (Seen::CommittedBehindRunning, "commits behind a running routine"),
+    (Seen::PlacedAhead, "routines placed ahead of another"),
+    (Seen::FullSequence, "refusals of a full sequence"),
+    (Seen::EndStates, "end states compared"),
+];
+
+type Counts = [u64; SEEN.len()];
+
+// ---- the world
+
+struct World {
+    random: Random,
+    habit: Habit,
+    input: Vec<u8>,
+    /// The output lines so far, without the device lines.
+    printed: Vec<String>,
+    device_lines: Vec<Line>,
+    order: Order,
+    devices: Vec<Device>,
+    running: BTreeMap<u64, Routine>,
+    committed: Vec<u64>,
+    /// Routines whose command in flight is to fail if it still can.
+    doomed: HashSet<u64>,
+    taken: HashSet<usize>,
+    tickets: usize,
+    counts: Counts,
+    /// Show every line.
+    loud: bool,
+}
+
+/// What a history does how often, in a hundred.
+struct Habit {
+    lines: i64,
+    takes: usize,
+    failures: usize,
+    cancels: usize,
+    undercuts: usize,
+    submissions: usize,
+    idle: usize,
+    best_effort: usize,
+    reported_failed: usize,
+    most_commands: i64,
+    most_running: usize,
+    settings: Vec<i64>,
+}
+
+impl World {
+    fn new(seed: u64, index: u64, loud: bool) -> World {
+        let mut random = Random::new(seed, index);
+        let settings = (0..random.between(2, 6)).map(|_| if random.chance(20) { 0 } else { random.between(-1000, 1000) }).collect();
+        let habit = Habit {
+            lines: random.between(30, 140),
+            takes: *random.pick(&[5, 15, 40, 80]),
+            failures: *random.pick(&[0, 3, 8, 15]),
+            cancels: *random.pick(&[2, 5, 12]),
+            undercuts: *random.pick(&[0, 5, 20]),
+            submissions: *random.pick(&[12, 20, 30]),
+            idle: *random.pick(&[1, 5, 15]),
+            best_effort: *random.pick(&[10, 40, 70]),
+            reported_failed: *random.pick(&[10, 30, 60]),
+            most_commands: *random.pick(&[2, 4, 8]),
+            most_running: *random.pick(&[3, 6, 18]),
+            settings,
+        };
+        World {
+            random,
+            habit,
+            input: Vec::new(),
+            printed: Vec::new(),
+            device_lines: Vec::new(),
+            order: Order::default(),
+            devices: Vec::new(),
+            running: BTreeMap::new(),
+            committed: Vec::new(),
+            doomed: HashSet::new(),
+            taken: HashSet::new(),
+            tickets: 0,
+            counts: [0; SEEN.len()],
+            loud,
+        }
+    }
+
+    fn seen(&mut self, what: Seen) {
+        self.counts[what as usize] += 1;
+    }
+
+    /// Appends a line to the input and runs it all. Ok: the lines printed for the new one.
+    fn say(&mut self, line: &str) -> Result<Vec<String>, String> {
+        self.input.extend_from_slice(line.as_bytes());
+        self.input.push(10);
+        if self.loud {
+            println!("{line}");
+        }
+        let output = archive::run(&self.input)?;
+        let text = String::from_utf8(output).map_err(|_| "the output is no text".to_string())?;
+        let mut lines: Vec<String> = text.split_terminator('\n').map(str::to_string).collect();
+        if !text.ends_with('\n') || lines.len() < self.printed.len() + self.devices.len() + 1 {
+            return Err(format!("too few lines of output:\n{text}"));
+        }
+        let device_lines = lines.split_off(lines.len() - self.devices.len());
+        if lines[..self.printed.len()] != self.printed[..] {
+            return Err(format!("the lines for the same input before are others now:\n{text}"));
+        }
+        self.device_lines.clear();
+        for (device, line) in device_lines.iter().enumerate() {
+            self.device_lines.push(device_line(line, device).ok_or(format!("no line of device {device}: `{line}`"))?);
+        }
+        let new = lines[self.printed.len()..].to_vec();
+        if self.loud {
+            for line in &new {
+                println!("        {line}");
+            }
+        }
+        self.printed = lines;
+        Ok(new)
+    }
+
+    fn open(&mut self) -> Result<(), String> {
+        let device_count = match self.random.below(10) {
+            0 => 1,
+            1..=3 => 2,
+            4..=8 => self.random.between(3, 6),
+            _ => self.random.between(7, 32),
+        };
+        let pass_limit = self.random.between(0, 8);
+        let first = if self.random.chance(10) { 4_294_967_295 - self.random.between(0, 12) } else { self.random.between(1, 9) };
+        self.devices = vec![Device::default(); device_count as usize];
+        let answer = self.say(&format!("O {device_count} {pass_limit} {first}"))?;
+        if answer != ["opened"] {
+            return Err(format!("the opening is answered with {answer:?}"));
+        }
+        Ok(())
+    }
+
+    // ---- devices take what was sent
+
+    fn send(&mut self, device: usize, setting: i64, is_back: bool) -> Result<usize, String> {
+        let to = self.devices.get_mut(device).ok_or(format!("a command for device {device}"))?;
+        self.tickets += 1;
+        to.sent.push(Sent { ticket: self.tickets, setting, is_back });
+        Ok(self.tickets)
+    }
+
+    /// The device takes the command at this place of those sent; the ones before it are passed over.
+    fn take(&mut self, device: usize, at: usize) {
+        let gone: Vec<Sent> = self.devices[device].sent.drain(..=at).collect();
+        let (last, over) = gone.split_last().unwrap();
+        self.devices[device].actual = last.setting;
+        self.taken.insert(last.ticket);
+        let flying = self.running.values().any(|routine| routine.flight.is_some_and(|flight| flight.ticket == last.ticket));
+        if !last.is_back && !flying {
+            self.seen(Seen::SendTakenAfterAbort);
+        }
+        for sent in over {
+            self.seen(if sent.is_back { Seen::BackOvertaken } else { Seen::SendOvertaken });
+        }
+        if self.loud {
+            println!("        (device {device} takes {}, passes over {})", last.setting, over.len());
+        }
+    }
+
+    fn some_take(&mut self) {
+        for device in 0..self.devices.len() {
+            let waiting = self.devices[device].sent.len();
+            if waiting > 0 && self.random.chance(self.habit.takes) {
+                let at = if self.random.chance(50) { 0 } else { self.random.below(waiting) };
+                self.take(device, at);
+            }
+        }
+    }
+
+    // ---- a call, its answers, and what they tell
+
+    fn call(&mut self, call: Call) -> Result<(), String> {
+        let settled: Vec<Entry> = self.order.settled().to_vec();
+        let lines = self.say(&call.line())?;
+        let mut answers = Vec::new();
+        for line in &lines {
+            answers.push(Answer::read(line).ok_or(format!("an answer of no known form: `{line}`"))?);
+        }
+        self.seen(Seen::Calls);
+        self.tell(&call, &answers, &lines)?;
+        self.order.move_bar();
+
+        let serial = self.order.serial_run(self.devices.len())?;
+        if self.order.bar < settled.len() || self.order.entries[..settled.len()] != settled[..] {
+            return Err(format!("the settled part was {settled:?} and is now {:?}", self.order.settled()));
+        }
+        self.counts[Seen::Settled as usize] += (self.order.bar - settled.len()) as u64;
+        for (device, &(up, setting)) in serial.iter().enumerate() {
+            if up == self.devices[device].failed {
+                return Err(format!("in the serial run device {device} is {}", if up { "up" } else { "down" }));
+            }
+            let line = self.device_lines[device];
+            if line != up.then_some(setting) {
+                return Err(format!("device {device}: the serial run gives up {up}, {setting}; the line of the device says {line:?}"));
+            }
+        }
+        if self.running.is_empty() {
+            self.end_state(&serial)?;
+        }
+        Ok(())
+    }
+
+    /// No routine runs: each working device, whatever it still takes, ends at the serial run's setting once every setting
+    /// put back is carried out, that is, taken or overtaken.
+    fn end_state(&mut self, serial: &[(bool, i64)]) -> Result<(), String> {
+        for (device, it) in self.devices.iter().enumerate() {
+            if it.failed {
+                continue;
+            }
+            let last_back = it.sent.iter().rposition(|sent| sent.is_back);
+            let mut ends: Vec<i64> = it.sent[last_back.unwrap_or(0)..].iter().map(|sent| sent.setting).collect();
+            if last_back.is_none() {
+                ends.push(it.actual);
+            }
+            if let Some(end) = ends.iter().find(|&&end| end != serial[device].1) {
+                return Err(format!("no routine runs; device {device} may end at {end}, the serial run gives {}", serial[device].1));
+            }
+        }
+        self.seen(Seen::EndStates);
+        Ok(())
+    }
+
+    fn routine(&mut self, id: u64) -> Result<&mut Routine, String> {
+        self.running.get_mut(&id).ok_or(format!("routine {id} is answered for, but does not run"))
+    }
+
+    fn tell(&mut self, call: &Call, answers: &[Answer], lines: &[String]) -> Result<(), String> {
+        let strange = || Err(format!("`{}` is answered with {lines:?}", call.line()));
+        match (call, answers) {
+            (Call::Idle(_), [Answer::Refused | Answer::Unread]) => self.seen(Seen::Refusals),
+            (Call::Idle(_), _) | (_, [Answer::Unread]) => return strange(),
+            (_, [Answer::Refused]) => {
+                // Refused calls tell nothing.
+                self.seen(Seen::Refusals);
+                if lines[0] == "refused 8" {
+                    self.seen(Seen::FullSequence);
+                }
+            }
+            (Call::Submit(commands), [Answer::Placed { id, after }]) => {
+                if self.running.contains_key(id) || self.order.place_of(*id).is_ok() {
+                    return strange();
+                }
+                self.order.insert(Entry::Routine { id: *id, commands: Vec::new(), committed: false }, *after)?;
+                if self.order.entries[self.order.place_of(*id)? + 1..].iter().any(Entry::is_routine) {
+                    self.seen(Seen::PlacedAhead);
+                }
+                self.running.insert(*id, Routine { commands: commands.clone(), answered: 0, flight: None });
+            }
+            (Call::Turn(id), [Answer::Wait { id: same }]) if id == same => {
+                self.routine(*id)?;
+            }
+            (Call::Turn(id), [Answer::Send { id: same, device, setting }]) if id == same => {
+                let ticket = self.send(*device, *setting, false)?;
+                let routine = self.routine(*id)?;
+                let next = routine.commands.get(routine.answered);
+                if routine.flight.is_some() || next.is_none_or(|c| (c.device, c.setting) != (*device, *setting)) {
+                    return strange();
+                }
+                routine.flight = Some(Flight { device: *device, setting: *setting, ticket });
+            }
+            (Call::Turn(id), [Answer::Skipped { id: same, back }]) if id == same && back.is_empty() => {
+                let routine = self.routine(*id)?;
+                let Some(&Command { device, tag: 1, .. }) = routine.commands.get(routine.answered) else { return strange() };
+                routine.answered += 1;
+                self.order.answered(*id, Answered::SkippedAsDown { device })?;
+                self.seen(Seen::SkippedAsDown);
+            }
+            (Call::Turn(id), [Answer::Committed { id: same }]) if id == same => {
+                let routine = self.routine(*id)?;
+                if routine.answered < routine.commands.len() {
+                    return strange();
+                }
+                self.running.remove(id);
+                self.committed.push(*id);
+                self.order.commit(*id)?;
+                let at = self.order.place_of(*id)?;
+                if self.order.entries[..at].iter().any(|e| matches!(e, Entry::Routine { committed: false, .. })) {
+                    self.seen(Seen::CommittedBehindRunning);
+                }
+            }
+            (Call::Done(id), [Answer::Done { id: same }]) if id == same => {
+                let routine = self.routine(*id)?;
+                let Some(flight) = routine.flight.take() else { return strange() };
+                routine.answered += 1;
+                // The premise: a report says done only if the device took the command.
+                assert!(self.taken.contains(&flight.ticket), "this test broke the premise of a done report");
+                self.order.answered(*id, Answered::Done { device: flight.device, setting: flight.setting })?;
+            }
+            (Call::Failed(id), [Answer::Skipped { id: same, back }]) if id == same => {
+                self.never_taken(*id)?;
+                let routine = self.routine(*id)?;
+                if routine.commands[routine.answered].tag != 1 {
+                    return strange();
+                }
+                routine.answered += 1;
+                self.order.answered(*id, Answered::ReportedFailed)?;
+                self.put_back(back, Seen::BackBySkip)?;
+            }
+            (Call::Failed(id), [Answer::Aborted { id: same, back }]) if id == same => {
+                self.never_taken(*id)?;
+                self.aborted(*id, back)?;
+            }
+            (Call::Turn(id) | Call::Cancel(id), [Answer::Aborted { id: same, back }]) if id == same => self.aborted(*id, back)?,
+            (Call::Failure(device), [before @ .., Answer::Down { device: same, after }]) if device == same && before.len() <= 1 => {
+                // What was sent before is over, and the device has any setting.
+                self.devices[*device].sent.clear();
+                if self.random.chance(60) {
+                    let other = if self.random.chance(50) { *self.random.pick(&self.habit.settings) } else { self.random.between(-1000, 1000) };
+                    if other != self.devices[*device].actual {
+                        self.seen(Seen::FailureLeavesOther);
+                    }
+                    self.devices[*device].actual = other;
+                }
+                if self.running.values().any(|routine| routine.flight.is_some_and(|flight| flight.device == *device)) {
+                    self.seen(Seen::FailureInFlight);
+                }
+                self.devices[*device].failed = true;
+                match before {
+                    [] => {}
+                    [Answer::Aborted { id, back }] => {
+                        self.aborted(*id, back)?;
+                        self.seen(Seen::AbortByFailure);
+                    }
+                    _ => return strange(),
+                }
+                self.order.insert(Entry::Failure(*device), *after)?;
+            }
+            (Call::Restart(device, setting), [before @ .., Answer::Up { device: same, after }]) if device == same && before.len() <= 1 => {
+                // The premise: a restart reports the setting that the device has.
+                assert_eq!(self.devices[*device].actual, *setting, "this test broke the premise of a restart");
+                match before {
+                    [] => {}
+                    [Answer::Aborted { id, back }] => {
+                        self.aborted(*id, back)?;
+                        self.seen(Seen::AbortByRestart);
+                    }
+                    _ => return strange(),
+                }
+                if self.order.serial_run(self.devices.len())?[*device].1 != *setting {
+                    self.seen(Seen::RestartAtOther);
+                }
+                self.devices[*device].failed = false;
+                self.order.insert(Entry::Restart(*device, *setting), *after)?;
+            }
+            _ => return strange(),
+        }
+        Ok(())
+    }
+
+    /// The premise: a report says failed only if the device did not take the command, and it never will.
+    fn never_taken(&mut self, id: u64) -> Result<(), String> {
+        let flight = self.routine(id)?.flight.take().ok_or(format!("a report on {id} is accepted with none in flight"))?;
+        assert!(!self.taken.contains(&flight.ticket), "this test broke the premise of a failed report");
+        self.devices[flight.device].sent.retain(|sent| sent.ticket != flight.ticket);
+        Ok(())
+    }
+
+    fn put_back(&mut self, back: &[Back], seen: Seen) -> Result<(), String> {
+        for &(device, setting) in back {
+            self.send(device, setting, true)?;
+            self.seen(seen);
+        }
+        Ok(())
+    }
+
+    fn aborted(&mut self, id: u64, back: &[Back]) -> Result<(), String> {
+        self.routine(id)?;
+        self.running.remove(&id);
+        self.order.remove(id)?;
+        self.put_back(back, Seen::BackByAbort)
+    }
+
+    // ---- what is called
+
+    fn commands(&mut self) -> Vec<Command> {
+        (0..self.random.between(1, self.habit.most_commands))
+            .map(|_| Command {
+                // Few devices, so that routines meet on them.
+                device: self.random.below(self.devices.len().min(6)),
+                tag: u8::from(self.random.chance(self.habit.best_effort)),
+                setting: *self.random.pick(&self.habit.settings),
+            })
+            .collect()
+    }
+
+    /// A turn or a report of this routine that keeps to the premise.
+    fn advance(&mut self, id: u64) -> Call {
+        let Some(flight) = self.running[&id].flight else { return Call::Turn(id) };
+        if self.taken.contains(&flight.ticket) {
+            return Call::Done(id);
+        }
+        let place = self.devices[flight.device].sent.iter().position(|sent| sent.ticket == flight.ticket);
+        match place {
+            Some(at) if !self.doomed.contains(&id) && !self.random.chance(self.habit.reported_failed) => {
+                self.take(flight.device, at);
+                Call::Done(id)
+            }
+            // Passed over, or not to be taken from now on.
+            _ => Call::Failed(id),
+        }
+    }
+
+    /// A routine that set a device, to be cancelled while a best-effort command of another is in flight there. If that one
+    /// then fails, its device must be sent a setting.
+    fn undercut(&mut self) -> Option<u64> {
+        let mut found = Vec::new();
+        for (&flying, routine) in &self.running {
+            let Some(flight) = routine.flight else { continue };
+            if routine.commands[routine.answered].tag == 0 || self.taken.contains(&flight.ticket) {
+                continue;
+            }
+            for entry in &self.order.entries {
+                if let Entry::Routine { id, commands, committed: false } = entry {
+                    let set = |command: &Answered| matches!(command, Answered::Done { device, .. } if *device == flight.device);
+                    if *id != flying && commands.iter().any(set) {
+                        found.push((flying, *id));
+                    }
+                }
+            }
+        }
+        let &(flying, id) = if found.is_empty() { return None } else { self.random.pick(&found) };
+        self.doomed.insert(flying);
+        Some(id)
+    }
+
+    fn any_running(&mut self) -> Option<u64> {
+        let ids: Vec<u64> = self.running.keys().copied().collect();
+        (!ids.is_empty()).then(|| *self.random.pick(&ids))
+    }
+
+    /// A line that must change nothing.
+    fn idle(&mut self) -> Call {
+        let count = self.devices.len();
+        let device = self.random.below(count);
+        let not_flying: Vec<u64> = self.running.iter().filter(|(_, r)| r.flight.is_none()).map(|(id, _)| *id).collect();
+        let flying: Vec<u64> = self.running.iter().filter(|(_, r)| r.flight.is_some()).map(|(id, _)| *id).collect();
+        let ended = if self.committed.is_empty() { 0 } else { *self.random.pick(&self.committed) };
+        let setting = self.random.between(-1000, 1000);
+        Call::Idle(match self.random.below(10) {
+            0 if !not_flying.is_empty() => format!("{} {}", self.random.pick(&["D", "B"]), self.random.pick(&not_flying)),
+            1 if !flying.is_empty() => format!("N {}", self.random.pick(&flying)),
+            2 => format!("{} {ended}", self.random.pick(&["N", "D", "B", "C"])),
+            3 if self.devices[device].failed => format!("F {device}"),
+            3 => format!("R {device} {setting}"),
+            4 => format!("R {} {setting}", self.random.between(count as i64, 255)),
+            5 if self.devices[device].failed => format!("R {device} {}", self.random.pick(&[1001, -1001, 32767])),
+            6 => format!("S {device} 0 {}", self.random.pick(&[1001, -1001])),
+            7 => format!("S {device} 0 5 {count} 1 7"),
+            8 => self.random.pick(&["O 0 0 1", "O 33 1 1", "O 3 9 1", "O 3 0 0", "S"]).to_string(),
+            _ => self.random.pick(&["", " ", "N", "D 1 ", "F -1", "C 4294967296", "S 0 0", "X 1", "O 1 1"]).to_string(),
+        })
+    }
+
+    fn step(&mut self) -> Result<(), String> {
+        self.some_take();
+        if self.random.chance(self.habit.undercuts) {
+            if let Some(id) = self.undercut() {
+                return self.call(Call::Cancel(id));
+            }
+        }
+        let device = self.random.below(self.devices.len().min(6));
+        let (mut roll, habit) = (self.random.below(100), &self.habit);
+        let mut turn_of = |share: usize| {
+            let now = roll < share;
+            roll = roll.wrapping_sub(share);
+            now
+        };
+        let call = if self.running.len() < habit.most_running && turn_of(habit.submissions) {
+            Call::Submit(self.commands())
+        } else if turn_of(habit.failures) {
+            match &self.devices[device] {
+                // More often than not a device with something in flight fails.
+                Device { failed: true, actual, .. } => Call::Restart(device, *actual),
+                _ => {
+                    let flying: Vec<usize> = self.running.values().filter_map(|r| r.flight).map(|flight| flight.device).collect();
+                    Call::Failure(if flying.is_empty() || self.random.chance(40) { device } else { *self.random.pick(&flying) })
+                }
+            }
+        } else if turn_of(habit.idle) {
+            self.idle()
+        } else {
+            let cancel = turn_of(habit.cancels);
+            match self.any_running() {
+                None => Call::Submit(self.commands()),
+                Some(id) if cancel => Call::Cancel(id),
+                Some(id) => self.advance(id),
+            }
+        };
+        self.call(call)
+    }
+
+    /// The whole history: so many lines, then on until no routine runs and every setting put back is carried out.
+    fn run(&mut self) -> Result<(), String> {
+        self.open()?;
+        for _ in 1..self.habit.lines {
+            self.step()?;
+        }
+        for tried in 0.. {
+            self.some_take();
+            let Some(id) = self.any_running() else { break };
+            let down = self.devices.iter().position(|device| device.failed);
+            match down {
+                Some(device) if self.random.chance(10) => self.call(Call::Restart(device, self.devices[device].actual))?,
+                // A routine that is cancelled is over, so this loop ends.
+                _ if tried > 60 || self.random.chance(self.habit.cancels) => {
+                    self.call(Call::Cancel(id))?;
+                    if self.running.contains_key(&id) {
+                        return Err(format!("routine {id} runs and cannot be cancelled"));
+                    }
+                }
+                _ => {
+                    let call = self.advance(id);
+                    self.call(call)?
+                }
+            }
+        }
+        let serial = self.order.serial_run(self.devices.len())?;
+        self.end_state(&serial)?;
+        // Once more in the flesh: each device takes until nothing put back is left, then what else it likes.
+        for device in 0..self.devices.len() {
+            while let Some(last) = self.devices[device].sent.iter().rposition(|sent| sent.is_back) {
+                let at = self.random.below(last + 1);
+                self.take(device, at);
+            }
+            if !self.devices[device].sent.is_empty() && self.random.chance(50) {
+                self.take(device, 0);
+            }
+            let (it, line) = (&self.devices[device], self.device_lines[device]);
+            if !it.failed && (it.actual != serial[device].1 || line != Some(it.actual)) {
+                return Err(format!("device {device} ends at {}, the serial run at {}, its line says {line:?}", it.actual, serial[device].1));
+            }
+        }
+        Ok(())
+    }
+}
+
+// ---- the program
+
+fn run(seed: u64, index: u64, loud: bool) -> Result<Counts, (String, Vec<u8>)> {
+    let mut world = World::new(seed, index, loud);
+    match world.run() {
+        Ok(()) => Ok(world.counts),
+        Err(how) => Err((how, world.input)),
+    }
+}
+
+fn main() -> ExitCode {
+    let words: Vec<String> = std::env::args().skip(1).collect();
+    if words.first().map(|word| word.as_str()) == Some("one") {
+        return match run(number(words.get(1), "SEED"), number(words.get(2), "INDEX"), true) {
+            Ok(_) => {
+                println!("world: holds");
+                ExitCode::SUCCESS
+            }
+            Err((how, _)) => {
+                println!("world: FAILED: {how}");
+                ExitCode::FAILURE
+            }
+        };
+    }
+    let (count, seed) = (number(words.first(), "COUNT"), number(words.get(1), "SEED"));
+    println!("world: {count} histories, seed {seed}");
+    let next = AtomicU64::new(0);
+    let total = Mutex::new([0; SEEN.len()]);
+    thread::scope(|scope| {
+        for _ in 0..thread::available_parallelism().map_or(2, |n| n.get()) {
+            scope.spawn(|| loop {
+                let index = next.fetch_add(1, Ordering::Relaxed);
+                if index >= count {
+                    return;
+                }
+                let result = run(seed, index, false);
+                let mut total = total.lock().unwrap();
+                match result {
+                    Ok(counts) => total.iter_mut().zip(counts).for_each(|(sum, more)| *sum += more),
+                    Err((how, input)) => {
+                        println!("world: FAILED: seed {seed}, index {index}: {how}\ninput:\n{}", String::from_utf8_lossy(&input));
+                        println!("world: to see it: {}", again(&[], &format!("one {seed} {index}")));
+                        std::process::exit(1);
+                    }
+                }
+            });
+        }
+    });
+    let total = total.into_inner().unwrap();
+    let mut reached = true;
+    for (what, words) in SEEN {
+        println!("world: {:>9} {words}", total[what as usize]);
+        // Histories that never come to one of these would show little.
+        reached &= total[what as usize] > 0 || count < 500;
+    }
+    if !reached {
+        println!("world: FAILED: something above never happened");
+        return ExitCode::FAILURE;
+    }
+    println!("world: demand 3 holds in {count} histories");
+    ExitCode::SUCCESS
+}
