@@ -1,5 +1,10 @@
 //! What the two test programs share.
 
+use std::collections::HashMap;
+use std::sync::Mutex;
+use std::thread;
+use std::time::{Duration, Instant};
+
 /// Random numbers that are the same for the same seed, on every machine.
 pub struct Random(u64);
 
@@ -66,6 +71,46 @@ pub fn number(word: Option<&String>, what: &str) -> u64 {
         _ => {
             eprintln!("{what} must be a number");
             std::process::exit(2)
+        }
+    }
+}
+
+/// Something that takes longer than this does not end.
+const PATIENCE: Duration = Duration::from_secs(100);
+
+/// Sees that nothing takes for ever: what each thread is at, and since when.
+pub struct Watch {
+    program: &'static str,
+    variables: &'static [&'static str],
+    at: Mutex<HashMap<thread::ThreadId, (Instant, String)>>,
+}
+
+impl Watch {
+    pub fn start(program: &'static str, variables: &'static [&'static str]) -> &'static Watch {
+        let watch: &'static Watch = Box::leak(Box::new(Watch { program, variables, at: Mutex::default() }));
+        thread::spawn(move || loop {
+            thread::sleep(Duration::from_secs(1));
+            watch.look();
+        });
+        watch
+    }
+
+    /// This thread now begins with this; the words show it again when put behind `one`.
+    pub fn begin(&self, words: String) {
+        self.at.lock().unwrap().insert(thread::current().id(), (Instant::now(), words));
+    }
+
+    pub fn end(&self) {
+        self.at.lock().unwrap().remove(&thread::current().id());
+    }
+
+    fn look(&self) {
+        for (begun, words) in self.at.lock().unwrap().values() {
+            if begun.elapsed() > PATIENCE {
+                println!("{}: FAILED: {words} did not end within {PATIENCE:?}", self.program);
+                println!("{}: to see it: {}", self.program, again(self.variables, &format!("one {words}")));
+                std::process::exit(1);
+            }
         }
     }
 }

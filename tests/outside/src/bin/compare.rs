@@ -7,15 +7,13 @@
 //! From the root. PLOT_HUB_CALLER and PLOT_HUB_PROGRAM name other programs than the built ones; the words of PLOT_HUB_UNDER
 //! are put before the caller's name (valgrind with its options).
 
-use outside::{again, number, readable, setting, Random};
-use std::collections::HashMap;
+use outside::{again, number, readable, setting, Random, Watch};
 use std::fmt;
 use std::io::{Read, Write};
 use std::process::{Child, ChildStdin, ChildStdout, Command, ExitCode, Stdio};
 use std::sync::atomic::{AtomicU64, AtomicUsize, Ordering};
 use std::sync::Mutex;
 use std::thread;
-use std::time::{Duration, Instant};
 
 /// So many inputs of each kind are generated, run and compared together.
 const BATCH: u64 = 500;
@@ -24,8 +22,6 @@ const JOINED: u64 = 120;
 /// In one of so many inputs every buffer length is tried, if the output is not longer than SHORT.
 const EVERY: u64 = 100;
 const SHORT: usize = 1000;
-/// An input that takes longer than this is a failure: the line program does not end.
-const PATIENCE: Duration = Duration::from_secs(100);
 
 // ---- inputs
 
@@ -250,6 +246,11 @@ fn run_program(input: &[u8], feed: Feed) -> Result<Vec<u8>, String> {
 
 // ---- the C call
 
+/// What the caller is run by, if anything.
+fn under() -> String {
+    setting("PLOT_HUB_UNDER", "")
+}
+
 struct Caller {
     child: Child,
     to: ChildStdin,
@@ -259,7 +260,7 @@ struct Caller {
 impl Caller {
     fn start() -> Result<Caller, String> {
         let path = setting("PLOT_HUB_CALLER", "target/outside/caller");
-        let under = setting("PLOT_HUB_UNDER", "");
+        let under = under();
         let mut words: Vec<&str> = under.split_whitespace().collect();
         words.push(&path);
         let mut child = Command::new(words[0])
@@ -346,30 +347,6 @@ fn difference(got: &[u8], expected: &[u8]) -> Option<String> {
     Some(format!("output line {}: {}, expected {}", at + 1, shown(&got), shown(&expected)))
 }
 
-/// Sees that no input takes for ever.
-#[derive(Default)]
-struct Watch(Mutex<HashMap<thread::ThreadId, (Instant, String)>>);
-
-impl Watch {
-    fn now(&self, name: String) {
-        self.0.lock().unwrap().insert(thread::current().id(), (Instant::now(), name));
-    }
-
-    fn nothing(&self) {
-        self.0.lock().unwrap().remove(&thread::current().id());
-    }
-
-    fn look(&self) {
-        for (begun, name) in self.0.lock().unwrap().values() {
-            if begun.elapsed() > PATIENCE {
-                println!("compare: FAILED: input {name} did not end within {PATIENCE:?}");
-                println!("compare: to see it: {}", again(&VARIABLES, &format!("one {name}")));
-                std::process::exit(1);
-            }
-        }
-    }
-}
-
 // ---- the comparison
 
 #[derive(Default)]
@@ -382,8 +359,9 @@ struct Counts {
 }
 
 fn letter(item: &Item) -> u8 {
+    let slow = !under().is_empty() && item.index % 20 != 0;
     match item.kind {
-        Kind::Edge | Kind::Example if item.expected.len() <= SHORT && item.input.len() <= SHORT => b'e',
+        Kind::Edge | Kind::Example if item.expected.len() <= SHORT && item.input.len() <= SHORT && !slow => b'e',
         Kind::Random | Kind::Damaged if item.expected.len() <= SHORT && item.index % EVERY == 0 => b'e',
         Kind::Random | Kind::Damaged if item.index % EVERY == 1 => b't',
         _ => b'p',
@@ -409,7 +387,7 @@ fn feeds(item: &Item) -> Vec<Feed> {
 fn by_call(items: &[Item], caller: &mut Caller, counts: &Counts, watch: &Watch) {
     let records: Vec<(u8, &[u8])> = items.iter().map(|item| (letter(item), &item.input[..])).collect();
     if let Some(first) = items.first() {
-        watch.now(first.name());
+        watch.begin(first.name());
     }
     let run = caller.run(&records, |i, output| {
         if let Some(how) = difference(&output, &items[i].expected) {
@@ -418,10 +396,10 @@ fn by_call(items: &[Item], caller: &mut Caller, counts: &Counts, watch: &Watch) 
         counts.by_call.fetch_add(1, Ordering::Relaxed);
         counts.every_length.fetch_add(u64::from(records[i].0 == b'e'), Ordering::Relaxed);
         if let Some(next) = items.get(i + 1) {
-            watch.now(next.name());
+            watch.begin(next.name());
         }
     });
-    watch.nothing();
+    watch.end();
     if let Err((i, how)) = run {
         failed(&items[i], &how);
     }
@@ -429,7 +407,7 @@ fn by_call(items: &[Item], caller: &mut Caller, counts: &Counts, watch: &Watch) 
 
 fn by_program(items: &[Item], next: &AtomicUsize, counts: &Counts, watch: &Watch) {
     while let Some(item) = items.get(next.fetch_add(1, Ordering::Relaxed)) {
-        watch.now(item.name());
+        watch.begin(item.name());
         for feed in feeds(item) {
             match run_program(&item.input, feed) {
                 Err(how) => failed(item, &how),
@@ -442,7 +420,7 @@ fn by_program(items: &[Item], next: &AtomicUsize, counts: &Counts, watch: &Watch
             counts.by_program.fetch_add(1, Ordering::Relaxed);
         }
     }
-    watch.nothing();
+    watch.end();
 }
 
 fn cores() -> usize {
@@ -462,11 +440,7 @@ fn made(names: &[(Kind, u64)], seed: u64) -> Vec<Item> {
 fn compare(count: u64, seed: u64, programs: bool) {
     println!("compare: {count} random and {count} damaged inputs, seed {seed}");
     let counts = Counts::default();
-    let watch: &'static Watch = Box::leak(Box::default());
-    thread::spawn(move || loop {
-        thread::sleep(Duration::from_secs(1));
-        watch.look();
-    });
+    let watch = Watch::start("compare", &VARIABLES);
     let mut caller = Caller::start().unwrap_or_else(|how| {
         println!("compare: FAILED: {how}");
         std::process::exit(1)
