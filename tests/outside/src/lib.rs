@@ -76,7 +76,7 @@ pub fn number(word: Option<&String>, what: &str) -> u64 {
 }
 
 /// Something that takes longer than this does not end.
-const PATIENCE: Duration = Duration::from_secs(100);
+const LONGEST: Duration = Duration::from_secs(100);
 
 /// Sees that nothing takes for ever: what each thread is at, and since when.
 pub struct Watch {
@@ -106,8 +106,8 @@ impl Watch {
 
     fn look(&self) {
         for (begun, words) in self.at.lock().unwrap().values() {
-            if begun.elapsed() > PATIENCE {
-                println!("{}: FAILED: {words} did not end within {PATIENCE:?}", self.program);
+            if begun.elapsed() > LONGEST {
+                println!("{}: FAILED: {words} did not end within {LONGEST:?}", self.program);
                 println!("{}: to see it: {}", self.program, again(self.variables, &format!("one {words}")));
                 std::process::exit(1);
             }

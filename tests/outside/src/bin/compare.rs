@@ -1,6 +1,6 @@
 //! Compares the bytes that the line program prints, by the C call and by the program, with those of the independent reference.
 //!
-//!     compare COUNT SEED              COUNT random histories and COUNT damaged inputs, the long joined ones, examples and edges
+//!     compare COUNT SEED              COUNT random histories and COUNT damaged inputs, long joined ones, examples, edges, cuts
 //!     compare caller COUNT SEED       the same inputs, only by the C call
 //!     compare one KIND SEED INDEX     one input in every way; shows it and what differs
 //!
@@ -32,10 +32,11 @@ enum Kind {
     Joined,
     Example,
     Edge,
+    Cut,
 }
 
 impl Kind {
-    const ALL: [Kind; 5] = [Kind::Random, Kind::Damaged, Kind::Joined, Kind::Example, Kind::Edge];
+    const ALL: [Kind; 6] = [Kind::Random, Kind::Damaged, Kind::Joined, Kind::Example, Kind::Edge, Kind::Cut];
 }
 
 impl fmt::Display for Kind {
@@ -46,6 +47,7 @@ impl fmt::Display for Kind {
             Kind::Joined => "joined",
             Kind::Example => "example",
             Kind::Edge => "edge",
+            Kind::Cut => "cut",
         })
     }
 }
@@ -73,6 +75,7 @@ impl Item {
                 input
             }
             Kind::Edge => edges().into_iter().nth(index as usize)?,
+            Kind::Cut => cut(index as usize)?,
         };
         let expected = reference::run(&input);
         // The examples state their output; the reference, too, must print it.
@@ -169,6 +172,35 @@ fn edges() -> Vec<Vec<u8>> {
     add(&format!("O 32 8 1\n{}N 1\nD 1\nN 1\nS 0 0 1\nS 0 0 1", "S 0 0 7\n".repeat(17)));
     add("O 1 0 4294967295\nS 0 0 1\nS 0 0 1\nN 4294967295\nD 4294967295\nO 0 0 0\nN 4294967295\nO 2 0 1\nN 4294967295");
     all
+}
+
+/// Long inputs for the program, which reads piece by piece. The same lines are repeated; in one input after the other they
+/// are moved on by a byte, so that a piece of any length up to LONG ends at each of their bytes. Then inputs that end about
+/// where a piece may.
+fn cut(index: usize) -> Option<Vec<u8>> {
+    const LONG: usize = 70_000;
+    let lines = format!(
+        "O 3 2 1\n\n\n\nS 0 0 50 1 0 20\nN 1\nD 1\nN {:0>126}\nD {:0>127}\n{}\nC 1\nF 0\nR 0 -15\n",
+        1,
+        1,
+        "x".repeat(300)
+    );
+    let length = if index < lines.len() {
+        LONG
+    } else {
+        let (power, more) = ((index - lines.len()) / 5, (index - lines.len()) % 5);
+        (64 << power) - 2 + more
+    };
+    if length > 2 * LONG {
+        return None;
+    }
+    let start = if index < lines.len() { index } else { 0 };
+    let mut input = vec![10; start];
+    while input.len() < length {
+        input.extend_from_slice(lines.as_bytes());
+    }
+    input.truncate(length);
+    Some(input)
 }
 
 // ---- the program
@@ -380,18 +412,18 @@ fn feeds(item: &Item) -> Vec<Feed> {
         ],
         Kind::Edge | Kind::Example => vec![Feed::Whole, Feed::Pieces(1), Feed::Odd(item.index)],
         Kind::Random | Kind::Damaged if item.index % 50 == 3 => vec![Feed::Whole, Feed::Pieces(1), Feed::Odd(item.index)],
-        Kind::Random | Kind::Damaged => vec![Feed::Whole],
+        Kind::Random | Kind::Damaged | Kind::Cut => vec![Feed::Whole],
     }
 }
 
-fn by_call(items: &[Item], caller: &mut Caller, counts: &Counts, watch: &Watch) {
+fn by_call(items: &[&Item], caller: &mut Caller, counts: &Counts, watch: &Watch) {
     let records: Vec<(u8, &[u8])> = items.iter().map(|item| (letter(item), &item.input[..])).collect();
     if let Some(first) = items.first() {
         watch.begin(first.name());
     }
     let run = caller.run(&records, |i, output| {
         if let Some(how) = difference(&output, &items[i].expected) {
-            failed(&items[i], &format!("by the C call: {how}"));
+            failed(items[i], &format!("by the C call: {how}"));
         }
         counts.by_call.fetch_add(1, Ordering::Relaxed);
         counts.every_length.fetch_add(u64::from(records[i].0 == b'e'), Ordering::Relaxed);
@@ -401,7 +433,7 @@ fn by_call(items: &[Item], caller: &mut Caller, counts: &Counts, watch: &Watch) 
     });
     watch.end();
     if let Err((i, how)) = run {
-        failed(&items[i], &how);
+        failed(items[i], &how);
     }
 }
 
@@ -452,6 +484,9 @@ fn compare(count: u64, seed: u64, programs: bool) {
         if start == 0 {
             names.extend((0..examples().len() as u64).map(|index| (Kind::Example, index)));
             names.extend((0..edges().len() as u64).map(|index| (Kind::Edge, index)));
+            if programs {
+                names.extend((0..).take_while(|&index| cut(index).is_some()).map(|index| (Kind::Cut, index as u64)));
+            }
         }
         names.push((Kind::Joined, 2 * (start / BATCH)));
         names.push((Kind::Joined, 2 * (start / BATCH) + 1));
@@ -466,7 +501,9 @@ fn compare(count: u64, seed: u64, programs: bool) {
             for _ in 0..if programs { cores() } else { 0 } {
                 scope.spawn(|| by_program(&items, &next, &counts, watch));
             }
-            by_call(&items, &mut caller, &counts, watch);
+            // The call has its whole input at once.
+            let whole: Vec<&Item> = items.iter().filter(|item| item.kind != Kind::Cut).collect();
+            by_call(&whole, &mut caller, &counts, watch);
         });
         start += BATCH;
     }
@@ -533,7 +570,7 @@ fn main() -> ExitCode {
             let kind = Kind::ALL.into_iter().find(|kind| Some(kind.to_string()) == words.get(1).cloned());
             let (seed, index) = (number(words.get(2), "SEED"), number(words.get(3), "INDEX"));
             let Some(item) = kind.and_then(|kind| Item::new(kind, seed, index)) else {
-                eprintln!("KIND is random, damaged, joined, example or edge; there are not so many of the last two");
+                eprintln!("KIND is random, damaged, joined, example, edge or cut; there are not so many of the last three");
                 return ExitCode::from(2);
             };
             return if one(&item) { ExitCode::SUCCESS } else { ExitCode::FAILURE };

@@ -337,7 +337,7 @@ type Counts = [u64; SEEN.len()];
 
 struct World {
     random: Random,
-    habit: Habit,
+    rates: Rates,
     input: Vec<u8>,
     /// The output lines so far, without the device lines.
     printed: Vec<String>,
@@ -347,21 +347,21 @@ struct World {
     running: BTreeMap<u64, Routine>,
     committed: Vec<u64>,
     /// Routines whose command in flight is to fail if it still can.
-    doomed: HashSet<u64>,
+    to_fail: HashSet<u64>,
     taken: HashSet<usize>,
     tickets: usize,
     counts: Counts,
     /// Show every line.
-    loud: bool,
+    shown: bool,
 }
 
 /// What a history does how often, in a hundred.
-struct Habit {
+struct Rates {
     lines: i64,
     takes: usize,
     failures: usize,
     cancels: usize,
-    undercuts: usize,
+    cancels_ahead: usize,
     submissions: usize,
     idle: usize,
     best_effort: usize,
@@ -372,15 +372,15 @@ struct Habit {
 }
 
 impl World {
-    fn new(seed: u64, index: u64, loud: bool) -> World {
+    fn new(seed: u64, index: u64, shown: bool) -> World {
         let mut random = Random::new(seed, index);
         let settings = (0..random.between(2, 6)).map(|_| if random.chance(20) { 0 } else { random.between(-1000, 1000) }).collect();
-        let habit = Habit {
+        let rates = Rates {
             lines: random.between(30, 140),
             takes: *random.pick(&[5, 15, 40, 80]),
             failures: *random.pick(&[0, 3, 8, 15]),
             cancels: *random.pick(&[2, 5, 12]),
-            undercuts: *random.pick(&[0, 5, 20]),
+            cancels_ahead: *random.pick(&[0, 5, 20]),
             submissions: *random.pick(&[12, 20, 30]),
             idle: *random.pick(&[1, 5, 15]),
             best_effort: *random.pick(&[10, 40, 70]),
@@ -391,7 +391,7 @@ impl World {
         };
         World {
             random,
-            habit,
+            rates,
             input: Vec::new(),
             printed: Vec::new(),
             device_lines: Vec::new(),
@@ -399,11 +399,11 @@ impl World {
             devices: Vec::new(),
             running: BTreeMap::new(),
             committed: Vec::new(),
-            doomed: HashSet::new(),
+            to_fail: HashSet::new(),
             taken: HashSet::new(),
             tickets: 0,
             counts: [0; SEEN.len()],
-            loud,
+            shown,
         }
     }
 
@@ -415,7 +415,7 @@ impl World {
     fn say(&mut self, line: &str) -> Result<Vec<String>, String> {
         self.input.extend_from_slice(line.as_bytes());
         self.input.push(10);
-        if self.loud {
+        if self.shown {
             println!("{line}");
         }
         let output = archive::run(&self.input)?;
@@ -433,7 +433,7 @@ impl World {
             self.device_lines.push(device_line(line, device).ok_or(format!("no line of device {device}: `{line}`"))?);
         }
         let new = lines[self.printed.len()..].to_vec();
-        if self.loud {
+        if self.shown {
             for line in &new {
                 println!("        {line}");
             }
@@ -481,7 +481,7 @@ impl World {
         for sent in over {
             self.seen(if sent.is_back { Seen::BackOvertaken } else { Seen::SendOvertaken });
         }
-        if self.loud {
+        if self.shown {
             println!("        (device {device} takes {}, passes over {})", last.setting, over.len());
         }
     }
@@ -489,7 +489,7 @@ impl World {
     fn some_take(&mut self) {
         for device in 0..self.devices.len() {
             let waiting = self.devices[device].sent.len();
-            if waiting > 0 && self.random.chance(self.habit.takes) {
+            if waiting > 0 && self.random.chance(self.rates.takes) {
                 let at = if self.random.chance(50) { 0 } else { self.random.below(waiting) };
                 self.take(device, at);
             }
@@ -554,10 +554,10 @@ impl World {
     }
 
     fn tell(&mut self, call: &Call, answers: &[Answer], lines: &[String]) -> Result<(), String> {
-        let strange = || Err(format!("`{}` is answered with {lines:?}", call.line()));
+        let unexpected = || Err(format!("`{}` is answered with {lines:?}", call.line()));
         match (call, answers) {
             (Call::Idle(_), [Answer::Refused | Answer::Unread]) => self.seen(Seen::Refusals),
-            (Call::Idle(_), _) | (_, [Answer::Unread]) => return strange(),
+            (Call::Idle(_), _) | (_, [Answer::Unread]) => return unexpected(),
             (_, [Answer::Refused]) => {
                 // Refused calls tell nothing.
                 self.seen(Seen::Refusals);
@@ -567,7 +567,7 @@ impl World {
             }
             (Call::Submit(commands), [Answer::Placed { id, after }]) => {
                 if self.running.contains_key(id) || self.order.place_of(*id).is_ok() {
-                    return strange();
+                    return unexpected();
                 }
                 self.order.insert(Entry::Routine { id: *id, commands: Vec::new(), committed: false }, *after)?;
                 if self.order.entries[self.order.place_of(*id)? + 1..].iter().any(Entry::is_routine) {
@@ -583,13 +583,13 @@ impl World {
                 let routine = self.routine(*id)?;
                 let next = routine.commands.get(routine.answered);
                 if routine.flight.is_some() || next.is_none_or(|c| (c.device, c.setting) != (*device, *setting)) {
-                    return strange();
+                    return unexpected();
                 }
                 routine.flight = Some(Flight { device: *device, setting: *setting, ticket });
             }
             (Call::Turn(id), [Answer::Skipped { id: same, back }]) if id == same && back.is_empty() => {
                 let routine = self.routine(*id)?;
-                let Some(&Command { device, tag: 1, .. }) = routine.commands.get(routine.answered) else { return strange() };
+                let Some(&Command { device, tag: 1, .. }) = routine.commands.get(routine.answered) else { return unexpected() };
                 routine.answered += 1;
                 self.order.answered(*id, Answered::SkippedAsDown { device })?;
                 self.seen(Seen::SkippedAsDown);
@@ -597,7 +597,7 @@ impl World {
             (Call::Turn(id), [Answer::Committed { id: same }]) if id == same => {
                 let routine = self.routine(*id)?;
                 if routine.answered < routine.commands.len() {
-                    return strange();
+                    return unexpected();
                 }
                 self.running.remove(id);
                 self.committed.push(*id);
@@ -609,7 +609,7 @@ impl World {
             }
             (Call::Done(id), [Answer::Done { id: same }]) if id == same => {
                 let routine = self.routine(*id)?;
-                let Some(flight) = routine.flight.take() else { return strange() };
+                let Some(flight) = routine.flight.take() else { return unexpected() };
                 routine.answered += 1;
                 // The premise: a report says done only if the device took the command.
                 assert!(self.taken.contains(&flight.ticket), "this test broke the premise of a done report");
@@ -619,7 +619,7 @@ impl World {
                 self.never_taken(*id)?;
                 let routine = self.routine(*id)?;
                 if routine.commands[routine.answered].tag != 1 {
-                    return strange();
+                    return unexpected();
                 }
                 routine.answered += 1;
                 self.order.answered(*id, Answered::ReportedFailed)?;
@@ -634,7 +634,7 @@ impl World {
                 // What was sent before is over, and the device has any setting.
                 self.devices[*device].sent.clear();
                 if self.random.chance(60) {
-                    let other = if self.random.chance(50) { *self.random.pick(&self.habit.settings) } else { self.random.between(-1000, 1000) };
+                    let other = if self.random.chance(50) { *self.random.pick(&self.rates.settings) } else { self.random.between(-1000, 1000) };
                     if other != self.devices[*device].actual {
                         self.seen(Seen::FailureLeavesOther);
                     }
@@ -650,7 +650,7 @@ impl World {
                         self.aborted(*id, back)?;
                         self.seen(Seen::AbortByFailure);
                     }
-                    _ => return strange(),
+                    _ => return unexpected(),
                 }
                 self.order.insert(Entry::Failure(*device), *after)?;
             }
@@ -663,7 +663,7 @@ impl World {
                         self.aborted(*id, back)?;
                         self.seen(Seen::AbortByRestart);
                     }
-                    _ => return strange(),
+                    _ => return unexpected(),
                 }
                 if self.order.serial_run(self.devices.len())?[*device].1 != *setting {
                     self.seen(Seen::RestartAtOther);
@@ -671,7 +671,7 @@ impl World {
                 self.devices[*device].failed = false;
                 self.order.insert(Entry::Restart(*device, *setting), *after)?;
             }
-            _ => return strange(),
+            _ => return unexpected(),
         }
         Ok(())
     }
@@ -702,12 +702,12 @@ impl World {
     // ---- what is called
 
     fn commands(&mut self) -> Vec<Command> {
-        (0..self.random.between(1, self.habit.most_commands))
+        (0..self.random.between(1, self.rates.most_commands))
             .map(|_| Command {
                 // Few devices, so that routines meet on them.
                 device: self.random.below(self.devices.len().min(6)),
-                tag: u8::from(self.random.chance(self.habit.best_effort)),
-                setting: *self.random.pick(&self.habit.settings),
+                tag: u8::from(self.random.chance(self.rates.best_effort)),
+                setting: *self.random.pick(&self.rates.settings),
             })
             .collect()
     }
@@ -720,7 +720,7 @@ impl World {
         }
         let place = self.devices[flight.device].sent.iter().position(|sent| sent.ticket == flight.ticket);
         match place {
-            Some(at) if !self.doomed.contains(&id) && !self.random.chance(self.habit.reported_failed) => {
+            Some(at) if !self.to_fail.contains(&id) && !self.random.chance(self.rates.reported_failed) => {
                 self.take(flight.device, at);
                 Call::Done(id)
             }
@@ -731,7 +731,7 @@ impl World {
 
     /// A routine that set a device, to be cancelled while a best-effort command of another is in flight there. If that one
     /// then fails, its device must be sent a setting.
-    fn undercut(&mut self) -> Option<u64> {
+    fn cancel_ahead(&mut self) -> Option<u64> {
         let mut found = Vec::new();
         for (&flying, routine) in &self.running {
             let Some(flight) = routine.flight else { continue };
@@ -748,7 +748,7 @@ impl World {
             }
         }
         let &(flying, id) = if found.is_empty() { return None } else { self.random.pick(&found) };
-        self.doomed.insert(flying);
+        self.to_fail.insert(flying);
         Some(id)
     }
 
@@ -782,21 +782,21 @@ impl World {
 
     fn step(&mut self) -> Result<(), String> {
         self.some_take();
-        if self.random.chance(self.habit.undercuts) {
-            if let Some(id) = self.undercut() {
+        if self.random.chance(self.rates.cancels_ahead) {
+            if let Some(id) = self.cancel_ahead() {
                 return self.call(Call::Cancel(id));
             }
         }
         let device = self.random.below(self.devices.len().min(6));
-        let (mut roll, habit) = (self.random.below(100), &self.habit);
+        let (mut roll, rates) = (self.random.below(100), &self.rates);
         let mut turn_of = |share: usize| {
             let now = roll < share;
             roll = roll.wrapping_sub(share);
             now
         };
-        let call = if self.running.len() < habit.most_running && turn_of(habit.submissions) {
+        let call = if self.running.len() < rates.most_running && turn_of(rates.submissions) {
             Call::Submit(self.commands())
-        } else if turn_of(habit.failures) {
+        } else if turn_of(rates.failures) {
             match &self.devices[device] {
                 // More often than not a device with something in flight fails.
                 Device { failed: true, actual, .. } => Call::Restart(device, *actual),
@@ -805,10 +805,10 @@ impl World {
                     Call::Failure(if flying.is_empty() || self.random.chance(40) { device } else { *self.random.pick(&flying) })
                 }
             }
-        } else if turn_of(habit.idle) {
+        } else if turn_of(rates.idle) {
             self.idle()
         } else {
-            let cancel = turn_of(habit.cancels);
+            let cancel = turn_of(rates.cancels);
             match self.any_running() {
                 None => Call::Submit(self.commands()),
                 Some(id) if cancel => Call::Cancel(id),
@@ -821,7 +821,7 @@ impl World {
     /// The whole history: so many lines, then on until no routine runs and every setting put back is carried out.
     fn run(&mut self) -> Result<(), String> {
         self.open()?;
-        for _ in 1..self.habit.lines {
+        for _ in 1..self.rates.lines {
             self.step()?;
         }
         for tried in 0.. {
@@ -831,7 +831,7 @@ impl World {
             match down {
                 Some(device) if self.random.chance(10) => self.call(Call::Restart(device, self.devices[device].actual))?,
                 // A routine that is cancelled is over, so this loop ends.
-                _ if tried > 60 || self.random.chance(self.habit.cancels) => {
+                _ if tried > 60 || self.random.chance(self.rates.cancels) => {
                     self.call(Call::Cancel(id))?;
                     if self.running.contains_key(&id) {
                         return Err(format!("routine {id} runs and cannot be cancelled"));
@@ -845,7 +845,7 @@ impl World {
         }
         let serial = self.order.serial_run(self.devices.len())?;
         self.end_state(&serial)?;
-        // Once more in the flesh: each device takes until nothing put back is left, then what else it likes.
+        // The same with devices that do it: each takes until nothing put back is left, then perhaps one more.
         for device in 0..self.devices.len() {
             while let Some(last) = self.devices[device].sent.iter().rposition(|sent| sent.is_back) {
                 let at = self.random.below(last + 1);
@@ -865,8 +865,8 @@ impl World {
 
 // ---- the program
 
-fn run(seed: u64, index: u64, loud: bool) -> Result<Counts, (String, Vec<u8>)> {
-    let mut world = World::new(seed, index, loud);
+fn run(seed: u64, index: u64, shown: bool) -> Result<Counts, (String, Vec<u8>)> {
+    let mut world = World::new(seed, index, shown);
     match world.run() {
         Ok(()) => Ok(world.counts),
         Err(how) => Err((how, world.input)),
@@ -918,7 +918,7 @@ fn main() -> ExitCode {
     for (what, words) in SEEN {
         println!("world: {:>9} {words}", total[what as usize]);
         // Histories that never come to one of these would show little.
-        reached &= total[what as usize] > 0 || count < 500;
+        reached &= total[what as usize] > 0 || count < 2000;
     }
     if !reached {
         println!("world: FAILED: something above never happened");
