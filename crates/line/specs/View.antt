@@ -1,11 +1,14 @@
 -- A hub read as the hub of the last accepted `O`, and a line's call as one of the rules. Assumes nothing.
 use mathlib.Core.Option.{Option, none, some}
+use Prim.Native.Nat.{ℕ}
 use lib.Dec.{eqb}
 use Rattle.routine.specs.Choice.{if_then_else_}
 use Rattle.routine.specs.Routine.{commandsOf}
 use Rattle.routine.specs.declared.Routine.{Routine}
 use Rattle.rules.specs.State.{State}
 use Rattle.rules.specs.Answers.{Call as Told, submit, turn, report, failure, restart, cancel}
+use Rattle.line_reader.specs.declared.Line.{Line}
+use Rattle.line_reader.specs.declared.Line.the-variants.{Open, Calling, Unread}
 use Rattle.line_reader.specs.declared.Call.{Call}
 use Rattle.line_reader.specs.declared.Call.the-variants.{Submit, Turn, Report, Cancel, Fail, Restart}
 use Rattle.hub.specs.View.{view}
@@ -14,6 +17,12 @@ use Rattle.hub.specs.declared.Hub.{Hub}
 -- A hub of no devices stands for none: an accepted `O` has one device at least.
 unfoldable pub hubIn : Hub → Option State
 hubIn h = if eqb (view h .devices) 0 then none else some (view h)
+
+-- What of a line is heard by a hub of so many devices: a call before an accepted `O` is not read.
+abbrev pub heardOf : Line → ℕ → Line
+heardOf (Open n k first) devices = Open n k first
+heardOf (Calling c) devices = if eqb devices 0 then Unread else Calling c
+heardOf Unread devices = Unread
 
 -- For each case of the enum which call it is. A submission's commands stand beside it.
 abbrev pub callIn : Call → Routine → Told

@@ -1,17 +1,17 @@
 // The line program on byte slices: document 01, "The line program". Here stand the calls that others make: the exported one for C, the one over a hub that is
-// lent and changed there, and one line by value. All below them is by value.
+// lent and changed there, and those for an input that comes in parts. All below them is by value.
 mod lines;
 mod running;
 
 use hub::Hub;
-use line_printer::MAX_TEXT;
 ghost use mathlib.Core.Path.{_≡_};
 ghost use mathlib.Core.Option.{none};
 ghost use lib.ListN.{length};
-ghost use Rattle.line_rules.specs.Program.{programText, runFrom, lengthOr21, bufferWith};
+ghost use Rattle.line_rules.specs.Pieces.{linesOf};
+ghost use Rattle.line_rules.specs.Program.{steps, runFrom, programText, lengthOr21, bufferWith};
 ghost use Rattle.hub.specs.Valid.{Valid};
 ghost use Rattle.line.specs.View.{hubIn};
-ghost use Rattle.line.specs.Contract.{Ran, Steps, Finishes};
+ghost use Rattle.line.specs.Contract.{Wrote, Finishes};
 
 // "−21 .. if it is too short"
 pub const TOO_SHORT: i64 = -21;
@@ -22,30 +22,19 @@ pub struct Written {
     pub result: i64,
 }
 
-// No hub: before an accepted `O`.
+// No hub, as before an accepted `O`.
 pub fn no_hub() -> Hub
     ensures { λ r. ⌜ (Valid r) × (hubIn r ≡ none) ⌝ }
 {
     hub::closed()
 }
 
-// One line, by value. The buffer needs MAX_TEXT bytes, whatever the line.
-pub fn step(hub: Hub, line: &[u8], out: &mut [u8]) -> Written
+// The lines of a part of an input, which ends with a line; without the device lines.
+pub fn run_part(hub: Hub, input: &[u8], out: &mut [u8]) -> Written
     requires { ⌜ Valid hub ⌝ }
-    ensures { λ r. ⌜ Steps hub (now (line .entry)) (now (out .entry)) (now (out .exit)) r ⌝ }
+    ensures { λ r. ⌜ Wrote (steps (hubIn hub) (linesOf (now (input .entry)))) hub (r .hub) (now (out .entry)) (now (out .exit)) (r .result) ⌝ }
 {
-    if out.len() < MAX_TEXT {
-        return Written {
-            hub,
-            result: TOO_SHORT,
-        };
-    }
-    let stepped = lines::step_at(hub, line, out, 0);
-    let next = stepped.hub;
-    Written {
-        hub: next,
-        result: stepped.at as i64,
-    }
+    running::run_part(hub, input, out)
 }
 
 // The device lines at the end.
@@ -57,20 +46,21 @@ pub fn finish(hub: Hub, out: &mut [u8]) -> i64
     if out.len() < length {
         return TOO_SHORT;
     }
-    lines::put_devices(hub, out, 0) as i64
+    let end = lines::put_devices(hub, out, 0);
+    end as i64
 }
 
 // The whole program on a hub that is lent and changed there: "It steps on a hub lent to it and changed there, all below it by value."
 pub fn run(hub: &mut Hub, input: &[u8], out: &mut [u8]) -> i64
     requires { ⌜ Valid (now hub) ⌝ }
-    ensures { λ r. ⌜ Ran (now (hub .entry)) (now (hub .exit)) (now (input .entry)) (now (out .entry)) (now (out .exit)) r ⌝ }
+    ensures { λ r. ⌜ Wrote (runFrom (hubIn (now (hub .entry))) (now (input .entry))) (now (hub .entry)) (now (hub .exit)) (now (out .entry)) (now (out .exit)) r ⌝ }
 {
-    let written = running::run_by_value(*hub, input, out);
+    let written = running::run_whole(*hub, input, out);
     *hub = written.hub;
     written.result
 }
 
-// "called from a web server written in C, on two byte slices": the result is the length written, or −21.
+// "called from a web server written in C, on two byte slices: the input, and a lent buffer for the output; the result is the length written .. or −21".
 #[no_mangle]
 pub extern "C" fn plot_hub_run(input: &[u8], out: &mut [u8]) -> i64
     ensures answers { λ r. ⌜ r ≡ lengthOr21 (programText (now (input .entry))) (length (now (out .entry))) ⌝ }

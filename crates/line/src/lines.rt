@@ -1,32 +1,38 @@
-// One line of the program, and the device lines at its end, put into a lent buffer from a place on.
+// What a line does, and the device lines at the end.
 use hub::Hub;
 use hub::Outcome;
 use line_reader::Call;
 use line_reader::Line;
 use routine::Routine;
-use routine::Verdict;
 use state::Answer;
+ghost use mathlib.Core.Path.{_≡_};
 ghost use Prim.Native.Nat.{_+_, _<_, _^_};
 ghost use Rattle.rules.specs.Calls.{resultOf};
-ghost use Rattle.rules.specs.Open.{openOf};
-ghost use Rattle.line_rules.specs.Reading.{readLine};
 ghost use Rattle.line_rules.specs.Printing.{asLine, deviceText};
-ghost use Rattle.line_rules.specs.Program.{step, printsUnread, printsOpening, printsCall, endText};
-ghost use Rattle.line_printer.specs.Put.{maxText, PutShort};
+ghost use Rattle.line_rules.specs.Program.{endText};
+ghost use Rattle.line_printer.specs.Put.{maxDevice, PutShort};
+ghost use Rattle.state.specs.Contract.{changesNothing};
 ghost use Rattle.hub.specs.View.{view};
 ghost use Rattle.hub.specs.Valid.{Valid};
 ghost use Rattle.hub.specs.Contract.{Gives};
-ghost use Rattle.line.specs.View.{hubIn, callIn};
-ghost use Rattle.line.specs.Contract.{StepsAt, maxEnd};
+ghost use Rattle.line.specs.View.{hubIn, heardOf, callIn};
+ghost use Rattle.line.specs.Contract.{maxEnd};
 
-// The hub afterwards, and the place behind what was put.
-pub struct Stepped {
-    pub hub: Hub,
-    pub at: usize,
+// A call before an accepted `O` is not read: there is no hub, that is, one of no devices.
+pub fn heard(line: Line, devices: u8) -> Line
+    ensures { λ r. ⌜ r ≡ heardOf line devices ⌝ }
+{
+    if devices == 0 {
+        let Line::Calling(_) = line else {
+            return line;
+        };
+        return Line::Unread;
+    }
+    line
 }
 
 // The call that a line makes.
-fn called(hub: Hub, call: Call, routine: Routine) -> Outcome
+pub fn called(hub: Hub, call: Call, routine: Routine) -> Outcome
     requires { ⌜ Valid hub ⌝ }
     ensures { λ r. ⌜ Gives hub r (resultOf (view hub) (callIn call routine)) ⌝ }
 {
@@ -40,84 +46,23 @@ fn called(hub: Hub, call: Call, routine: Routine) -> Outcome
     }
 }
 
-fn put_unread(hub: Hub, out: &mut [u8], at: usize) -> Stepped
-    requires { ⌜ (Valid hub) × (at + maxText < 2 ^ 64) ⌝ }
-    ensures { λ r. ⌜ StepsAt (now (out .entry)) (now (out .exit)) at r (printsUnread (hubIn hub)) ⌝ }
+// A refusal and a wait leave the hub as it was.
+pub fn keeps_hub(answer: Answer) -> bool
+    ensures { λ r. ⌜ r ≡ changesNothing answer ⌝ }
 {
-    let end = line_printer::put_unread(out, at);
-    Stepped { hub, at: end }
-}
-
-// "A later accepted `O` starts a new hub", a refused one leaves the old.
-fn put_opening(
-    hub: Hub,
-    devices: u8,
-    pass_limit: u8,
-    first_id: u32,
-    out: &mut [u8],
-    at: usize,
-) -> Stepped
-    requires { ⌜ (Valid hub) × (at + maxText < 2 ^ 64) ⌝ }
-    ensures { λ r. ⌜ StepsAt (now (out .entry)) (now (out .exit)) at r (printsOpening (hubIn hub) (openOf devices «pass_limit» «first_id»)) ⌝ }
-{
-    let opened = hub::open(devices, pass_limit, first_id);
-    let verdict = opened.verdict;
-    let Verdict::Refused(refusal) = verdict else {
-        let end = line_printer::put_opened(out, at);
-        let new = opened.hub;
-        return Stepped { hub: new, at: end };
+    let Answer::Refused(_) = answer else {
+        let Answer::Wait(_, _) = answer else {
+            return false;
+        };
+        return true;
     };
-    let end = line_printer::put_refusal(out, at, refusal);
-    Stepped { hub, at: end }
-}
-
-// A call on a hub that was opened. One that is turned down leaves the hub as it was.
-fn put_call(hub: Hub, call: Call, routine: Routine, out: &mut [u8], at: usize) -> Stepped
-    requires { ⌜ (Valid hub) × (at + maxText < 2 ^ 64) ⌝ }
-    ensures { λ r. ⌜ StepsAt (now (out .entry)) (now (out .exit)) at r (printsCall (hubIn hub) (callIn call routine)) ⌝ }
-{
-    if hub::device_count(hub) == 0 {
-        return put_unread(hub, out, at);
-    }
-    let outcome = called(hub, call, routine);
-    let answer = outcome.answer;
-    let Answer::Refused(refusal) = answer else {
-        let first = outcome.first;
-        let backs = outcome.backs;
-        let end = line_printer::put_answers(out, at, first, answer, backs);
-        let next = outcome.hub;
-        return Stepped { hub: next, at: end };
-    };
-    let end = line_printer::put_refusal(out, at, refusal);
-    Stepped { hub, at: end }
-}
-
-// One line.
-pub fn step_at(hub: Hub, line: &[u8], out: &mut [u8], at: usize) -> Stepped
-    requires { ⌜ (Valid hub) × (at + maxText < 2 ^ 64) ⌝ }
-    ensures { λ r. ⌜ StepsAt (now (out .entry)) (now (out .exit)) at r (step (hubIn hub) (readLine (now (line .entry)))) ⌝ }
-{
-    let read = line_reader::read_line(line);
-    let said = read.line;
-    let routine = read.routine;
-    match said {
-        Line::Open(devices, pass_limit, first_id) => put_opening(
-            hub,
-            devices,
-            pass_limit,
-            first_id,
-            out,
-            at,
-        ),
-        Line::Calling(call) => put_call(hub, call, routine, out, at),
-        Line::Unread => put_unread(hub, out, at),
-    }
+    true
 }
 
 // "one line a device, with its due setting if it is up"
 fn put_device(hub: Hub, device: u8, out: &mut [u8], at: usize) -> usize
-    requires { ⌜ (Valid hub) × (at + maxText < 2 ^ 64) ⌝ }
-    ensures { λ r. ⌜ PutShort maxText (now (out .entry)) (now (out .exit)) at r (asLine (deviceText (view hub) device)) ⌝ }
+    requires { ⌜ (Valid hub) × (at + maxDevice < 2 ^ 64) ⌝ }
+    ensures { λ r. ⌜ PutShort maxDevice (now (out .entry)) (now (out .exit)) at r (asLine (deviceText (view hub) device)) ⌝ }
 {
     let up = hub::is_up(hub, device);
     let due = hub::due_setting(hub, device);

@@ -1,19 +1,32 @@
-// The whole program by value. It is measured first, on a buffer of no bytes, since a buffer that is too short stays as it was.
+// Lines in turn, and the whole program, by value. A buffer that is too short stays as it was: so that the text is measured first, on a buffer of one byte,
+// unless there is room for any text of so many lines.
 use crate::TOO_SHORT;
 use crate::Written;
 use crate::lines;
-use crate::lines::Stepped;
 use hub::Hub;
+use line_printer::MAX_TEXT;
+use line_reader::LINE_END;
+use line_reader::Line;
+use routine::Verdict;
 ghost use mathlib.Core.Path.{_≡_};
-ghost use Prim.Native.Nat.{_<_, _^_};
+ghost use mathlib.Core.Bool.{true};
+ghost use Prim.Native.Nat.{suc, _*_, _<_, _≤_, _^_};
 ghost use lib.ListN.{length};
-ghost use Rattle.line_rules.specs.Program.{endText};
+ghost use Rattle.line_rules.specs.Pieces.{linesOf};
+ghost use Rattle.line_rules.specs.Program.{steps, endText, runFrom};
+ghost use Rattle.line_printer.specs.Put.{maxText};
 ghost use Rattle.hub.specs.Valid.{Valid};
 ghost use Rattle.line.specs.View.{hubIn};
-ghost use Rattle.line.specs.Contract.{RunsLines, Measures, Ran};
+ghost use Rattle.line.specs.Contract.{Wrote, RunsLines, Measures};
 
-// Lines in turn, until what is put goes past the room.
-fn run_lines(hub: Hub, input: &[u8], out: &mut [u8], room: usize) -> Stepped
+// The hub after some lines, and the place behind what they print.
+pub struct Lines {
+    pub hub: Hub,
+    pub at: usize,
+}
+
+// Lines in turn, until what they print goes past the room. The hub is copied only where a line changes it.
+pub fn run_lines(hub: Hub, input: &[u8], out: &mut [u8], room: usize) -> Lines
     requires { ⌜ (Valid hub) × (room < 2 ^ 63) ⌝ }
     ensures { λ r. ⌜ RunsLines hub (now (input .entry)) room (now (out .entry)) (now (out .exit)) r ⌝ }
 {
@@ -22,15 +35,60 @@ fn run_lines(hub: Hub, input: &[u8], out: &mut [u8], room: usize) -> Stepped
     let mut from = 0;
     while from < input.len() {
         if room < at {
-            return Stepped { hub: now, at };
+            return Lines { hub: now, at };
         }
         let end = line_reader::line_end(input, from);
-        let stepped = lines::step_at(now, &input[from..end], out, at);
-        now = stepped.hub;
-        at = stepped.at;
+        let read = line_reader::read_line(&input[from..end]);
+        let line = read.line;
+        let said = lines::heard(line, hub::device_count(now));
+        match said {
+            Line::Open(devices, pass_limit, first_id) => {
+                let opened = hub::open(devices, pass_limit, first_id);
+                let verdict = opened.verdict;
+                match verdict {
+                    Verdict::Accepted => {
+                        at = line_printer::put_opened(out, at);
+                        now = opened.hub;
+                    }
+                    Verdict::Refused(refusal) => {
+                        at = line_printer::put_refusal(out, at, refusal);
+                    }
+                }
+            }
+            Line::Calling(call) => {
+                let routine = read.routine;
+                let outcome = lines::called(now, call, routine);
+                let first = outcome.first;
+                let answer = outcome.answer;
+                let backs = outcome.backs;
+                at = line_printer::put_answers(out, at, first, answer, backs);
+                if !lines::keeps_hub(answer) {
+                    now = outcome.hub;
+                }
+            }
+            Line::Unread => {
+                at = line_printer::put_unread(out, at);
+            }
+        }
         from = end + 1;
     }
-    Stepped { hub: now, at }
+    Lines { hub: now, at }
+}
+
+// Is there room for any text of so many lines, and as much again for the device lines?
+fn is_ample(input: &[u8], room: usize) -> bool
+    ensures { λ r. ⌜ (r ≡ true → maxText * suc (length (linesOf (now (input .entry)))) ≤ room) ⌝ }
+{
+    let most = room / MAX_TEXT;
+    let mut count = 1;
+    let mut i = 0;
+    while i < input.len() {
+        if input[i] == LINE_END {
+            count += 1;
+        }
+        i += 1;
+    }
+    count < most
 }
 
 // How long the device lines are.
@@ -42,10 +100,20 @@ pub fn devices_length(hub: Hub) -> usize
     lines::put_devices(hub, &mut nowhere, 0)
 }
 
-// How long the whole text is; or a number past the room, if it is longer than that.
-fn text_length(hub: Hub, input: &[u8], room: usize) -> usize
+// How long the text of the lines is; or a number past the room, if it is longer than that.
+fn lines_length(hub: Hub, input: &[u8], room: usize) -> usize
     requires { ⌜ (Valid hub) × (room < 2 ^ 63) ⌝ }
-    ensures { λ r. ⌜ Measures hub (now (input .entry)) room r ⌝ }
+    ensures { λ r. ⌜ Measures (steps (hubIn hub) (linesOf (now (input .entry))) .text) room r ⌝ }
+{
+    let mut nowhere = [0u8; 1];
+    let ran = run_lines(hub, input, &mut nowhere, room);
+    ran.at
+}
+
+// The same of the whole text.
+fn whole_length(hub: Hub, input: &[u8], room: usize) -> usize
+    requires { ⌜ (Valid hub) × (room < 2 ^ 63) ⌝ }
+    ensures { λ r. ⌜ Measures (runFrom (hubIn hub) (now (input .entry)) .text) room r ⌝ }
 {
     let mut nowhere = [0u8; 1];
     let ran = run_lines(hub, input, &mut nowhere, room);
@@ -56,18 +124,43 @@ fn text_length(hub: Hub, input: &[u8], room: usize) -> usize
     lines::put_devices(next, &mut nowhere, ran.at)
 }
 
-// The whole program.
-pub fn run_by_value(hub: Hub, input: &[u8], out: &mut [u8]) -> Written
+// The lines of an input.
+pub fn run_part(hub: Hub, input: &[u8], out: &mut [u8]) -> Written
     requires { ⌜ Valid hub ⌝ }
-    ensures { λ r. ⌜ Ran hub (r .hub) (now (input .entry)) (now (out .entry)) (now (out .exit)) (r .result) ⌝ }
+    ensures { λ r. ⌜ Wrote (steps (hubIn hub) (linesOf (now (input .entry)))) hub (r .hub) (now (out .entry)) (now (out .exit)) (r .result) ⌝ }
 {
     let room = out.len();
-    let length = text_length(hub, input, room);
-    if room < length {
-        return Written {
-            hub,
-            result: TOO_SHORT,
-        };
+    if !is_ample(input, room) {
+        let length = lines_length(hub, input, room);
+        if room < length {
+            return Written {
+                hub,
+                result: TOO_SHORT,
+            };
+        }
+    }
+    let ran = run_lines(hub, input, out, room);
+    let next = ran.hub;
+    Written {
+        hub: next,
+        result: ran.at as i64,
+    }
+}
+
+// The lines of an input, and then the device lines.
+pub fn run_whole(hub: Hub, input: &[u8], out: &mut [u8]) -> Written
+    requires { ⌜ Valid hub ⌝ }
+    ensures { λ r. ⌜ Wrote (runFrom (hubIn hub) (now (input .entry))) hub (r .hub) (now (out .entry)) (now (out .exit)) (r .result) ⌝ }
+{
+    let room = out.len();
+    if !is_ample(input, room) {
+        let length = whole_length(hub, input, room);
+        if room < length {
+            return Written {
+                hub,
+                result: TOO_SHORT,
+            };
+        }
     }
     let ran = run_lines(hub, input, out, room);
     let next = ran.hub;

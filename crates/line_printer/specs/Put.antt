@@ -9,12 +9,16 @@ use lib.Seq.{sets}
 use Rattle.routine.specs.Choice.{if_then_else_}
 use Rattle.line_rules.specs.Text.{bytes, decimal, signed}
 
--- No line's answers, and no device line, are longer; one answer has half of it.
+-- The answers of a line are not longer; one answer has half of it.
 abbrev pub maxText : ℕ
 maxText = 800
 
 abbrev pub halfText : ℕ
 halfText = 400
+
+-- No device line is longer.
+abbrev pub maxDevice : ℕ
+maxDevice = 25
 
 -- The buffer has the text from a place on, as far as it reaches; and the place behind the text.
 pub record Put (before after : List ℕ) (at end : ℕ) (text : List ℕ) : Type 0 where

@@ -12,9 +12,9 @@ ghost use Rattle.line_rules.specs.Text.{bytes};
 ghost use Rattle.line_rules.specs.Printing.{asLine, refusalText, answersText};
 ghost use Rattle.state.specs.View.{answersOf};
 ghost use Rattle.state.specs.Valid.{BacksOk};
-ghost use Rattle.line_printer.specs.Put.{maxText, PutShort, deviceTextOf};
+ghost use Rattle.line_printer.specs.Put.{maxText, maxDevice, PutShort, deviceTextOf};
 
-// No line's answers, and no device line, are longer.
+// The answers of a line are not longer.
 pub const MAX_TEXT: usize = 800;
 
 // "prints `unread`"
@@ -58,8 +58,8 @@ pub fn put_answers(
 
 // "one line a device, with its due setting if it is up"
 pub fn put_device(out: &mut [u8], at: usize, device: u8, up: bool, due: i16) -> usize
-    requires { ⌜ at + maxText < 2 ^ 64 ⌝ }
-    ensures { λ r. ⌜ PutShort maxText (now (out .entry)) (now (out .exit)) at r (asLine (deviceTextOf device up due)) ⌝ }
+    requires { ⌜ at + maxDevice < 2 ^ 64 ⌝ }
+    ensures { λ r. ⌜ PutShort maxDevice (now (out .entry)) (now (out .exit)) at r (asLine (deviceTextOf device up due)) ⌝ }
 {
     let named = text::put_one(out, at, b"device ", device as u64);
     if up {

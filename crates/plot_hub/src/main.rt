@@ -61,10 +61,18 @@ fn read_all(input: &mut [u8], out: &mut [u8]) -> Read
         let answer = libc::read(STDIN_FILENO, &mut input[held..]);
         if answer < 0 {
             say(b"standard input cannot be read");
-            return Read { hub, held, good: false };
+            return Read {
+                hub,
+                held,
+                good: false,
+            };
         }
         if answer == 0 {
-            return Read { hub, held, good: true };
+            return Read {
+                hub,
+                held,
+                good: true,
+            };
         }
         let got = pieces::least(answer as usize, input.len() - held);
         let read = piece_in(hub, held, got, input, out);
@@ -76,7 +84,11 @@ fn read_all(input: &mut [u8], out: &mut [u8]) -> Read
         held = read.held;
         turns -= 1;
     }
-    Read { hub, held, good: false }
+    Read {
+        hub,
+        held,
+        good: false,
+    }
 }
 
 fn main() {

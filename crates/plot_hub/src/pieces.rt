@@ -73,7 +73,11 @@ pub fn lines_in(hub: Hub, piece: &[u8], out: &mut [u8]) -> Fed
         end = line_reader::line_end(piece, from);
     }
     let good = io::write_all(STDOUT_FILENO, &out[..at]);
-    Fed { hub: now, from, good }
+    Fed {
+        hub: now,
+        from,
+        good,
+    }
 }
 
 // Moves a line whose end is not there to the front. One that is too long already stays so when it is cut one byte past the longest.

@@ -6,27 +6,27 @@ use Rattle.line.proofs.finish.Lts as lts
 use Rattle.line.proofs.lines.put_devices.Reads as put-devices-reads
 use Rattle.line.proofs.running.devices_length.Reads as devices-length-reads
 
--- src/lib.rt:55:9
+-- src/lib.rt:45:9
 devices-length-requires : tie.Need-devices-length-requires
 devices-length-requires c κs = search needs
 
--- src/lib.rt:57:9
+-- src/lib.rt:47:9
 returns : tie.Need-returns
 returns c = ?
 
--- src/lib.rt:59:5
+-- src/lib.rt:49:9
 put-devices-requires : tie.Need-put-devices-requires
 put-devices-requires c κs = search needs
 
--- src/lib.rt:59:5
+-- src/lib.rt:50:5
 cast-result : tie.Need-cast-result
 cast-result c = search needs
 
--- src/lib.rt:51:1
+-- src/lib.rt:41:1
 same-length : tie.Need-same-length
 same-length c = search needs
 
--- src/lib.rt:51:1
+-- src/lib.rt:41:1
 returns-2 : tie.Need-returns-2
 returns-2 c = ?
 

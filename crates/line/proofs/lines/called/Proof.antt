@@ -10,75 +10,75 @@ use Rattle.hub.proofs.restart.Reads as restart-reads
 use Rattle.hub.proofs.submit.Reads as submit-reads
 use Rattle.hub.proofs.turn.Reads as turn-reads
 
--- src/lines.rt:34:25
+-- src/lines.rt:40:25
 enum-told : tie.Need-enum-told
 enum-told c = search needs
 
--- src/lines.rt:34:25
+-- src/lines.rt:40:25
 submit-requires : tie.Need-submit-requires
 submit-requires c κs = search needs
 
--- src/lines.rt:35:20
+-- src/lines.rt:41:20
 enum-known-call : tie.Need-enum-known-call
 enum-known-call c = search needs
 
--- src/lines.rt:35:27
+-- src/lines.rt:41:27
 turn-requires : tie.Need-turn-requires
 turn-requires c κs = search needs
 
--- src/lines.rt:36:22
+-- src/lines.rt:42:22
 enum-known-call-2 : tie.Need-enum-known-call-2
 enum-known-call-2 c = search needs
 
--- src/lines.rt:36:35
+-- src/lines.rt:42:35
 report-requires : tie.Need-report-requires
 report-requires c κs = search needs
 
--- src/lines.rt:37:22
+-- src/lines.rt:43:22
 enum-known-call-3 : tie.Need-enum-known-call-3
 enum-known-call-3 c = search needs
 
--- src/lines.rt:37:29
+-- src/lines.rt:43:29
 cancel-requires : tie.Need-cancel-requires
 cancel-requires c κs = search needs
 
--- src/lines.rt:38:20
+-- src/lines.rt:44:20
 enum-known-call-4 : tie.Need-enum-known-call-4
 enum-known-call-4 c = search needs
 
--- src/lines.rt:38:31
+-- src/lines.rt:44:31
 fail-requires : tie.Need-fail-requires
 fail-requires c κs = search needs
 
--- src/lines.rt:39:23
+-- src/lines.rt:45:23
 enum-known-call-5 : tie.Need-enum-known-call-5
 enum-known-call-5 c = search needs
 
--- src/lines.rt:39:43
+-- src/lines.rt:45:43
 restart-requires : tie.Need-restart-requires
 restart-requires c κs = search needs
 
--- src/lines.rt:29:1
+-- src/lines.rt:35:1
 returns : tie.Need-returns
 returns c = ?
 
--- src/lines.rt:29:1
+-- src/lines.rt:35:1
 returns-2 : tie.Need-returns-2
 returns-2 c = ?
 
--- src/lines.rt:29:1
+-- src/lines.rt:35:1
 returns-3 : tie.Need-returns-3
 returns-3 c = ?
 
--- src/lines.rt:29:1
+-- src/lines.rt:35:1
 returns-4 : tie.Need-returns-4
 returns-4 c = ?
 
--- src/lines.rt:29:1
+-- src/lines.rt:35:1
 returns-5 : tie.Need-returns-5
 returns-5 c = ?
 
--- src/lines.rt:29:1
+-- src/lines.rt:35:1
 returns-6 : tie.Need-returns-6
 returns-6 c = ?
 

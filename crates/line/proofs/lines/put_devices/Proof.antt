@@ -11,35 +11,35 @@ Inv-loop hub out₀ at count to₀ device₀ out to device = ?
 abbrev μ-loop : tie.MeasureT-loop
 μ-loop hub out₀ at count to₀ device₀ out to device = ?
 
--- src/lines.rt:136:9
+-- src/lines.rt:77:9
 device-count-requires : tie.Need-device-count-requires Inv-loop μ-loop
 device-count-requires c κs = ?
 
--- src/lines.rt:139:5
+-- src/lines.rt:80:5
 loop-holds : tie.Need-loop-holds Inv-loop μ-loop
 loop-holds c = ?
 
--- src/lines.rt:140:9
+-- src/lines.rt:81:9
 put-device-requires : tie.Need-put-device-requires Inv-loop μ-loop
 put-device-requires c κs = ?
 
--- src/lines.rt:141:9
+-- src/lines.rt:82:9
 add-device : tie.Need-add-device Inv-loop μ-loop
 add-device c = ?
 
--- src/lines.rt:139:5
+-- src/lines.rt:80:5
 loop-less : tie.Need-loop-less Inv-loop μ-loop
 loop-less c = ?
 
--- src/lines.rt:139:5
+-- src/lines.rt:80:5
 loop-again : tie.Need-loop-again Inv-loop μ-loop
 loop-again c = ?
 
--- src/lines.rt:132:1
+-- src/lines.rt:73:1
 same-length : tie.Need-same-length Inv-loop μ-loop
 same-length c = ?
 
--- src/lines.rt:132:1
+-- src/lines.rt:73:1
 returns : tie.Need-returns Inv-loop μ-loop
 returns c = ?
 
