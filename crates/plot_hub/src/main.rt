@@ -1,16 +1,16 @@
-// The line program from standard input to standard output: document 01, "The line program". It reads in pieces, so that an input may have any length; each line
-// goes through `line::step`.
+// The line program from standard input to standard output: document 01, "The line program". It reads in pieces, so that an input may have any length; the lines go
+// through `line::run_part`, and the device lines are those of `line::finish`.
 mod pieces;
 
 use hub::Hub;
 use libc::STDERR_FILENO;
 use libc::STDIN_FILENO;
-use libc::STDOUT_FILENO;
-ghost use Prim.Native.Nat.{_≤_};
+ghost use Prim.Native.Nat.{_+_, _≤_};
 ghost use lib.ListN.{length};
 ghost use Rattle.hub.specs.Valid.{Valid};
 
 extern "C" {
+    // C's `signal`, for a pipe that nobody reads any more: ignored, it makes a write fail instead of ending the process.
     fn signal(number: i32, handler: usize) -> usize;
 }
 
@@ -19,34 +19,33 @@ const SIGPIPE: i32 = 13;
 // C's SIG_IGN.
 const IGNORED: usize = 1;
 
-// How the reading ended: the hub, how much of a last line without its end is held, and whether all went well.
+// How far the reading came: the hub, how many bytes are held of a line whose end has not come, and whether all went well.
 struct Read {
     hub: Hub,
     held: usize,
     good: bool,
 }
 
-// One piece behind the held bytes of a line: its lines go out, and the rest is held.
-fn piece_in(hub: Hub, held: usize, got: usize, input: &mut [u8], out: &mut [u8]) -> Read
-    requires { ⌜ (Valid hub) × (held + got ≤ length (now input)) ⌝ }
-    ensures { λ r. ⌜ (Valid (r .hub)) × (r .held ≤ 129) ⌝ }
-{
-    let filled = held + got;
-    let fed = pieces::lines_in(hub, &input[..filled], out);
-    let next = fed.hub;
-    let good = fed.good;
-    let kept = pieces::keep(input, fed.from, filled);
-    Read {
-        hub: next,
-        held: kept,
-        good,
-    }
-}
-
 fn say(message: &[u8]) {
     io::write_all(STDERR_FILENO, b"plot_hub: ");
     io::write_all(STDERR_FILENO, message);
     io::write_all(STDERR_FILENO, b"\n");
+}
+
+// One piece behind the held bytes: its whole lines are run, and the rest is held.
+fn take_piece(hub: Hub, held: usize, got: usize, input: &mut [u8], out: &mut [u8]) -> Read
+    requires { ⌜ (Valid hub) × (held + got ≤ length (now input)) ⌝ }
+    ensures { λ r. ⌜ (Valid (r .hub)) × (r .held ≤ 129) ⌝ }
+{
+    let filled = held + got;
+    let ran = pieces::run_lines(hub, &input[..filled], out);
+    let next = ran.hub;
+    let kept = pieces::keep(input, ran.from, filled);
+    Read {
+        hub: next,
+        held: kept,
+        good: ran.good,
+    }
 }
 
 // Piece by piece to the end of the input. Nothing says that an input ends, so the loop counts its turns down.
@@ -75,7 +74,7 @@ fn read_all(input: &mut [u8], out: &mut [u8]) -> Read
             };
         }
         let got = pieces::least(answer as usize, input.len() - held);
-        let read = piece_in(hub, held, got, input, out);
+        let read = take_piece(hub, held, got, input, out);
         if !read.good {
             say(b"standard output cannot be written");
             return read;

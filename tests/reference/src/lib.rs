@@ -4,6 +4,7 @@
 
 #![forbid(unsafe_code)]
 
+pub mod examples;
 pub mod histories;
 pub mod hub;
 pub mod line;

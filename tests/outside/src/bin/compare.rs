@@ -7,6 +7,7 @@
 //! From the root. PLOT_HUB_CALLER and PLOT_HUB_PROGRAM name other programs than the built ones; the words of PLOT_HUB_UNDER
 //! are put before the caller's name (valgrind with its options).
 
+use reference::examples;
 use outside::{again, number, readable, setting, Random, Watch};
 use std::fmt;
 use std::io::{Read, Write};
@@ -15,6 +16,7 @@ use std::sync::atomic::{AtomicU64, AtomicUsize, Ordering};
 use std::sync::Mutex;
 use std::thread;
 
+const EXAMPLES: &str = "tests/hub/examples.txt";
 /// So many inputs of each kind are generated, run and compared together.
 const BATCH: u64 = 500;
 /// So many inputs make a joined one, and one is made for every so many.
@@ -70,7 +72,7 @@ impl Item {
             Kind::Damaged => reference::histories::damaged(seed, index),
             Kind::Joined => joined(seed, index),
             Kind::Example => {
-                let (input, output) = examples().into_iter().nth(index as usize)?;
+                let (input, output) = examples::read(EXAMPLES).into_iter().nth(index as usize)?;
                 stated = Some(output);
                 input
             }
@@ -101,36 +103,6 @@ fn joined(seed: u64, index: u64) -> Vec<u8> {
         }
     }
     all
-}
-
-/// Document 01's examples with their output, from tests/hub. A book, and a report with another code than 0 and 1, are no input
-/// of the line program.
-fn examples() -> Vec<(Vec<u8>, Vec<u8>)> {
-    let path = "tests/hub/examples.txt";
-    let text = std::fs::read_to_string(path).unwrap_or_else(|problem| panic!("{path}: {problem} (run from the root)"));
-    let mut found: Vec<(String, String)> = Vec::new();
-    let (mut begun, mut in_output) = (false, false);
-    for line in text.lines() {
-        if line.starts_with('#') {
-            begun = false;
-            in_output = false;
-        } else if line == "--" {
-            in_output = true;
-        } else if !line.is_empty() {
-            if !begun {
-                found.push(Default::default());
-                begun = true;
-            }
-            let last = found.last_mut().unwrap();
-            let part = if in_output { &mut last.1 } else { &mut last.0 };
-            part.push_str(line);
-            part.push('\n');
-        }
-    }
-    let own = |input: &str| input.lines().all(|line| !line.starts_with("P ") && !line.starts_with("book"));
-    let found: Vec<_> = found.into_iter().filter(|(input, _)| own(input)).collect();
-    assert!(found.len() >= 18, "{path}: only {} examples", found.len());
-    found.into_iter().map(|(input, output)| (input.into_bytes(), output.into_bytes())).collect()
 }
 
 /// Inputs at the edges of the line format and of the ranges.
@@ -482,7 +454,7 @@ fn compare(count: u64, seed: u64, programs: bool) {
         let end = (start + BATCH).min(count);
         let mut names: Vec<(Kind, u64)> = Vec::new();
         if start == 0 {
-            names.extend((0..examples().len() as u64).map(|index| (Kind::Example, index)));
+            names.extend((0..examples::read(EXAMPLES).len() as u64).map(|index| (Kind::Example, index)));
             names.extend((0..edges().len() as u64).map(|index| (Kind::Edge, index)));
             if programs {
                 names.extend((0..).take_while(|&index| cut(index).is_some()).map(|index| (Kind::Cut, index as u64)));
