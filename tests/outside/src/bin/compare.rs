@@ -7,8 +7,8 @@
 //! From the root. PLOT_HUB_CALLER and PLOT_HUB_PROGRAM name other programs than the built ones; the words of PLOT_HUB_UNDER
 //! are put before the caller's name (valgrind with its options).
 
-use reference::examples;
 use outside::{again, number, readable, setting, Random, Watch};
+use reference::examples;
 use std::fmt;
 use std::io::{Read, Write};
 use std::process::{Child, ChildStdin, ChildStdout, Command, ExitCode, Stdio};
