@@ -1,4 +1,4 @@
--- Pieces by their places: how far a piece reaches, and the words of a line from a place on. Assumes nothing.
+-- Words by their places: the words of a line from a place on. Assumes nothing.
 use mathlib.Core.Path.{_≡_}
 use mathlib.Core.Bool.{true, false}
 use mathlib.Core.List.{List, [], _∷_}
@@ -9,7 +9,7 @@ use lib.IntN.{ℤ}
 use lib.ListN.{length, take, drop}
 use Rattle.routine.specs.Choice.{if_then_else_}
 use Rattle.line_rules.specs.Text.{space}
-use Rattle.line_rules.specs.Pieces.{pieces}
+use Rattle.line_rules.specs.Pieces.{pieces, reach}
 use Rattle.line_rules.specs.Reading.{numberUpTo, setting, commands}
 use Rattle.routine.specs.declared.Command.{Command}
 use Rattle.line_reader.specs.declared.calls.CommandRead.{CommandRead}
@@ -17,11 +17,6 @@ use Rattle.line_reader.specs.declared.numbers.Number.{Number}
 use Rattle.line_reader.specs.declared.numbers.Number.the-variants.{Found, Missing}
 use Rattle.line_reader.specs.declared.numbers.Setting.{Setting}
 use Rattle.line_reader.specs.declared.numbers.Setting.the-variants.{Found as SettingFound, Missing as SettingMissing}
-
--- How many bytes come before the first such byte.
-unfoldable pub reach : ℕ → List ℕ → ℕ
-reach byte [] = 0
-reach byte (b ∷ bs) = if eqb b byte then 0 else suc (reach byte bs)
 
 -- The word that begins at a place of a line, and where it ends.
 unfoldable pub wordAt : List ℕ → ℕ → List ℕ

@@ -7,9 +7,9 @@ use routine::Routine;
 ghost use mathlib.Core.Path.{_≡_};
 ghost use Prim.Native.Nat.{_+_};
 ghost use lib.ListN.{drop};
+ghost use Rattle.line_rules.specs.Pieces.{reach};
 ghost use Rattle.line_rules.specs.Reading.{readLine};
 ghost use Rattle.line_reader.specs.Held.{heldLine};
-ghost use Rattle.line_reader.specs.Places.{reach};
 
 // Lines of up to this many bytes are read.
 pub const MAX_LINE: usize = 128;

@@ -2,7 +2,7 @@
 ghost use mathlib.Core.Path.{_≡_};
 ghost use Prim.Native.Nat.{_+_};
 ghost use lib.ListN.{drop};
-ghost use Rattle.line_reader.specs.Places.{reach};
+ghost use Rattle.line_rules.specs.Pieces.{reach};
 
 // Where the piece that begins at a place ends: at the next such byte, or at the end.
 pub fn piece_end(bytes: &[u8], from: usize, byte: u8) -> usize
