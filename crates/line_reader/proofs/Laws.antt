@@ -1,0 +1,197 @@
+-- Laws of words by their places, and of the numbers in them. Assumes nothing.
+use mathlib.Core.Path.{_≡_, refl, sym, ap, _∙_}
+use mathlib.Core.Logic.{_≢_}
+use mathlib.Core.Bool.{Bool, true, false}
+use mathlib.Core.List.{List, [], _∷_}
+use mathlib.Core.Option.{Option, none, some}
+use Prim.Native.Nat.{ℕ, suc, _+_, _-_, _*_, _≤_, _<_}
+use native.Mathlib.Omega.{arith}
+use borrow.Author.Tests.{ltb-true, ltb-false, lt-ltb, le-ltb, le-leb, lt-leb, leb-true, eq-eqb, ne-eqb}
+use lib.Dec.{ltb, leb, eqb}
+use lib.IntN.{ℤ, pos, negsuc, _-ℤ_}
+use lib.ListN.{length, take, drop, getD, length-drop, drop-of-length-le}
+use lib.Seq.{drop-cons, drop-drop, take-all, length-take-le}
+use mir.Syntax.{w16, w64}
+use mir.Val.{SFits}
+use Rattle.routine.specs.Choice.{if_then_else_}
+use Rattle.routine.proofs.Laws.{byTest}
+use Rattle.line_rules.specs.Text.{space, minus, digit0}
+use Rattle.line_rules.specs.Pieces.{pieces, reach}
+use Rattle.line_rules.specs.Reading.{highest16, lowest16, isDigit, digitsFrom, number, within, numberUpTo, positive, minusOf, negative, setting}
+use Rattle.line_rules.proofs.Laws.{reach-within, pieces-parted, pieces-one}
+use Rattle.line_reader.specs.Places.{wordAt, wordEnd, wordsFrom, heldNumber, foundFrom, numberAt, heldSetting, settingAt}
+use Rattle.line_reader.specs.declared.numbers.Number.the-variants.{Found, Missing}
+
+-- ---- how far a piece reaches from a place
+
+reach-past : (byte : ℕ) (bs : List ℕ) (at : ℕ) → length bs ≤ at → reach byte (drop at bs) ≡ 0
+unfolding reach
+reach-past byte bs at h = rw (drop-of-length-le bs h)
+
+reach-here : (byte : ℕ) (bs : List ℕ) (at : ℕ) → at < length bs → getD bs at 0 ≡ byte → reach byte (drop at bs) ≡ 0
+unfolding reach
+reach-here byte bs at h e = rw (drop-cons bs at 0 h, eq-eqb (getD bs at 0) byte e)
+
+reach-on : (byte : ℕ) (bs : List ℕ) (at : ℕ) → at < length bs → getD bs at 0 ≢ byte → reach byte (drop at bs) ≡ suc (reach byte (drop (suc at) bs))
+unfolding reach
+reach-on byte bs at h n = rw (drop-cons bs at 0 h, ne-eqb (getD bs at 0) byte n)
+
+-- where the piece ends
+
+pub ends-past : (byte : ℕ) (bs : List ℕ) (at : ℕ) → length bs ≤ at → at + reach byte (drop at bs) ≡ at
+ends-past byte bs at h = omega (arith, reach-past byte bs at h)
+
+pub ends-here : (byte : ℕ) (bs : List ℕ) (at : ℕ) → at < length bs → getD bs at 0 ≡ byte → at + reach byte (drop at bs) ≡ at
+ends-here byte bs at h e = omega (arith, reach-here byte bs at h e)
+
+pub ends-on : (byte : ℕ) (bs : List ℕ) (at : ℕ) → at < length bs → getD bs at 0 ≢ byte → at + reach byte (drop at bs) ≡ suc at + reach byte (drop (suc at) bs)
+ends-on byte bs at h n = omega (arith, reach-on byte bs at h n)
+
+-- ---- the word at a place
+
+module _ (line : List ℕ) (at : ℕ) where
+  -- one of no bytes
+  pub word-past : length line ≤ at → (wordAt line at ≡ []) × (wordEnd line at ≡ at)
+  unfolding wordAt wordEnd
+  word-past h = (rw (reach-past space line at h), ends-past space line at h)
+
+  pub word-none : at < length line → getD line at 0 ≡ space → (wordAt line at ≡ []) × (wordEnd line at ≡ at)
+  unfolding wordAt wordEnd
+  word-none h e = (rw (reach-here space line at h e), ends-here space line at h e)
+
+  pub word-more : at < length line → getD line at 0 ≢ space → (wordAt line at ≡ getD line at 0 ∷ wordAt line (suc at)) × (wordEnd line at ≡ wordEnd line (suc at))
+  unfolding wordAt wordEnd
+  word-more h n = (rw (reach-on space line at h n, drop-cons line at 0 h), ends-on space line at h n)
+
+  -- a word ends as many bytes further as it has
+  pub word-length : wordEnd line at ≡ at + length (wordAt line at)
+  unfolding wordAt wordEnd
+  word-length = rw (length-take-le (reach space (drop at line)) (drop at line) (reach-within space (drop at line)))
+
+  pub word-inside : at ≤ length line → wordEnd line at ≤ length line
+  unfolding wordEnd
+  word-inside h = omega (arith, reach-within space (drop at line), length-drop at line)
+
+  -- ---- the words from a place on
+
+  pub words-none : length line < at → wordsFrom line at ≡ []
+  unfolding wordsFrom
+  words-none h = rw (lt-leb at (length line) h)
+
+  pub words-first : at ≤ length line → wordsFrom line at ≡ wordAt line at ∷ wordsFrom line (suc (wordEnd line at))
+  unfolding wordsFrom wordAt wordEnd
+  words-first h = rw (le-leb at (length line) h) (go (ltb r (length bs)) refl)
+    where
+      bs : List ℕ
+      bs = drop at line
+
+      r : ℕ
+      r = reach space bs
+
+      left : length bs ≡ length line - at
+      left = length-drop at line
+
+      go : (t : Bool) → ltb r (length bs) ≡ t → pieces space bs ≡ take r bs ∷ (if leb (suc (at + r)) (length line) then pieces space (drop (suc (at + r)) line) else [])
+      go true e =
+          let more = ltb-true r (length bs) e in
+          let n : at + suc r ≡ suc (at + r) = omega arith in
+          rw (le-leb (suc (at + r)) (length line) (omega (arith, left)))
+          (pieces-parted space bs more ∙ ap (λ (l : List ℕ). take r bs ∷ pieces space l) (drop-drop (suc r) at line ∙ ap (λ (k : ℕ). drop k line) n))
+      go false e =
+          let past = ltb-false r (length bs) e in
+          rw (lt-leb (suc (at + r)) (length line) (omega (arith, left)), take-all r bs past) (pieces-one space bs past)
+
+-- ---- numbers
+
+pub digits-more : (n b : ℕ) (bs : List ℕ) → digit0 ≤ b → b < digit0 + 10 → digitsFrom n (b ∷ bs) ≡ digitsFrom (10 * n + (b - digit0)) bs
+unfolding digitsFrom
+digits-more n b bs h k = rw (le-leb digit0 b h, lt-ltb b (digit0 + 10) k)
+
+pub digits-below : (n b : ℕ) (bs : List ℕ) → b < digit0 → digitsFrom n (b ∷ bs) ≡ none
+unfolding digitsFrom
+digits-below n b bs h = rw (lt-leb digit0 b h)
+
+pub digits-above : (n b : ℕ) (bs : List ℕ) → digit0 + 10 ≤ b → digitsFrom n (b ∷ bs) ≡ none
+unfolding digitsFrom
+digits-above n b bs h = rw (le-leb digit0 b (omega arith), le-ltb b (digit0 + 10) h)
+
+-- a number too large gets no smaller
+pub digits-large : (highest n : ℕ) (bs : List ℕ) → highest < n → within highest (digitsFrom n bs) ≡ none
+unfolding digitsFrom
+digits-large highest n [] h = rw (lt-leb n highest h)
+digits-large highest n (b ∷ bs) h =
+    byTest (λ (t : Bool). within highest (if t then digitsFrom (10 * n + (b - digit0)) bs else none) ≡ none) (isDigit b)
+    (λ _. digits-large highest (10 * n + (b - digit0)) bs (omega arith)) (λ _. refl)
+
+-- what the digits of a word say, but for the word of no bytes
+pub number-none : (highest : ℕ) (word : List ℕ) → within highest (digitsFrom 0 word) ≡ none → numberUpTo highest word ≡ none
+unfolding numberUpTo number
+number-none highest [] e = refl
+number-none highest (b ∷ bs) e = e
+
+pub number-digits : (highest : ℕ) (word : List ℕ) → 0 < length word → numberUpTo highest word ≡ within highest (digitsFrom 0 word)
+unfolding numberUpTo number
+number-digits highest [] h = absurd (omega arith)
+number-digits highest (b ∷ bs) h = refl
+
+pub number-empty : (highest : ℕ) → numberUpTo highest [] ≡ none
+unfolding numberUpTo number
+number-empty highest = refl
+
+within-some : (highest n : ℕ) → n ≤ highest → within highest (some n) ≡ some n
+within-some highest n h = rw (le-leb n highest h)
+
+within-bound : (highest : ℕ) (o : Option ℕ) (n : ℕ) → within highest o ≡ some n → n ≤ highest
+within-bound highest none n e = let z : _≡_ {A = ℕ} 0 1 = cc in absurd (omega arith)
+within-bound highest (some m) n e = go (leb m highest) refl e
+  where
+    go : (t : Bool) → leb m highest ≡ t → (if t then some m else none) ≡ some n → n ≤ highest
+    go true t f = let same : m ≡ n = cc in omega (arith, leb-true m highest t)
+    go false t f = let z : _≡_ {A = ℕ} 0 1 = cc in absurd (omega arith)
+
+-- "with a number outside its width": none
+pub number-bound : (highest : ℕ) (word : List ℕ) (n : ℕ) → numberUpTo highest word ≡ some n → n ≤ highest
+unfolding numberUpTo
+number-bound highest word n e = within-bound highest (number word) n e
+
+-- one that was read to the end of its word
+read-whole : (highest : ℕ) (word : List ℕ) (value from at : ℕ) → digitsFrom 0 word ≡ some value → value ≤ highest → at ≡ from + length word →
+    foundFrom value from at ≡ heldNumber (numberUpTo highest word) at
+read-whole highest [] value from at d h e = rw (number-empty highest, eq-eqb from at (omega arith))
+read-whole highest (b ∷ bs) value from at d h e =
+    rw (number-digits highest (b ∷ bs) (omega arith), d, ne-eqb from at (λ f. omega arith), within-some highest value h)
+
+-- ---- the number at a place
+
+-- what is left of a word at a place within it, behind the digits of a value
+pub record Left (line : List ℕ) (from at value : ℕ) : Type 0 where
+  pub digits : digitsFrom value (wordAt line at) ≡ digitsFrom 0 (wordAt line from)
+  pub ends : wordEnd line at ≡ wordEnd line from
+
+module _ (highest : ℕ) (line : List ℕ) (from : ℕ) where
+  pub number-ended : (at value : ℕ) → Left line from at value → value ≤ highest → (wordAt line at ≡ []) × (wordEnd line at ≡ at) → foundFrom value from at ≡ numberAt highest line from
+  unfolding numberAt digitsFrom
+  number-ended at value left h e =
+      let ends : at ≡ wordEnd line from = sym (e .1) ∙ left .ends in
+      let digits : digitsFrom 0 (wordAt line from) ≡ some value = sym (left .digits) ∙ ap (digitsFrom value) (e .0) in
+      read-whole highest (wordAt line from) value from at digits h (ends ∙ word-length line from) ∙ ap (heldNumber (numberUpTo highest (wordAt line from))) ends
+
+  -- the digits left say that there is none
+  pub number-missing : (at value : ℕ) → Left line from at value → within highest (digitsFrom value (wordAt line at)) ≡ none → numberAt highest line from ≡ Missing
+  unfolding numberAt
+  number-missing at value left e = rw (number-none highest (wordAt line from) (ap (within highest) (sym (left .digits)) ∙ e))
+
+module _ (line : List ℕ) (at value : ℕ) (h : at < length line) (n : getD line at 0 ≢ space) where
+  -- no digit
+  pub left-below : getD line at 0 < digit0 → digitsFrom value (wordAt line at) ≡ none
+  left-below k = rw (word-more line at h n .0) (digits-below value (getD line at 0) (wordAt line (suc at)) k)
+
+  pub left-above : digit0 + 10 ≤ getD line at 0 → digitsFrom value (wordAt line at) ≡ none
+  left-above k = rw (word-more line at h n .0) (digits-above value (getD line at 0) (wordAt line (suc at)) k)
+
+  -- one digit more
+  pub left-more : (from : ℕ) → Left line from at value → digit0 ≤ getD line at 0 → getD line at 0 < digit0 + 10 → Left line from (suc at) (10 * value + (getD line at 0 - digit0))
+  left-more from left k l = record {
+      digits = sym (digits-more value (getD line at 0) (wordAt line (suc at)) k l) ∙ ap (digitsFrom value) (sym (word-more line at h n .0)) ∙ left .digits;
+      ends = sym (word-more line at h n .1) ∙ left .ends;
+    }
