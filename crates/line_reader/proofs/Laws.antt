@@ -4,14 +4,15 @@ use mathlib.Core.Logic.{_≢_}
 use mathlib.Core.Bool.{Bool, true, false}
 use mathlib.Core.List.{List, [], _∷_}
 use mathlib.Core.Option.{Option, none, some}
-use Prim.Native.Nat.{ℕ, suc, _+_, _-_, _*_, _≤_, _<_}
+use Prim.Native.Nat.{ℕ, zero, suc, _+_, _-_, _*_, _≤_, _<_}
+use native.Mathlib.Numerals.{add-one}
 use native.Mathlib.Omega.{arith}
-use borrow.Author.Tests.{ltb-true, ltb-false, lt-ltb, le-ltb, le-leb, lt-leb, leb-true, eq-eqb, ne-eqb}
+use borrow.Author.Tests.{ltb-true, ltb-false, lt-ltb, le-ltb, le-leb, lt-leb, leb-true, leb-false, eqb-true, eqb-false, eq-eqb, ne-eqb}
 use lib.Dec.{ltb, leb, eqb}
-use lib.IntN.{ℤ, pos, negsuc, _-ℤ_}
+use lib.IntN.{ℤ, pos, negsuc, _-ℤ_, +ℤ-idl}
 use lib.ListN.{length, take, drop, getD, length-drop, drop-of-length-le}
 use lib.Seq.{drop-cons, drop-drop, take-all, length-take-le}
-use mir.Syntax.{w16, w64}
+use mir.Syntax.{w16}
 use mir.Val.{SFits}
 use Rattle.routine.specs.Choice.{if_then_else_}
 use Rattle.routine.proofs.Laws.{byTest}
@@ -20,7 +21,10 @@ use Rattle.line_rules.specs.Pieces.{pieces, reach}
 use Rattle.line_rules.specs.Reading.{highest16, lowest16, isDigit, digitsFrom, number, within, numberUpTo, positive, minusOf, negative, setting}
 use Rattle.line_rules.proofs.Laws.{reach-within, pieces-parted, pieces-one}
 use Rattle.line_reader.specs.Places.{wordAt, wordEnd, wordsFrom, heldNumber, foundFrom, numberAt, heldSetting, settingAt}
+use Rattle.line_reader.specs.declared.numbers.Number.{Number}
 use Rattle.line_reader.specs.declared.numbers.Number.the-variants.{Found, Missing}
+use Rattle.line_reader.specs.declared.numbers.Setting.{Setting}
+use Rattle.line_reader.specs.declared.numbers.Setting.the-variants.{Found as SettingFound, Missing as SettingMissing}
 
 -- ---- how far a piece reaches from a place
 
@@ -149,11 +153,6 @@ within-bound highest (some m) n e = go (leb m highest) refl e
     go true t f = let same : m ≡ n = cc in omega (arith, leb-true m highest t)
     go false t f = let z : _≡_ {A = ℕ} 0 1 = cc in absurd (omega arith)
 
--- "with a number outside its width": none
-pub number-bound : (highest : ℕ) (word : List ℕ) (n : ℕ) → numberUpTo highest word ≡ some n → n ≤ highest
-unfolding numberUpTo
-number-bound highest word n e = within-bound highest (number word) n e
-
 -- one that was read to the end of its word
 read-whole : (highest : ℕ) (word : List ℕ) (value from at : ℕ) → digitsFrom 0 word ≡ some value → value ≤ highest → at ≡ from + length word →
     foundFrom value from at ≡ heldNumber (numberUpTo highest word) at
@@ -195,3 +194,149 @@ module _ (line : List ℕ) (at value : ℕ) (h : at < length line) (n : getD lin
       digits = sym (digits-more value (getD line at 0) (wordAt line (suc at)) k l) ∙ ap (digitsFrom value) (sym (word-more line at h n .0)) ∙ left .digits;
       ends = sym (word-more line at h n .1) ∙ left .ends;
     }
+
+-- ---- settings
+
+-- a setting held, of the number behind a minus and of one without
+abbrev pub minusHeld : Number → Setting
+minusHeld (Found n end) = SettingFound (minusOf n) end
+minusHeld Missing = SettingMissing
+
+abbrev pub plainHeld : Number → Setting
+plainHeld (Found n end) = SettingFound (pos n) end
+plainHeld Missing = SettingMissing
+
+minus-held : (o : Option ℕ) (end : ℕ) → heldSetting (negative o) end ≡ minusHeld (heldNumber o end)
+minus-held none end = refl
+minus-held (some n) end = refl
+
+plain-held : (o : Option ℕ) (end : ℕ) → heldSetting (positive o) end ≡ plainHeld (heldNumber o end)
+plain-held none end = refl
+plain-held (some n) end = refl
+
+word-minus : (word rest : List ℕ) → word ≡ minus ∷ rest → setting word ≡ negative (numberUpTo lowest16 rest)
+unfolding setting
+word-minus word rest e = rw e
+
+word-plain : (b : ℕ) (bs : List ℕ) → b ≢ minus → setting (b ∷ bs) ≡ positive (numberUpTo highest16 (b ∷ bs))
+unfolding setting
+word-plain b bs n = rw (ne-eqb b minus n)
+
+word-empty : setting [] ≡ positive (numberUpTo highest16 [])
+unfolding setting numberUpTo number
+word-empty = refl
+
+module _ (line : List ℕ) (from : ℕ) where
+  pub setting-minus : from < length line → getD line from 0 ≡ minus → settingAt line from ≡ minusHeld (numberAt lowest16 line (from + 1))
+  unfolding settingAt numberAt
+  setting-minus h e =
+      let more = word-more line from h (λ f. omega arith) in
+      rw (add-one from, word-minus (wordAt line from) (wordAt line (suc from)) (more .0 ∙ ap (λ (b : ℕ). b ∷ wordAt line (suc from)) e), more .1)
+      (minus-held (numberUpTo lowest16 (wordAt line (suc from))) (wordEnd line (suc from)))
+
+  -- the word at a place has no minus before it if there is none at that place
+  plain-word : (from < length line → getD line from 0 ≢ minus) → setting (wordAt line from) ≡ positive (numberUpTo highest16 (wordAt line from))
+  plain-word n = go (ltb from (length line)) (eqb (getD line from 0) space) refl refl
+    where
+      go : (s t : Bool) → ltb from (length line) ≡ s → eqb (getD line from 0) space ≡ t → setting (wordAt line from) ≡ positive (numberUpTo highest16 (wordAt line from))
+      go false t e f = rw (word-past line from (ltb-false from (length line) e) .0) word-empty
+      go true true e f = rw (word-none line from (ltb-true from (length line) e) (eqb-true (getD line from 0) space f) .0) word-empty
+      go true false e f =
+          let h = ltb-true from (length line) e in
+          rw (word-more line from h (eqb-false (getD line from 0) space f) .0) (word-plain (getD line from 0) (wordAt line (suc from)) (n h))
+
+  pub setting-plain : (from < length line → getD line from 0 ≢ minus) → settingAt line from ≡ plainHeld (numberAt highest16 line from)
+  unfolding settingAt numberAt
+  setting-plain n = rw (plain-word n) (plain-held (numberUpTo highest16 (wordAt line from)) (wordEnd line from))
+
+-- a number with a minus before it
+pub minus-sub : (n : ℕ) → pos 0 -ℤ pos n ≡ minusOf n
+minus-sub zero = refl
+minus-sub (suc n) = +ℤ-idl (negsuc n)
+
+pub minus-fits : (n : ℕ) → n ≤ lowest16 → SFits w16 (minusOf n)
+minus-fits zero h = record { sfits = omega arith }
+minus-fits (suc n) h = record { sfits = omega arith }
+
+-- ---- what a thing looked for in the word at a place tells of the words from there on
+
+-- It was found: the word stands within the line, and the others begin behind its end.
+pub record WordSays {A : Type 0} (reads : List ℕ → Option A) (line : List ℕ) (at : ℕ) (a : A) (end : ℕ) : Type 0 where
+  pub says : reads (wordAt line at) ≡ some a
+  pub begins : at ≤ end
+  pub ends : end ≤ length line
+  pub words : wordsFrom line at ≡ wordAt line at ∷ wordsFrom line (end + 1)
+
+-- It was not: the first of the words, if there is one, does not say it.
+abbrev pub NotFirst : {A : Type 0} → (List ℕ → Option A) → List (List ℕ) → Type 0
+NotFirst reads [] = Unit {0}
+NotFirst reads (w ∷ ws) = reads w ≡ none
+
+module _ {A : Type 0} (reads : List ℕ → Option A) (line : List ℕ) (at : ℕ) where
+  not-first : reads (wordAt line at) ≡ none → NotFirst reads (wordsFrom line at)
+  not-first e = go (leb at (length line)) refl
+    where
+      go : (t : Bool) → leb at (length line) ≡ t → NotFirst reads (wordsFrom line at)
+      go true t = rw (words-first line at (leb-true at (length line) t)) e
+      go false t = rw (words-none line at (leb-false at (length line) t)) tt
+
+  word-says : reads [] ≡ none → (a : A) (end : ℕ) → (reads (wordAt line at) ≡ some a) × (wordEnd line at ≡ end) → WordSays reads line at a end
+  word-says none′ a end e = record {
+      says = e .0;
+      begins = omega (arith, word-length line at, e .1);
+      ends = omega (arith, word-inside line at inside, e .1);
+      words = words-first line at inside ∙ ap (λ (k : ℕ). wordAt line at ∷ wordsFrom line k) behind;
+    }
+    where
+      go : (t : Bool) → leb at (length line) ≡ t → at ≤ length line
+      go true t = leb-true at (length line) t
+      go false t =
+          let past = leb-false at (length line) t in
+          let f : reads (wordAt line at) ≡ none = ap reads (word-past line at (omega arith) .0) ∙ none′ in
+          let z : _≡_ {A = ℕ} 0 1 = cc in
+          absurd (omega arith)
+
+      inside : at ≤ length line
+      inside = go (leb at (length line)) refl
+
+      behind : suc (wordEnd line at) ≡ end + 1
+      behind = omega (arith, e .1)
+
+held-none : (o : Option ℕ) (end : ℕ) → heldNumber o end ≡ Missing → o ≡ none
+held-none none end e = refl
+held-none (some n) end e = let z : _≡_ {A = ℕ} 0 1 = cc in absurd (omega arith)
+
+held-some : (o : Option ℕ) (end n e : ℕ) → heldNumber o end ≡ Found n e → (o ≡ some n) × (end ≡ e)
+held-some none end n e f = let z : _≡_ {A = ℕ} 0 1 = cc in absurd (omega arith)
+held-some (some m) end n e f = (cc, cc)
+
+module _ (highest : ℕ) (line : List ℕ) (at : ℕ) where
+  pub no-number : numberAt highest line at ≡ Missing → NotFirst (numberUpTo highest) (wordsFrom line at)
+  unfolding numberAt
+  no-number e = not-first (numberUpTo highest) line at (held-none (numberUpTo highest (wordAt line at)) (wordEnd line at) e)
+
+  pub number-says : (n end : ℕ) → numberAt highest line at ≡ Found n end → WordSays (numberUpTo highest) line at n end
+  unfolding numberAt
+  number-says n end e = word-says (numberUpTo highest) line at (number-empty highest) n end (held-some (numberUpTo highest (wordAt line at)) (wordEnd line at) n end e)
+
+  -- "with a number outside its width": none
+  pub number-bound : (n end : ℕ) → numberAt highest line at ≡ Found n end → n ≤ highest
+  unfolding numberUpTo
+  number-bound n end e = within-bound highest (number (wordAt line at)) n (number-says n end e .says)
+
+setting-none : (o : Option ℤ) (end : ℕ) → heldSetting o end ≡ SettingMissing → o ≡ none
+setting-none none end e = refl
+setting-none (some v) end e = let z : _≡_ {A = ℕ} 0 1 = cc in absurd (omega arith)
+
+setting-some : (o : Option ℤ) (end : ℕ) (v : ℤ) (e : ℕ) → heldSetting o end ≡ SettingFound v e → (o ≡ some v) × (end ≡ e)
+setting-some none end v e f = let z : _≡_ {A = ℕ} 0 1 = cc in absurd (omega arith)
+setting-some (some u) end v e f = (cc, cc)
+
+module _ (line : List ℕ) (at : ℕ) where
+  pub no-setting : settingAt line at ≡ SettingMissing → NotFirst setting (wordsFrom line at)
+  unfolding settingAt
+  no-setting e = not-first setting line at (setting-none (setting (wordAt line at)) (wordEnd line at) e)
+
+  pub setting-says : (v : ℤ) (end : ℕ) → settingAt line at ≡ SettingFound v end → WordSays setting line at v end
+  unfolding settingAt setting
+  setting-says v end e = word-says setting line at refl v end (setting-some (setting (wordAt line at)) (wordEnd line at) v end e)
