@@ -17,7 +17,7 @@ use mir.Val.{SFits}
 use Rattle.routine.specs.Choice.{if_then_else_}
 use Rattle.routine.proofs.Laws.{byTest}
 use Rattle.line_rules.specs.Text.{space, minus, digit0}
-use Rattle.line_rules.specs.Pieces.{pieces, reach}
+use Rattle.line_rules.specs.Pieces.{pieces, reach, wordsOf}
 use Rattle.line_rules.specs.Reading.{highest16, lowest16, isDigit, digitsFrom, number, within, numberUpTo, positive, minusOf, negative, setting}
 use Rattle.line_rules.proofs.Laws.{reach-within, pieces-parted, pieces-one}
 use Rattle.line_reader.specs.Places.{wordAt, wordEnd, wordsFrom, heldNumber, foundFrom, numberAt, heldSetting, settingAt}
@@ -104,6 +104,10 @@ module _ (line : List ℕ) (at : ℕ) where
       go false e =
           let past = ltb-false r (length bs) e in
           rw (lt-leb (suc (at + r)) (length line) (omega (arith, left)), take-all r bs past) (pieces-one space bs past)
+
+pub words-all : (line : List ℕ) → wordsOf line ≡ wordsFrom line 0
+unfolding wordsOf wordsFrom
+words-all line = rw (le-leb 0 (length line) (omega arith))
 
 -- ---- numbers
 

@@ -41,6 +41,14 @@ heldLine (opening n k first) = record { line = Open n k first; routine = noRouti
 heldLine (calling c) = record { line = Calling (heldCall c); routine = heldRoutine c }
 heldLine unread = record { line = Unread; routine = noRoutine }
 
+-- ---- lines with one number
+
+-- Of a width: what such a line says by its number.
+unfoldable pub oneOf : ℕ → (Option ℕ → Said) → List (List ℕ) → Said
+oneOf highest says [] = unread
+oneOf highest says (w ∷ []) = says (numberUpTo highest w)
+oneOf highest says (w ∷ v ∷ ws) = unread
+
 -- A letter that an id follows: `N`, `D`, `B`, `C`. Any other is unread.
 abbrev pub idCall : ℕ → ℕ → Said
 idCall letter i =
@@ -54,7 +62,5 @@ abbrev pub idCallWith : ℕ → Option ℕ → Said
 idCallWith letter none = unread
 idCallWith letter (some i) = idCall letter i
 
-unfoldable pub idLine : ℕ → List (List ℕ) → Said
-idLine letter [] = unread
-idLine letter (w ∷ []) = idCallWith letter (numberUpTo highest32 w)
-idLine letter (w ∷ v ∷ ws) = unread
+abbrev pub idLine : ℕ → List (List ℕ) → Said
+idLine letter ws = oneOf highest32 (idCallWith letter) ws
