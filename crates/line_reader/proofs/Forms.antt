@@ -6,23 +6,32 @@ use mathlib.Core.List.{List, [], _∷_}
 use mathlib.Core.Option.{Option, none, some}
 use Prim.Native.Nat.{ℕ, suc, _+_, _≤_, _<_}
 use native.Mathlib.Omega.{arith}
-use borrow.Author.Tests.{le-leb, eqb-true, eqb-false, ne-eqb}
+use borrow.Author.Tests.{lt-ltb, le-ltb, eqb-true, eqb-false, ne-eqb}
 use lib.Dec.{eqb}
 use lib.IntN.{ℤ}
 use lib.ListN.{length, getD}
 use Rattle.routine.specs.Choice.{if_then_else_}
-use Rattle.routine.specs.Routine.{noRoutine}
+use Rattle.routine.specs.Routine.{noRoutine, withCommand}
 use Rattle.routine.specs.declared.Command.{Command}
 use Rattle.routine.specs.declared.Routine.{Routine}
 use Rattle.rules.specs.Answers.{Call, turn, report, failure, restart, cancel}
 use Rattle.rules.specs.Report.{codeDone, codeFailed}
-use Rattle.rules.proofs.Lists.{byIf}
+use Rattle.rules.proofs.Lists.{byIf, t≠f}
 use Rattle.line_rules.specs.Text.{space, same}
 use Rattle.line_rules.specs.Pieces.{wordsOf}
-use Rattle.line_rules.specs.Reading.{Line as Said, opening, calling, unread, highest8, highest32, numberUpTo, setting, openingWith, openingLine, commandBefore, commands, submitLine, callWith, oneNumber, restartWith, restartLine, lineWith, lineBy}
-use Rattle.line_reader.specs.Places.{wordAt, wordEnd, wordsFrom, commandBehind}
-use Rattle.line_reader.specs.Held.{heldLine, oneOf, idCallWith, idLine}
+use Rattle.line_rules.specs.Reading.{Line as Said, opening, calling, unread, maxLine, highest8, highest32, numberUpTo, setting, openingWith, openingLine, commandBefore, commands, submitLine, submitWith, callWith, oneNumber, restartWith, restartLine, lineWith, lineBy, readLine}
+use Rattle.line_reader.specs.Places.{wordAt, wordEnd, wordsFrom, commandBehind, CommandAt}
+use Rattle.line_reader.specs.declared.Call.the-variants.{Submit}
+use Rattle.line_reader.specs.declared.Line.{Line}
+use Rattle.line_reader.specs.declared.Line.the-variants.{Calling}
+use Rattle.line_reader.specs.declared.LineRead.{LineRead}
+use Rattle.line_reader.specs.declared.calls.CommandRead.{CommandRead}
+use Rattle.line_reader.specs.Held.{together, heldLine, oneOf, idCallWith, idLine}
 use Rattle.line_reader.proofs.Laws.{word-past, word-none, word-more, words-none, words-first, words-all, WordSays, NotFirst}
+
+-- A line that was read, as it is held without its routine.
+abbrev pub heldAs : Said → Line
+heldAs said = heldLine said .line
 
 -- ---- words behind one that was read
 
@@ -177,6 +186,35 @@ module _ (line : List ℕ) (at : ℕ) where
           commands (wordsFrom line at) ≡ commandBehind (record { device = d; tag = t; setting = v }) (commands (wordsFrom line (last + 1)))
       unfolding commands
       command-all {v} {last} c = rw (a .words, b .words, c .words, a .says, b .says, c .says) (before-behind d t v (commands (wordsFrom line (last + 1))))
+
+-- what is read at a place: no command, or one and the commands behind it
+pub none-at : (line : List ℕ) (from : ℕ) (r : CommandRead) → r .found ≡ false → (from ≤ length line → commands (wordsFrom line from) ≡ none) → CommandAt line from r
+none-at line from r e h = record { found-one = λ t. t≠f (sym t ∙ e); found-none = λ _. h }
+
+pub one-at : (line : List ℕ) (from : ℕ) (r : CommandRead) → r .found ≡ true → from ≤ r .end → r .end ≤ length line →
+    commands (wordsFrom line from) ≡ commandBehind (r .command) (commands (wordsFrom line (r .end + 1))) → CommandAt line from r
+one-at line from r e h k w = record { found-one = λ _. (h, k, w); found-none = λ f. t≠f (sym e ∙ f) }
+
+-- a submission whose commands behind those of a routine are these
+abbrev pub submitFrom : Routine → Option (List Command) → LineRead
+submitFrom r none = heldLine unread
+submitFrom r (some cs) = record { line = Calling Submit; routine = together r cs }
+
+pub submit-all : (ws : List (List ℕ)) → submitFrom noRoutine (commands ws) ≡ heldLine (submitLine ws)
+submit-all ws = go (commands ws)
+  where
+    go : (o : Option (List Command)) → submitFrom noRoutine o ≡ heldLine (submitWith o)
+    go none = refl
+    go (some cs) = refl
+
+pub submit-more : (r : Routine) (c : Command) (o : Option (List Command)) → submitFrom r (commandBehind c o) ≡ submitFrom (withCommand r c) o
+unfolding together
+submit-more r c none = refl
+submit-more r c (some cs) = refl
+
+pub submit-end : (line : List ℕ) (at : ℕ) (r : Routine) → length line < at → submitFrom r (commands (wordsFrom line at)) ≡ record { line = Calling Submit; routine = r }
+unfolding commands together
+submit-end line at r h = rw (words-none line at h)
 
 -- ---- by the first word
 
@@ -345,3 +383,13 @@ plain-routine letter ws h = go (eqb letter 79) (eqb letter 70) (eqb letter 82) r
     go false false false a b c =
         ap routineOf (letter-other letter ws (eqb-false letter 79 a) h (eqb-false letter 70 b) (eqb-false letter 82 c))
         ∙ one-routine highest32 (idCallWith letter) (id-routine letter) ws
+
+-- ---- lines by their length
+
+pub line-long : (line : List ℕ) → maxLine < length line → readLine line ≡ unread
+unfolding readLine
+line-long line h = rw (lt-ltb maxLine (length line) h)
+
+pub line-short : (line : List ℕ) → length line ≤ maxLine → readLine line ≡ lineBy (wordsOf line)
+unfolding readLine
+line-short line h = rw (le-ltb maxLine (length line) h)

@@ -195,9 +195,9 @@ module _ (line : List ℕ) (at value : ℕ) (h : at < length line) (n : getD lin
   -- one digit more
   pub left-more : (from : ℕ) → Left line from at value → digit0 ≤ getD line at 0 → getD line at 0 < digit0 + 10 → Left line from (suc at) (10 * value + (getD line at 0 - digit0))
   left-more from left k l = record {
-      digits = sym (digits-more value (getD line at 0) (wordAt line (suc at)) k l) ∙ ap (digitsFrom value) (sym (word-more line at h n .0)) ∙ left .digits;
-      ends = sym (word-more line at h n .1) ∙ left .ends;
-    }
+    digits = sym (digits-more value (getD line at 0) (wordAt line (suc at)) k l) ∙ ap (digitsFrom value) (sym (word-more line at h n .0)) ∙ left .digits;
+    ends = sym (word-more line at h n .1) ∙ left .ends;
+  }
 
 -- ---- settings
 
@@ -286,11 +286,11 @@ module _ {A : Type 0} (reads : List ℕ → Option A) (line : List ℕ) (at : �
 
   word-says : reads [] ≡ none → (a : A) (end : ℕ) → (reads (wordAt line at) ≡ some a) × (wordEnd line at ≡ end) → WordSays reads line at a end
   word-says none′ a end e = record {
-      says = e .0;
-      begins = omega (arith, word-length line at, e .1);
-      ends = omega (arith, word-inside line at inside, e .1);
-      words = words-first line at inside ∙ ap (λ (k : ℕ). wordAt line at ∷ wordsFrom line k) behind;
-    }
+    says = e .0;
+    begins = omega (arith, word-length line at, e .1);
+    ends = omega (arith, word-inside line at inside, e .1);
+    words = words-first line at inside ∙ ap (λ (k : ℕ). wordAt line at ∷ wordsFrom line k) behind;
+  }
     where
       go : (t : Bool) → leb at (length line) ≡ t → at ≤ length line
       go true t = leb-true at (length line) t

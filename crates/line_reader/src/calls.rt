@@ -16,8 +16,8 @@ ghost use mathlib.Core.Logic.{_≢_};
 ghost use Rattle.routine.specs.Routine.{noRoutine};
 ghost use Rattle.rules.specs.Answers.{failure};
 ghost use Rattle.line_rules.specs.Pieces.{wordsOf};
-ghost use Rattle.line_rules.specs.Reading.{highest8, unread as notRead, openingLine, restartLine, submitLine, oneNumber, lineWith, lineBy};
-ghost use Rattle.line_reader.specs.Held.{idCall, idLine, heldLine};
+ghost use Rattle.line_rules.specs.Reading.{highest8, unread as notRead, openingLine, restartLine, submitLine, callWith, lineWith, lineBy};
+ghost use Rattle.line_reader.specs.Held.{oneOf, idCall, idLine, heldLine};
 ghost use Rattle.line_reader.specs.Places.{wordsFrom, CommandAt};
 
 // Letters of 01's lines.
@@ -107,7 +107,7 @@ fn restart_line(line: &[u8]) -> Line
 
 // "`F` device"
 fn fail_line(line: &[u8]) -> Line
-    ensures { λ r. ⌜ r ≡ heldLine (oneNumber highest8 failure (wordsFrom (now (line .entry)) 2)) .line ⌝ }
+    ensures { λ r. ⌜ r ≡ heldLine (oneOf highest8 (callWith failure) (wordsFrom (now (line .entry)) 2)) .line ⌝ }
 {
     let device = number_at(line, BEHIND_LETTER, HIGHEST_8);
     let Number::Found(d, end) = device else {

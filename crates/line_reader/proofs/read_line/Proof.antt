@@ -1,26 +1,22 @@
+-- `line_reader::read_line` meets its contract. Assumes nothing.
+use mathlib.Core.Path.{sym, ap, _∙_}
+use Rattle.line_reader.specs.Held.{heldLine}
+use Rattle.line_reader.proofs.Forms.{line-long, line-short}
 use borrow.Author.Needs.{needs}
 use Rattle.line_reader.proofs.read_line.Statement.{statement}
 use Rattle.line_reader.proofs.read_line.Tie as tie
-use Rattle.line_reader.proofs.read_line.Reads as reads
-use Rattle.line_reader.proofs.read_line.Lts as lts
-use Rattle.line_reader.proofs.calls.by_letter.Reads as by-letter-reads
-use Rattle.line_reader.proofs.calls.unread.Reads as unread-reads
 
--- src/lib.rt:55:9
 unread-requires : tie.Need-unread-requires
 unread-requires c κs = search needs
 
--- src/lib.rt:55:9
 returns : tie.Need-returns
-returns c = ?
+returns c = c .unread .ensures ∙ sym (ap heldLine (line-long _ (c .before .if1 .taken)))
 
--- src/lib.rt:57:5
 by-letter-requires : tie.Need-by-letter-requires
 by-letter-requires c κs = search needs
 
--- src/lib.rt:51:1
 returns-2 : tie.Need-returns-2
-returns-2 c = ?
+returns-2 c = c .by-letter .ensures ∙ sym (ap heldLine (line-short _ (c .before .if1 .left)))
 
 pub read-line-spec : {M : Type 1} → statement M
 read-line-spec = tie.close (tie.spec unread-requires returns by-letter-requires returns-2)

@@ -1,56 +1,62 @@
+-- `line_reader::calls::by_letter` meets its contract. Assumes nothing.
+use Prim.Native.Nat.{_<_}
+use mathlib.Core.Path.{_≡_, sym, ap, _∙_}
+use mathlib.Core.Logic.{⊎-elim}
+use mathlib.Core.List.{[], _∷_}
+use native.Mathlib.Omega.{arith}
+use lib.ListN.{getD}
+use Rattle.line_rules.specs.Pieces.{wordsOf}
+use Rattle.line_rules.specs.Reading.{lineWith, lineBy}
+use Rattle.line_reader.specs.Held.{heldLine}
+use Rattle.line_reader.specs.Places.{wordsFrom}
+use Rattle.line_reader.proofs.Forms.{heldAs, no-words, letter-and-more, one-byte, letter-alone, letter-submit, plain-routine}
 use borrow.Author.Needs.{needs}
 use Rattle.line_reader.proofs.calls.by_letter.Statement.{statement}
 use Rattle.line_reader.proofs.calls.by_letter.Tie as tie
-use Rattle.line_reader.proofs.calls.by_letter.Reads as reads
-use Rattle.line_reader.proofs.calls.by_letter.Lts as lts
-use Rattle.line_reader.proofs.calls.plain_line.Reads as plain-line-reads
-use Rattle.line_reader.proofs.calls.submit_line.Reads as submit-line-reads
-use Rattle.line_reader.proofs.calls.unread.Reads as unread-reads
-use Rattle.line_reader.proofs.calls.without_routine.Reads as without-routine-reads
 
--- src/calls.rt:245:9
 unread-requires : tie.Need-unread-requires
 unread-requires c κs = search needs
 
--- src/calls.rt:245:9
 returns : tie.Need-returns
-returns c = ?
+returns c = c .unread .ensures ∙ sym (ap heldLine (no-words _ (c .before .if1 .taken)))
 
--- src/calls.rt:248:12
 shared-slice-read-if3 : tie.Need-shared-slice-read-if3
 shared-slice-read-if3 c = search needs
 
--- src/calls.rt:249:13
 unread-requires-2 : tie.Need-unread-requires-2
 unread-requires-2 c κs = search needs
 
--- src/calls.rt:249:13
 returns-2 : tie.Need-returns-2
-returns-2 c = ?
+returns-2 c = let t = c .before .before .before in
+    c .unread2 .ensures ∙ sym (ap heldLine (letter-and-more _ (t .if2 .taken) (c .before .if3 .taken)))
 
--- src/calls.rt:252:18
 shared-slice-read-letter : tie.Need-shared-slice-read-letter
 shared-slice-read-letter c = search needs
 
--- src/calls.rt:254:9
+-- the letter is a word alone
+alone : (c : tie.Joined2) → let line = c .before .before .before .args .line .now in
+    lineBy (wordsOf line) ≡ lineWith (getD line 0 0 ∷ []) (wordsFrom line 2)
+alone c = let line = c .before .before .before .args .line .now in
+    ⊎-elim (λ w. letter-alone line (w .0 .taken) (w .2 .left)) (λ w. one-byte line (omega (arith, w .left))) (c .if2 .came)
+
 submit-line-requires : tie.Need-submit-line-requires
 submit-line-requires c κs = search needs
 
--- src/calls.rt:254:9
 returns-3 : tie.Need-returns-3
-returns-3 c = ?
+returns-3 c = c .submit-line .ensures ∙ sym (ap heldLine (alone (c .before .before .before) ∙ letter-submit _ _ (c .before .if4 .taken)))
 
--- src/calls.rt:256:9
 plain-line-requires : tie.Need-plain-line-requires
 plain-line-requires c κs = search needs
 
--- src/calls.rt:257:5
 without-routine-requires : tie.Need-without-routine-requires
 without-routine-requires c κs = search needs
 
--- src/calls.rt:241:1
 returns-4 : tie.Need-returns-4
-returns-4 c = ?
+returns-4 c = let p = c .before in
+    let w = c .without-routine .ensures in
+    let said = w .0 ∙ p .plain-line .ensures in
+    let none = w .1 ∙ sym (plain-routine _ _ (p .before .if4 .left)) in
+    (λ i. record { line = said i; routine = none i }) ∙ sym (ap heldLine (alone (p .before .before .before)))
 
 pub by-letter-spec : {M : Type 1} → statement M
 by-letter-spec =

@@ -1,37 +1,40 @@
+-- `line_reader::calls::fail_line` meets its contract. Assumes nothing.
+use mathlib.Core.Path.{refl, sym, ap, _∙_}
+use native.Mathlib.Omega.{arith}
+use Rattle.rules.specs.Answers.{failure}
+use Rattle.line_rules.specs.Reading.{highest8, callWith, numberUpTo}
+use Rattle.line_reader.proofs.Laws.{WordSays, no-number, number-says, number-bound}
+use Rattle.line_reader.proofs.Forms.{heldAs, one-none, one-more, one-found}
 use borrow.Author.Needs.{needs}
 use Rattle.line_reader.proofs.calls.fail_line.Statement.{statement}
 use Rattle.line_reader.proofs.calls.fail_line.Tie as tie
-use Rattle.line_reader.proofs.calls.fail_line.Reads as reads
-use Rattle.line_reader.proofs.calls.fail_line.Lts as lts
-use Rattle.line_reader.proofs.numbers.number_at.Reads as number-at-reads
 
--- src/calls.rt:109:9
 number-at-requires : tie.Need-number-at-requires
 number-at-requires c κs = search needs
 
--- src/calls.rt:110:23
 enum-known-device : tie.Need-enum-known-device
 enum-known-device c = search needs
 
--- src/calls.rt:111:9
 enum-told : tie.Need-enum-told
 enum-told c = search needs
 
--- src/calls.rt:111:9
+-- the device's word
+device : (c : tie.After-known-told) → let g = c .before .device .given .0 in
+    WordSays (numberUpTo highest8) (c .before .before .before .before .before .args .line .now) 2 (g .0) (g .1 .0)
+device c = number-says highest8 _ _ _ _ (sym (c .before .before .before .number-at .ensures) ∙ c .before .device .given .1)
+
 returns : tie.Need-returns
-returns c = ?
+returns c = sym (ap heldAs (one-none highest8 (callWith failure) refl _ _ (no-number highest8 _ _ (sym (c .before .before .number-at .ensures) ∙ c .enum-told .given .1))))
 
--- src/calls.rt:114:9
 returns-2 : tie.Need-returns-2
-returns-2 c = ?
+returns-2 c = sym (ap heldAs (one-more highest8 (callWith failure) refl _ _ (device (c .before)) (c .if1 .taken)))
 
--- src/calls.rt:116:30
 cast-t7 : tie.Need-cast-t7
-cast-t7 c = ?
+cast-t7 c = let d = c .before .before in
+    omega (arith, number-bound highest8 _ _ _ _ (sym (d .before .before .number-at .ensures) ∙ d .device .given .1))
 
--- src/calls.rt:106:1
 returns-3 : tie.Need-returns-3
-returns-3 c = ?
+returns-3 c = sym (ap heldAs (one-found highest8 (callWith failure) refl _ _ (device (c .before)) (c .if1 .left)))
 
 pub fail-line-spec : {M : Type 1} → statement M
 fail-line-spec =

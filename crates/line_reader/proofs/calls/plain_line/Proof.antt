@@ -1,44 +1,37 @@
+-- `line_reader::calls::plain_line` meets its contract. Assumes nothing.
+use mathlib.Core.Path.{sym, ap, _∙_}
+use Rattle.rules.specs.Answers.{failure}
+use Rattle.line_rules.specs.Reading.{highest8}
+use Rattle.line_reader.proofs.Forms.{heldAs, one-number, letter-open, letter-fail, letter-restart, letter-other}
 use borrow.Author.Needs.{needs}
 use Rattle.line_reader.proofs.calls.plain_line.Statement.{statement}
 use Rattle.line_reader.proofs.calls.plain_line.Tie as tie
-use Rattle.line_reader.proofs.calls.plain_line.Reads as reads
-use Rattle.line_reader.proofs.calls.plain_line.Lts as lts
-use Rattle.line_reader.proofs.calls.fail_line.Reads as fail-line-reads
-use Rattle.line_reader.proofs.calls.id_line.Reads as id-line-reads
-use Rattle.line_reader.proofs.calls.open_line.Reads as open-line-reads
-use Rattle.line_reader.proofs.calls.restart_line.Reads as restart-line-reads
 
--- src/calls.rt:229:9
 open-line-requires : tie.Need-open-line-requires
 open-line-requires c κs = search needs
 
--- src/calls.rt:229:9
 returns : tie.Need-returns
-returns c = ?
+returns c = c .open-line .ensures ∙ sym (ap heldAs (letter-open _ _ (c .before .if1 .taken)))
 
--- src/calls.rt:232:9
 fail-line-requires : tie.Need-fail-line-requires
 fail-line-requires c κs = search needs
 
--- src/calls.rt:232:9
 returns-2 : tie.Need-returns-2
-returns-2 c = ?
+returns-2 c = c .fail-line .ensures ∙ sym (ap heldAs (letter-fail _ _ (c .before .if2 .taken) ∙ one-number highest8 failure _))
 
--- src/calls.rt:235:9
 restart-line-requires : tie.Need-restart-line-requires
 restart-line-requires c κs = search needs
 
--- src/calls.rt:235:9
 returns-3 : tie.Need-returns-3
-returns-3 c = ?
+returns-3 c = c .restart-line .ensures ∙ sym (ap heldAs (letter-restart _ _ (c .before .if3 .taken)))
 
--- src/calls.rt:237:5
 id-line-requires : tie.Need-id-line-requires
 id-line-requires c κs = search needs
 
--- src/calls.rt:224:1
 returns-4 : tie.Need-returns-4
-returns-4 c = ?
+returns-4 c = let b = c .before in
+    let a = b .before .before .before .before in
+    c .id-line .ensures ∙ sym (ap heldAs (letter-other _ _ (b .before .before .if1 .left) (a .pre) (b .before .if2 .left) (b .if3 .left)))
 
 pub plain-line-spec : {M : Type 1} → statement M
 plain-line-spec =

@@ -1,57 +1,72 @@
+-- `line_reader::calls::submit_line` meets its contract. Assumes nothing.
+use Prim.Native.Nat.{suc, _+_, _-_, _≤_}
+use mathlib.Core.Path.{_≡_, sym, ap, _∙_}
+use borrow.Author.Tests.{not-true, not-false}
+use lib.ListN.{length}
+use Rattle.routine.specs.declared.Routine.{Routine}
+use Rattle.line_rules.specs.Reading.{commands, submitLine}
+use Rattle.line_reader.specs.Held.{heldLine}
+use Rattle.line_reader.specs.Places.{wordsFrom, commandBehind}
+use Rattle.line_reader.proofs.Forms.{submitFrom, submit-all, submit-more, submit-end}
+use borrow.Author.Needs.{needs}
 use Rattle.line_reader.proofs.calls.submit_line.Statement.{statement}
 use Rattle.line_reader.proofs.calls.submit_line.Tie as tie
-use Rattle.line_reader.proofs.calls.submit_line.Reads as reads
-use Rattle.line_reader.proofs.calls.submit_line.Lts as lts
-use Rattle.line_reader.proofs.calls.command_at.Reads as command-at-reads
-use Rattle.line_reader.proofs.calls.unread.Reads as unread-reads
-use Rattle.routine.proofs.empty.Reads as empty-reads
-use Rattle.routine.proofs.with_command.Reads as with-command-reads
 
+-- what is left: the commands of the words from a place on, behind those that the routine has
 abbrev Inv-loop : tie.InvT-loop
-Inv-loop line routine₀ at₀ routine at = ?
+Inv-loop line routine₀ at₀ routine at = submitFrom routine (commands (wordsFrom line at)) ≡ heldLine (submitLine (wordsFrom line 2))
 
 abbrev μ-loop : tie.MeasureT-loop
-μ-loop line routine₀ at₀ routine at = ?
+μ-loop line routine₀ at₀ routine at = suc (length line) - at
 
--- src/calls.rt:206:9
 empty-requires : tie.Need-empty-requires Inv-loop μ-loop
-empty-requires c κs = ?
+empty-requires c κs = search needs
 
--- src/calls.rt:208:5
 loop-holds : tie.Need-loop-holds Inv-loop μ-loop
-loop-holds c = ?
+loop-holds c = rw (c .empty .ensures) (submit-all _)
 
--- src/calls.rt:209:13
 command-at-requires : tie.Need-command-at-requires Inv-loop μ-loop
-command-at-requires c κs = ?
+command-at-requires c κs = search needs
 
--- src/calls.rt:211:13
 unread-requires : tie.Need-unread-requires Inv-loop μ-loop
-unread-requires c κs = ?
+unread-requires c κs = search needs
 
--- src/calls.rt:211:13
 returns : tie.Need-returns Inv-loop μ-loop
-returns c = ?
+returns c = let k = c .before .before .before in
+    let l = k .before .before in
+    let none = k .command-at .ensures .found-none (not-true _ (c .before .if1 .taken)) (k .before .loop-test .taken) in
+    c .unread .ensures ∙ sym (ap (submitFrom (l .loop .routine)) none) ∙ l .loop .inv
 
--- src/calls.rt:214:9
+-- a command was found, and the rest of the line is behind it
+read-one : (c : tie.Else1 Inv-loop μ-loop) → let k = c .before .before in
+    let l = k .before .before in
+    let line = l .before .before .before .args .line .now in
+    (l .loop .at ≤ k .command-at .result .end)
+    × (k .command-at .result .end ≤ length line)
+    × (commands (wordsFrom line (l .loop .at)) ≡ commandBehind (k .command-at .result .command) (commands (wordsFrom line (k .command-at .result .end + 1))))
+read-one c = c .before .before .command-at .ensures .found-one (not-false _ (c .if1 .left))
+
 with-command-requires : tie.Need-with-command-requires Inv-loop μ-loop
-with-command-requires c κs = ?
+with-command-requires c κs = search needs
 
--- src/calls.rt:215:14
 add-at : tie.Need-add-at Inv-loop μ-loop
-add-at c = ?
+add-at c = let r = read-one (c .before .before .before) in search needs
 
--- src/calls.rt:208:5
 loop-less : tie.Need-loop-less Inv-loop μ-loop
-loop-less c = ?
+loop-less c = let r = read-one (c .before .before .before) in search needs
 
--- src/calls.rt:208:5
 loop-again : tie.Need-loop-again Inv-loop μ-loop
-loop-again c = ?
+loop-again c = let e = c .before .before .before in
+    let k = e .before .before in
+    let l = k .before .before in
+    let rest = commands (wordsFrom (l .before .before .before .args .line .now) (k .command-at .result .end + 1)) in
+    ap (λ (r : Routine). submitFrom r rest) (c .before .with-command .ensures)
+    ∙ sym (submit-more (l .loop .routine) (k .command-at .result .command) rest)
+    ∙ sym (ap (submitFrom (l .loop .routine)) (read-one e .2))
+    ∙ l .loop .inv
 
--- src/calls.rt:203:1
 returns-2 : tie.Need-returns-2 Inv-loop μ-loop
-returns-2 c = ?
+returns-2 c = sym (submit-end _ _ _ (c .loop-test .left)) ∙ c .before .loop .inv
 
 pub submit-line-spec : {M : Type 1} → statement M
 submit-line-spec =
