@@ -87,7 +87,8 @@ opens-2 n (k ∷ []) d s e = refl
 opens-2 n (k ∷ first ∷ []) d s e = rw (s, e)
 opens-2 n (k ∷ first ∷ w ∷ ws) d s e = refl
 
-opens-3 : (n k : List ℕ) (ws : List (List ℕ)) (d p : ℕ) → numberUpTo highest8 n ≡ some d → numberUpTo highest8 k ≡ some p → NotFirst (numberUpTo highest32) ws → openingLine (n ∷ k ∷ ws) ≡ unread
+opens-3 : (n k : List ℕ) (ws : List (List ℕ)) (d p : ℕ) → numberUpTo highest8 n ≡ some d → numberUpTo highest8 k ≡ some p → NotFirst (numberUpTo highest32) ws →
+    openingLine (n ∷ k ∷ ws) ≡ unread
 unfolding openingLine
 opens-3 n k [] d p s t e = refl
 opens-3 n k (first ∷ []) d p s t e = rw (s, t, e)
@@ -97,7 +98,8 @@ module _ (line : List ℕ) (at : ℕ) where
   pub open-none : NotFirst (numberUpTo highest8) (wordsFrom line at) → openingLine (wordsFrom line at) ≡ unread
   open-none e = opens-1 (wordsFrom line at) e
 
-  pub open-one : {n end : ℕ} → WordSays (numberUpTo highest8) line at n end → NotFirst (numberUpTo highest8) (wordsFrom line (end + 1)) → openingLine (wordsFrom line at) ≡ unread
+  pub open-one : {n end : ℕ} → WordSays (numberUpTo highest8) line at n end → NotFirst (numberUpTo highest8) (wordsFrom line (end + 1)) →
+      openingLine (wordsFrom line at) ≡ unread
   open-one {n} {end} a e = rw (a .words) (opens-2 (wordAt line at) (wordsFrom line (end + 1)) n (a .says) e)
 
   module _ {n k stop end : ℕ} (a : WordSays (numberUpTo highest8) line at n stop) (b : WordSays (numberUpTo highest8) line (stop + 1) k end) where
@@ -147,7 +149,8 @@ module _ (line : List ℕ) (at : ℕ) where
 
 -- ---- "`S` device tag setting repeated"
 
-before-behind : (d t : ℕ) (v : ℤ) (o : Option (List Command)) → commandBefore (some d) (some t) (some v) o ≡ commandBehind (record { device = d; tag = t; setting = v }) o
+before-behind : (d t : ℕ) (v : ℤ) (o : Option (List Command)) →
+    commandBefore (some d) (some t) (some v) o ≡ commandBehind (record { device = d; tag = t; setting = v }) o
 before-behind d t v none = refl
 before-behind d t v (some cs) = refl
 
@@ -163,7 +166,8 @@ commands-2 w [] d s e = refl
 commands-2 w (t ∷ []) d s e = refl
 commands-2 w (t ∷ v ∷ ws) d s e = rw (s, e)
 
-commands-3 : (w u : List ℕ) (ws : List (List ℕ)) (d t : ℕ) → numberUpTo highest8 w ≡ some d → numberUpTo highest8 u ≡ some t → NotFirst setting ws → commands (w ∷ u ∷ ws) ≡ none
+commands-3 : (w u : List ℕ) (ws : List (List ℕ)) (d t : ℕ) → numberUpTo highest8 w ≡ some d → numberUpTo highest8 u ≡ some t → NotFirst setting ws →
+    commands (w ∷ u ∷ ws) ≡ none
 unfolding commands
 commands-3 w u [] d t s r e = refl
 commands-3 w u (v ∷ ws) d t s r e = rw (s, r, e)
@@ -188,7 +192,8 @@ module _ (line : List ℕ) (at : ℕ) where
       command-all {v} {last} c = rw (a .words, b .words, c .words, a .says, b .says, c .says) (before-behind d t v (commands (wordsFrom line (last + 1))))
 
 -- what is read at a place: no command, or one and the commands behind it
-pub none-at : (line : List ℕ) (from : ℕ) (r : CommandRead) → r .found ≡ false → (from ≤ length line → commands (wordsFrom line from) ≡ none) → CommandAt line from r
+pub none-at : (line : List ℕ) (from : ℕ) (r : CommandRead) → r .found ≡ false → (from ≤ length line → commands (wordsFrom line from) ≡ none) →
+    CommandAt line from r
 none-at line from r e h = record { found-one = λ t. t≠f (sym t ∙ e); found-none = λ _. h }
 
 pub one-at : (line : List ℕ) (from : ℕ) (r : CommandRead) → r .found ≡ true → from ≤ r .end → r .end ≤ length line →
@@ -212,7 +217,8 @@ unfolding together
 submit-more r c none = refl
 submit-more r c (some cs) = refl
 
-pub submit-end : (line : List ℕ) (at : ℕ) (r : Routine) → length line < at → submitFrom r (commands (wordsFrom line at)) ≡ record { line = Calling Submit; routine = r }
+pub submit-end : (line : List ℕ) (at : ℕ) (r : Routine) → length line < at →
+    submitFrom r (commands (wordsFrom line at)) ≡ record { line = Calling Submit; routine = r }
 unfolding commands together
 submit-end line at r h = rw (words-none line at h)
 
@@ -269,7 +275,8 @@ id-forms letter (w ∷ v ∷ ws) = simp either
 
 pub letter-other : (letter : ℕ) (ws : List (List ℕ)) → letter ≢ 79 → letter ≢ 83 → letter ≢ 70 → letter ≢ 82 → lineWith (letter ∷ []) ws ≡ idLine letter ws
 unfolding lineWith same
-letter-other letter ws a b c d = simp (and-true, ne-eqb letter 79 a, ne-eqb letter 83 b, ne-eqb letter 70 c, ne-eqb letter 82 d, one-number) (id-forms letter ws)
+letter-other letter ws a b c d =
+    simp (and-true, ne-eqb letter 79 a, ne-eqb letter 83 b, ne-eqb letter 70 c, ne-eqb letter 82 d, one-number) (id-forms letter ws)
 
 -- ---- the first word of a line
 
@@ -280,15 +287,13 @@ blank letter ws e = rw e
 module _ (line : List ℕ) where
   first-word : lineBy (wordsOf line) ≡ lineWith (wordAt line 0) (wordsFrom line (suc (wordEnd line 0)))
   unfolding lineBy
-  first-word = ap lineBy (all ∙ words-first line 0 (omega arith))
-    where
-      all : wordsOf line ≡ wordsFrom line 0
-      all = words-all line
+  first-word = ap lineBy (words-all line ∙ words-first line 0 (omega arith))
 
   first-empty : wordAt line 0 ≡ [] → lineBy (wordsOf line) ≡ unread
   first-empty e = first-word ∙ ap (λ (w : List ℕ). lineWith w (wordsFrom line (suc (wordEnd line 0)))) e ∙ no-letter (wordsFrom line (suc (wordEnd line 0)))
 
-  first-letter : 0 < length line → getD line 0 0 ≢ space → lineBy (wordsOf line) ≡ lineWith (getD line 0 0 ∷ wordAt line 1) (wordsFrom line (suc (wordEnd line 1)))
+  first-letter : 0 < length line → getD line 0 0 ≢ space →
+      lineBy (wordsOf line) ≡ lineWith (getD line 0 0 ∷ wordAt line 1) (wordsFrom line (suc (wordEnd line 1)))
   first-letter h n =
       let more = word-more line 0 h n in
       first-word ∙ ap₂ (λ (w : List ℕ) (k : ℕ). lineWith w (wordsFrom line (suc k))) (more .0) (more .1)
@@ -353,7 +358,8 @@ restart-routine (d ∷ v ∷ []) = go (numberUpTo highest8 d) (setting v)
     go (some d) (some v) = refl
 restart-routine (d ∷ v ∷ w ∷ ws) = refl
 
-one-routine : (highest : ℕ) (says : Option ℕ → Said) → ((o : Option ℕ) → heldLine (says o) .routine ≡ noRoutine) → (ws : List (List ℕ)) → heldLine (oneOf highest says ws) .routine ≡ noRoutine
+one-routine : (highest : ℕ) (says : Option ℕ → Said) → ((o : Option ℕ) → heldLine (says o) .routine ≡ noRoutine) →
+    (ws : List (List ℕ)) → heldLine (oneOf highest says ws) .routine ≡ noRoutine
 unfolding oneOf
 one-routine highest says h [] = refl
 one-routine highest says h (w ∷ []) = h (numberUpTo highest w)
@@ -365,7 +371,9 @@ fail-routine (some d) = refl
 
 id-routine : (letter : ℕ) (o : Option ℕ) → heldLine (idCallWith letter o) .routine ≡ noRoutine
 id-routine letter none = refl
-id-routine letter (some i) = byIf P (eqb letter 78) (λ _. refl) (λ _. byIf P (eqb letter 68) (λ _. refl) (λ _. byIf P (eqb letter 66) (λ _. refl) (λ _. byIf P (eqb letter 67) (λ _. refl) (λ _. refl))))
+id-routine letter (some i) =
+    byIf P (eqb letter 78) (λ _. refl)
+    (λ _. byIf P (eqb letter 68) (λ _. refl) (λ _. byIf P (eqb letter 66) (λ _. refl) (λ _. byIf P (eqb letter 67) (λ _. refl) (λ _. refl))))
   where
     P : Said → Type 0
     P said = heldLine said .routine ≡ noRoutine
@@ -378,7 +386,9 @@ plain-routine letter ws h = go (eqb letter 79) (eqb letter 70) (eqb letter 82) r
 
     go : (o f r : Bool) → eqb letter 79 ≡ o → eqb letter 70 ≡ f → eqb letter 82 ≡ r → routineOf (lineWith (letter ∷ []) ws) ≡ noRoutine
     go true f r a b c = ap routineOf (letter-open letter ws (eqb-true letter 79 a)) ∙ open-routine ws
-    go false true r a b c = ap routineOf (letter-fail letter ws (eqb-true letter 70 b) ∙ one-number highest8 failure ws) ∙ one-routine highest8 (callWith failure) fail-routine ws
+    go false true r a b c =
+        ap routineOf (letter-fail letter ws (eqb-true letter 70 b) ∙ one-number highest8 failure ws)
+        ∙ one-routine highest8 (callWith failure) fail-routine ws
     go false false true a b c = ap routineOf (letter-restart letter ws (eqb-true letter 82 c)) ∙ restart-routine ws
     go false false false a b c =
         ap routineOf (letter-other letter ws (eqb-false letter 79 a) h (eqb-false letter 70 b) (eqb-false letter 82 c))

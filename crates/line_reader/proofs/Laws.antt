@@ -63,16 +63,17 @@ module _ (line : List ℕ) (at : ℕ) where
   unfolding wordAt wordEnd
   word-none h e = (rw (reach-here space line at h e), ends-here space line at h e)
 
-  pub word-more : at < length line → getD line at 0 ≢ space → (wordAt line at ≡ getD line at 0 ∷ wordAt line (suc at)) × (wordEnd line at ≡ wordEnd line (suc at))
+  pub word-more : at < length line → getD line at 0 ≢ space →
+      (wordAt line at ≡ getD line at 0 ∷ wordAt line (suc at)) × (wordEnd line at ≡ wordEnd line (suc at))
   unfolding wordAt wordEnd
   word-more h n = (rw (reach-on space line at h n, drop-cons line at 0 h), ends-on space line at h n)
 
   -- a word ends as many bytes further as it has
-  pub word-length : wordEnd line at ≡ at + length (wordAt line at)
+  word-length : wordEnd line at ≡ at + length (wordAt line at)
   unfolding wordAt wordEnd
   word-length = rw (length-take-le (reach space (drop at line)) (drop at line) (reach-within space (drop at line)))
 
-  pub word-inside : at ≤ length line → wordEnd line at ≤ length line
+  word-inside : at ≤ length line → wordEnd line at ≤ length line
   unfolding wordEnd
   word-inside h = omega (arith, reach-within space (drop at line), length-drop at line)
 
@@ -95,7 +96,8 @@ module _ (line : List ℕ) (at : ℕ) where
       left : length bs ≡ length line - at
       left = length-drop at line
 
-      go : (t : Bool) → ltb r (length bs) ≡ t → pieces space bs ≡ take r bs ∷ (if leb (suc (at + r)) (length line) then pieces space (drop (suc (at + r)) line) else [])
+      go : (t : Bool) → ltb r (length bs) ≡ t →
+          pieces space bs ≡ take r bs ∷ (if leb (suc (at + r)) (length line) then pieces space (drop (suc (at + r)) line) else [])
       go true e =
           let more = ltb-true r (length bs) e in
           let n : at + suc r ≡ suc (at + r) = omega arith in
@@ -111,15 +113,15 @@ words-all line = rw (le-leb 0 (length line) (omega arith))
 
 -- ---- numbers
 
-pub digits-more : (n b : ℕ) (bs : List ℕ) → digit0 ≤ b → b < digit0 + 10 → digitsFrom n (b ∷ bs) ≡ digitsFrom (10 * n + (b - digit0)) bs
+digits-more : (n b : ℕ) (bs : List ℕ) → digit0 ≤ b → b < digit0 + 10 → digitsFrom n (b ∷ bs) ≡ digitsFrom (10 * n + (b - digit0)) bs
 unfolding digitsFrom
 digits-more n b bs h k = rw (le-leb digit0 b h, lt-ltb b (digit0 + 10) k)
 
-pub digits-below : (n b : ℕ) (bs : List ℕ) → b < digit0 → digitsFrom n (b ∷ bs) ≡ none
+digits-below : (n b : ℕ) (bs : List ℕ) → b < digit0 → digitsFrom n (b ∷ bs) ≡ none
 unfolding digitsFrom
 digits-below n b bs h = rw (lt-leb digit0 b h)
 
-pub digits-above : (n b : ℕ) (bs : List ℕ) → digit0 + 10 ≤ b → digitsFrom n (b ∷ bs) ≡ none
+digits-above : (n b : ℕ) (bs : List ℕ) → digit0 + 10 ≤ b → digitsFrom n (b ∷ bs) ≡ none
 unfolding digitsFrom
 digits-above n b bs h = rw (le-leb digit0 b (omega arith), le-ltb b (digit0 + 10) h)
 
@@ -132,17 +134,17 @@ digits-large highest n (b ∷ bs) h =
     (λ _. digits-large highest (10 * n + (b - digit0)) bs (omega arith)) (λ _. refl)
 
 -- what the digits of a word say, but for the word of no bytes
-pub number-none : (highest : ℕ) (word : List ℕ) → within highest (digitsFrom 0 word) ≡ none → numberUpTo highest word ≡ none
+number-none : (highest : ℕ) (word : List ℕ) → within highest (digitsFrom 0 word) ≡ none → numberUpTo highest word ≡ none
 unfolding numberUpTo number
 number-none highest [] e = refl
 number-none highest (b ∷ bs) e = e
 
-pub number-digits : (highest : ℕ) (word : List ℕ) → 0 < length word → numberUpTo highest word ≡ within highest (digitsFrom 0 word)
+number-digits : (highest : ℕ) (word : List ℕ) → 0 < length word → numberUpTo highest word ≡ within highest (digitsFrom 0 word)
 unfolding numberUpTo number
 number-digits highest [] h = absurd (omega arith)
 number-digits highest (b ∷ bs) h = refl
 
-pub number-empty : (highest : ℕ) → numberUpTo highest [] ≡ none
+number-empty : (highest : ℕ) → numberUpTo highest [] ≡ none
 unfolding numberUpTo number
 number-empty highest = refl
 
@@ -172,7 +174,8 @@ pub record Left (line : List ℕ) (from at value : ℕ) : Type 0 where
   pub ends : wordEnd line at ≡ wordEnd line from
 
 module _ (highest : ℕ) (line : List ℕ) (from : ℕ) where
-  pub number-ended : (at value : ℕ) → Left line from at value → value ≤ highest → (wordAt line at ≡ []) × (wordEnd line at ≡ at) → foundFrom value from at ≡ numberAt highest line from
+  pub number-ended : (at value : ℕ) → Left line from at value → value ≤ highest → (wordAt line at ≡ []) × (wordEnd line at ≡ at) →
+      foundFrom value from at ≡ numberAt highest line from
   unfolding numberAt digitsFrom
   number-ended at value left h e =
       let ends : at ≡ wordEnd line from = sym (e .1) ∙ left .ends in
@@ -180,7 +183,8 @@ module _ (highest : ℕ) (line : List ℕ) (from : ℕ) where
       read-whole highest (wordAt line from) value from at digits h (ends ∙ word-length line from) ∙ ap (heldNumber (numberUpTo highest (wordAt line from))) ends
 
   -- the digits left say that there is none
-  pub number-missing : (at value : ℕ) → Left line from at value → within highest (digitsFrom value (wordAt line at)) ≡ none → numberAt highest line from ≡ Missing
+  pub number-missing : (at value : ℕ) → Left line from at value → within highest (digitsFrom value (wordAt line at)) ≡ none →
+      numberAt highest line from ≡ Missing
   unfolding numberAt
   number-missing at value left e = rw (number-none highest (wordAt line from) (ap (within highest) (sym (left .digits)) ∙ e))
 
@@ -193,7 +197,8 @@ module _ (line : List ℕ) (at value : ℕ) (h : at < length line) (n : getD lin
   left-above k = rw (word-more line at h n .0) (digits-above value (getD line at 0) (wordAt line (suc at)) k)
 
   -- one digit more
-  pub left-more : (from : ℕ) → Left line from at value → digit0 ≤ getD line at 0 → getD line at 0 < digit0 + 10 → Left line from (suc at) (10 * value + (getD line at 0 - digit0))
+  pub left-more : (from : ℕ) → Left line from at value → digit0 ≤ getD line at 0 → getD line at 0 < digit0 + 10 →
+      Left line from (suc at) (10 * value + (getD line at 0 - digit0))
   left-more from left k l = record {
     digits = sym (digits-more value (getD line at 0) (wordAt line (suc at)) k l) ∙ ap (digitsFrom value) (sym (word-more line at h n .0)) ∙ left .digits;
     ends = sym (word-more line at h n .1) ∙ left .ends;
@@ -242,7 +247,8 @@ module _ (line : List ℕ) (from : ℕ) where
   plain-word : (from < length line → getD line from 0 ≢ minus) → setting (wordAt line from) ≡ positive (numberUpTo highest16 (wordAt line from))
   plain-word n = go (ltb from (length line)) (eqb (getD line from 0) space) refl refl
     where
-      go : (s t : Bool) → ltb from (length line) ≡ s → eqb (getD line from 0) space ≡ t → setting (wordAt line from) ≡ positive (numberUpTo highest16 (wordAt line from))
+      go : (s t : Bool) → ltb from (length line) ≡ s → eqb (getD line from 0) space ≡ t →
+          setting (wordAt line from) ≡ positive (numberUpTo highest16 (wordAt line from))
       go false t e f = rw (word-past line from (ltb-false from (length line) e) .0) word-empty
       go true true e f = rw (word-none line from (ltb-true from (length line) e) (eqb-true (getD line from 0) space f) .0) word-empty
       go true false e f =
@@ -321,7 +327,8 @@ module _ (highest : ℕ) (line : List ℕ) (at : ℕ) where
 
   pub number-says : (n end : ℕ) → numberAt highest line at ≡ Found n end → WordSays (numberUpTo highest) line at n end
   unfolding numberAt
-  number-says n end e = word-says (numberUpTo highest) line at (number-empty highest) n end (held-some (numberUpTo highest (wordAt line at)) (wordEnd line at) n end e)
+  number-says n end e =
+      word-says (numberUpTo highest) line at (number-empty highest) n end (held-some (numberUpTo highest (wordAt line at)) (wordEnd line at) n end e)
 
   -- "with a number outside its width": none
   pub number-bound : (n end : ℕ) → numberAt highest line at ≡ Found n end → n ≤ highest

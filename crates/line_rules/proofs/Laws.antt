@@ -38,7 +38,8 @@ unfolding piecesFrom pieces reach cut
 from-reach byte held [] = ap (λ (l : List ℕ). l ∷ []) (sym (append-nil held))
 from-reach byte held (b ∷ bs) =
     byTest
-    (λ (t : Bool). (if t then held ∷ piecesFrom byte [] bs else piecesFrom byte (held ++ (b ∷ [])) bs) ≡ cut byte held (b ∷ bs) (if t then 0 else suc (reach byte bs)))
+    (λ (t : Bool). (if t then held ∷ piecesFrom byte [] bs else piecesFrom byte (held ++ (b ∷ [])) bs)
+    ≡ cut byte held (b ∷ bs) (if t then 0 else suc (reach byte bs)))
     (eqb b byte) (λ _. sym (cut-none byte held b bs)) (λ _. from-reach byte (held ++ (b ∷ [])) bs ∙ cut-more byte held b bs (reach byte bs))
 
 pub pieces-reach : (byte : ℕ) (bs : List ℕ) →
@@ -47,7 +48,8 @@ unfolding pieces cut
 pieces-reach byte bs = from-reach byte [] bs
 
 -- the law's two sides
-pub pieces-parted : (byte : ℕ) (bs : List ℕ) → reach byte bs < length bs → pieces byte bs ≡ take (reach byte bs) bs ∷ pieces byte (drop (suc (reach byte bs)) bs)
+pub pieces-parted : (byte : ℕ) (bs : List ℕ) → reach byte bs < length bs →
+    pieces byte bs ≡ take (reach byte bs) bs ∷ pieces byte (drop (suc (reach byte bs)) bs)
 pieces-parted byte bs h = rw (pieces-reach byte bs, lt-ltb (reach byte bs) (length bs) h)
 
 pub pieces-one : (byte : ℕ) (bs : List ℕ) → length bs ≤ reach byte bs → pieces byte bs ≡ bs ∷ []

@@ -1,5 +1,4 @@
 -- `line_reader::calls::by_letter` meets its contract. Assumes nothing.
-use Prim.Native.Nat.{_<_}
 use mathlib.Core.Path.{_≡_, sym, ap, _∙_}
 use mathlib.Core.Logic.{⊎-elim}
 use mathlib.Core.List.{[], _∷_}
@@ -9,7 +8,7 @@ use Rattle.line_rules.specs.Pieces.{wordsOf}
 use Rattle.line_rules.specs.Reading.{lineWith, lineBy}
 use Rattle.line_reader.specs.Held.{heldLine}
 use Rattle.line_reader.specs.Places.{wordsFrom}
-use Rattle.line_reader.proofs.Forms.{heldAs, no-words, letter-and-more, one-byte, letter-alone, letter-submit, plain-routine}
+use Rattle.line_reader.proofs.Forms.{no-words, letter-and-more, one-byte, letter-alone, letter-submit, plain-routine}
 use borrow.Author.Needs.{needs}
 use Rattle.line_reader.proofs.calls.by_letter.Statement.{statement}
 use Rattle.line_reader.proofs.calls.by_letter.Tie as tie

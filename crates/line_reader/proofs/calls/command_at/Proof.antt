@@ -61,7 +61,8 @@ no-command-requires-2 c κs = search needs
 
 returns-2 : tie.Need-returns-2
 returns-2 c = let n = c .before .before .before in
-    none-at _ _ _ (c .no-command2 .ensures) (λ _. command-one _ _ (device (n .before)) (no-number highest8 _ _ (sym (n .number-at2 .ensures) ∙ c .before .enum-told2 .given .1)))
+    let none = no-number highest8 _ _ (sym (n .number-at2 .ensures) ∙ c .before .enum-told2 .given .1) in
+    none-at _ _ _ (c .no-command2 .ensures) (λ _. command-one _ _ (device (n .before)) none)
 
 add-setting-at : tie.Need-add-setting-at
 add-setting-at c = let t = tag c in search needs
@@ -81,7 +82,8 @@ no-command-requires-3 c κs = search needs
 returns-3 : tie.Need-returns-3
 returns-3 c = let n = c .before .before .before in
     let t = n .before in
-    none-at _ _ _ (c .no-command3 .ensures) (λ _. command-two _ _ (device (t .before .before .before .before)) (tag t) (no-setting _ _ (sym (n .setting-at .ensures) ∙ c .before .enum-told3 .given .1)))
+    let none = no-setting _ _ (sym (n .setting-at .ensures) ∙ c .before .enum-told3 .given .1) in
+    none-at _ _ _ (c .no-command3 .ensures) (λ _. command-two _ _ (device (t .before .before .before .before)) (tag t) none)
 
 cast-t14 : tie.Need-cast-t14
 cast-t14 c = let d = c .before .before .before .before .before .before .before .before .before in

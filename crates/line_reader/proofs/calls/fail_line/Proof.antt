@@ -24,7 +24,8 @@ device : (c : tie.After-known-told) → let g = c .before .device .given .0 in
 device c = number-says highest8 _ _ _ _ (sym (c .before .before .before .number-at .ensures) ∙ c .before .device .given .1)
 
 returns : tie.Need-returns
-returns c = sym (ap heldAs (one-none highest8 (callWith failure) refl _ _ (no-number highest8 _ _ (sym (c .before .before .number-at .ensures) ∙ c .enum-told .given .1))))
+returns c =
+    sym (ap heldAs (one-none highest8 (callWith failure) refl _ _ (no-number highest8 _ _ (sym (c .before .before .number-at .ensures) ∙ c .enum-told .given .1))))
 
 returns-2 : tie.Need-returns-2
 returns-2 c = sym (ap heldAs (one-more highest8 (callWith failure) refl _ _ (device (c .before)) (c .if1 .taken)))

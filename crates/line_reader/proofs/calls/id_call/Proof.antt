@@ -1,6 +1,5 @@
 -- `line_reader::calls::id_call` meets its contract. Assumes nothing.
 use borrow.Author.Tests.{ne-eqb}
-use borrow.Author.Needs.{needs}
 use Rattle.line_reader.proofs.calls.id_call.Statement.{statement}
 use Rattle.line_reader.proofs.calls.id_call.Tie as tie
 

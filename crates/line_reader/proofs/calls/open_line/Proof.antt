@@ -68,7 +68,8 @@ enum-told-3 c = search needs
 returns-3 : tie.Need-returns-3
 returns-3 c = let n = c .before .before in
     let k = n .before in
-    sym (ap heldAs (open-two _ _ (devices (k .before .before .before .before)) (limit k) (no-number highest32 _ _ (sym (n .number-at3 .ensures) ∙ c .enum-told3 .given .1))))
+    let none = no-number highest32 _ _ (sym (n .number-at3 .ensures) ∙ c .enum-told3 .given .1) in
+    sym (ap heldAs (open-two _ _ (devices (k .before .before .before .before)) (limit k) none))
 
 returns-4 : tie.Need-returns-4
 returns-4 c = let k = c .before .before .before .before .before in

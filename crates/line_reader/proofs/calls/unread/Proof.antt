@@ -1,5 +1,4 @@
 -- `line_reader::calls::unread` meets its contract. Assumes nothing.
-use mathlib.Core.Path.{_≡_}
 use borrow.Author.Needs.{needs}
 use Rattle.line_reader.proofs.calls.unread.Statement.{statement}
 use Rattle.line_reader.proofs.calls.unread.Tie as tie

@@ -27,7 +27,8 @@ found-requires c κs = search needs
 
 returns : tie.Need-returns Inv-loop μ-loop
 returns c = let l = c .before .before .before .before in
-    c .found .ensures ∙ number-ended _ _ _ _ _ (l .loop .inv .0) (l .loop .inv .1) (word-none _ _ (c .before .before .before .loop-test .taken) (c .before .if1 .taken))
+    let ended = word-none _ _ (c .before .before .before .loop-test .taken) (c .before .if1 .taken) in
+    c .found .ensures ∙ number-ended _ _ _ _ _ (l .loop .inv .0) (l .loop .inv .1) ended
 
 -- the word with the digit at this place
 read-on : (c : tie.Else3 Inv-loop μ-loop) →

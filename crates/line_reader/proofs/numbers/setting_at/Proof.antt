@@ -1,8 +1,7 @@
 -- `line_reader::numbers::setting_at` meets its contract. Assumes nothing.
-use Prim.Native.Nat.{_<_, _+_}
+use Prim.Native.Nat.{_<_}
 use mathlib.Core.Path.{_≡_, sym, ap, _∙_}
 use mathlib.Core.Logic.{_≢_, ⊎-elim}
-use native.Mathlib.Numerals.{add-one}
 use native.Mathlib.Omega.{arith}
 use lib.ListN.{length, getD}
 use mir.Syntax.{w16}
@@ -10,15 +9,11 @@ use mir.Val.{toZ, ofZ}
 use mir.Facts.{toZ-pos}
 use Rattle.line_rules.specs.Text.{minus}
 use Rattle.line_rules.specs.Reading.{lowest16, highest16}
-use Rattle.line_reader.specs.Places.{numberAt, settingAt}
+use Rattle.line_reader.specs.Places.{settingAt}
 use Rattle.line_reader.proofs.Laws.{minusHeld, plainHeld, setting-minus, setting-plain, number-bound}
 use borrow.Author.Needs.{needs}
 use Rattle.line_reader.proofs.numbers.setting_at.Statement.{statement}
 use Rattle.line_reader.proofs.numbers.setting_at.Tie as tie
-use Rattle.line_reader.proofs.numbers.setting_at.Reads as reads
-use Rattle.line_reader.proofs.numbers.setting_at.Lts as lts
-use Rattle.line_reader.proofs.numbers.negated.Reads as negated-reads
-use Rattle.line_reader.proofs.numbers.number_at.Reads as number-at-reads
 
 shared-slice-read-if2 : tie.Need-shared-slice-read-if2
 shared-slice-read-if2 c = search needs
