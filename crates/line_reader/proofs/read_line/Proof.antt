@@ -1,5 +1,6 @@
 -- `line_reader::read_line` meets its contract. Assumes nothing.
 use mathlib.Core.Path.{sym, ap, _∙_}
+use native.Mathlib.Omega.{arith}
 use Rattle.line_reader.specs.Held.{heldLine}
 use Rattle.line_reader.proofs.Forms.{line-long, line-short}
 use borrow.Author.Needs.{needs}
@@ -10,13 +11,13 @@ unread-requires : tie.Need-unread-requires
 unread-requires c κs = search needs
 
 returns : tie.Need-returns
-returns c = c .unread .ensures ∙ sym (ap heldLine (line-long _ (c .before .if1 .taken)))
+returns c = c .unread .ensures ∙ sym (ap heldLine (line-long (c .before .before .before .args .line .now) (omega arith)))
 
 by-letter-requires : tie.Need-by-letter-requires
 by-letter-requires c κs = search needs
 
 returns-2 : tie.Need-returns-2
-returns-2 c = c .by-letter .ensures ∙ sym (ap heldLine (line-short _ (c .before .if1 .left)))
+returns-2 c = c .by-letter .ensures ∙ sym (ap heldLine (line-short (c .before .before .before .args .line .now) (omega arith)))
 
 pub read-line-spec : {M : Type 1} → statement M
 read-line-spec = tie.close (tie.spec unread-requires returns by-letter-requires returns-2)

@@ -1,6 +1,7 @@
 -- `line_reader::calls::submit_line` meets its contract. Assumes nothing.
 use Prim.Native.Nat.{suc, _+_, _-_, _≤_}
 use mathlib.Core.Path.{_≡_, sym, ap, _∙_}
+use native.Mathlib.Omega.{arith}
 use borrow.Author.Tests.{not-true, not-false}
 use lib.ListN.{length}
 use Rattle.routine.specs.declared.Routine.{Routine}
@@ -34,7 +35,7 @@ unread-requires c κs = search needs
 returns : tie.Need-returns Inv-loop μ-loop
 returns c = let k = c .before .before .before in
     let l = k .before .before in
-    let none = k .command-at .ensures .found-none (not-true _ (c .before .if1 .taken)) (k .before .loop-test .taken) in
+    let none = k .command-at .ensures .found-none (not-true _ (c .before .if1 .taken)) (omega arith) in
     c .unread .ensures ∙ sym (ap (submitFrom (l .loop .routine)) none) ∙ l .loop .inv
 
 -- a command was found, and the rest of the line is behind it
@@ -66,7 +67,8 @@ loop-again c = let e = c .before .before .before in
     ∙ l .loop .inv
 
 returns-2 : tie.Need-returns-2 Inv-loop μ-loop
-returns-2 c = sym (submit-end _ _ _ (c .loop-test .left)) ∙ c .before .loop .inv
+returns-2 c = let l = c .before in
+    sym (submit-end (l .before .before .before .args .line .now) (l .loop .at) (l .loop .routine) (omega arith)) ∙ l .loop .inv
 
 pub submit-line-spec : {M : Type 1} → statement M
 submit-line-spec =
