@@ -1,3 +1,4 @@
+-- `line_reader::numbers::found` meets its contract. Assumes nothing.
 use borrow.Author.Tests.{eq-eqb, ne-eqb}
 use Rattle.line_reader.proofs.numbers.found.Statement.{statement}
 use Rattle.line_reader.proofs.numbers.found.Tie as tie
