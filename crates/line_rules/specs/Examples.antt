@@ -27,3 +27,74 @@ pub listing : Prints
     "opened\nplaced 1 after 0\nplaced 2 after 0\nsend 2 0 70\ndone 2\ncommitted 2\nsend 1 0 50\ndone 1\ndown 0 after 1\naborted 1 back 0\nup 0 after 0\ndevice 0 up 15\ndevice 1 up 0\ndevice 2 up 0\n"
 unfolding calc
 listing = refl
+
+-- The example of document 01 that has no ★: "First id 4,294,967,295: one routine placed, the next refused (9)."
+pub last-id : Prints "O 1 0 4294967295\nS 0 0 1\nS 0 0 1\n" "opened\nplaced 4294967295 after 0\nrefused 9\ndevice 0 up 0\n"
+unfolding calc
+last-id = refl
+
+-- An abort caused by `F` comes first, on a line of its own, and what it puts back; `skipped` with and without `back`; a wait; a device that is down.
+pub aborted-first : Prints
+    "O 2 0 7\nS 0 0 5 1 0 -6 1 0 7\nN 7\nD 7\nN 7\nS 0 1 8\nN 8\nF 1\nN 8\nB 8\nS 1 1 9\nN 9\n"
+    "opened\nplaced 7 after 0\nsend 7 0 5\ndone 7\nsend 7 1 -6\nplaced 8 after 7\nsend 8 0 8\naborted 7 back 0\ndown 1 after 0\nrefused 11\nskipped 8 back 1 0 0\nplaced 9 after 8\nskipped 9\ndevice 0 up 0\ndevice 1 down\n"
+unfolding calc
+aborted-first = refl
+
+pub waits : Prints
+    "O 1 0 2\nS 0 0 1\nS 0 0 2\nN 3\nS 0 2 1\nS 0 0 1 1 0 1\n"
+    "opened\nplaced 2 after 0\nplaced 3 after 2\nwait 3 on 2\nrefused 7 0\nrefused 5 1\ndevice 0 up 0\n"
+unfolding calc
+waits = refl
+
+-- No bytes are no line; an empty line is one; the last may lack its end. Before an accepted `O` a call is not read; a refused `O` changes nothing, and a later
+-- accepted one starts a new hub.
+pub no-line : Prints "" ""
+unfolding calc
+no-line = refl
+
+pub empty-line : Prints "\n" "unread\n"
+unfolding calc
+empty-line = refl
+
+pub openings : Prints
+    "N 1\nO 0 0 1\nN 1\nO 1 9 0\nO 1 0 0\nO 1 0 1\nR 0 5\nF 0\nR 0 5\nO 33 0 1\nN 1\nO 1 0 1"
+    "unread\nrefused 1\nunread\nrefused 2\nrefused 3\nopened\nrefused 16\ndown 0 after 0\nup 0 after 0\nrefused 1\nrefused 10\nopened\ndevice 0 up 0\n"
+unfolding calc
+openings = refl
+
+-- Shape and widths come before any rule: nine commands with a device of 255 are turned down, with one of 256 not read. `S` alone is a routine of 0 commands.
+pub nine : Prints
+    "O 1 0 1\nS\nS 0 0 0 0 0 0 0 0 0 0 0 0 0 0 0 0 0 0 0 0 0 0 0 0 255 0 0\nS 0 0 0 0 0 0 0 0 0 0 0 0 0 0 0 0 0 0 0 0 0 0 0 0 256 0 0\n"
+    "opened\nrefused 4\nrefused 4\nunread\ndevice 0 up 0\n"
+unfolding calc
+nine = refl
+
+-- Zeros before a number are digits, and `-0` is the setting 0. Two spaces, a space at either end, `+`, a minus before another number, a carriage return, a tab, a
+-- lower letter, a number of no digits and words too many or too few are other shapes.
+pub shapes : Prints
+    "O 001 0 0000000000000000000001\nS 0 0 -0\nN  1\n N 1\nN 1 \nS \nN +1\nN -1\nN 1\r\nN\t1\nn 1\nN\nN 1 1\nS 0 0 -\nS 0 0\nR 0 0 0\nON 1\n"
+    "opened\nplaced 1 after 0\nunread\nunread\nunread\nunread\nunread\nunread\nunread\nunread\nunread\nunread\nunread\nunread\nunread\nunread\nunread\ndevice 0 up 0\n"
+unfolding calc
+shapes = refl
+
+-- The widths: 8 bits, 32 bits, signed 16 bits.
+pub widths : Prints
+    "O 1 0 1\nF 255\nF 256\nN 4294967295\nN 4294967296\nS 0 0 32767\nS 0 0 32768\nS 0 0 -32768\nS 0 0 -32769\nO 255 255 0\nO 1 256 1\n"
+    "opened\nrefused 14\nunread\nrefused 10\nunread\nrefused 6 0\nunread\nrefused 6 0\nunread\nrefused 1\nunread\ndevice 0 up 0\n"
+unfolding calc
+widths = refl
+
+-- 128 bytes are a line, 129 are none: a turn of 1 with so many zeros before it.
+abbrev zeros : ℕ → List ℕ
+zeros n = replicate n 48
+
+pub longest : programText (bytes "O 1 0 1\nN " ++ zeros 125 ++ bytes "1\nN " ++ zeros 126 ++ bytes "1\n") ≡ bytes "opened\nrefused 10\nunread\ndevice 0 up 0\n"
+unfolding calc
+longest = refl
+
+-- The result on a buffer of so many bytes, and the buffer: 7 bytes have room for `unread` and its end, 6 have not.
+pub lent :
+    (lengthOr21 (programText (bytes "?")) 7 ≡ pos 7) × (lengthOr21 (programText (bytes "?")) 6 ≡ negsuc 20)
+    × (bufferWith (programText (bytes "?")) (bytes "12345678") ≡ bytes "unread\n8") × (bufferWith (programText (bytes "?")) (bytes "123456") ≡ bytes "123456")
+unfolding calc
+lent = (refl, refl, refl, refl)

@@ -27,13 +27,15 @@ minus = 45
 abbrev pub digit0 : ℕ
 digit0 = 48
 
--- A number in decimal digits, with no zero before it. The first argument bounds how many digits there are.
-unfoldable pub digits : ℕ → ℕ → List ℕ
-digits zero n = []
-digits (suc most) n = if ltb n 10 then (digit0 + n) ∷ [] else digits most (n / 10) ++ ((digit0 + n % 10) ∷ [])
+-- The decimal digits of n, with no zero before them. The first argument bounds how many there are; the second says whether n is a single digit.
+unfoldable pub digits : ℕ → Bool → ℕ → List ℕ
+digits zero true n = (digit0 + n) ∷ []
+digits zero false n = []
+digits (suc most) true n = (digit0 + n) ∷ []
+digits (suc most) false n = digits most (ltb (n / 10) 10) (n / 10) ++ ((digit0 + n % 10) ∷ [])
 
 unfoldable pub decimal : ℕ → List ℕ
-decimal n = digits (suc n) n
+decimal n = digits n (ltb n 10) n
 
 -- "a setting perhaps with a minus before it". `negsuc n` is −(n + 1).
 unfoldable pub signed : ℤ → List ℕ
