@@ -75,13 +75,15 @@ def command(name, over):
         return ['rt', 'dev', name, '--allow-holes']
     kit = os.path.dirname(os.path.dirname(subprocess.run(['rt', 'doc'], capture_output=True, text=True).stdout.strip()))
     own = os.path.join(kit, 'on', os.uname().machine)
-    words = [os.path.join(own, 'bin', 'rattle'), 'check', '--crate-name', name, 'crates/%s/src/lib.rt' % name]
+    root = 'crates/%s/src/%s.rt' % (name, 'main' if os.path.exists('crates/%s/src/main.rt' % name) else 'lib')
+    words = [os.path.join(own, 'bin', 'rattle'), 'check', '--crate-name', name, root]
     words += ['--extern', 'std=%s/rlib/std.rlib' % own]
     for lib in builds_on(name):
         if lib in over:
             words += ['--lib', '%s=crates/%s/src/lib.rt' % (lib, lib)]
         else:
-            words += ['--extern', '%s=target/rlib/%s.rlib' % (lib, lib)]
+            ours = os.path.exists('crates/' + lib)
+            words += ['--extern', '%s=%s/rlib/%s.rlib' % (lib, 'target' if ours else own, lib)]
     words += ['-L', 'dependency=target/rlib', '-L', 'dependency=%s/rlib' % own]
     words += ['--antt-project', os.path.join(kit, 'logic', 'antt-project.json'), '--logic-built', os.path.join(own, 'logic-built')]
     os.makedirs('target/over/' + name, exist_ok=True)
