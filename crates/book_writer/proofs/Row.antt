@@ -2,18 +2,19 @@
 use Prim.Native.Nat.{ℕ, zero, suc, _+_, _-_, _*_, _≤_, _<_, min}
 use mathlib.Core.Path.{_≡_, refl, sym, ap, ap₂, _∙_}
 use mathlib.Core.List.{List, [], _∷_, _++_, append-assoc}
-use native.Mathlib.Nat.{zero-add, suc-add, add-suc, add-zero}
+use native.Mathlib.Nat.{zero-add, suc-add}
 use native.Mathlib.Numerals.{add-one}
 use native.Mathlib.Omega.{arith}
 use borrow.Author.Tests.{lt-ltb, le-ltb}
 use lib.IntN.{ℤ, pos}
-use lib.ListN.{length, take, drop, getD, set, length-append, length-take, length-drop, drop-of-length-le}
+use lib.ListN.{length, take, drop, getD, length-append, length-take, length-drop, drop-of-length-le}
 use lib.Seq.{sets, sets-eq, slice, slice-cons, slice-empty, drop-cons, drop-drop, take-nil, drop-nil, take-suc, getD-drop}
 use Rattle.routine.specs.Refusals.{no-room, refusalOf}
 use Rattle.routine.specs.Routine.{zeroCommand, routineCheck}
 use Rattle.routine.specs.declared.Command.{Command}
 use Rattle.routine.specs.declared.Refusal.{Refusal}
 use Rattle.routine.specs.declared.Verdict.the-variants.{Accepted, Refused}
+use Rattle.routine.proofs.Laws.{sets-append}
 use Rattle.layout.specs.Layout.{maxRoutines, bookDevices, pairsEnd, commandBytes, commandsBytes, pairsBytes, bodyBytes, bookBytes}
 use Rattle.layout.specs.Numbers.{twoBytes, fourBytes}
 use Rattle.layout.specs.Writing.{rowOf, routinesOf, routinesCheck, writeCheck, writtenOf, bufferAfter}
@@ -142,11 +143,6 @@ length-book ns row =
     length-bodyBytes (r ∷ rs) = omega (arith, length-append (commandsBytes r) (bodyBytes rs), length-commandsBytes r, length-bodyBytes rs)
 
 -- ---- bytes that are written one after another
-
--- some, then others behind them
-pub sets-append : (vs ws l : List ℕ) (i : ℕ) → sets l i (vs ++ ws) ≡ sets (sets l i vs) (i + length vs) ws
-sets-append [] ws l i = ap (λ (k : ℕ). sets l k ws) (sym (add-zero i))
-sets-append (v ∷ vs) ws l i = sets-append vs ws (set l i v) (suc i) ∙ ap (λ (k : ℕ). sets (sets (set l i v) (suc i) vs) k ws) (suc-add i (length vs) ∙ sym (add-suc i (length vs)))
 
 -- one pair of those that are left
 pub pairs-more : (out : List ℕ) (p at n : ℕ) (r : List Command) (rs : List (List Command)) → length r ≡ n →

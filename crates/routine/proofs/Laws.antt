@@ -3,13 +3,14 @@ use Prim.Native.Nat.{ℕ, suc, _+_, _-_, _≤_, _<_, _^_}
 use mathlib.Core.Path.{_≡_, refl, sym, ap, _∙_}
 use mathlib.Core.Bool.{Bool, true, false, not, _&&_, _||_}
 use mathlib.Core.List.{List, [], _∷_, _++_, map, append-assoc}
+use native.Mathlib.Nat.{suc-add, add-suc, add-zero}
 use native.Mathlib.Numerals.{add-one}
 use native.Mathlib.Omega.{arith}
 use borrow.Author.Tests.{lt-ltb, le-ltb, le-leb, lt-leb, eq-eqb, ne-eqb}
 use lib.Dec.{leb, ltb}
 use lib.IntN.{pos, negsuc}
 use lib.ListN.{length, take, getD, set, replicate, length-append, length-replicate, length-map}
-use lib.Seq.{set-at, take-append-seam, slice, slice-cons, slice-empty, take-append-le, length-take-le}
+use lib.Seq.{sets, set-at, take-append-seam, slice, slice-cons, slice-empty, take-append-le, length-take-le}
 use Rattle.routine.specs.Choice.{if_then_else_}
 use Rattle.routine.specs.Range.{inRange}
 use Rattle.routine.specs.Refusals.{Cause, command-count, device-not-below, setting-out-of-range, tag-out-of-range, refusalOf, refuse_when_, _andThen_}
@@ -64,6 +65,11 @@ in-range-negsuc n = byTest (λ (t : Bool). t && true ≡ t) (leb n 999) (λ _. r
 -- an array that a struct holds stands in what is known of it at `map` of the identity
 pub length-mapped : (X Y : Type 0) (f : X → Y) (l : List X) (n : ℕ) → length (map f l) ≡ n → length l ≡ n
 length-mapped X Y f l n p = sym (length-map l f) ∙ p
+
+-- values stored from a place on, then others behind them
+pub sets-append : (vs ws l : List ℕ) (i : ℕ) → sets l i (vs ++ ws) ≡ sets (sets l i vs) (i + length vs) ws
+sets-append [] ws l i = ap (λ (k : ℕ). sets l k ws) (sym (add-zero i))
+sets-append (v ∷ vs) ws l i = sets-append vs ws (set l i v) (suc i) ∙ ap (λ (k : ℕ). sets (sets (set l i v) (suc i) vs) k ws) (suc-add i (length vs) ∙ sym (add-suc i (length vs)))
 
 -- ---- the commands of a routine
 

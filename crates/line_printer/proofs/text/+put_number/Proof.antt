@@ -1,4 +1,13 @@
-use Prim.Native.Nat.{ℕ, _<_}
+-- `line_printer::text::put_number` meets its contract. Assumes nothing.
+use mathlib.Core.Path.{_≡_, ap}
+use mathlib.Core.List.{[], _∷_, _++_}
+use native.Mathlib.Omega.{arith}
+use lib.ListN.{length, length-append}
+use borrow.Author.Needs.{needs}
+use Rattle.line_rules.specs.Text.{digit0, decimal}
+use Rattle.line_rules.proofs.TextLaws.{decimal-small, decimal-large}
+use Rattle.line_printer.proofs.Laws.{put-then}
+use Prim.Native.Nat.{ℕ, _+_, _/_, _%_, _<_, _≤_}
 use borrow.Fn.Kinds.{In}
 use borrow.Fn.PlainCycle.{Measures, is, falls, and}
 use Rattle.line_printer.proofs.text.put_number.Reads as put-number
@@ -9,7 +18,7 @@ use Rattle.line_printer.proofs.text.+put_number.{statement}
 use Rattle.line_printer.proofs.text.+put_number.Tie.{close}
 
 abbrev μ-put-number : Measures 1 put-number-kinds.ps ℕ
-μ-put-number κs a = ?
+μ-put-number κs a = a .1 .1 .0
 
 abbrev put-number-at : ℕ → In 1 put-number-kinds.ps
 put-number-at t =
@@ -26,7 +35,7 @@ put-number-add-put-byte : (t : ℕ) → put-number-lts.Need-add-put-byte (
   put-number-below t,
   put-number.Post,
 ) (put-number-at t) put-number.Post
-put-number-add-put-byte t c = ?
+put-number-add-put-byte t c = search needs
 
 -- src/text.rt:51:34
 put-number-cast-put-byte : (t : ℕ) → put-number-lts.Need-cast-put-byte (
@@ -35,7 +44,7 @@ put-number-cast-put-byte : (t : ℕ) → put-number-lts.Need-cast-put-byte (
   put-number-below t,
   put-number.Post,
 ) (put-number-at t) put-number.Post
-put-number-cast-put-byte t c = ?
+put-number-cast-put-byte t c = search needs
 
 -- src/text.rt:51:9
 put-number-put-byte-requires : (t : ℕ) → put-number-lts.Need-put-byte-requires (
@@ -44,7 +53,10 @@ put-number-put-byte-requires : (t : ℕ) → put-number-lts.Need-put-byte-requir
   put-number-below t,
   put-number.Post,
 ) (put-number-at t) put-number.Post
-put-number-put-byte-requires t c κs = ?
+put-number-put-byte-requires t c κs =
+    let a = c .before .before .before .args in
+    let h : a .n < 10 = omega arith in
+    omega (arith, ap length (decimal-small (a .n) h))
 
 -- src/text.rt:51:9
 put-number-same-length : (t : ℕ) → put-number-lts.Need-same-length (
@@ -53,7 +65,7 @@ put-number-same-length : (t : ℕ) → put-number-lts.Need-same-length (
   put-number-below t,
   put-number.Post,
 ) (put-number-at t) put-number.Post
-put-number-same-length t c = ?
+put-number-same-length t c = search needs
 
 -- src/text.rt:51:9
 put-number-returns : (t : ℕ) → put-number-lts.Need-returns (
@@ -62,7 +74,11 @@ put-number-returns : (t : ℕ) → put-number-lts.Need-returns (
   put-number-below t,
   put-number.Post,
 ) (put-number-at t) put-number.Post
-put-number-returns t c = ?
+put-number-returns t c =
+    let s = c .before .before .before .before .before .before in
+    let a = s .args in
+    let h : a .n < 10 = omega arith in
+    rw (decimal-small (a .n) h) (c .before .before .put-byte .ensures)
 
 -- src/text.rt:53:9
 put-number-put-number-requires : (t : ℕ) → put-number-lts.Need-put-number-requires (
@@ -71,7 +87,12 @@ put-number-put-number-requires : (t : ℕ) → put-number-lts.Need-put-number-re
   put-number-below t,
   put-number.Post,
 ) (put-number-at t) put-number.Post
-put-number-put-number-requires t c κs = ?
+put-number-put-number-requires t c κs =
+    let a = c .before .before .before .args in
+    let h : 10 ≤ a .n = omega arith in
+    let l = length-append (decimal (a .n / 10)) ((digit0 + a .n % 10) ∷ []) in
+    let e = ap length (decimal-large (a .n) h) in
+    (omega arith, omega arith)
 
 -- src/text.rt:54:25
 put-number-add-put-byte-2 : (t : ℕ) → put-number-lts.Need-add-put-byte-2 (
@@ -80,7 +101,7 @@ put-number-add-put-byte-2 : (t : ℕ) → put-number-lts.Need-add-put-byte-2 (
   put-number-below t,
   put-number.Post,
 ) (put-number-at t) put-number.Post
-put-number-add-put-byte-2 t c = ?
+put-number-add-put-byte-2 t c = search needs
 
 -- src/text.rt:54:24
 put-number-cast-put-byte-2 : (t : ℕ) → put-number-lts.Need-cast-put-byte-2 (
@@ -89,7 +110,7 @@ put-number-cast-put-byte-2 : (t : ℕ) → put-number-lts.Need-cast-put-byte-2 (
   put-number-below t,
   put-number.Post,
 ) (put-number-at t) put-number.Post
-put-number-cast-put-byte-2 t c = ?
+put-number-cast-put-byte-2 t c = search needs
 
 -- src/text.rt:54:5
 put-number-put-byte-requires-2 : (t : ℕ) → put-number-lts.Need-put-byte-requires-2 (
@@ -98,7 +119,13 @@ put-number-put-byte-requires-2 : (t : ℕ) → put-number-lts.Need-put-byte-requ
   put-number-below t,
   put-number.Post,
 ) (put-number-at t) put-number.Post
-put-number-put-byte-requires-2 t c κs = ?
+put-number-put-byte-requires-2 t c κs =
+    let n = c .before .before .before in
+    let a = n .before .before .before .before .args in
+    let h : 10 ≤ a .n = omega arith in
+    let l = length-append (decimal (a .n / 10)) ((digit0 + a .n % 10) ∷ []) in
+    let e = ap length (decimal-large (a .n) h) in
+    omega (arith, n .put-number .ensures .ends)
 
 -- src/text.rt:46:1
 put-number-same-length-2 : (t : ℕ) → put-number-lts.Need-same-length-2 (
@@ -107,7 +134,7 @@ put-number-same-length-2 : (t : ℕ) → put-number-lts.Need-same-length-2 (
   put-number-below t,
   put-number.Post,
 ) (put-number-at t) put-number.Post
-put-number-same-length-2 t c = ?
+put-number-same-length-2 t c = search needs
 
 -- src/text.rt:46:1
 put-number-returns-2 : (t : ℕ) → put-number-lts.Need-returns-2 (
@@ -116,7 +143,11 @@ put-number-returns-2 : (t : ℕ) → put-number-lts.Need-returns-2 (
   put-number-below t,
   put-number.Post,
 ) (put-number-at t) put-number.Post
-put-number-returns-2 t c = ?
+put-number-returns-2 t c =
+    let n = c .before .before .before .before .before .before in
+    let a = n .before .before .before .before .args in
+    let h : 10 ≤ a .n = omega arith in
+    rw (decimal-large (a .n) h) (put-then (n .put-number .ensures) (c .before .before .put-byte2 .ensures))
 
 pub +put-number-spec : {M : Type 1} → statement M
 +put-number-spec = close μ-put-number λ t. put-number-lts.spec (

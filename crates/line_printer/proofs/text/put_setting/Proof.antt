@@ -1,3 +1,13 @@
+-- `line_printer::text::put_setting` meets its contract. Assumes nothing.
+use mathlib.Core.Path.{_≡_}
+use mathlib.Core.Bool.{true, false}
+use native.Mathlib.Omega.{arith}
+use lib.IntN.{pos, natAbs}
+use lib.Signed.{ltZ}
+use mir.Syntax.{w16, w64}
+use mir.Val.{SFits, toZ, ofZ}
+use Rattle.line_rules.proofs.TextLaws.{decimal-short, signed-short}
+use Rattle.line_printer.proofs.Laws.{put-then, kept, wider, less, size-below, size-fits, signed-below, signed-above, not-below}
 use borrow.Author.Needs.{needs}
 use Rattle.line_printer.proofs.text.put_setting.Statement.{statement}
 use Rattle.line_printer.proofs.text.put_setting.Tie as tie
@@ -6,49 +16,72 @@ use Rattle.line_printer.proofs.text.put_setting.Lts as lts
 use Rattle.line_printer.proofs.text.put_byte.Reads as put-byte-reads
 use Rattle.line_printer.proofs.text.put_number.Reads as put-number-reads
 
--- src/text.rt:62:13
+fits : (c : tie.Start) → SFits w16 (c .args .setting)
+fits c = search needs
+
+-- the test, of the setting itself
+below : (c : tie.Then1) → ltZ (c .before .before .args .setting) (pos 0) ≡ true
+below c = rw (kept (c .before .before .args .setting) (fits (c .before .before))) at (c .if1 .taken)
+
+above : (c : tie.Else1) → ltZ (c .before .before .args .setting) (pos 0) ≡ false
+above c = rw (kept (c .before .before .args .setting) (fits (c .before .before))) at (c .if1 .left)
+
 put-byte-requires : tie.Need-put-byte-requires
-put-byte-requires c κs = ?
+put-byte-requires c κs = search needs
 
--- src/text.rt:63:25
 cast-size : tie.Need-cast-size
-cast-size c = ?
+cast-size c =
+    let s = c .before .before .before .before .before .before in
+    rw (kept (s .args .setting) (fits s)) (wider (s .args .setting) (fits s))
 
--- src/text.rt:63:20
 sub-size : tie.Need-sub-size
-sub-size c = ?
+sub-size c =
+    let n = c .before .before .before .before in
+    let s = n .before .before in
+    rw (less (s .args .setting) (fits s) (below n)) (record { sfits = omega (arith, size-fits (s .args .setting) (fits s)) })
 
--- src/text.rt:64:38
 cast-put-number : tie.Need-cast-put-number
-cast-put-number c = ?
+cast-put-number c =
+    let n = c .before .before .before .before .before in
+    let s = n .before .before in
+    rw (size-below (s .args .setting) (fits s) (below n)) (tt, record { fits = omega (arith, size-fits (s .args .setting) (fits s)) })
 
--- src/text.rt:64:9
 put-number-requires : tie.Need-put-number-requires
-put-number-requires c κs = ?
+put-number-requires c κs =
+    let n = c .before .before .before .before .before in
+    let s = n .before .before in
+    rw (size-below (s .args .setting) (fits s) (below n))
+    (omega (arith, c .before .before .before .put-byte .ensures .ends, decimal-short 5 (natAbs (s .args .setting)) (omega arith) (omega (arith, size-fits (s .args .setting) (fits s)))))
 
--- src/text.rt:64:9
 same-length : tie.Need-same-length
 same-length c = search needs
 
--- src/text.rt:64:9
 returns : tie.Need-returns
-returns c = ?
+returns c =
+    let b = c .before .before .before .before .before .before in
+    let n = b .before .before in
+    let s = n .before .before in
+    record { put = rw (signed-below (s .args .setting) (below n)) (put-then (b .put-byte .ensures) (rw (size-below (s .args .setting) (fits s) (below n)) at (c .before .before .put-number .ensures))); short = signed-short (s .args .setting) (fits s .sfits) }
 
--- src/text.rt:66:25
 cast-put-number-2 : tie.Need-cast-put-number-2
-cast-put-number-2 c = ?
+cast-put-number-2 c =
+    let s = c .before .before .before in
+    rw (kept (s .args .setting) (fits s)) (not-below (s .args .setting) (above (c .before)), record { fits = omega (arith, size-fits (s .args .setting) (fits s)) })
 
--- src/text.rt:66:5
 put-number-requires-2 : tie.Need-put-number-requires-2
-put-number-requires-2 c κs = ?
+put-number-requires-2 c κs =
+    let s = c .before .before .before in
+    rw (kept (s .args .setting) (fits s))
+    (omega (arith, decimal-short 5 (natAbs (s .args .setting)) (omega arith) (omega (arith, size-fits (s .args .setting) (fits s)))))
 
--- src/text.rt:57:1
 same-length-2 : tie.Need-same-length-2
 same-length-2 c = search needs
 
--- src/text.rt:57:1
 returns-2 : tie.Need-returns-2
-returns-2 c = ?
+returns-2 c =
+    let e = c .before .before .before .before in
+    let s = e .before .before in
+    record { put = rw (signed-above (s .args .setting) (above e)) (rw (kept (s .args .setting) (fits s)) at (c .before .before .put-number2 .ensures)); short = signed-short (s .args .setting) (fits s .sfits) }
 
 pub put-setting-spec : {M : Type 1} → statement M
 put-setting-spec =
