@@ -1,22 +1,26 @@
 -- Texts put one behind another, and the texts of answers. Assumes nothing.
 use mathlib.Core.Path.{_≡_, refl, sym, ap, ap₂, _∙_, subst}
 use mathlib.Core.Bool.{true, false}
-use mathlib.Core.List.{List, [], _∷_, _++_, append-nil, append-assoc}
+use mathlib.Core.List.{List, [], _∷_, _++_, append-nil, append-assoc, map, map-append}
 use Prim.Native.Nat.{ℕ, _+_, _≤_, _<_}
+use native.Mathlib.Numerals.{add-one}
 use native.Mathlib.Omega.{arith}
 use borrow.Author.Tests.{ltb-true}
 use lib.Dec.{T}
 use lib.IntN.{ℤ, pos, negsuc, natAbs, _-ℤ_}
-use lib.ListN.{length, length-append}
-use lib.Seq.{sets}
+use lib.ListN.{length, take, getD, length-append, length-map}
+use lib.Seq.{sets, take-suc, length-take-le}
 use lib.Signed.{ltZ, nonNeg}
 use mir.Syntax.{w16, w64}
 use mir.Val.{SFits, toZ, ofZ}
 use mir.Facts.{toZ-ofZ}
 use Rattle.routine.proofs.Laws.{sets-append}
 use Rattle.rules.specs.Answers.{Back, Answer}
+use Rattle.state.specs.View.{backOf, backsOf}
+use Rattle.state.specs.declared.PutBack.{PutBack}
+use Rattle.state.specs.declared.PutBacks.{PutBacks}
 use Rattle.line_rules.specs.Text.{minus, bytes, decimal, signed}
-use Rattle.line_rules.specs.Printing.{asLine, backList, answerText, answersText}
+use Rattle.line_rules.specs.Printing.{asLine, backList, backText, backIfAny, answerText, answersText}
 use Rattle.line_printer.specs.Put.{Put, PutShort}
 
 -- ---- one behind another
@@ -40,6 +44,10 @@ exactly p = record { put = p; short = omega arith }
 pub within : {j k : ℕ} {a b : List ℕ} {at e : ℕ} {t : List ℕ} → j ≤ k → PutShort j a b at e t → PutShort k a b at e t
 within h p = record { put = p .put; short = omega (arith, p .short) }
 
+-- a word and a text behind it
+pub shorter : (t u : List ℕ) {k : ℕ} {a b : List ℕ} {at e : ℕ} → Put a b at e (t ++ u) → length u ≤ k → PutShort (length t + k) a b at e (t ++ u)
+shorter t u p h = record { put = p; short = omega (arith, length-append t u) }
+
 pub as-text : {k : ℕ} {a b : List ℕ} {at e : ℕ} {t u : List ℕ} → t ≡ u → PutShort k a b at e t → PutShort k a b at e u
 as-text {k} {a} {b} {at} {e} h p = subst (λ (l : List ℕ). PutShort k a b at e l) h p
 
@@ -60,6 +68,29 @@ pub back-more : (l : List Back) (b : Back) → backList (l ++ (b ∷ [])) ≡ ba
 unfolding backList
 back-more [] b = refl
 back-more (c ∷ l) b = ap (λ (k : List ℕ). oneBack c ++ k) (back-more l b) ∙ sym (append-assoc (oneBack c) (backList l) (backList (b ∷ [])))
+
+-- one put-back more
+pub backs-next : (l : List PutBack) (i : ℕ) (z : PutBack) → i < length l →
+    backList (map backOf (take (i + 1) l)) ≡ backList (map backOf (take i l)) ++ backList (backOf (getD l i z) ∷ [])
+backs-next l i z h =
+    ap (λ (k : ℕ). backList (map backOf (take k l))) (add-one i)
+    ∙ ap (λ (k : List PutBack). backList (map backOf k)) (take-suc l i z h)
+    ∙ ap backList (map-append backOf (take i l) (getD l i z ∷ []))
+    ∙ back-more (map backOf (take i l)) (backOf (getD l i z))
+
+-- there are as many as are counted
+pub backs-count : (b : PutBacks) → b .count ≤ length (b .items) → length (backsOf b) ≡ b .count
+backs-count b h = length-map (take (b .count) (b .items)) backOf ∙ length-take-le (b .count) (b .items) h
+
+pub back-none : (l : List Back) → length l ≡ 0 → backIfAny l ≡ []
+unfolding backIfAny
+back-none [] h = refl
+back-none (b ∷ l) h = absurd (omega arith)
+
+pub back-some : (l : List Back) → 0 < length l → backIfAny l ≡ backText l
+unfolding backIfAny
+back-some [] h = absurd (omega arith)
+back-some (b ∷ l) h = refl
 
 pub answers-one : (a : Answer) → answersText (a ∷ []) ≡ asLine (answerText a)
 unfolding answersText

@@ -1,3 +1,6 @@
+-- `line_printer::put_refusal` meets its contract. Assumes nothing.
+use native.Mathlib.Omega.{arith}
+use Rattle.line_printer.proofs.Laws.{short-then, exactly, within}
 use borrow.Author.Needs.{needs}
 use Rattle.line_printer.proofs.put_refusal.Statement.{statement}
 use Rattle.line_printer.proofs.put_refusal.Tie as tie
@@ -20,7 +23,7 @@ same-length c = search needs
 
 -- src/lib.rt:36:1
 returns : tie.Need-returns
-returns c = ?
+returns c = within (omega arith) (short-then (c .before .before .before .before .before .before .put-refused .ensures) (exactly (c .before .before .put-end .ensures)))
 
 pub put-refusal-spec : {M : Type 1} → statement M
 put-refusal-spec = tie.close (tie.spec put-refused-requires put-end-requires same-length returns)

@@ -1,3 +1,14 @@
+-- `line_printer::answers::put_back` meets its contract. Assumes nothing.
+use mathlib.Core.Path.{_≡_, sym}
+use Prim.Native.Nat.{_≤_}
+use native.Mathlib.Omega.{arith}
+use lib.ListN.{length}
+use mir.Syntax.{w8, w16}
+use mir.Val.{Fits, toZ, ofZ}
+use Rattle.state.specs.View.{backOf}
+use Rattle.line_rules.specs.Text.{bytes, decimal}
+use Rattle.line_rules.proofs.TextLaws.{decimal-short}
+use Rattle.line_printer.proofs.Laws.{short-then, exactly, shorter, as-text, back-one}
 use borrow.Author.Needs.{needs}
 use Rattle.line_printer.proofs.answers.put_back.Statement.{statement}
 use Rattle.line_printer.proofs.answers.put_back.Tie as tie
@@ -6,6 +17,10 @@ use Rattle.line_printer.proofs.answers.put_back.Lts as lts
 use Rattle.line_printer.proofs.text.put_one.Reads as put-one-reads
 use Rattle.line_printer.proofs.text.put_setting.Reads as put-setting-reads
 use Rattle.line_printer.proofs.text.put_word.Reads as put-word-reads
+
+-- a device has at most three digits
+few : (s : tie.Start) → length (decimal (s .args .back .device)) ≤ 3
+few s = let h : Fits w8 (s .args .back .device) = search needs in decimal-short 3 (s .args .back .device) (omega arith) (omega (arith, h .fits))
 
 -- src/answers.rt:44:34
 slice-aggregate-put-one : tie.Need-slice-aggregate-put-one
@@ -25,11 +40,18 @@ slice-aggregate-put-word c = search needs
 
 -- src/answers.rt:45:9
 put-word-requires : tie.Need-put-word-requires
-put-word-requires c κs = ?
+put-word-requires c κs =
+    let o = c .before .before .before .before in
+    let s = o .before .before .before .before .before in
+    omega (arith, s .pre, o .put-one .ensures .put .ends, few s)
 
 -- src/answers.rt:47:5
 put-setting-requires : tie.Need-put-setting-requires
-put-setting-requires c κs = ?
+put-setting-requires c κs =
+    let w = c .before .before .before .before in
+    let o = w .before .before .before .before .before in
+    let s = o .before .before .before .before .before in
+    omega (arith, s .pre, o .put-one .ensures .put .ends, w .put-word .ensures .ends, few s)
 
 -- src/answers.rt:40:1
 same-length : tie.Need-same-length
@@ -37,7 +59,13 @@ same-length c = search needs
 
 -- src/answers.rt:40:1
 returns : tie.Need-returns
-returns c = ?
+returns c =
+    let w = c .before .before .before .before .before .before .before in
+    let o = w .before .before .before .before .before in
+    let s = o .before .before .before .before .before in
+    let e : toZ w16 (ofZ w16 (s .args .back .setting)) ≡ s .args .back .setting = search needs in
+    as-text (sym (back-one (backOf (s .args .back))))
+    (short-then (short-then (shorter (bytes " ") (decimal (s .args .back .device)) (o .put-one .ensures .put) (few s)) (exactly (w .put-word .ensures))) (rw e at (c .before .before .put-setting .ensures)))
 
 pub put-back-spec : {M : Type 1} → statement M
 put-back-spec =

@@ -1,3 +1,11 @@
+-- `line_printer::answers::put_first` meets its contract. Assumes nothing.
+use mathlib.Core.Path.{sym, ap, _∙_}
+use native.Mathlib.Omega.{arith}
+use Rattle.rules.specs.Answers.{aborted}
+use Rattle.state.specs.View.{backsOf, firstOf}
+use Rattle.state.specs.declared.First.{First}
+use Rattle.line_rules.specs.Printing.{answersText}
+use Rattle.line_printer.proofs.Laws.{put-none, short-then, exactly, as-text, reaches, answers-one}
 use borrow.Author.Needs.{needs}
 use Rattle.line_printer.proofs.answers.put_first.Statement.{statement}
 use Rattle.line_printer.proofs.answers.put_first.Tie as tie
@@ -20,11 +28,15 @@ put-aborted-requires c κs = search needs
 
 -- src/answers.rt:68:13
 put-end-requires : tie.Need-put-end-requires
-put-end-requires c κs = ?
+put-end-requires c κs = omega (arith, reaches (c .before .before .before .put-aborted .ensures))
 
 -- src/answers.rt:60:1
 returns : tie.Need-returns
-returns c = ?
+unfolding answersText
+returns c =
+    let s = c .before .before .before in
+    as-text (ap (λ (f : First). answersText (firstOf f (backsOf (s .args .backs)))) (sym (c .enum-told .given .1)))
+    (record { put = put-none (s .args .out .now) (s .args .at); short = omega arith })
 
 -- src/answers.rt:60:1
 same-length : tie.Need-same-length
@@ -32,7 +44,13 @@ same-length c = search needs
 
 -- src/answers.rt:60:1
 returns-2 : tie.Need-returns-2
-returns-2 c = ?
+returns-2 c =
+    let p = c .before .before .before .before .before .before in
+    let f = p .before .before .before in
+    let s = f .before .before .before in
+    as-text
+    (sym (answers-one (aborted (f .first .given .0 .0) (backsOf (s .args .backs)))) ∙ ap (λ (x : First). answersText (firstOf x (backsOf (s .args .backs)))) (sym (f .first .given .1)))
+    (short-then (p .put-aborted .ensures) (exactly (c .before .before .put-end .ensures)))
 
 pub put-first-spec : {M : Type 1} → statement M
 put-first-spec =

@@ -1,3 +1,8 @@
+-- `line_printer::answers::put_refused` meets its contract. Assumes nothing.
+use mathlib.Core.Path.{sym, ap}
+use native.Mathlib.Omega.{arith}
+use Rattle.line_rules.specs.Printing.{refusalText}
+use Rattle.line_printer.proofs.Laws.{within, as-text}
 use borrow.Author.Needs.{needs}
 use Rattle.line_printer.proofs.answers.put_refused.Statement.{statement}
 use Rattle.line_printer.proofs.answers.put_refused.Tie as tie
@@ -20,7 +25,7 @@ cast-put-one c = search needs
 
 -- src/answers.rt:26:36
 put-one-requires : tie.Need-put-one-requires
-put-one-requires c κs = ?
+put-one-requires c κs = search needs
 
 -- src/answers.rt:27:26
 enum-known-refusal-2 : tie.Need-enum-known-refusal-2
@@ -40,7 +45,7 @@ slice-aggregate-put-two-2 c = search needs
 
 -- src/answers.rt:27:44
 put-two-requires : tie.Need-put-two-requires
-put-two-requires c κs = ?
+put-two-requires c κs = search needs
 
 -- src/answers.rt:21:1
 same-length : tie.Need-same-length
@@ -48,7 +53,10 @@ same-length c = search needs
 
 -- src/answers.rt:21:1
 returns : tie.Need-returns
-returns c = ?
+unfolding refusalText
+returns c =
+    let e = c .before .before .before .before .before .before .refusal .given .1 in
+    within (omega arith) (as-text (ap refusalText (sym e)) (c .before .before .put-one .ensures))
 
 -- src/answers.rt:21:1
 same-length-2 : tie.Need-same-length-2
@@ -56,7 +64,10 @@ same-length-2 c = search needs
 
 -- src/answers.rt:21:1
 returns-2 : tie.Need-returns-2
-returns-2 c = ?
+unfolding refusalText
+returns-2 c =
+    let e = c .before .before .before .before .before .before .before .refusal2 .given .1 in
+    within (omega arith) (as-text (ap refusalText (sym e)) (c .before .before .put-two .ensures))
 
 pub put-refused-spec : {M : Type 1} → statement M
 put-refused-spec =

@@ -1,3 +1,10 @@
+-- `line_printer::answers::put_sent` meets its contract. Assumes nothing.
+use mathlib.Core.Path.{_≡_}
+use native.Mathlib.Omega.{arith}
+use mir.Syntax.{w16}
+use mir.Val.{toZ, ofZ}
+use Rattle.line_rules.specs.Printing.{answerText}
+use Rattle.line_printer.proofs.Laws.{short-then, exactly, within, reaches}
 use borrow.Author.Needs.{needs}
 use Rattle.line_printer.proofs.answers.put_sent.Statement.{statement}
 use Rattle.line_printer.proofs.answers.put_sent.Tie as tie
@@ -6,6 +13,9 @@ use Rattle.line_printer.proofs.answers.put_sent.Lts as lts
 use Rattle.line_printer.proofs.text.put_setting.Reads as put-setting-reads
 use Rattle.line_printer.proofs.text.put_two.Reads as put-two-reads
 use Rattle.line_printer.proofs.text.put_word.Reads as put-word-reads
+
+held : (s : tie.Start) → toZ w16 (ofZ w16 (s .args .sent .command .setting)) ≡ s .args .sent .command .setting
+held s = search needs
 
 -- src/answers.rt:79:34
 slice-aggregate-put-two : tie.Need-slice-aggregate-put-two
@@ -25,7 +35,7 @@ cast-put-two-2 c = search needs
 
 -- src/answers.rt:79:9
 put-two-requires : tie.Need-put-two-requires
-put-two-requires c κs = ?
+put-two-requires c κs = search needs
 
 -- src/answers.rt:80:37
 slice-aggregate-put-word : tie.Need-slice-aggregate-put-word
@@ -33,11 +43,14 @@ slice-aggregate-put-word c = search needs
 
 -- src/answers.rt:80:9
 put-word-requires : tie.Need-put-word-requires
-put-word-requires c κs = ?
+put-word-requires c κs = let t = c .before .before .before .before in omega (arith, t .before .before .before .before .before .before .before .before .pre, reaches (t .put-two .ensures))
 
 -- src/answers.rt:82:5
 put-setting-requires : tie.Need-put-setting-requires
-put-setting-requires c κs = ?
+put-setting-requires c κs =
+    let w = c .before .before .before .before in
+    let t = w .before .before .before .before .before in
+    omega (arith, t .before .before .before .before .before .before .before .before .pre, reaches (t .put-two .ensures), w .put-word .ensures .ends)
 
 -- src/answers.rt:74:1
 same-length : tie.Need-same-length
@@ -45,7 +58,13 @@ same-length c = search needs
 
 -- src/answers.rt:74:1
 returns : tie.Need-returns
-returns c = ?
+unfolding answerText
+returns c =
+    let w = c .before .before .before .before .before .before .before in
+    let t = w .before .before .before .before .before in
+    let s = t .before .before .before .before .before .before .before .before in
+    let e : toZ w16 (ofZ w16 (s .args .sent .command .setting)) ≡ s .args .sent .command .setting = held s in
+    within (omega arith) (short-then (short-then (t .put-two .ensures) (exactly (w .put-word .ensures))) (rw e at (c .before .before .put-setting .ensures)))
 
 pub put-sent-spec : {M : Type 1} → statement M
 put-sent-spec =

@@ -1,3 +1,14 @@
+-- `line_printer::answers::put_words` meets its contract. Assumes nothing.
+use mathlib.Core.Path.{_≡_, sym, ap}
+use mathlib.Core.List.{List}
+use Prim.Native.Nat.{ℕ, _≤_}
+use native.Mathlib.Omega.{arith}
+use Rattle.rules.specs.Answers.{Back}
+use Rattle.state.specs.View.{answerOf}
+use Rattle.state.specs.declared.Answer.{Answer}
+use Rattle.line_rules.specs.Printing.{answerText}
+use Rattle.line_printer.specs.Put.{PutShort}
+use Rattle.line_printer.proofs.Laws.{within, as-text}
 use borrow.Author.Needs.{needs}
 use Rattle.line_printer.proofs.answers.put_words.Statement.{statement}
 use Rattle.line_printer.proofs.answers.put_words.Tie as tie
@@ -9,6 +20,11 @@ use Rattle.line_printer.proofs.answers.put_sent.Reads as put-sent-reads
 use Rattle.line_printer.proofs.answers.put_skipped.Reads as put-skipped-reads
 use Rattle.line_printer.proofs.text.put_one.Reads as put-one-reads
 use Rattle.line_printer.proofs.text.put_two.Reads as put-two-reads
+
+-- the text of the case that the answer is
+answered : {k : ℕ} {a b : List ℕ} {at e : ℕ} (x y : Answer) (l : List Back) → x ≡ y → k ≤ 399 → PutShort k a b at e (answerText (answerOf y l)) →
+    PutShort 399 a b at e (answerText (answerOf x l))
+answered x y l h n p = as-text (ap (λ (z : Answer). answerText (answerOf z l)) (sym h)) (within n p)
 
 -- src/answers.rt:103:25
 enum-known-answer : tie.Need-enum-known-answer
@@ -40,7 +56,7 @@ cast-put-two-2 c = search needs
 
 -- src/answers.rt:104:35
 put-two-requires : tie.Need-put-two-requires
-put-two-requires c κs = ?
+put-two-requires c κs = search needs
 
 -- src/answers.rt:105:22
 enum-known-answer-3 : tie.Need-enum-known-answer-3
@@ -64,7 +80,7 @@ cast-put-two-4 c = search needs
 
 -- src/answers.rt:105:36
 put-two-requires-2 : tie.Need-put-two-requires-2
-put-two-requires-2 c κs = ?
+put-two-requires-2 c κs = search needs
 
 -- src/answers.rt:106:22
 enum-known-answer-4 : tie.Need-enum-known-answer-4
@@ -88,7 +104,7 @@ cast-put-one c = search needs
 
 -- src/answers.rt:107:29
 put-one-requires : tie.Need-put-one-requires
-put-one-requires c κs = ?
+put-one-requires c κs = search needs
 
 -- src/answers.rt:108:25
 enum-known-answer-6 : tie.Need-enum-known-answer-6
@@ -112,7 +128,7 @@ cast-put-one-2 c = search needs
 
 -- src/answers.rt:109:34
 put-one-requires-2 : tie.Need-put-one-requires-2
-put-one-requires-2 c κs = ?
+put-one-requires-2 c κs = search needs
 
 -- src/answers.rt:110:25
 enum-known-answer-8 : tie.Need-enum-known-answer-8
@@ -144,7 +160,7 @@ cast-put-two-6 c = search needs
 
 -- src/answers.rt:111:37
 put-two-requires-3 : tie.Need-put-two-requires-3
-put-two-requires-3 c κs = ?
+put-two-requires-3 c κs = search needs
 
 -- src/answers.rt:112:20
 enum-known-answer-10 : tie.Need-enum-known-answer-10
@@ -168,7 +184,7 @@ cast-put-two-8 c = search needs
 
 -- src/answers.rt:112:35
 put-two-requires-4 : tie.Need-put-two-requires-4
-put-two-requires-4 c κs = ?
+put-two-requires-4 c κs = search needs
 
 -- src/answers.rt:98:1
 same-length : tie.Need-same-length
@@ -176,7 +192,8 @@ same-length c = search needs
 
 -- src/answers.rt:98:1
 returns : tie.Need-returns
-returns c = ?
+unfolding answerText
+returns c = answered _ _ _ (c .before .before .before .before .before .answer .given .1) (omega arith) (c .before .before .put-refused .ensures)
 
 -- src/answers.rt:98:1
 same-length-2 : tie.Need-same-length-2
@@ -184,7 +201,8 @@ same-length-2 c = search needs
 
 -- src/answers.rt:98:1
 returns-2 : tie.Need-returns-2
-returns-2 c = ?
+unfolding answerText
+returns-2 c = answered _ _ _ (c .before .before .before .before .before .before .before .before .before .answer2 .given .1) (omega arith) (c .before .before .put-two .ensures)
 
 -- src/answers.rt:98:1
 same-length-3 : tie.Need-same-length-3
@@ -192,7 +210,8 @@ same-length-3 c = search needs
 
 -- src/answers.rt:98:1
 returns-3 : tie.Need-returns-3
-returns-3 c = ?
+unfolding answerText
+returns-3 c = answered _ _ _ (c .before .before .before .before .before .before .before .answer3 .given .1) (omega arith) (c .before .before .put-two2 .ensures)
 
 -- src/answers.rt:98:1
 same-length-4 : tie.Need-same-length-4
@@ -200,7 +219,8 @@ same-length-4 c = search needs
 
 -- src/answers.rt:98:1
 returns-4 : tie.Need-returns-4
-returns-4 c = ?
+unfolding answerText
+returns-4 c = answered _ _ _ (c .before .before .before .before .before .answer4 .given .1) (omega arith) (c .before .before .put-sent .ensures)
 
 -- src/answers.rt:98:1
 same-length-5 : tie.Need-same-length-5
@@ -208,7 +228,8 @@ same-length-5 c = search needs
 
 -- src/answers.rt:98:1
 returns-5 : tie.Need-returns-5
-returns-5 c = ?
+unfolding answerText
+returns-5 c = answered _ _ _ (c .before .before .before .before .before .before .answer5 .given .1) (omega arith) (c .before .before .put-one .ensures)
 
 -- src/answers.rt:98:1
 same-length-6 : tie.Need-same-length-6
@@ -216,7 +237,8 @@ same-length-6 c = search needs
 
 -- src/answers.rt:98:1
 returns-6 : tie.Need-returns-6
-returns-6 c = ?
+unfolding answerText
+returns-6 c = answered _ _ _ (c .before .before .before .before .before .answer6 .given .1) (omega arith) (c .before .before .put-skipped .ensures)
 
 -- src/answers.rt:98:1
 same-length-7 : tie.Need-same-length-7
@@ -224,7 +246,8 @@ same-length-7 c = search needs
 
 -- src/answers.rt:98:1
 returns-7 : tie.Need-returns-7
-returns-7 c = ?
+unfolding answerText
+returns-7 c = answered _ _ _ (c .before .before .before .before .before .before .answer7 .given .1) (omega arith) (c .before .before .put-one2 .ensures)
 
 -- src/answers.rt:98:1
 same-length-8 : tie.Need-same-length-8
@@ -232,7 +255,8 @@ same-length-8 c = search needs
 
 -- src/answers.rt:98:1
 returns-8 : tie.Need-returns-8
-returns-8 c = ?
+unfolding answerText
+returns-8 c = answered _ _ _ (c .before .before .before .before .before .answer8 .given .1) (omega arith) (c .before .before .put-aborted .ensures)
 
 -- src/answers.rt:98:1
 same-length-9 : tie.Need-same-length-9
@@ -240,7 +264,8 @@ same-length-9 c = search needs
 
 -- src/answers.rt:98:1
 returns-9 : tie.Need-returns-9
-returns-9 c = ?
+unfolding answerText
+returns-9 c = answered _ _ _ (c .before .before .before .before .before .before .before .answer9 .given .1) (omega arith) (c .before .before .put-two3 .ensures)
 
 -- src/answers.rt:98:1
 same-length-10 : tie.Need-same-length-10
@@ -248,7 +273,8 @@ same-length-10 c = search needs
 
 -- src/answers.rt:98:1
 returns-10 : tie.Need-returns-10
-returns-10 c = ?
+unfolding answerText
+returns-10 c = answered _ _ _ (c .before .before .before .before .before .before .before .answer10 .given .1) (omega arith) (c .before .before .put-two4 .ensures)
 
 pub put-words-spec : {M : Type 1} → statement M
 put-words-spec =
