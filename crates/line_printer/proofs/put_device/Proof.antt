@@ -12,40 +12,28 @@ use Rattle.line_printer.proofs.Laws.{short-then, exactly, within, as-te
 use borrow.Author.Needs.{needs}
 use Rattle.line_printer.proofs.put_device.Statement.{statement}
 use Rattle.line_printer.proofs.put_device.Tie as tie
-use Rattle.line_printer.proofs.put_device.Reads as reads
-use Rattle.line_printer.proofs.put_device.Lts as lts
-use Rattle.line_printer.proofs.text.put_end.Reads as put-end-reads
-use Rattle.line_printer.proofs.text.put_one.Reads as put-one-reads
-use Rattle.line_printer.proofs.text.put_setting.Reads as put-setting-reads
-use Rattle.line_printer.proofs.text.put_word.Reads as put-word-reads
 
 held : (s : tie.Start) → toZ w16 (ofZ w16 (s .args .due)) ≡ s .args .due
 held s = search needs
 
--- src/lib.rt:58:40
 slice-aggregate-put-one : tie.Need-slice-aggregate-put-one
 slice-aggregate-put-one c = search needs
 
--- src/lib.rt:58:9
 put-one-requires : tie.Need-put-one-requires
 put-one-requires c κs = search needs
 
--- src/lib.rt:60:47
 slice-aggregate-put-word : tie.Need-slice-aggregate-put-word
 slice-aggregate-put-word c = search needs
 
--- src/lib.rt:60:13
 put-word-requires : tie.Need-put-word-requires
 put-word-requires c κs = let o = c .before .before .before .before .before in omega (arith, o .before .before .before .before .pre, reaches (o .put-one .ensures))
 
--- src/lib.rt:61:13
 put-setting-requires : tie.Need-put-setting-requires
 put-setting-requires c κs =
     let w = c .before .before .before in
     let o = w .before .before .before .before .before .before in
     omega (arith, o .before .before .before .before .pre, reaches (o .put-one .ensures), w .put-word .ensures .ends)
 
--- src/lib.rt:62:9
 put-end-requires : tie.Need-put-end-requires
 put-end-requires c κs =
     let v = c .before .before .before in
@@ -53,11 +41,9 @@ put-end-requires c κs =
     let o = w .before .before .before .before .before .before in
     omega (arith, o .before .before .before .before .pre, reaches (o .put-one .ensures), w .put-word .ensures .ends, reaches (v .put-setting .ensures))
 
--- src/lib.rt:62:9
 same-length : tie.Need-same-length
 same-length c = search needs
 
--- src/lib.rt:62:9
 returns : tie.Need-returns
 returns c =
     let v = c .before .before .before .before .before .before in
@@ -70,19 +56,15 @@ returns c =
     (ap asLine (append-assoc d (bytes " up ") (signed (s .args .due))) ∙ ap (λ (t : Bool). asLine (d ++ (if t then bytes " up " ++ signed (s .args .due) else bytes " down"))) (sym (u .if1 .taken)))
     (within (omega arith) (short-then (short-then (short-then (o .put-one .ensures) (exactly (w .put-word .ensures))) (rw (held s) at (v .put-setting .ensures))) (exactly (c .before .before .put-end .ensures))))
 
--- src/lib.rt:64:32
 slice-aggregate-put-word-2 : tie.Need-slice-aggregate-put-word-2
 slice-aggregate-put-word-2 c = search needs
 
--- src/lib.rt:64:5
 put-word-requires-2 : tie.Need-put-word-requires-2
 put-word-requires-2 c κs = let o = c .before .before .before .before .before in omega (arith, o .before .before .before .before .pre, reaches (o .put-one .ensures))
 
--- src/lib.rt:54:1
 same-length-2 : tie.Need-same-length-2
 same-length-2 c = search needs
 
--- src/lib.rt:54:1
 returns-2 : tie.Need-returns-2
 returns-2 c =
     let u = c .before .before .before .before .before in

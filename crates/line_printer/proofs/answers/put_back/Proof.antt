@@ -12,40 +12,29 @@ use Rattle.line_printer.proofs.Laws.{short-then, exactly, shorter, as-t
 use borrow.Author.Needs.{needs}
 use Rattle.line_printer.proofs.answers.put_back.Statement.{statement}
 use Rattle.line_printer.proofs.answers.put_back.Tie as tie
-use Rattle.line_printer.proofs.answers.put_back.Reads as reads
-use Rattle.line_printer.proofs.answers.put_back.Lts as lts
-use Rattle.line_printer.proofs.text.put_one.Reads as put-one-reads
-use Rattle.line_printer.proofs.text.put_setting.Reads as put-setting-reads
-use Rattle.line_printer.proofs.text.put_word.Reads as put-word-reads
 
 -- a device has at most three digits
 few : (s : tie.Start) → length (decimal (s .args .back .device)) ≤ 3
 few s = let h : Fits w8 (s .args .back .device) = search needs in decimal-short 3 (s .args .back .device) (omega arith) (omega (arith, h .fits))
 
--- src/answers.rt:44:34
 slice-aggregate-put-one : tie.Need-slice-aggregate-put-one
 slice-aggregate-put-one c = search needs
 
--- src/answers.rt:44:40
 cast-put-one : tie.Need-cast-put-one
 cast-put-one c = search needs
 
--- src/answers.rt:44:9
 put-one-requires : tie.Need-put-one-requires
 put-one-requires c κs = search needs
 
--- src/answers.rt:45:37
 slice-aggregate-put-word : tie.Need-slice-aggregate-put-word
 slice-aggregate-put-word c = search needs
 
--- src/answers.rt:45:9
 put-word-requires : tie.Need-put-word-requires
 put-word-requires c κs =
     let o = c .before .before .before .before in
     let s = o .before .before .before .before .before in
     omega (arith, s .pre, o .put-one .ensures .put .ends, few s)
 
--- src/answers.rt:47:5
 put-setting-requires : tie.Need-put-setting-requires
 put-setting-requires c κs =
     let w = c .before .before .before .before in
@@ -53,11 +42,9 @@ put-setting-requires c κs =
     let s = o .before .before .before .before .before in
     omega (arith, s .pre, o .put-one .ensures .put .ends, w .put-word .ensures .ends, few s)
 
--- src/answers.rt:40:1
 same-length : tie.Need-same-length
 same-length c = search needs
 
--- src/answers.rt:40:1
 returns : tie.Need-returns
 returns c =
     let w = c .before .before .before .before .before .before .before in

@@ -1,7 +1,7 @@
 -- `line_printer::answers::put_backs` meets its contract. The loop's invariant: the first i are put behind the count. Assumes nothing.
 use mathlib.Core.Path.{_≡_, refl, sym, ap₂, _∙_}
 use mathlib.Core.List.{_++_, map}
-use Prim.Native.Nat.{ℕ, _+_, _-_, _*_, _≤_, _<_}
+use Prim.Native.Nat.{ℕ, _-_, _*_, _≤_, _<_}
 use native.Mathlib.Omega.{arith}
 use borrow.Author.Needs.{needs}
 use lib.ListN.{length, take}
@@ -14,10 +14,6 @@ use Rattle.line_printer.specs.Put.{PutShort}
 use Rattle.line_printer.proofs.Laws.{put-none, short-then, shorter, within, as-text, reaches, backs-next, backs-count}
 use Rattle.line_printer.proofs.answers.put_backs.Statement.{statement}
 use Rattle.line_printer.proofs.answers.put_backs.Tie as tie
-use Rattle.line_printer.proofs.answers.put_backs.Reads as reads
-use Rattle.line_printer.proofs.answers.put_backs.Lts as lts
-use Rattle.line_printer.proofs.answers.put_back.Reads as put-back-reads
-use Rattle.line_printer.proofs.text.put_one.Reads as put-one-reads
 
 abbrev Inv-loop : tie.InvT-loop
 Inv-loop out₀ at backs count to₀ i₀ out to i = (i ≤ count) × (length out ≡ length out₀) × PutShort (11 * i) out₀ out to₀ to (backList (map backOf (take i (backs .items))))
@@ -35,28 +31,22 @@ first c =
     let s = c .before .before .before .before in
     shorter (bytes " back ") (decimal (s .args .t3 .count)) (c .put-one .ensures .put) (decimal-short 2 (s .args .t3 .count) (omega arith) (omega (arith, s .pre .1)))
 
--- src/answers.rt:56:35
 slice-aggregate-put-one : tie.Need-slice-aggregate-put-one Inv-loop μ-loop
 slice-aggregate-put-one c = search needs
 
--- src/answers.rt:56:9
 put-one-requires : tie.Need-put-one-requires Inv-loop μ-loop
 put-one-requires c κs = search needs
 
--- src/answers.rt:58:5
 loop-holds : tie.Need-loop-holds Inv-loop μ-loop
 unfolding backList
 loop-holds c = (omega arith, refl, record { put = put-none (c .before .before .put-one .last .0) (c .before .before .put-one .result); short = omega arith })
 
--- src/answers.rt:59:20
 mul-back : tie.Need-mul-back Inv-loop μ-loop
 mul-back c = search needs
 
--- src/answers.rt:59:20
 element-copy-out-back : tie.Need-element-copy-out-back Inv-loop μ-loop
 element-copy-out-back c = search needs
 
--- src/answers.rt:60:9
 put-back-requires : tie.Need-put-back-requires Inv-loop μ-loop
 put-back-requires c κs =
     let l = c .before .before .before in
@@ -64,31 +54,25 @@ put-back-requires c κs =
     let s = o .before .before .before .before in
     omega (arith, s .pre, reaches (first o), reaches (l .loop .inv .2))
 
--- src/answers.rt:61:9
 add-i : tie.Need-add-i Inv-loop μ-loop
 add-i c = search needs
 
--- src/answers.rt:58:5
 loop-less : tie.Need-loop-less Inv-loop μ-loop
 loop-less c = search needs
 
--- src/answers.rt:58:5
 loop-again : tie.Need-loop-again Inv-loop μ-loop
 loop-again c =
     let l = c .before .before .before .before .before .before in
     let s = l .before .before .before .before .before .before .before in
-    let h : l .loop .i < length (s .args .t3 .items) = omega (arith, long s) in
-    (
+    let h : l .loop .i < length (s .args .t3 .items) = omega (arith, long s) in (
       omega arith,
       c .before .before .put-back .kept .0 ∙ l .loop .inv .1,
       as-text (sym (backs-next (s .args .t3 .items) (l .loop .i) _ h)) (within (omega arith) (short-then (l .loop .inv .2) (c .before .before .put-back .ensures))),
     )
 
--- src/answers.rt:51:1
 same-length : tie.Need-same-length Inv-loop μ-loop
 same-length c = c .before .loop .inv .1 ∙ c .before .before .before .before .put-one .kept .0
 
--- src/answers.rt:51:1
 returns : tie.Need-returns Inv-loop μ-loop
 unfolding backText
 returns c =

@@ -8,55 +8,40 @@ use Rattle.line_printer.proofs.Laws.{short-then, exactly, within, reach
 use borrow.Author.Needs.{needs}
 use Rattle.line_printer.proofs.answers.put_sent.Statement.{statement}
 use Rattle.line_printer.proofs.answers.put_sent.Tie as tie
-use Rattle.line_printer.proofs.answers.put_sent.Reads as reads
-use Rattle.line_printer.proofs.answers.put_sent.Lts as lts
-use Rattle.line_printer.proofs.text.put_setting.Reads as put-setting-reads
-use Rattle.line_printer.proofs.text.put_two.Reads as put-two-reads
-use Rattle.line_printer.proofs.text.put_word.Reads as put-word-reads
 
 held : (s : tie.Start) → toZ w16 (ofZ w16 (s .args .sent .command .setting)) ≡ s .args .sent .command .setting
 held s = search needs
 
--- src/answers.rt:79:34
 slice-aggregate-put-two : tie.Need-slice-aggregate-put-two
 slice-aggregate-put-two c = search needs
 
--- src/answers.rt:79:44
 cast-put-two : tie.Need-cast-put-two
 cast-put-two c = search needs
 
--- src/answers.rt:79:60
 slice-aggregate-put-two-2 : tie.Need-slice-aggregate-put-two-2
 slice-aggregate-put-two-2 c = search needs
 
--- src/answers.rt:79:66
 cast-put-two-2 : tie.Need-cast-put-two-2
 cast-put-two-2 c = search needs
 
--- src/answers.rt:79:9
 put-two-requires : tie.Need-put-two-requires
 put-two-requires c κs = search needs
 
--- src/answers.rt:80:37
 slice-aggregate-put-word : tie.Need-slice-aggregate-put-word
 slice-aggregate-put-word c = search needs
 
--- src/answers.rt:80:9
 put-word-requires : tie.Need-put-word-requires
 put-word-requires c κs = let t = c .before .before .before .before in omega (arith, t .before .before .before .before .before .before .before .before .pre, reaches (t .put-two .ensures))
 
--- src/answers.rt:82:5
 put-setting-requires : tie.Need-put-setting-requires
 put-setting-requires c κs =
     let w = c .before .before .before .before in
     let t = w .before .before .before .before .before in
     omega (arith, t .before .before .before .before .before .before .before .before .pre, reaches (t .put-two .ensures), w .put-word .ensures .ends)
 
--- src/answers.rt:74:1
 same-length : tie.Need-same-length
 same-length c = search needs
 
--- src/answers.rt:74:1
 returns : tie.Need-returns
 unfolding answerText
 returns c =

@@ -12,28 +12,20 @@ use Rattle.line_printer.proofs.Laws.{short-then, within, as-text, reach
 use borrow.Author.Needs.{needs}
 use Rattle.line_printer.proofs.answers.put_skipped.Statement.{statement}
 use Rattle.line_printer.proofs.answers.put_skipped.Tie as tie
-use Rattle.line_printer.proofs.answers.put_skipped.Reads as reads
-use Rattle.line_printer.proofs.answers.put_skipped.Lts as lts
-use Rattle.line_printer.proofs.answers.put_backs.Reads as put-backs-reads
-use Rattle.line_printer.proofs.text.put_one.Reads as put-one-reads
 
 -- those that are counted are there
 fit : (s : tie.Start) → s .args .backs .count ≤ length (s .args .backs .items)
 fit s = let e : length (s .args .backs .items) ≡ 32 = search (needs, length-mapped) in omega (arith, s .pre .1)
 
--- src/answers.rt:90:34
 slice-aggregate-put-one : tie.Need-slice-aggregate-put-one
 slice-aggregate-put-one c = search needs
 
--- src/answers.rt:90:9
 put-one-requires : tie.Need-put-one-requires
 put-one-requires c κs = search needs
 
--- src/answers.rt:92:9
 same-length : tie.Need-same-length
 same-length c = search needs
 
--- src/answers.rt:92:9
 returns : tie.Need-returns
 unfolding answerText
 returns c =
@@ -44,18 +36,15 @@ returns c =
     let t = bytes "skipped " ++ decimal (s .args .id) in
     as-text (sym (append-nil t) ∙ ap (λ (k : List ℕ). t ++ k) (sym (back-none (backsOf b) n))) (within (omega arith) (o .put-one .ensures))
 
--- src/answers.rt:94:5
 put-backs-requires : tie.Need-put-backs-requires
 put-backs-requires c κs =
     let o = c .before .before .before .before .before in
     let s = o .before .before .before .before in
     (omega (arith, s .pre .0, reaches (o .put-one .ensures)), s .pre .1)
 
--- src/answers.rt:86:1
 same-length-2 : tie.Need-same-length-2
 same-length-2 c = search needs
 
--- src/answers.rt:86:1
 returns-2 : tie.Need-returns-2
 unfolding answerText
 returns-2 c =

@@ -12,266 +12,198 @@ use Rattle.line_printer.proofs.Laws.{within, as-text}
 use borrow.Author.Needs.{needs}
 use Rattle.line_printer.proofs.answers.put_words.Statement.{statement}
 use Rattle.line_printer.proofs.answers.put_words.Tie as tie
-use Rattle.line_printer.proofs.answers.put_words.Reads as reads
-use Rattle.line_printer.proofs.answers.put_words.Lts as lts
-use Rattle.line_printer.proofs.answers.put_aborted.Reads as put-aborted-reads
-use Rattle.line_printer.proofs.answers.put_refused.Reads as put-refused-reads
-use Rattle.line_printer.proofs.answers.put_sent.Reads as put-sent-reads
-use Rattle.line_printer.proofs.answers.put_skipped.Reads as put-skipped-reads
-use Rattle.line_printer.proofs.text.put_one.Reads as put-one-reads
-use Rattle.line_printer.proofs.text.put_two.Reads as put-two-reads
 
 -- the text of the case that the answer is
 answered : {k : ℕ} {a b : List ℕ} {at e : ℕ} (x y : Answer) (l : List Back) → x ≡ y → k ≤ 399 → PutShort k a b at e (answerText (answerOf y l)) →
     PutShort 399 a b at e (answerText (answerOf x l))
 answered x y l h n p = as-text (ap (λ (z : Answer). answerText (answerOf z l)) (sym h)) (within n p)
 
--- src/answers.rt:103:25
 enum-known-answer : tie.Need-enum-known-answer
 enum-known-answer c = search needs
 
--- src/answers.rt:103:37
 put-refused-requires : tie.Need-put-refused-requires
 put-refused-requires c κs = search needs
 
--- src/answers.rt:104:24
 enum-known-answer-2 : tie.Need-enum-known-answer-2
 enum-known-answer-2 c = search needs
 
--- src/answers.rt:104:52
 slice-aggregate-put-two : tie.Need-slice-aggregate-put-two
 slice-aggregate-put-two c = search needs
 
--- src/answers.rt:104:64
 cast-put-two : tie.Need-cast-put-two
 cast-put-two c = search needs
 
--- src/answers.rt:104:82
 slice-aggregate-put-two-2 : tie.Need-slice-aggregate-put-two-2
 slice-aggregate-put-two-2 c = search needs
 
--- src/answers.rt:104:94
 cast-put-two-2 : tie.Need-cast-put-two-2
 cast-put-two-2 c = search needs
 
--- src/answers.rt:104:35
 put-two-requires : tie.Need-put-two-requires
 put-two-requires c κs = search needs
 
--- src/answers.rt:105:22
 enum-known-answer-3 : tie.Need-enum-known-answer-3
 enum-known-answer-3 c = search needs
 
--- src/answers.rt:105:53
 slice-aggregate-put-two-3 : tie.Need-slice-aggregate-put-two-3
 slice-aggregate-put-two-3 c = search needs
 
--- src/answers.rt:105:63
 cast-put-two-3 : tie.Need-cast-put-two-3
 cast-put-two-3 c = search needs
 
--- src/answers.rt:105:74
 slice-aggregate-put-two-4 : tie.Need-slice-aggregate-put-two-4
 slice-aggregate-put-two-4 c = search needs
 
--- src/answers.rt:105:83
 cast-put-two-4 : tie.Need-cast-put-two-4
 cast-put-two-4 c = search needs
 
--- src/answers.rt:105:36
 put-two-requires-2 : tie.Need-put-two-requires-2
 put-two-requires-2 c κs = search needs
 
--- src/answers.rt:106:22
 enum-known-answer-4 : tie.Need-enum-known-answer-4
 enum-known-answer-4 c = search needs
 
--- src/answers.rt:106:31
 put-sent-requires : tie.Need-put-sent-requires
 put-sent-requires c κs = search needs
 
--- src/answers.rt:107:22
 enum-known-answer-5 : tie.Need-enum-known-answer-5
 enum-known-answer-5 c = search needs
 
--- src/answers.rt:107:46
 slice-aggregate-put-one : tie.Need-slice-aggregate-put-one
 slice-aggregate-put-one c = search needs
 
--- src/answers.rt:107:56
 cast-put-one : tie.Need-cast-put-one
 cast-put-one c = search needs
 
--- src/answers.rt:107:29
 put-one-requires : tie.Need-put-one-requires
 put-one-requires c κs = search needs
 
--- src/answers.rt:108:25
 enum-known-answer-6 : tie.Need-enum-known-answer-6
 enum-known-answer-6 c = search needs
 
--- src/answers.rt:108:32
 put-skipped-requires : tie.Need-put-skipped-requires
 put-skipped-requires c κs = search needs
 
--- src/answers.rt:109:27
 enum-known-answer-7 : tie.Need-enum-known-answer-7
 enum-known-answer-7 c = search needs
 
--- src/answers.rt:109:51
 slice-aggregate-put-one-2 : tie.Need-slice-aggregate-put-one-2
 slice-aggregate-put-one-2 c = search needs
 
--- src/answers.rt:109:66
 cast-put-one-2 : tie.Need-cast-put-one-2
 cast-put-one-2 c = search needs
 
--- src/answers.rt:109:34
 put-one-requires-2 : tie.Need-put-one-requires-2
 put-one-requires-2 c κs = search needs
 
--- src/answers.rt:110:25
 enum-known-answer-8 : tie.Need-enum-known-answer-8
 enum-known-answer-8 c = search needs
 
--- src/answers.rt:110:32
 put-aborted-requires : tie.Need-put-aborted-requires
 put-aborted-requires c κs = search needs
 
--- src/answers.rt:111:22
 enum-known-answer-9 : tie.Need-enum-known-answer-9
 enum-known-answer-9 c = search needs
 
--- src/answers.rt:111:54
 slice-aggregate-put-two-5 : tie.Need-slice-aggregate-put-two-5
 slice-aggregate-put-two-5 c = search needs
 
--- src/answers.rt:111:64
 cast-put-two-5 : tie.Need-cast-put-two-5
 cast-put-two-5 c = search needs
 
--- src/answers.rt:111:79
 slice-aggregate-put-two-6 : tie.Need-slice-aggregate-put-two-6
 slice-aggregate-put-two-6 c = search needs
 
--- src/answers.rt:111:91
 cast-put-two-6 : tie.Need-cast-put-two-6
 cast-put-two-6 c = search needs
 
--- src/answers.rt:111:37
 put-two-requires-3 : tie.Need-put-two-requires-3
 put-two-requires-3 c κs = search needs
 
--- src/answers.rt:112:20
 enum-known-answer-10 : tie.Need-enum-known-answer-10
 enum-known-answer-10 c = search needs
 
--- src/answers.rt:112:52
 slice-aggregate-put-two-7 : tie.Need-slice-aggregate-put-two-7
 slice-aggregate-put-two-7 c = search needs
 
--- src/answers.rt:112:60
 cast-put-two-7 : tie.Need-cast-put-two-7
 cast-put-two-7 c = search needs
 
--- src/answers.rt:112:75
 slice-aggregate-put-two-8 : tie.Need-slice-aggregate-put-two-8
 slice-aggregate-put-two-8 c = search needs
 
--- src/answers.rt:112:87
 cast-put-two-8 : tie.Need-cast-put-two-8
 cast-put-two-8 c = search needs
 
--- src/answers.rt:112:35
 put-two-requires-4 : tie.Need-put-two-requires-4
 put-two-requires-4 c κs = search needs
 
--- src/answers.rt:98:1
 same-length : tie.Need-same-length
 same-length c = search needs
 
--- src/answers.rt:98:1
 returns : tie.Need-returns
 unfolding answerText
 returns c = answered _ _ _ (c .before .before .before .before .before .answer .given .1) (omega arith) (c .before .before .put-refused .ensures)
 
--- src/answers.rt:98:1
 same-length-2 : tie.Need-same-length-2
 same-length-2 c = search needs
 
--- src/answers.rt:98:1
 returns-2 : tie.Need-returns-2
 unfolding answerText
 returns-2 c = answered _ _ _ (c .before .before .before .before .before .before .before .before .before .answer2 .given .1) (omega arith) (c .before .before .put-two .ensures)
 
--- src/answers.rt:98:1
 same-length-3 : tie.Need-same-length-3
 same-length-3 c = search needs
 
--- src/answers.rt:98:1
 returns-3 : tie.Need-returns-3
 unfolding answerText
 returns-3 c = answered _ _ _ (c .before .before .before .before .before .before .before .answer3 .given .1) (omega arith) (c .before .before .put-two2 .ensures)
 
--- src/answers.rt:98:1
 same-length-4 : tie.Need-same-length-4
 same-length-4 c = search needs
 
--- src/answers.rt:98:1
 returns-4 : tie.Need-returns-4
 unfolding answerText
 returns-4 c = answered _ _ _ (c .before .before .before .before .before .answer4 .given .1) (omega arith) (c .before .before .put-sent .ensures)
 
--- src/answers.rt:98:1
 same-length-5 : tie.Need-same-length-5
 same-length-5 c = search needs
 
--- src/answers.rt:98:1
 returns-5 : tie.Need-returns-5
 unfolding answerText
 returns-5 c = answered _ _ _ (c .before .before .before .before .before .before .answer5 .given .1) (omega arith) (c .before .before .put-one .ensures)
 
--- src/answers.rt:98:1
 same-length-6 : tie.Need-same-length-6
 same-length-6 c = search needs
 
--- src/answers.rt:98:1
 returns-6 : tie.Need-returns-6
 unfolding answerText
 returns-6 c = answered _ _ _ (c .before .before .before .before .before .answer6 .given .1) (omega arith) (c .before .before .put-skipped .ensures)
 
--- src/answers.rt:98:1
 same-length-7 : tie.Need-same-length-7
 same-length-7 c = search needs
 
--- src/answers.rt:98:1
 returns-7 : tie.Need-returns-7
 unfolding answerText
 returns-7 c = answered _ _ _ (c .before .before .before .before .before .before .answer7 .given .1) (omega arith) (c .before .before .put-one2 .ensures)
 
--- src/answers.rt:98:1
 same-length-8 : tie.Need-same-length-8
 same-length-8 c = search needs
 
--- src/answers.rt:98:1
 returns-8 : tie.Need-returns-8
 unfolding answerText
 returns-8 c = answered _ _ _ (c .before .before .before .before .before .answer8 .given .1) (omega arith) (c .before .before .put-aborted .ensures)
 
--- src/answers.rt:98:1
 same-length-9 : tie.Need-same-length-9
 same-length-9 c = search needs
 
--- src/answers.rt:98:1
 returns-9 : tie.Need-returns-9
 unfolding answerText
 returns-9 c = answered _ _ _ (c .before .before .before .before .before .before .before .answer9 .given .1) (omega arith) (c .before .before .put-two3 .ensures)
 
--- src/answers.rt:98:1
 same-length-10 : tie.Need-same-length-10
 same-length-10 c = search needs
 
--- src/answers.rt:98:1
 returns-10 : tie.Need-returns-10
 unfolding answerText
 returns-10 c = answered _ _ _ (c .before .before .before .before .before .before .before .answer10 .given .1) (omega arith) (c .before .before .put-two4 .ensures)

@@ -6,14 +6,10 @@ use lib.Seq.{set-out}
 use borrow.Author.Needs.{needs}
 use Rattle.line_printer.proofs.text.put_byte.Statement.{statement}
 use Rattle.line_printer.proofs.text.put_byte.Tie as tie
-use Rattle.line_printer.proofs.text.put_byte.Reads as reads
-use Rattle.line_printer.proofs.text.put_byte.Lts as lts
 
--- src/text.rt:19:9
 slice-write-out : tie.Need-slice-write-out
 slice-write-out c = search needs
 
--- src/text.rt:21:5
 add-result : tie.Need-add-result
 add-result c = search needs
 
@@ -21,11 +17,9 @@ add-result c = search needs
 stored : (c : tie.Joined1) → c .if1 .out ≡ set (c .before .args .out .now) (c .before .args .at) (c .before .args .byte)
 stored c = ⊎-elim (λ w. w .1) (λ w. w .1 ∙ sym (set-out (c .before .args .out .now) (c .before .args .at) (c .before .args .byte) (w .0 .left))) (c .if1 .came)
 
--- src/text.rt:14:1
 same-length : tie.Need-same-length
 same-length c = ap length (stored c) ∙ length-set (c .before .args .out .now) (c .before .args .at) (c .before .args .byte)
 
--- src/text.rt:14:1
 returns : tie.Need-returns
 returns c = record { is = stored c; ends = refl }
 

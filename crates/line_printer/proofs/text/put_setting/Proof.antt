@@ -4,17 +4,13 @@ use mathlib.Core.Bool.{true, false}
 use native.Mathlib.Omega.{arith}
 use lib.IntN.{pos, natAbs}
 use lib.Signed.{ltZ}
-use mir.Syntax.{w16, w64}
-use mir.Val.{SFits, toZ, ofZ}
+use mir.Syntax.{w16}
+use mir.Val.{SFits}
 use Rattle.line_rules.proofs.TextLaws.{decimal-short, signed-short}
 use Rattle.line_printer.proofs.Laws.{put-then, kept, wider, less, size-below, size-fits, signed-below, signed-above, not-below}
 use borrow.Author.Needs.{needs}
 use Rattle.line_printer.proofs.text.put_setting.Statement.{statement}
 use Rattle.line_printer.proofs.text.put_setting.Tie as tie
-use Rattle.line_printer.proofs.text.put_setting.Reads as reads
-use Rattle.line_printer.proofs.text.put_setting.Lts as lts
-use Rattle.line_printer.proofs.text.put_byte.Reads as put-byte-reads
-use Rattle.line_printer.proofs.text.put_number.Reads as put-number-reads
 
 fits : (c : tie.Start) → SFits w16 (c .args .setting)
 fits c = search needs

@@ -1,6 +1,6 @@
 -- `line_printer::text::put_word` meets its contract. The loop's invariant: the first i bytes are put. Assumes nothing.
 use mathlib.Core.Path.{_≡_, refl, ap, _∙_}
-use mathlib.Core.List.{List, [], _∷_, _++_}
+use mathlib.Core.List.{[], _∷_, _++_}
 use Prim.Native.Nat.{ℕ, _+_, _-_, _≤_, _<_}
 use native.Mathlib.Numerals.{add-one}
 use native.Mathlib.Omega.{arith}
@@ -11,9 +11,6 @@ use Rattle.line_printer.specs.Put.{Put}
 use Rattle.line_printer.proofs.Laws.{put-none, put-then}
 use Rattle.line_printer.proofs.text.put_word.Statement.{statement}
 use Rattle.line_printer.proofs.text.put_word.Tie as tie
-use Rattle.line_printer.proofs.text.put_word.Reads as reads
-use Rattle.line_printer.proofs.text.put_word.Lts as lts
-use Rattle.line_printer.proofs.text.put_byte.Reads as put-byte-reads
 
 abbrev Inv-loop : tie.InvT-loop
 Inv-loop out₀ at word i₀ to₀ out i to = (i ≤ length word) × (length out ≡ length out₀) × Put out₀ out at to (take i word)
@@ -21,15 +18,12 @@ Inv-loop out₀ at word i₀ to₀ out i to = (i ≤ length word) × (length out
 abbrev μ-loop : tie.MeasureT-loop
 μ-loop out₀ at word i₀ to₀ out i to = length word - i
 
--- src/text.rt:38:5
 loop-holds : tie.Need-loop-holds Inv-loop μ-loop
 loop-holds c = (omega arith, refl, put-none (c .before .before .args .out .now) (c .before .before .args .at))
 
--- src/text.rt:39:32
 shared-slice-read-put-byte : tie.Need-shared-slice-read-put-byte Inv-loop μ-loop
 shared-slice-read-put-byte c = search needs
 
--- src/text.rt:39:9
 put-byte-requires : tie.Need-put-byte-requires Inv-loop μ-loop
 put-byte-requires c κs =
     let l = c .before .before .before in
@@ -37,15 +31,12 @@ put-byte-requires c κs =
     let n = length-take (l .loop .i) (a .word .now) in
     omega (arith, l .loop .inv .2 .ends)
 
--- src/text.rt:40:9
 add-i : tie.Need-add-i Inv-loop μ-loop
 add-i c = search needs
 
--- src/text.rt:38:5
 loop-less : tie.Need-loop-less Inv-loop μ-loop
 loop-less c = search needs
 
--- src/text.rt:38:5
 loop-again : tie.Need-loop-again Inv-loop μ-loop
 loop-again c =
     let l = c .before .before .before .before .before .before in
@@ -56,11 +47,9 @@ loop-again c =
     ap (λ (k : ℕ). take k (a .word .now)) (add-one i) ∙ take-suc (a .word .now) i 0 h in
     (omega arith, c .before .before .put-byte .kept .0 ∙ l .loop .inv .1, rw e (put-then (l .loop .inv .2) (c .before .before .put-byte .ensures)))
 
--- src/text.rt:32:1
 same-length : tie.Need-same-length Inv-loop μ-loop
 same-length c = c .before .loop .inv .1
 
--- src/text.rt:32:1
 returns : tie.Need-returns Inv-loop μ-loop
 returns c =
     let l = c .before in
