@@ -99,7 +99,8 @@ answers-one a = append-nil (asLine (answerText a))
 pub answers-append : (k l : List Answer) → answersText (k ++ l) ≡ answersText k ++ answersText l
 unfolding answersText
 answers-append [] l = refl
-answers-append (a ∷ k) l = ap (λ (t : List ℕ). asLine (answerText a) ++ t) (answers-append k l) ∙ sym (append-assoc (asLine (answerText a)) (answersText k) (answersText l))
+answers-append (a ∷ k) l =
+    ap (λ (t : List ℕ). asLine (answerText a) ++ t) (answers-append k l) ∙ sym (append-assoc (asLine (answerText a)) (answersText k) (answersText l))
 
 -- ---- a setting's size, as the code has it
 

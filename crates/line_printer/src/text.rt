@@ -79,7 +79,10 @@ pub fn put_one(out: &mut [u8], at: usize, word: &[u8], n: u64) -> usize
 // A word, a number, another word, another number.
 pub fn put_two(out: &mut [u8], at: usize, word: &[u8], n: u64, between: &[u8], m: u64) -> usize
     requires { ⌜ at + (length (now word) + 20 + length (now between) + 20) < 2 ^ 64 ⌝ }
-    ensures { λ r. ⌜ PutShort (length (now (word .entry)) + 20 + length (now (between .entry)) + 20) (now (out .entry)) (now (out .exit)) at r (now (word .entry) ++ decimal n ++ now (between .entry) ++ decimal m) ⌝ }
+    ensures { λ r. ⌜
+        PutShort (length (now (word .entry)) + 20 + length (now (between .entry)) + 20) (now (out .entry)) (now (out .exit)) at r
+        (now (word .entry) ++ decimal n ++ now (between .entry) ++ decimal m)
+        ⌝ }
 {
     let named = put_one(out, at, word, n);
     let from = put_word(out, named, between);

@@ -25,9 +25,11 @@ unfolding digits
 digits-enough zero b n h k = absurd (omega arith)
 digits-enough (suc a) zero n h k = absurd (omega arith)
 digits-enough (suc a) (suc b) n h k =
-    byTest (λ (t : Bool). (if t then (digit0 + n) ∷ [] else digits a (n / 10) ++ ((digit0 + n % 10) ∷ [])) ≡ (if t then (digit0 + n) ∷ [] else digits b (n / 10) ++ ((digit0 + n % 10) ∷ []))) (ltb n 10)
+    let last : List ℕ = (digit0 + n % 10) ∷ [] in
+    let one : List ℕ = (digit0 + n) ∷ [] in
+    byTest (λ (t : Bool). (if t then one else digits a (n / 10) ++ last) ≡ (if t then one else digits b (n / 10) ++ last)) (ltb n 10)
     (λ e. refl)
-    (λ e. let t = ltb-false n 10 e in ap (λ (l : List ℕ). l ++ ((digit0 + n % 10) ∷ [])) (digits-enough a b (n / 10) (omega arith) (omega arith)))
+    (λ e. let t = ltb-false n 10 e in ap (λ (l : List ℕ). l ++ last) (digits-enough a b (n / 10) (omega arith) (omega arith)))
 
 pub decimal-small : (n : ℕ) → n < 10 → decimal n ≡ (digit0 + n) ∷ []
 unfolding decimal digits
@@ -48,7 +50,8 @@ decimal-short (suc (suc k)) n z h =
     (λ e. rw (decimal-small n (ltb-true n 10 e)) (omega arith))
     (λ e. let g = ltb-false n 10 e in
     let p : 10 ^ suc (suc k) ≡ 10 ^ suc k * 10 = pow-suc 10 (suc k) in
-    rw (decimal-large n g) (omega (arith, length-append (decimal (n / 10)) ((digit0 + n % 10) ∷ []), decimal-short (suc k) (n / 10) (omega arith) (omega arith))))
+    let l = decimal-short (suc k) (n / 10) (omega arith) (omega arith) in
+    rw (decimal-large n g) (omega (arith, length-append (decimal (n / 10)) ((digit0 + n % 10) ∷ []))))
 
 -- a setting of 16 bits, as the kit says it: it is at most 32,767 away from 0 or from −1
 pub signed-short : (v : ℤ) → mag v < 32768 → length (signed v) ≤ 6
@@ -66,8 +69,10 @@ digits-more : (l : List ℕ) (m k d : ℕ) → d < 10 → digitsFrom m l ≡ som
 unfolding digitsFrom
 digits-more [] m k d h e = let f : m ≡ k = cc in let g : (digit0 + d) - digit0 ≡ d = omega arith in rw (digit-is d h, f, g)
 digits-more (b ∷ l) m k d h e =
-    byTest (λ (t : Bool). (if t then digitsFrom (10 * m + (b - digit0)) l else none) ≡ some k → (if t then digitsFrom (10 * m + (b - digit0)) (l ++ ((digit0 + d) ∷ [])) else none) ≡ some (10 * k + d)) (isDigit b)
-    (λ _ f. digits-more l (10 * m + (b - digit0)) k d h f)
+    let n : ℕ = 10 * m + (b - digit0) in
+    let more : List ℕ = l ++ ((digit0 + d) ∷ []) in
+    byTest (λ (t : Bool). (if t then digitsFrom n l else none) ≡ some k → (if t then digitsFrom n more else none) ≡ some (10 * k + d)) (isDigit b)
+    (λ _ f. digits-more l n k d h f)
     (λ _ f. let z : _≡_ {A = ℕ} 0 1 = cc in absurd (omega arith))
     e
 
@@ -82,7 +87,9 @@ read-back (suc most) n h =
     ap (λ (l : List ℕ). digitsFrom 0 l) (decimal-small n s) ∙ digits-more [] 0 0 n s refl ∙ ap some f)
     (λ e. let s = ltb-false n 10 e in
     let f : 10 * (n / 10) + n % 10 ≡ n = omega arith in
-    ap (λ (l : List ℕ). digitsFrom 0 l) (decimal-large n s) ∙ digits-more (decimal (n / 10)) 0 (n / 10) (n % 10) (omega arith) (read-back most (n / 10) (omega arith)) ∙ ap some f)
+    ap (λ (l : List ℕ). digitsFrom 0 l) (decimal-large n s)
+    ∙ digits-more (decimal (n / 10)) 0 (n / 10) (n % 10) (omega arith) (read-back most (n / 10) (omega arith))
+    ∙ ap some f)
 
 -- there is a digit at least
 decimal-some : (n : ℕ) → 0 < length (decimal n)

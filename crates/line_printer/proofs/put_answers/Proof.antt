@@ -24,7 +24,8 @@ returns c =
     let s = f .before .before .before in
     let b = backsOf (s .args .backs) in
     as-text
-    (ap (λ (t : List ℕ). answersText (firstOf (s .args .first) b) ++ t) (sym (answers-one (answerOf (s .args .answer) b))) ∙ sym (answers-append (firstOf (s .args .first) b) (answerOf (s .args .answer) b ∷ [])))
+    (ap (λ (t : List ℕ). answersText (firstOf (s .args .first) b) ++ t) (sym (answers-one (answerOf (s .args .answer) b)))
+    ∙ sym (answers-append (firstOf (s .args .first) b) (answerOf (s .args .answer) b ∷ [])))
     (short-then (f .put-first .ensures) (c .before .before .put-answer .ensures))
 
 pub put-answers-spec : {M : Type 1} → statement M

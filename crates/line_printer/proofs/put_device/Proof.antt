@@ -26,7 +26,9 @@ slice-aggregate-put-word : tie.Need-slice-aggregate-put-word
 slice-aggregate-put-word c = search needs
 
 put-word-requires : tie.Need-put-word-requires
-put-word-requires c κs = let o = c .before .before .before .before .before in omega (arith, o .before .before .before .before .pre, reaches (o .put-one .ensures))
+put-word-requires c κs =
+    let o = c .before .before .before .before .before in
+    omega (arith, o .before .before .before .before .pre, reaches (o .put-one .ensures))
 
 put-setting-requires : tie.Need-put-setting-requires
 put-setting-requires c κs =
@@ -53,14 +55,19 @@ returns c =
     let s = o .before .before .before .before in
     let d = bytes "device " ++ decimal (s .args .device) in
     as-text
-    (ap asLine (append-assoc d (bytes " up ") (signed (s .args .due))) ∙ ap (λ (t : Bool). asLine (d ++ (if t then bytes " up " ++ signed (s .args .due) else bytes " down"))) (sym (u .if1 .taken)))
-    (within (omega arith) (short-then (short-then (short-then (o .put-one .ensures) (exactly (w .put-word .ensures))) (rw (held s) at (v .put-setting .ensures))) (exactly (c .before .before .put-end .ensures))))
+    (ap asLine (append-assoc d (bytes " up ") (signed (s .args .due)))
+    ∙ ap (λ (t : Bool). asLine (d ++ (if t then bytes " up " ++ signed (s .args .due) else bytes " down"))) (sym (u .if1 .taken)))
+    (within (omega arith)
+    (short-then (short-then (short-then (o .put-one .ensures) (exactly (w .put-word .ensures))) (rw (held s) at (v .put-setting .ensures)))
+    (exactly (c .before .before .put-end .ensures))))
 
 slice-aggregate-put-word-2 : tie.Need-slice-aggregate-put-word-2
 slice-aggregate-put-word-2 c = search needs
 
 put-word-requires-2 : tie.Need-put-word-requires-2
-put-word-requires-2 c κs = let o = c .before .before .before .before .before in omega (arith, o .before .before .before .before .pre, reaches (o .put-one .ensures))
+put-word-requires-2 c κs =
+    let o = c .before .before .before .before .before in
+    omega (arith, o .before .before .before .before .pre, reaches (o .put-one .ensures))
 
 same-length-2 : tie.Need-same-length-2
 same-length-2 c = search needs
@@ -72,7 +79,8 @@ returns-2 c =
     let s = o .before .before .before .before in
     let d = bytes "device " ++ decimal (s .args .device) in
     as-text
-    (sym (append-assoc d (bytes " down") (lineEnd ∷ [])) ∙ ap (λ (t : Bool). asLine (d ++ (if t then bytes " up " ++ signed (s .args .due) else bytes " down"))) (sym (u .if1 .left)))
+    (sym (append-assoc d (bytes " down") (lineEnd ∷ []))
+    ∙ ap (λ (t : Bool). asLine (d ++ (if t then bytes " up " ++ signed (s .args .due) else bytes " down"))) (sym (u .if1 .left)))
     (within (omega arith) (short-then (o .put-one .ensures) (exactly (c .before .before .put-word2 .ensures))))
 
 pub put-device-spec : {M : Type 1} → statement M

@@ -15,7 +15,8 @@ same-length : tie.Need-same-length
 same-length c = search needs
 
 returns : tie.Need-returns
-returns c = within (omega arith) (short-then (c .before .before .before .before .before .before .put-refused .ensures) (exactly (c .before .before .put-end .ensures)))
+returns c =
+    within (omega arith) (short-then (c .before .before .before .before .before .before .put-refused .ensures) (exactly (c .before .before .put-end .ensures)))
 
 pub put-refusal-spec : {M : Type 1} → statement M
 put-refusal-spec = tie.close (tie.spec put-refused-requires put-end-requires same-length returns)

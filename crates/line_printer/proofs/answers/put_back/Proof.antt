@@ -52,7 +52,8 @@ returns c =
     let s = o .before .before .before .before .before in
     let e : toZ w16 (ofZ w16 (s .args .back .setting)) ≡ s .args .back .setting = search needs in
     as-text (sym (back-one (backOf (s .args .back))))
-    (short-then (short-then (shorter (bytes " ") (decimal (s .args .back .device)) (o .put-one .ensures .put) (few s)) (exactly (w .put-word .ensures))) (rw e at (c .before .before .put-setting .ensures)))
+    (short-then (short-then (shorter (bytes " ") (decimal (s .args .back .device)) (o .put-one .ensures .put) (few s)) (exactly (w .put-word .ensures)))
+    (rw e at (c .before .before .put-setting .ensures)))
 
 pub put-back-spec : {M : Type 1} → statement M
 put-back-spec =

@@ -16,7 +16,8 @@ use Rattle.line_printer.proofs.answers.put_backs.Statement.{statement}
 use Rattle.line_printer.proofs.answers.put_backs.Tie as tie
 
 abbrev Inv-loop : tie.InvT-loop
-Inv-loop out₀ at backs count to₀ i₀ out to i = (i ≤ count) × (length out ≡ length out₀) × PutShort (11 * i) out₀ out to₀ to (backList (map backOf (take i (backs .items))))
+Inv-loop out₀ at backs count to₀ i₀ out to i =
+    (i ≤ count) × (length out ≡ length out₀) × PutShort (11 * i) out₀ out to₀ to (backList (map backOf (take i (backs .items))))
 
 abbrev μ-loop : tie.MeasureT-loop
 μ-loop out₀ at backs count to₀ i₀ out to i = count - i
@@ -26,10 +27,12 @@ long s = search (needs, length-mapped)
 
 -- the word and the count, of two digits at most
 first : (c : tie.After-put-one Inv-loop μ-loop) →
-    let s = c .before .before .before .before in PutShort 8 (s .args .out .now) (c .put-one .last .0) (s .args .at) (c .put-one .result) (bytes " back " ++ decimal (s .args .t3 .count))
+    let s = c .before .before .before .before in
+    PutShort 8 (s .args .out .now) (c .put-one .last .0) (s .args .at) (c .put-one .result) (bytes " back " ++ decimal (s .args .t3 .count))
 first c =
     let s = c .before .before .before .before in
-    shorter (bytes " back ") (decimal (s .args .t3 .count)) (c .put-one .ensures .put) (decimal-short 2 (s .args .t3 .count) (omega arith) (omega (arith, s .pre .1)))
+    shorter (bytes " back ") (decimal (s .args .t3 .count)) (c .put-one .ensures .put)
+    (decimal-short 2 (s .args .t3 .count) (omega arith) (omega (arith, s .pre .1)))
 
 slice-aggregate-put-one : tie.Need-slice-aggregate-put-one Inv-loop μ-loop
 slice-aggregate-put-one c = search needs
@@ -67,7 +70,8 @@ loop-again c =
     let h : l .loop .i < length (s .args .t3 .items) = omega (arith, long s) in (
       omega arith,
       c .before .before .put-back .kept .0 ∙ l .loop .inv .1,
-      as-text (sym (backs-next (s .args .t3 .items) (l .loop .i) _ h)) (within (omega arith) (short-then (l .loop .inv .2) (c .before .before .put-back .ensures))),
+      as-text (sym (backs-next (s .args .t3 .items) (l .loop .i) _ h))
+          (within (omega arith) (short-then (l .loop .inv .2) (c .before .before .put-back .ensures))),
     )
 
 same-length : tie.Need-same-length Inv-loop μ-loop

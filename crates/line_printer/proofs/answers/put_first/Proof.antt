@@ -38,7 +38,8 @@ returns-2 c =
     let f = p .before .before .before in
     let s = f .before .before .before in
     as-text
-    (sym (answers-one (aborted (f .first .given .0 .0) (backsOf (s .args .backs)))) ∙ ap (λ (x : First). answersText (firstOf x (backsOf (s .args .backs)))) (sym (f .first .given .1)))
+    (sym (answers-one (aborted (f .first .given .0 .0) (backsOf (s .args .backs))))
+    ∙ ap (λ (x : First). answersText (firstOf x (backsOf (s .args .backs)))) (sym (f .first .given .1)))
     (short-then (p .put-aborted .ensures) (exactly (c .before .before .put-end .ensures)))
 
 pub put-first-spec : {M : Type 1} → statement M

@@ -31,7 +31,9 @@ slice-aggregate-put-word : tie.Need-slice-aggregate-put-word
 slice-aggregate-put-word c = search needs
 
 put-word-requires : tie.Need-put-word-requires
-put-word-requires c κs = let t = c .before .before .before .before in omega (arith, t .before .before .before .before .before .before .before .before .pre, reaches (t .put-two .ensures))
+put-word-requires c κs =
+    let t = c .before .before .before .before in
+    omega (arith, t .before .before .before .before .before .before .before .before .pre, reaches (t .put-two .ensures))
 
 put-setting-requires : tie.Need-put-setting-requires
 put-setting-requires c κs =

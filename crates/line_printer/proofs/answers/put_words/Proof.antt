@@ -143,70 +143,81 @@ same-length c = search needs
 
 returns : tie.Need-returns
 unfolding answerText
-returns c = answered _ _ _ (c .before .before .before .before .before .answer .given .1) (omega arith) (c .before .before .put-refused .ensures)
+returns c =
+    answered _ _ _ (c .before .before .before .before .before .answer .given .1) (omega arith) (c .before .before .put-refused .ensures)
 
 same-length-2 : tie.Need-same-length-2
 same-length-2 c = search needs
 
 returns-2 : tie.Need-returns-2
 unfolding answerText
-returns-2 c = answered _ _ _ (c .before .before .before .before .before .before .before .before .before .answer2 .given .1) (omega arith) (c .before .before .put-two .ensures)
+returns-2 c =
+    answered _ _ _ (c .before .before .before .before .before .before .before .before .before .answer2 .given .1) (omega arith)
+    (c .before .before .put-two .ensures)
 
 same-length-3 : tie.Need-same-length-3
 same-length-3 c = search needs
 
 returns-3 : tie.Need-returns-3
 unfolding answerText
-returns-3 c = answered _ _ _ (c .before .before .before .before .before .before .before .answer3 .given .1) (omega arith) (c .before .before .put-two2 .ensures)
+returns-3 c =
+    answered _ _ _ (c .before .before .before .before .before .before .before .answer3 .given .1) (omega arith) (c .before .before .put-two2 .ensures)
 
 same-length-4 : tie.Need-same-length-4
 same-length-4 c = search needs
 
 returns-4 : tie.Need-returns-4
 unfolding answerText
-returns-4 c = answered _ _ _ (c .before .before .before .before .before .answer4 .given .1) (omega arith) (c .before .before .put-sent .ensures)
+returns-4 c =
+    answered _ _ _ (c .before .before .before .before .before .answer4 .given .1) (omega arith) (c .before .before .put-sent .ensures)
 
 same-length-5 : tie.Need-same-length-5
 same-length-5 c = search needs
 
 returns-5 : tie.Need-returns-5
 unfolding answerText
-returns-5 c = answered _ _ _ (c .before .before .before .before .before .before .answer5 .given .1) (omega arith) (c .before .before .put-one .ensures)
+returns-5 c =
+    answered _ _ _ (c .before .before .before .before .before .before .answer5 .given .1) (omega arith) (c .before .before .put-one .ensures)
 
 same-length-6 : tie.Need-same-length-6
 same-length-6 c = search needs
 
 returns-6 : tie.Need-returns-6
 unfolding answerText
-returns-6 c = answered _ _ _ (c .before .before .before .before .before .answer6 .given .1) (omega arith) (c .before .before .put-skipped .ensures)
+returns-6 c =
+    answered _ _ _ (c .before .before .before .before .before .answer6 .given .1) (omega arith) (c .before .before .put-skipped .ensures)
 
 same-length-7 : tie.Need-same-length-7
 same-length-7 c = search needs
 
 returns-7 : tie.Need-returns-7
 unfolding answerText
-returns-7 c = answered _ _ _ (c .before .before .before .before .before .before .answer7 .given .1) (omega arith) (c .before .before .put-one2 .ensures)
+returns-7 c =
+    answered _ _ _ (c .before .before .before .before .before .before .answer7 .given .1) (omega arith) (c .before .before .put-one2 .ensures)
 
 same-length-8 : tie.Need-same-length-8
 same-length-8 c = search needs
 
 returns-8 : tie.Need-returns-8
 unfolding answerText
-returns-8 c = answered _ _ _ (c .before .before .before .before .before .answer8 .given .1) (omega arith) (c .before .before .put-aborted .ensures)
+returns-8 c =
+    answered _ _ _ (c .before .before .before .before .before .answer8 .given .1) (omega arith) (c .before .before .put-aborted .ensures)
 
 same-length-9 : tie.Need-same-length-9
 same-length-9 c = search needs
 
 returns-9 : tie.Need-returns-9
 unfolding answerText
-returns-9 c = answered _ _ _ (c .before .before .before .before .before .before .before .answer9 .given .1) (omega arith) (c .before .before .put-two3 .ensures)
+returns-9 c =
+    answered _ _ _ (c .before .before .before .before .before .before .before .answer9 .given .1) (omega arith) (c .before .before .put-two3 .ensures)
 
 same-length-10 : tie.Need-same-length-10
 same-length-10 c = search needs
 
 returns-10 : tie.Need-returns-10
 unfolding answerText
-returns-10 c = answered _ _ _ (c .before .before .before .before .before .before .before .answer10 .given .1) (omega arith) (c .before .before .put-two4 .ensures)
+returns-10 c =
+    answered _ _ _ (c .before .before .before .before .before .before .before .answer10 .given .1) (omega arith) (c .before .before .put-two4 .ensures)
 
 pub put-words-spec : {M : Type 1} → statement M
 put-words-spec =
