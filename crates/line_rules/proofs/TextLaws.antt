@@ -1,5 +1,5 @@
 -- Laws of numbers as bytes: what `decimal` is, how long it is, and that it is read as the number that it was printed from. Assumes nothing.
-use mathlib.Core.Path.{_≡_, refl, ap, _∙_}
+use mathlib.Core.Path.{_≡_, refl, sym, ap, _∙_}
 use mathlib.Core.Bool.{Bool, true, false}
 use mathlib.Core.List.{List, [], _∷_, _++_}
 use mathlib.Core.Option.{none, some}
@@ -19,26 +19,34 @@ use Rattle.line_rules.specs.Claims.{NumbersReadBack, SettingsReadBack}
 
 -- ---- what a number's digits are
 
--- how many digits are allowed does not matter, where there are fewer
-digits-enough : (a b n : ℕ) → n < a → n < b → digits a n ≡ digits b n
+digits-one : (most n : ℕ) → digits most true n ≡ (digit0 + n) ∷ []
 unfolding digits
-digits-enough zero b n h k = absurd (omega arith)
-digits-enough (suc a) zero n h k = absurd (omega arith)
-digits-enough (suc a) (suc b) n h k =
-    let last : List ℕ = (digit0 + n % 10) ∷ [] in
-    let one : List ℕ = (digit0 + n) ∷ [] in
-    byTest (λ (t : Bool). (if t then one else digits a (n / 10) ++ last) ≡ (if t then one else digits b (n / 10) ++ last)) (ltb n 10)
-    (λ e. refl)
-    (λ e. let t = ltb-false n 10 e in ap (λ (l : List ℕ). l ++ last) (digits-enough a b (n / 10) (omega arith) (omega arith)))
+digits-one zero n = refl
+digits-one (suc most) n = refl
+
+-- how many digits are allowed does not matter, where there are fewer
+digits-enough : (a b : ℕ) (small : Bool) (n : ℕ) → n ≤ a → n ≤ b → ltb n 10 ≡ small → digits a small n ≡ digits b small n
+unfolding digits
+digits-enough zero b true n h k e = sym (digits-one b n)
+digits-enough zero b false n h k e = let g = ltb-false n 10 e in absurd (omega arith)
+digits-enough (suc a) zero true n h k e = refl
+digits-enough (suc a) zero false n h k e = let g = ltb-false n 10 e in absurd (omega arith)
+digits-enough (suc a) (suc b) true n h k e = refl
+digits-enough (suc a) (suc b) false n h k e =
+    let g = ltb-false n 10 e in
+    ap (λ (l : List ℕ). l ++ ((digit0 + n % 10) ∷ [])) (digits-enough a b (ltb (n / 10) 10) (n / 10) (omega arith) (omega arith) refl)
 
 pub decimal-small : (n : ℕ) → n < 10 → decimal n ≡ (digit0 + n) ∷ []
-unfolding decimal digits
-decimal-small n h = rw (lt-ltb n 10 h)
+unfolding decimal
+decimal-small n h = rw (lt-ltb n 10 h) (digits-one n n)
 
 pub decimal-large : (n : ℕ) → 10 ≤ n → decimal n ≡ decimal (n / 10) ++ ((digit0 + n % 10) ∷ [])
 unfolding decimal digits
-decimal-large n h =
-    rw (le-ltb n 10 h) (ap (λ (l : List ℕ). l ++ ((digit0 + n % 10) ∷ [])) (digits-enough n (suc (n / 10)) (n / 10) (omega arith) (omega arith)))
+decimal-large zero h = absurd (omega arith)
+decimal-large (suc m) h =
+    let q : ℕ = suc m / 10 in
+    ap (λ (t : Bool). digits (suc m) t (suc m)) (le-ltb (suc m) 10 h)
+    ∙ ap (λ (l : List ℕ). l ++ ((digit0 + suc m % 10) ∷ [])) (digits-enough m q (ltb q 10) q (omega arith) (omega arith) refl)
 
 -- ---- how long they are
 
