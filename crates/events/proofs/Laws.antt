@@ -1,11 +1,12 @@
 -- Laws that the proofs of this crate, and those above it, cite. Assumes nothing.
 use mathlib.Core.Path.{_≡_, refl, sym, ap, _∙_}
-use mathlib.Core.Bool.{Bool, true, false}
+use mathlib.Core.Bool.{Bool, true, false, not}
 use mathlib.Core.List.{List, [], _∷_, _++_, append-nil}
 use mathlib.Core.Option.{Option}
 use Prim.Native.Nat.{ℕ, _<_, _≤_}
-use borrow.Author.Tests.{le-leb, lt-leb}
-use lib.IntN.{ℤ}
+use native.Mathlib.Omega.{arith}
+use borrow.Author.Tests.{leb-true, le-leb, lt-leb, ne-eqb}
+use lib.IntN.{ℤ, pos, negsuc}
 use lib.ListN.{length, getD, set}
 use Rattle.routine.specs.Range.{inRange}
 use Rattle.routine.specs.Refusals.{refusalOf}
@@ -18,8 +19,7 @@ use Rattle.rules.specs.Attach.{oneRestart, attach}
 use Rattle.rules.specs.Settle.{settling}
 use Rattle.rules.specs.Events.{isHalfway, abortIfAny, abortHalfway, failureResult, restartResult, failureOf, restartOf}
 use Rattle.rules.proofs.Lists.{t≠f}
-use Rattle.slot.specs.View.{restartsOf}
-use Rattle.slot.specs.declared.Restart.{Restart}
+use Rattle.slot.specs.View.{isRestart, restartsOf}
 use Rattle.slot.specs.declared.Slot.{Slot}
 use Rattle.slot.proofs.Laws.{set-put, fun-ext}
 use Rattle.sequence.specs.View.{membersOf, foundAt}
@@ -96,8 +96,14 @@ thenUp d e r =
     let t = attach (r .state .mark d) e (r .state) in
     record { state = withUp t (put (t .up) d true); answers = r .answers ++ (up d (r .state .mark d) ∷ []) }
 
+-- a setting in range can stand in a table of restarts
+pub restart-entry : (v : ℤ) → inRange v ≡ true → isRestart v ≡ true
+unfolding inRange
+restart-entry (pos n) e = let h = leb-true n 1000 e in ap not (ne-eqb n 32767 (λ p. absurd (omega (arith, h, p))))
+restart-entry (negsuc n) e = refl
+
 -- g: the state with the restart attached
-pub restarted-gives : (h : HubState) (d : ℕ) (v : ℤ) (a : Halfway) (rs : List Restart) (g : HubState) → d < length (g .up) → AbortsHalfway h d a → restartsOf rs ≡ oneRestart d v →
+pub restarted-gives : (h : HubState) (d : ℕ) (v : ℤ) (a : Halfway) (rs : List ℤ) (g : HubState) → d < length (g .up) → AbortsHalfway h d a → restartsOf rs ≡ oneRestart d v →
     StateOk g → stateOf g ≡ attach (getD (a .state .mark) d 0) (restartsOf rs) (stateOf (a .state)) →
     StepGives h (record { state = setUp g d true; first = a .first; answer = Up d (getD (a .state .mark) d 0); backs = a .backs }) (settling (restartResult (stateOf h) d v))
 unfolding restartResult stateOf

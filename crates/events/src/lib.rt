@@ -13,10 +13,13 @@ use state::RESTART_SETTING;
 use state::StepOutcome;
 use state::answers;
 use state::attach;
+ghost use mathlib.Core.Path.{_≡_};
+ghost use mathlib.Core.Bool.{true};
 ghost use Prim.Native.Nat.{_<_};
 ghost use Rattle.routine.specs.Routine.{maxDevices};
 ghost use Rattle.rules.specs.Events.{failureResult, restartResult, failureOf, restartOf};
 ghost use Rattle.rules.specs.Settle.{settling};
+ghost use Rattle.slot.specs.View.{isRestart};
 ghost use Rattle.state.specs.View.{stateOf};
 ghost use Rattle.state.specs.Valid.{StateOk};
 ghost use Rattle.state.specs.Contract.{StepGives};
@@ -78,7 +81,7 @@ fn failed(state: HubState, device: u8) -> StepOutcome
 
 // The abort; the event is attached to D's mark; "On a restart D then becomes up at the setting it reports."
 fn restarted(state: HubState, device: u8, setting: i16) -> StepOutcome
-    requires { ⌜ (StateOk state) × (device < maxDevices) ⌝ }
+    requires { ⌜ (StateOk state) × (device < maxDevices) × (isRestart setting ≡ true) ⌝ }
     ensures { λ r. ⌜ StepGives state r (settling (restartResult (stateOf state) device setting)) ⌝ }
 {
     let at = device as usize;

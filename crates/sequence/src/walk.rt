@@ -4,7 +4,6 @@ use crate::Sequence;
 use crate::find;
 use crate::keep;
 use routine::MAX_DEVICES;
-use slot::Restart;
 use slot::attach;
 use slot::due;
 ghost use mathlib.Core.Path.{_≡_};
@@ -67,7 +66,7 @@ pub fn in_flight(sequence: Sequence) -> [bool; MAX_DEVICES]
 }
 
 // The routine with this id gets the restarts.
-pub fn attach_at(sequence: Sequence, id: u32, restarts: [Restart; MAX_DEVICES]) -> Sequence
+pub fn attach_at(sequence: Sequence, id: u32, restarts: [i16; MAX_DEVICES]) -> Sequence
     requires { ⌜ SequenceOk sequence ⌝ }
     ensures { λ r. ⌜ (SequenceOk r) × (membersOf r ≡ attachAt id (restartsOf restarts) (membersOf sequence)) ⌝ }
 {

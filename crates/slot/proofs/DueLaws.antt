@@ -18,8 +18,7 @@ use Rattle.rules.specs.State.{Step}
 use Rattle.rules.specs.Progress.{isOn, isDone, isInFlight}
 use Rattle.rules.specs.Due.{afterSteps}
 use Rattle.rules.proofs.Lists.{byIf, t≠f, this-or-other, same-setting, put-same, put-other}
-use Rattle.slot.specs.View.{noRestart, restartOf, restartsOf}
-use Rattle.slot.specs.declared.Restart.{Restart}
+use Rattle.slot.specs.View.{noRestart, isRestart, restartOf, restartsOf}
 use Rattle.slot.proofs.Laws.{on-this, on-other, on-true, on-false}
 
 -- ---- settings
@@ -77,15 +76,15 @@ module _ {ℓ} {A : Type ℓ} (new old : ℕ → A) where
 
 -- ---- restarts
 
--- an entry that is set is a restart, one that is not is none
-pub restart-set : (r : Restart) → r .set ≡ true → restartOf r ≡ some (r .setting)
-restart-set r e = ap (λ (t : Bool). if t then some (r .setting) else none) e
+-- an entry is a restart or none
+pub restart-set : (v : ℤ) → isRestart v ≡ true → restartOf v ≡ some v
+restart-set v e = ap (λ (t : Bool). if t then some v else none) e
 
-pub restart-unset : (r : Restart) → r .set ≡ false → restartOf r ≡ none
-restart-unset r e = ap (λ (t : Bool). if t then some (r .setting) else none) e
+pub restart-unset : (v : ℤ) → isRestart v ≡ false → restartOf v ≡ none
+restart-unset v e = ap (λ (t : Bool). if t then some v else none) e
 
 -- no device past the end has one
-pub restart-past : (l : List Restart) (d : ℕ) → length l ≤ d → restartsOf l d ≡ none
+pub restart-past : (l : List ℤ) (d : ℕ) → length l ≤ d → restartsOf l d ≡ none
 restart-past l d h = ap restartOf (List·getD-eq-default l noRestart h)
 
 -- ---- one step

@@ -1,5 +1,5 @@
 -- A routine of the sequence as the code holds it, read as the member of the rules; and its tables over device numbers. Assumes nothing.
-use mathlib.Core.Bool.{Bool, false}
+use mathlib.Core.Bool.{Bool, false, not}
 use mathlib.Core.List.{List, map}
 use mathlib.Core.Option.{Option, none, some}
 use Prim.Native.Nat.{ℕ}
@@ -8,11 +8,11 @@ use lib.ListN.{take, getD}
 use Rattle.routine.specs.Choice.{if_then_else_}
 use Rattle.routine.specs.declared.Command.{Command}
 use Rattle.rules.specs.State.{Status, to-do, in-flight, was-done, was-skipped, Step, Member}
+use Rattle.rules.specs.Tables.{sameSetting}
 use Rattle.rules.specs.Progress.{Flight}
 use Rattle.slot.specs.declared.Stage.{Stage}
 use Rattle.slot.specs.declared.Stage.the-variants.{ToDo, InFlight, Done, Skipped}
 use Rattle.slot.specs.declared.SlotStep.{SlotStep}
-use Rattle.slot.specs.declared.Restart.{Restart}
 use Rattle.slot.specs.declared.Slot.{Slot}
 use Rattle.slot.specs.declared.SentCommand.{SentCommand}
 use Rattle.slot.specs.declared.Next.{Next}
@@ -53,14 +53,18 @@ marksOf l d = getD l d 0
 abbrev pub flagsOf : List Bool → ℕ → Bool
 flagsOf l d = getD l d false
 
-abbrev pub noRestart : Restart
-noRestart = record { set = false; setting = pos 0 }
+-- what stands at a device that has no restart; no setting is that high
+abbrev pub noRestart : ℤ
+noRestart = pos 32767
 
-abbrev pub restartOf : Restart → Option ℤ
-restartOf r = if r .set then some (r .setting) else none
+abbrev pub isRestart : ℤ → Bool
+isRestart v = not (sameSetting v noRestart)
+
+abbrev pub restartOf : ℤ → Option ℤ
+restartOf v = if isRestart v then some v else none
 
 -- restarts; a newcomer has none
-abbrev pub restartsOf : List Restart → ℕ → Option ℤ
+abbrev pub restartsOf : List ℤ → ℕ → Option ℤ
 restartsOf l d = restartOf (getD l d noRestart)
 
 -- ---- the routine

@@ -1,40 +1,44 @@
 // Restarts attached to a routine or to the settled part: document 01, "Failure or restart of D", "Abort of R" and "Settling".
-use crate::Restart;
+use crate::NO_RESTART;
 use crate::Slot;
+use crate::due;
 use routine::MAX_DEVICES;
 ghost use mathlib.Core.Path.{_≡_};
+ghost use mathlib.Core.Bool.{true};
 ghost use mathlib.Core.List.{[]};
 ghost use Prim.Native.Nat.{_<_};
 ghost use Rattle.routine.specs.Routine.{maxDevices};
 ghost use Rattle.rules.specs.Attach.{oneRestart, later, attachTo, settleRestarts};
-ghost use Rattle.slot.specs.View.{settingsOf, restartsOf, memberOf};
+ghost use Rattle.slot.specs.View.{settingsOf, isRestart, restartsOf, memberOf};
 ghost use Rattle.slot.specs.Valid.{SlotOk};
 
+// Is an entry of such a table a restart?
+pub fn is_restart(entry: i16) -> bool
+    ensures { λ r. ⌜ r ≡ isRestart entry ⌝ }
+{
+    !due::same_setting(entry, NO_RESTART)
+}
+
 // No restart of any device.
-pub fn no_restarts() -> [Restart; MAX_DEVICES]
+pub fn no_restarts() -> [i16; MAX_DEVICES]
     ensures { λ r. ⌜ restartsOf r ≡ restartsOf [] ⌝ }
 {
-    let none = Restart {
-        set: false,
-        setting: 0,
-    };
-    [none; MAX_DEVICES]
+    [NO_RESTART; MAX_DEVICES]
 }
 
 // One restart.
-pub fn one_restart(device: u8, setting: i16) -> [Restart; MAX_DEVICES]
-    requires { ⌜ device < maxDevices ⌝ }
+pub fn one_restart(device: u8, setting: i16) -> [i16; MAX_DEVICES]
+    requires { ⌜ (device < maxDevices) × (isRestart setting ≡ true) ⌝ }
     ensures { λ r. ⌜ restartsOf r ≡ oneRestart device setting ⌝ }
 {
     let mut restarts = no_restarts();
     let at = device as usize;
-    let one = Restart { set: true, setting };
-    restarts[at] = one;
+    restarts[at] = setting;
     restarts
 }
 
 // Restarts attached to a routine, "behind the events already attached there".
-pub fn attach_to(slot: Slot, restarts: [Restart; MAX_DEVICES]) -> Slot
+pub fn attach_to(slot: Slot, restarts: [i16; MAX_DEVICES]) -> Slot
     requires { ⌜ SlotOk slot ⌝ }
     ensures { λ r. ⌜ (SlotOk r) × (memberOf r ≡ attachTo (restartsOf restarts) (memberOf slot)) ⌝ }
 {
@@ -46,17 +50,14 @@ pub fn attach_to(slot: Slot, restarts: [Restart; MAX_DEVICES]) -> Slot
 }
 
 // For each device the later of two last restarts.
-fn later_restarts(
-    earlier: [Restart; MAX_DEVICES],
-    restarts: [Restart; MAX_DEVICES],
-) -> [Restart; MAX_DEVICES]
+fn later_restarts(earlier: [i16; MAX_DEVICES], restarts: [i16; MAX_DEVICES]) -> [i16; MAX_DEVICES]
     ensures { λ r. ⌜ restartsOf r ≡ (λ d. later (restartsOf earlier d) (restartsOf restarts d)) ⌝ }
 {
     let mut both = earlier;
     let mut d: usize = 0;
     while d < MAX_DEVICES {
         let restart = restarts[d];
-        if restart.set {
+        if is_restart(restart) {
             both[d] = restart;
         }
         d += 1;
@@ -67,7 +68,7 @@ fn later_restarts(
 // What the devices are at after restarts that join the settled part.
 pub fn settle_restarts(
     table: [i16; MAX_DEVICES],
-    restarts: [Restart; MAX_DEVICES],
+    restarts: [i16; MAX_DEVICES],
 ) -> [i16; MAX_DEVICES]
     ensures { λ r. ⌜ settingsOf r ≡ settleRestarts (restartsOf restarts) (settingsOf table) ⌝ }
 {
@@ -75,9 +76,8 @@ pub fn settle_restarts(
     let mut d: usize = 0;
     while d < MAX_DEVICES {
         let restart = restarts[d];
-        if restart.set {
-            let setting = restart.setting;
-            after[d] = setting;
+        if is_restart(restart) {
+            after[d] = restart;
         }
         d += 1;
     }

@@ -80,8 +80,8 @@ pub fn after_slot_on(slot: Slot, device: u8, before: i16) -> i16
     let at = device as usize;
     if at < MAX_DEVICES {
         let restart = slot.restarts[at];
-        if restart.set {
-            return restart.setting;
+        if attach::is_restart(restart) {
+            return restart;
         }
     }
     after_steps_on(slot, device, before)

@@ -22,20 +22,18 @@ pub struct SlotStep {
     pub stage: Stage,
 }
 
-// The last restart of a device among the events attached to a routine, if one is.
-pub struct Restart {
-    pub set: bool,
-    pub setting: i16,
-}
+// In a table of restarts, what stands at a device that has none. No setting is that high.
+pub const NO_RESTART: i16 = 32767;
 
-// The first `count` of the steps are the routine's commands. A restart stands at its device.
+// The first `count` of the steps are the routine's commands. Of each device, `restarts` has the setting of the last restart among the events attached to the
+// routine.
 pub struct Slot {
     pub id: u32,
     pub steps: [SlotStep; MAX_COMMANDS],
     pub count: usize,
     pub passed: u8,
     pub committed: bool,
-    pub restarts: [Restart; MAX_DEVICES],
+    pub restarts: [i16; MAX_DEVICES],
 }
 
 // The next command of a routine.

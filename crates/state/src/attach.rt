@@ -2,7 +2,6 @@
 use crate::HubState;
 use routine::MAX_DEVICES;
 use sequence::walk;
-use slot::Restart;
 ghost use mathlib.Core.Path.{_≡_};
 ghost use Rattle.rules.specs.Attach.{attach};
 ghost use Rattle.slot.specs.View.{restartsOf};
@@ -10,7 +9,7 @@ ghost use Rattle.state.specs.View.{stateOf};
 ghost use Rattle.state.specs.Valid.{StateOk};
 
 // To 0, the settled part, or to the routine that has the id.
-pub fn attached(state: HubState, id: u32, restarts: [Restart; MAX_DEVICES]) -> HubState
+pub fn attached(state: HubState, id: u32, restarts: [i16; MAX_DEVICES]) -> HubState
     requires { ⌜ StateOk state ⌝ }
     ensures { λ r. ⌜ (StateOk r) × (stateOf r ≡ attach id (restartsOf restarts) (stateOf state)) ⌝ }
 {

@@ -1,5 +1,6 @@
 -- `events::restart` meets its contract. Assumes nothing.
 use borrow.Author.Needs.{needs}
+use native.Mathlib.Omega.{arith}
 use borrow.Author.Tests.{not-true, not-false}
 use mathlib.Core.Path.{sym, ap, _∙_, subst}
 use lib.IntN.{ℤ}
@@ -11,7 +12,7 @@ use Rattle.rules.specs.Events.{restartResult}
 use Rattle.state.specs.View.{stateOf}
 use Rattle.state.specs.Contract.{StepGives}
 use Rattle.state.proofs.Laws.{refused-gives}
-use Rattle.events.proofs.Laws.{restart-14, restart-16, restart-17, restart-passes}
+use Rattle.events.proofs.Laws.{restart-14, restart-16, restart-17, restart-passes, restart-entry}
 use Rattle.events.proofs.restart.Statement.{statement}
 use Rattle.events.proofs.restart.Tie as tie
 
@@ -59,7 +60,11 @@ returns-3 c =
     (restart-17 (stateOf (a .state)) (a .device) (a .setting) (u .before .if1 .left) (sym (u .is-up .ensures) ∙ r .before .if2 .left) (ap inRange (sym z) ∙ sym (r .in-range .ensures) ∙ not-true (r .in-range .result) (c .before .if3 .taken)))
 
 restarted-requires : tie.Need-restarted-requires
-restarted-requires c κs = search needs
+restarted-requires c κs =
+    let r = c .before in
+    let u = r .before .before in
+    let s = u .before .before .before in
+    (s .pre, omega (arith, s .pre .devices-fit, u .before .if1 .left), restart-entry _ (sym (r .in-range .ensures) ∙ not-false (r .in-range .result) (c .if3 .left)))
 
 returns-4 : tie.Need-returns-4
 unfolding stateOf

@@ -6,18 +6,19 @@ use mathlib.Core.Logic.{⊎-elim}
 use mathlib.Core.List.{List}
 use mathlib.Core.Option.{Option}
 use Prim.Native.Nat.{ℕ, _-_, _≤_}
-use lib.IntN.{ℤ}
-use lib.ListN.{length, getD, length-set}
+use lib.IntN.{ℤ, pos}
+use lib.ListN.{length, getD, set, length-set}
+use mir.Val.{toZ, ofZ}
+use mir.Syntax.{w16}
 use Rattle.rules.specs.Attach.{later}
-use Rattle.slot.specs.View.{restartsOf, restartOf, noRestart}
-use Rattle.slot.specs.declared.Restart.{Restart}
-use Rattle.slot.proofs.Laws.{fun-ext, set-put}
+use Rattle.slot.specs.View.{isRestart, restartsOf, restartOf, noRestart}
+use Rattle.slot.proofs.Laws.{fun-ext, set-put, any-default}
 use Rattle.slot.proofs.DueLaws.{restart-set, restart-unset, restart-past, newBelow, below-none, below-put, below-same, below-all}
 use Rattle.slot.proofs.attach.later_restarts.Statement.{statement}
 use Rattle.slot.proofs.attach.later_restarts.Tie as tie
 
 -- what the restarts shall be
-abbrev joined : List Restart → List Restart → ℕ → Option ℤ
+abbrev joined : List ℤ → List ℤ → ℕ → Option ℤ
 joined earlier restarts e = later (restartsOf earlier e) (restartsOf restarts e)
 
 abbrev Inv-loop : tie.InvT-loop
@@ -35,6 +36,9 @@ mul-restart c = search needs
 array-copy-out-restart : tie.Need-array-copy-out-restart Inv-loop μ-loop
 array-copy-out-restart c = search needs
 
+is-restart-requires : tie.Need-is-restart-requires Inv-loop μ-loop
+is-restart-requires c κs = search needs
+
 mul-both : tie.Need-mul-both Inv-loop μ-loop
 mul-both c = search needs
 
@@ -49,27 +53,33 @@ loop-less c = search needs
 
 loop-again : tie.Need-loop-again Inv-loop μ-loop
 loop-again c =
-    let l = c .before .before in
+    let k = c .before in
+    let l = k .before .before in
     let a = l .before .before .args in
     let v = l .before .loop .inv in
     let d = l .before .loop .d in
     let both = l .before .loop .both in
     let new = joined (a .earlier) (a .t2) in
     let old = restartsOf (a .earlier) in
-    let r = getD (a .t2) d noRestart in
+    let n : length (a .t2) ≡ 32 = search needs in
+    let r = getD (a .t2) d (pos 0) in
+    let m : restartsOf (a .t2) d ≡ restartOf r = ap restartOf (any-default (a .t2) d noRestart (pos 0) (omega (arith, n, l .loop-test .taken))) in
+    let b : toZ w16 (ofZ w16 r) ≡ r = search needs in
+    let t : k .is-restart .result ≡ isRestart r = k .is-restart .ensures ∙ ap isRestart b in
     ⊎-elim
-    (λ w. (
+    (λ w. let s : c .if1 .both ≡ set both d r = w .1 ∙ ap (set both d) b in
+    let o = restart-set r (sym t ∙ w .0 .taken) in (
       search needs,
-      ap length (w .1) ∙ length-set both d r ∙ v .1,
-      λ e. ap (λ (k : List Restart). restartsOf k e) (w .1)
+      ap length s ∙ length-set both d r ∙ v .1,
+      λ e. ap (λ (k : List ℤ). restartsOf k e) s
           ∙ set-put restartOf both d r noRestart (omega (arith, v .1, l .loop-test .taken)) e
-          ∙ below-put new old d (restartsOf both) (restartOf r) (v .2) (let t = restart-set r (w .0 .taken) in t ∙ ap (later (old d)) (sym t)) e,
+          ∙ below-put new old d (restartsOf both) (restartOf r) (v .2) (o ∙ ap (later (old d)) (sym (m ∙ o))) e,
     ))
     (λ w. (
       search needs,
       ap length (w .1) ∙ v .1,
-      λ e. ap (λ (k : List Restart). restartsOf k e) (w .1)
-          ∙ below-same new old d (restartsOf both) (v .2) (ap (later (old d)) (restart-unset r (w .0 .left))) e,
+      λ e. ap (λ (k : List ℤ). restartsOf k e) (w .1)
+          ∙ below-same new old d (restartsOf both) (v .2) (ap (later (old d)) (m ∙ restart-unset r (sym t ∙ w .0 .left))) e,
     ))
     (c .if1 .came)
 
@@ -94,6 +104,7 @@ later-restarts-spec =
     loop-holds
     mul-restart
     array-copy-out-restart
+    is-restart-requires
     mul-both
     array-set-from-both
     add-d

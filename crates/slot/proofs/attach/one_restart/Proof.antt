@@ -2,7 +2,6 @@
 use borrow.Author.Needs.{needs}
 use native.Mathlib.Omega.{arith}
 use mathlib.Core.Path.{_≡_, ap, _∙_}
-use mathlib.Core.Bool.{true}
 use mathlib.Core.Option.{Option, some}
 use Prim.Native.Nat.{ℕ}
 use lib.IntN.{ℤ}
@@ -13,6 +12,7 @@ use Rattle.rules.specs.Tables.{put}
 use Rattle.rules.specs.Attach.{oneRestart}
 use Rattle.slot.specs.View.{noRestart, restartOf}
 use Rattle.slot.proofs.Laws.{set-put}
+use Rattle.slot.proofs.DueLaws.{restart-set}
 use Rattle.slot.proofs.attach.one_restart.Statement.{statement}
 use Rattle.slot.proofs.attach.one_restart.Tie as tie
 
@@ -32,8 +32,9 @@ returns c =
     let l : length (c .no-restarts .result) ≡ 32 = search needs in
     let z : toZ w16 (ofZ w16 (a .setting)) ≡ a .setting = search needs in
     let p = c .before .pre in
-    (λ i. λ d. set-put restartOf (c .no-restarts .result) (a .device) (record { set = true; setting = toZ w16 (ofZ w16 (a .setting)) }) noRestart (omega arith) d i)
-    ∙ ap (λ (v : ℤ). put (λ e. restartOf (getD (c .no-restarts .result) e noRestart)) (a .device) (some v)) z
+    (λ i. λ d. set-put restartOf (c .no-restarts .result) (a .device) (toZ w16 (ofZ w16 (a .setting))) noRestart (omega arith) d i)
+    ∙ ap (λ (v : ℤ). put (λ e. restartOf (getD (c .no-restarts .result) e noRestart)) (a .device) (restartOf v)) z
+    ∙ ap (λ (o : Option ℤ). put (λ e. restartOf (getD (c .no-restarts .result) e noRestart)) (a .device) o) (restart-set (a .setting) (p .1))
     ∙ ap (λ (f : ℕ → Option ℤ). put f (a .device) (some (a .setting))) (c .no-restarts .ensures)
 
 pub one-restart-spec : {M : Type 1} → statement M

@@ -12,15 +12,14 @@ use mir.Val.{toZ, ofZ}
 use mir.Syntax.{w16}
 use Rattle.rules.specs.Due.{afterRestart}
 use Rattle.rules.specs.Attach.{settleRestarts}
-use Rattle.slot.specs.View.{settingsOf, restartsOf, noRestart}
-use Rattle.slot.specs.declared.Restart.{Restart}
-use Rattle.slot.proofs.Laws.{fun-ext, set-put}
+use Rattle.slot.specs.View.{settingsOf, isRestart, restartOf, restartsOf, noRestart}
+use Rattle.slot.proofs.Laws.{fun-ext, set-put, any-default}
 use Rattle.slot.proofs.DueLaws.{restart-set, restart-unset, restart-past, newBelow, below-none, below-put, below-same, below-all}
 use Rattle.slot.proofs.attach.settle_restarts.Statement.{statement}
 use Rattle.slot.proofs.attach.settle_restarts.Tie as tie
 
 -- what the devices shall be at
-abbrev settled : List ℤ → List Restart → ℕ → ℤ
+abbrev settled : List ℤ → List ℤ → ℕ → ℤ
 settled table restarts e = afterRestart (restartsOf restarts e) (settingsOf table e)
 
 abbrev Inv-loop : tie.InvT-loop
@@ -38,6 +37,9 @@ mul-restart c = search needs
 array-copy-out-restart : tie.Need-array-copy-out-restart Inv-loop μ-loop
 array-copy-out-restart c = search needs
 
+is-restart-requires : tie.Need-is-restart-requires Inv-loop μ-loop
+is-restart-requires c κs = search needs
+
 mul-after : tie.Need-mul-after Inv-loop μ-loop
 mul-after c = search needs
 
@@ -52,28 +54,32 @@ loop-less c = search needs
 
 loop-again : tie.Need-loop-again Inv-loop μ-loop
 loop-again c =
-    let l = c .before .before in
+    let k = c .before in
+    let l = k .before .before in
     let a = l .before .before .args in
     let v = l .before .loop .inv in
     let d = l .before .loop .d in
     let after = l .before .loop .after in
     let new = settled (a .table) (a .t2) in
     let old = settingsOf (a .table) in
-    let r = getD (a .t2) d noRestart in
+    let n : length (a .t2) ≡ 32 = search needs in
+    let r = getD (a .t2) d (pos 0) in
+    let m : restartsOf (a .t2) d ≡ restartOf r = ap restartOf (any-default (a .t2) d noRestart (pos 0) (omega (arith, n, l .loop-test .taken))) in
+    let b : toZ w16 (ofZ w16 r) ≡ r = search needs in
+    let t : k .is-restart .result ≡ isRestart r = k .is-restart .ensures ∙ ap isRestart b in
     ⊎-elim
-    (λ w. let b : toZ w16 (ofZ w16 (r .setting)) ≡ r .setting = search needs in
-    let s : c .if1 .after ≡ set after d (r .setting) = w .2 ∙ ap (set after d) b in (
+    (λ w. let s : c .if1 .after ≡ set after d r = w .1 ∙ ap (set after d) b in (
       search needs,
-      ap length s ∙ length-set after d (r .setting) ∙ v .1,
+      ap length s ∙ length-set after d r ∙ v .1,
       λ e. ap (λ (k : List ℤ). settingsOf k e) s
-          ∙ set-put (λ x. x) after d (r .setting) (pos 0) (omega (arith, v .1, l .loop-test .taken)) e
-          ∙ below-put new old d (settingsOf after) (r .setting) (v .2) (ap (λ (o : Option ℤ). afterRestart o (old d)) (sym (restart-set r (w .0 .taken)))) e,
+          ∙ set-put (λ x. x) after d r (pos 0) (omega (arith, v .1, l .loop-test .taken)) e
+          ∙ below-put new old d (settingsOf after) r (v .2) (ap (λ (o : Option ℤ). afterRestart o (old d)) (sym (m ∙ restart-set r (sym t ∙ w .0 .taken)))) e,
     ))
     (λ w. (
       search needs,
       ap length (w .1) ∙ v .1,
       λ e. ap (λ (k : List ℤ). settingsOf k e) (w .1)
-          ∙ below-same new old d (settingsOf after) (v .2) (ap (λ (o : Option ℤ). afterRestart o (old d)) (restart-unset r (w .0 .left))) e,
+          ∙ below-same new old d (settingsOf after) (v .2) (ap (λ (o : Option ℤ). afterRestart o (old d)) (m ∙ restart-unset r (sym t ∙ w .0 .left))) e,
     ))
     (c .if1 .came)
 
@@ -99,6 +105,7 @@ settle-restarts-spec =
     loop-holds
     mul-restart
     array-copy-out-restart
+    is-restart-requires
     mul-after
     array-set-from-after
     add-d
