@@ -88,7 +88,7 @@ fn searched_count(slot: Slot) -> usize
     if slot.committed {
         return 0;
     }
-    slot.count
+    slot.count as usize
 }
 
 // "If an earlier running routine uses D and has not finished it": the first such id. "The search goes through the routines ahead and their

@@ -24,7 +24,7 @@ fn after_steps(table: [i16; MAX_DEVICES], slot: Slot) -> [i16; MAX_DEVICES]
     ensures { λ r. ⌜ settingsOf r ≡ (λ d. afterSteps d (stepsOf slot) (settingsOf table d)) ⌝ }
 {
     let mut after = table;
-    let count = slot.count;
+    let count = slot.count as usize;
     let mut j: usize = 0;
     while j < count {
         let step = slot.steps[j];
@@ -56,7 +56,7 @@ fn after_steps_on(slot: Slot, device: u8, before: i16) -> i16
     ensures { λ r. ⌜ r ≡ afterSteps device (stepsOf slot) before ⌝ }
 {
     let mut after = before;
-    let count = slot.count;
+    let count = slot.count as usize;
     let mut j: usize = 0;
     while j < count {
         let step = slot.steps[j];
@@ -93,7 +93,7 @@ pub fn flights(table: [bool; MAX_DEVICES], slot: Slot) -> [bool; MAX_DEVICES]
     ensures { λ r. ⌜ flagsOf r ≡ (λ d. flagsOf table d || inFlightOn d (memberOf slot)) ⌝ }
 {
     let mut busy = table;
-    let count = slot.count;
+    let count = slot.count as usize;
     let mut j: usize = 0;
     while j < count {
         let step = slot.steps[j];

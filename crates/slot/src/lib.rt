@@ -30,7 +30,7 @@ pub const NO_RESTART: i16 = 32767;
 pub struct Slot {
     pub id: u32,
     pub steps: [SlotStep; MAX_COMMANDS],
-    pub count: usize,
+    pub count: u8,
     pub passed: u8,
     pub committed: bool,
     pub restarts: [i16; MAX_DEVICES],

@@ -19,7 +19,7 @@ fn to_do_at(slot: Slot) -> usize
     requires { ⌜ SlotOk slot ⌝ }
     ensures { λ r. ⌜ r ≡ firstToDo (stepsOf slot) ⌝ }
 {
-    let count = slot.count;
+    let count = slot.count as usize;
     let mut j: usize = 0;
     while j < count {
         let step = slot.steps[j];
@@ -37,7 +37,7 @@ fn in_flight_at(slot: Slot) -> usize
     requires { ⌜ SlotOk slot ⌝ }
     ensures { λ r. ⌜ r ≡ firstInFlight (stepsOf slot) ⌝ }
 {
-    let count = slot.count;
+    let count = slot.count as usize;
     let mut j: usize = 0;
     while j < count {
         let step = slot.steps[j];
@@ -69,7 +69,7 @@ pub fn next_command(slot: Slot) -> Next
     ensures { λ r. ⌜ nextOf r ≡ next (stepsOf slot) ⌝ }
 {
     let at = to_do_at(slot);
-    let count = slot.count;
+    let count = slot.count as usize;
     if count <= at {
         return Next::NothingLeft;
     }
@@ -84,7 +84,7 @@ pub fn pending(slot: Slot) -> Pending
     ensures { λ r. ⌜ flightOf r ≡ flight (stepsOf slot) ⌝ }
 {
     let at = in_flight_at(slot);
-    let count = slot.count;
+    let count = slot.count as usize;
     if count <= at {
         return Pending::NothingSent;
     }
@@ -104,7 +104,7 @@ pub fn advanced(slot: Slot, stage: Stage) -> Slot
     ensures { λ r. ⌜ (SlotOk r) × (memberOf r ≡ withSteps (memberOf slot) (advance (statusOf stage) (stepsOf slot))) ⌝ }
 {
     let at = to_do_at(slot);
-    let count = slot.count;
+    let count = slot.count as usize;
     if count <= at {
         return slot;
     }
@@ -117,7 +117,7 @@ pub fn answered(slot: Slot, stage: Stage) -> Slot
     ensures { λ r. ⌜ (SlotOk r) × (memberOf r ≡ withSteps (memberOf slot) (answerFlight (statusOf stage) (stepsOf slot))) ⌝ }
 {
     let at = in_flight_at(slot);
-    let count = slot.count;
+    let count = slot.count as usize;
     if count <= at {
         return slot;
     }
@@ -129,7 +129,7 @@ pub fn has_begun(slot: Slot, device: u8) -> bool
     requires { ⌜ SlotOk slot ⌝ }
     ensures { λ r. ⌜ r ≡ begun device (memberOf slot) ⌝ }
 {
-    let count = slot.count;
+    let count = slot.count as usize;
     let mut j: usize = 0;
     while j < count {
         let step = slot.steps[j];
@@ -150,7 +150,7 @@ pub fn has_finished(slot: Slot, device: u8) -> bool
     requires { ⌜ SlotOk slot ⌝ }
     ensures { λ r. ⌜ r ≡ finished device (memberOf slot) ⌝ }
 {
-    let count = slot.count;
+    let count = slot.count as usize;
     let mut j: usize = 0;
     while j < count {
         let step = slot.steps[j];

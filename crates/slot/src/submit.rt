@@ -50,7 +50,7 @@ pub fn newcomer_slot(id: u32, routine: Routine) -> Slot
 {
     let steps = to_do(routine);
     let restarts = attach::no_restarts();
-    let count = routine.count;
+    let count = routine.count as u8;
     Slot {
         id,
         steps,

@@ -22,6 +22,9 @@ Inv-loop device before slot after₀ count j₀ after j = (j ≤ count) × (afte
 abbrev μ-loop : tie.MeasureT-loop
 μ-loop device before slot after₀ count j₀ after j = count - j
 
+cast-count : tie.Need-cast-count Inv-loop μ-loop
+cast-count c = search needs
+
 loop-holds : tie.Need-loop-holds Inv-loop μ-loop
 loop-holds c = (search needs, refl)
 
@@ -78,6 +81,7 @@ after-steps-on-spec =
     (tie.spec
     Inv-loop
     μ-loop
+    cast-count
     loop-holds
     mul-step
     element-copy-out-step

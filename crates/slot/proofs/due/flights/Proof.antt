@@ -35,6 +35,9 @@ long c = search (needs, length-mapped)
 below : (c : tie.In-loop Inv-loop μ-loop) → getD (c .before .before .args .t2 .steps) (c .before .loop .j) zeroStep .command .device < 32
 below c = step-at (c .before .before .args .t2) (c .before .before .pre) (long c) (c .before .loop .j) zeroStep (c .loop-test .taken)
 
+cast-count : tie.Need-cast-count Inv-loop μ-loop
+cast-count c = search needs
+
 loop-holds : tie.Need-loop-holds Inv-loop μ-loop
 loop-holds c = (search needs, search needs, λ d. refl)
 
@@ -103,6 +106,7 @@ flights-spec =
     (tie.spec
     Inv-loop
     μ-loop
+    cast-count
     loop-holds
     mul-step
     element-copy-out-step

@@ -23,6 +23,9 @@ abbrev μ-loop : tie.MeasureT-loop
 held : (c : tie.Start Inv-loop μ-loop) → c .args .t1 .count ≤ length (c .args .t1 .steps)
 held c = steps-held (c .args .t1) (c .pre) (search (needs, length-mapped))
 
+cast-count : tie.Need-cast-count Inv-loop μ-loop
+cast-count c = search needs
+
 loop-holds : tie.Need-loop-holds Inv-loop μ-loop
 loop-holds c = (search needs, omega arith)
 
@@ -60,6 +63,7 @@ in-flight-at-spec =
     (tie.spec
     Inv-loop
     μ-loop
+    cast-count
     loop-holds
     mul-step
     element-copy-out-step

@@ -16,6 +16,9 @@ held c = steps-held (c .args .t1) (c .pre) (search (needs, length-mapped))
 to-do-at-requires : tie.Need-to-do-at-requires
 to-do-at-requires c κs = search needs
 
+cast-count : tie.Need-cast-count
+cast-count c = search needs
+
 returns : tie.Need-returns
 returns c =
     sym (next-none _ _ _ (held (c .before .before)) (c .before .to-do-at .ensures) (c .if1 .taken))
@@ -33,4 +36,4 @@ returns-2 c =
 
 pub next-command-spec : {M : Type 1} → statement M
 next-command-spec =
-    tie.close (tie.spec to-do-at-requires returns mul-step element-copy-out-step returns-2)
+    tie.close (tie.spec to-do-at-requires cast-count returns mul-step element-copy-out-step returns-2)

@@ -18,6 +18,9 @@ held c = steps-held (c .args .t1) (c .pre) (search (needs, length-mapped))
 in-flight-at-requires : tie.Need-in-flight-at-requires
 in-flight-at-requires c κs = search needs
 
+cast-count : tie.Need-cast-count
+cast-count c = search needs
+
 returns : tie.Need-returns
 returns c =
     sym (flight-none _ _ _ (held (c .before .before)) (c .before .in-flight-at .ensures) (c .if1 .taken))
@@ -50,6 +53,7 @@ pending-spec =
     tie.close
     (tie.spec
     in-flight-at-requires
+    cast-count
     returns
     mul-step
     element-copy-out-step
