@@ -1,13 +1,18 @@
 -- Laws for the proofs of the public calls. Assumes nothing.
 use mathlib.Core.Path.{_≡_, refl, sym, ap, _∙_, subst}
-use mathlib.Core.Bool.{true, false}
+use mathlib.Core.Bool.{Bool, true, false}
 use mathlib.Core.List.{List, [], _∷_}
 use Prim.Native.Nat.{ℕ}
 use types.Run.{OneOf, miss}
 use denote.Enum.Declared.{tagOf}
+use Rattle.routine.specs.Choice.{if_then_else_}
+use Rattle.rules.specs.State.{Member, State}
 use Rattle.rules.specs.Answers.{Result}
-use Rattle.rules.specs.Settle.{settle, settling}
-use Rattle.rules.proofs.Lists.{t≠f}
+use Rattle.rules.specs.Sequence.{withSequence}
+use Rattle.rules.specs.Settle.{joinSettled, settleFrom, settle, settling}
+use Rattle.rules.proofs.Lists.{byIf, t≠f}
+use Rattle.sequence.specs.View.{membersOf}
+use Rattle.sequence.specs.Tests.{firstCommitted}
 use Rattle.state.specs.View.{stateOf, backsOf, answersOf, answersIn as stepAnswers, resultIn as stepResult, backsIn}
 use Rattle.state.specs.Valid.{StateOk, BacksOk}
 use Rattle.state.specs.Contract.{changesNothing, settleFor, afterSettling, StepGives}
@@ -72,6 +77,22 @@ step-settles s step o h k v e w =
 pub step-stands : (step : StepOutcome) (o : Outcome) (a : Answer) → step .answer ≡ a → ((r : Result) → settleFor a r ≡ r) → StateOk (step .state) → Wraps (step .state) step o →
     SettledStep step o
 step-stands step o a e f v w = wraps-settled (step .state) step o w v (sym (ap (λ (b : Answer). settleFor b (stepResult step)) e ∙ f (stepResult step))) (λ t. refl)
+
+-- where the first is running, settling changes nothing
+settle-from-none : (s : State) (l : List Member) → s .sequence ≡ l → firstCommitted l ≡ false → settleFrom s l ≡ s
+settle-from-none s [] p e = ap (withSequence s) (sym p)
+settle-from-none s (m ∷ l) p e = ap (λ (t : Bool). if t then settleFrom (joinSettled s m) l else withSequence s (m ∷ l)) e ∙ ap (withSequence s) (sym p)
+
+settle-none : (h : HubState) → firstCommitted (membersOf (h .sequence)) ≡ false → settle (stateOf h) ≡ stateOf h
+unfolding settle stateOf
+settle-none h e = settle-from-none (stateOf h) (membersOf (h .sequence)) refl e
+
+-- and a step has settled as it stands
+pub step-unsettled : (step : StepOutcome) (o : Outcome) → StateOk (step .state) → firstCommitted (membersOf (step .state .sequence)) ≡ false → Wraps (step .state) step o → SettledStep step o
+step-unsettled step o v e w =
+    wraps-settled (step .state) step o w v
+    (byIf (λ r. stepResult step ≡ r) (changesNothing (step .answer)) (λ _. refl) (λ _. λ i. record { state = sym (settle-none (step .state) e) i; answers = stepAnswers step }))
+    (λ t. refl)
 
 -- a step that has settled gives what the call's contract says
 pub settled-gives : (h : Hub) (step : StepOutcome) (o : Outcome) (result : Result) → StepGives (h .state) step result → SettledStep step o → Gives h o result

@@ -56,7 +56,10 @@ pub fn submit(hub: Hub, routine: Routine) -> Outcome
 {
     let state = hub.state;
     let step = submit::step(state, routine);
-    settling::settled(step)
+    if settling::is_due(step) {
+        return settling::settled(step);
+    }
+    settling::unsettled(step)
 }
 
 // "Turn: 10, 11."
@@ -66,7 +69,10 @@ pub fn turn(hub: Hub, id: u32) -> Outcome
 {
     let state = hub.state;
     let step = turn::step(state, id);
-    settling::settled(step)
+    if settling::is_due(step) {
+        return settling::settled(step);
+    }
+    settling::unsettled(step)
 }
 
 // "Report: 10, 12, 13."
@@ -76,7 +82,10 @@ pub fn report(hub: Hub, id: u32, code: u8) -> Outcome
 {
     let state = hub.state;
     let step = report::step(state, id, code);
-    settling::settled(step)
+    if settling::is_due(step) {
+        return settling::settled(step);
+    }
+    settling::unsettled(step)
 }
 
 // "Cancel: 10."
@@ -86,7 +95,10 @@ pub fn cancel(hub: Hub, id: u32) -> Outcome
 {
     let state = hub.state;
     let step = abort::cancel::step(state, id);
-    settling::settled(step)
+    if settling::is_due(step) {
+        return settling::settled(step);
+    }
+    settling::unsettled(step)
 }
 
 // "Failure: 14, 15."
@@ -96,7 +108,10 @@ pub fn fail(hub: Hub, device: u8) -> Outcome
 {
     let state = hub.state;
     let step = events::failure(state, device);
-    settling::settled(step)
+    if settling::is_due(step) {
+        return settling::settled(step);
+    }
+    settling::unsettled(step)
 }
 
 // "Restart: 14, 16, 17."
@@ -106,7 +121,10 @@ pub fn restart(hub: Hub, device: u8, setting: i16) -> Outcome
 {
     let state = hub.state;
     let step = events::restart(state, device, setting);
-    settling::settled(step)
+    if settling::is_due(step) {
+        return settling::settled(step);
+    }
+    settling::unsettled(step)
 }
 
 // N.

@@ -6,6 +6,9 @@ use state::HubState;
 use state::StepOutcome;
 use state::settle;
 ghost use mathlib.Core.Path.{_≡_};
+ghost use mathlib.Core.Bool.{false};
+ghost use Rattle.sequence.specs.View.{membersOf};
+ghost use Rattle.sequence.specs.Tests.{firstCommitted};
 ghost use Rattle.state.specs.Valid.{StateOk};
 ghost use Rattle.hub.specs.Contract.{SettledStep};
 
@@ -22,6 +25,25 @@ fn outcome_with(state: HubState, step: StepOutcome) -> Outcome
         answer,
         backs,
     }
+}
+
+// Does the hub settle after this step? Each call asks first: where it does not, the step's state is handed on as it is, with no copy for settling to work on.
+pub fn is_due(step: StepOutcome) -> bool
+    requires { ⌜ StateOk (step .state) ⌝ }
+    ensures { λ r. ⌜ r ≡ firstCommitted (membersOf (step .state .sequence)) ⌝ }
+{
+    let state = step.state;
+    let sequence = state.sequence;
+    sequence::settle::settles(sequence)
+}
+
+// Where it does not, the step's state stands.
+pub fn unsettled(step: StepOutcome) -> Outcome
+    requires { ⌜ (StateOk (step .state)) × (firstCommitted (membersOf (step .state .sequence)) ≡ false) ⌝ }
+    ensures { λ r. ⌜ SettledStep step r ⌝ }
+{
+    let state = step.state;
+    outcome_with(state, step)
 }
 
 // "After each call, while the first in the sequence is committed". A refusal and a wait change nothing.

@@ -1,6 +1,6 @@
 -- Tests of a routine that the searches use. Assumes nothing.
-use mathlib.Core.Bool.{Bool, _&&_, _||_}
-use mathlib.Core.List.{List}
+use mathlib.Core.Bool.{Bool, false, _&&_, _||_}
+use mathlib.Core.List.{List, [], _∷_}
 use Prim.Native.Nat.{ℕ}
 use lib.Dec.{leb, eqb}
 use Rattle.routine.specs.Choice.{if_then_else_}
@@ -20,3 +20,8 @@ searched s = if s .committed then 0 else s .count
 -- `blocks` of the rules, of the marks and the pass limit.
 unfoldable pub blocksBy : (ℕ → ℕ) → ℕ → List Command → Member → Bool
 blocksBy mark limit cs m = anyOf (λ c. eqb (mark (c .device)) (m .id)) cs || (isRunning m && leb limit (m .passed))
+
+-- The first of them is committed.
+abbrev pub firstCommitted : List Member → Bool
+firstCommitted [] = false
+firstCommitted (m ∷ l) = m .committed

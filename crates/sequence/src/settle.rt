@@ -9,7 +9,9 @@ ghost use mathlib.Core.Path.{_≡_};
 ghost use Prim.Native.Nat.{_<_};
 ghost use Rattle.rules.specs.Sequence.{moveMarks};
 ghost use Rattle.slot.specs.View.{marksOf};
+ghost use Rattle.sequence.specs.View.{membersOf};
 ghost use Rattle.sequence.specs.Valid.{SequenceOk};
+ghost use Rattle.sequence.specs.Tests.{firstCommitted};
 ghost use Rattle.sequence.specs.Contract.{JoinsCommitted, SettlesCommitted};
 
 // Marks that were one id become another.
@@ -58,6 +60,18 @@ fn join_committed(
         marks: moved,
         count: i,
     }
+}
+
+// Is the first in the sequence committed?
+pub fn settles(sequence: Sequence) -> bool
+    requires { ⌜ SequenceOk sequence ⌝ }
+    ensures { λ r. ⌜ r ≡ firstCommitted (membersOf sequence) ⌝ }
+{
+    if sequence.len == 0 {
+        return false;
+    }
+    let first = sequence.slots[0];
+    first.committed
 }
 
 // Settling.
