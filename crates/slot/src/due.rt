@@ -55,11 +55,12 @@ fn after_steps_on(slot: Slot, device: u8, before: i16) -> i16
     requires { ⌜ SlotOk slot ⌝ }
     ensures { λ r. ⌜ r ≡ afterSteps device (stepsOf slot) before ⌝ }
 {
+    let steps = slot.steps;
     let mut after = before;
     let count = slot.count as usize;
     let mut j: usize = 0;
     while j < count {
-        let step = slot.steps[j];
+        let step = steps[j];
         let command = step.command;
         if command.device == device {
             let stage = step.stage;
@@ -79,7 +80,8 @@ pub fn after_slot_on(slot: Slot, device: u8, before: i16) -> i16
 {
     let at = device as usize;
     if at < MAX_DEVICES {
-        let restart = slot.restarts[at];
+        let restarts = slot.restarts;
+        let restart = restarts[at];
         if attach::is_restart(restart) {
             return restart;
         }

@@ -17,10 +17,10 @@ use Rattle.slot.proofs.due.after_steps_on.Statement.{statement}
 use Rattle.slot.proofs.due.after_steps_on.Tie as tie
 
 abbrev Inv-loop : tie.InvT-loop
-Inv-loop device before slot after₀ count j₀ after j = (j ≤ count) × (afterSteps device (rest j count (slot .steps)) (toZ w16 after) ≡ afterSteps device (stepsIn count (slot .steps)) (toZ w16 before))
+Inv-loop device before steps after₀ count j₀ after j = (j ≤ count) × (afterSteps device (rest j count steps) (toZ w16 after) ≡ afterSteps device (stepsIn count steps) (toZ w16 before))
 
 abbrev μ-loop : tie.MeasureT-loop
-μ-loop device before slot after₀ count j₀ after j = count - j
+μ-loop device before steps after₀ count j₀ after j = count - j
 
 cast-count : tie.Need-cast-count Inv-loop μ-loop
 cast-count c = search needs
@@ -31,8 +31,8 @@ loop-holds c = (search needs, refl)
 mul-step : tie.Need-mul-step Inv-loop μ-loop
 mul-step c = search needs
 
-element-copy-out-step : tie.Need-element-copy-out-step Inv-loop μ-loop
-element-copy-out-step c = search needs
+array-copy-out-step : tie.Need-array-copy-out-step Inv-loop μ-loop
+array-copy-out-step c = search needs
 
 is-done-requires : tie.Need-is-done-requires Inv-loop μ-loop
 is-done-requires c κs = search needs
@@ -46,18 +46,19 @@ loop-less c = search needs
 loop-again : tie.Need-loop-again Inv-loop μ-loop
 loop-again c =
     let l = c .before .before .before .before in
-    let a = l .before .before .args in
-    let s = a .t1 in
+    let b = l .before .before .before .before in
+    let a = b .args in
+    let s = a .slot in
     let v = l .before .loop .inv in
     let j = l .before .loop .j in
     let x = getD (s .steps) j zeroStep in
     let after = toZ w16 (l .before .loop .after) in
-    let k = steps-held s (l .before .before .pre) (search (needs, length-mapped)) in (
+    let k = steps-held s (b .pre) (search (needs, length-mapped)) in (
       search needs,
       after-more (a .device) (rest-next (s .steps) j (s .count) zeroStep (l .loop-test .taken) k) after (toZ w16 (c .if1 .after))
           (⊎-elim
-          (λ w. let b : toZ w16 (ofZ w16 (x .command .setting)) ≡ x .command .setting = search needs in
-          ap (toZ w16) (w .4) ∙ b ∙ done-on after (stepIn x) (a .device) (w .0 .taken) (sym (w .1 .ensures) ∙ w .2 .taken))
+          (λ w. let z : toZ w16 (ofZ w16 (x .command .setting)) ≡ x .command .setting = search needs in
+          ap (toZ w16) (w .4) ∙ z ∙ done-on after (stepIn x) (a .device) (w .0 .taken) (sym (w .1 .ensures) ∙ w .2 .taken))
           (⊎-elim
           (λ w. ap (toZ w16) (w .3) ∙ not-done after (stepIn x) (a .device) (sym (w .1 .ensures) ∙ w .2 .left))
           (λ w. ap (toZ w16) (w .1) ∙ not-on after (stepIn x) (a .device) (w .0 .left)))
@@ -68,10 +69,10 @@ loop-again c =
 returns : tie.Need-returns Inv-loop μ-loop
 returns c =
     let l = c .before in
-    let a = l .before .args in
-    let ss = stepsOf (a .t1) in
+    let a = l .before .before .before .args in
+    let ss = stepsOf (a .slot) in
     let b : toZ w16 (ofZ w16 (a .before)) ≡ a .before = search needs in
-    sym (ap (λ (y : List Step). afterSteps (a .device) y (toZ w16 (l .loop .after))) (rest-none (a .t1 .steps) (l .loop .j) (a .t1 .count) (l .loop .inv .0) (c .loop-test .left)))
+    sym (ap (λ (y : List Step). afterSteps (a .device) y (toZ w16 (l .loop .after))) (rest-none (a .slot .steps) (l .loop .j) (a .slot .count) (l .loop .inv .0) (c .loop-test .left)))
     ∙ l .loop .inv .1
     ∙ ap (afterSteps (a .device) ss) b
 
@@ -84,7 +85,7 @@ after-steps-on-spec =
     cast-count
     loop-holds
     mul-step
-    element-copy-out-step
+    array-copy-out-step
     is-done-requires
     add-j
     loop-less
