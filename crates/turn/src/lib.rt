@@ -21,7 +21,7 @@ use state::answers;
 ghost use mathlib.Core.Path.{_≡_};
 ghost use Prim.Native.Nat.{_<_};
 ghost use Rattle.routine.specs.Routine.{maxDevices};
-ghost use Rattle.rules.specs.Turn.{firstHolding, markBegun, commitTurn, nextBecomes, sendTurn, skipTurn, proceed, waitOr, turnOf};
+ghost use Rattle.rules.specs.Turn.{markBegun, commitTurn, nextBecomes, sendTurn, skipTurn, proceed, turnOf};
 ghost use Rattle.rules.specs.Settle.{settling};
 ghost use Rattle.slot.specs.View.{statusOf, marksOf, memberOf};
 ghost use Rattle.slot.specs.Valid.{SlotOk};
@@ -111,19 +111,6 @@ fn go_on(state: HubState, at: usize, slot: Slot, command: Command) -> StepOutcom
     skip(state, at, slot, command)
 }
 
-// "the answer is wait, with the first such id in the sequence, and no change"
-fn wait_or_go(state: HubState, at: usize, slot: Slot, command: Command) -> StepOutcome
-    requires { ⌜ (StateOk state) × (Stood state at slot) × (command .device < maxDevices) ⌝ }
-    ensures { λ r. ⌜ StepGives state r (waitOr (stateOf state) (found state at) command (firstHolding (command .device) (found state at .ahead))) ⌝ }
-{
-    let sequence = state.sequence;
-    let holder = find::first_holder(sequence, at, command.device);
-    let Holder::Routine(other) = holder else {
-        return go_on(state, at, slot, command);
-    };
-    answers::plain(state, Answer::Wait(slot.id, other))
-}
-
 pub fn step(state: HubState, id: u32) -> StepOutcome
     requires { ⌜ StateOk state ⌝ }
     ensures { λ r. ⌜ StepGives state r (turnOf (stateOf state) id) ⌝ }
@@ -142,5 +129,10 @@ pub fn step(state: HubState, id: u32) -> StepOutcome
     let Next::Left(command) = next else {
         return commit(state, at, slot);
     };
-    wait_or_go(state, at, slot, command)
+    // "the answer is wait, with the first such id in the sequence, and no change"
+    let holder = find::first_holder(sequence, at, command.device);
+    let Holder::Routine(other) = holder else {
+        return go_on(state, at, slot, command);
+    };
+    answers::plain(state, Answer::Wait(slot.id, other))
 }

@@ -1,14 +1,17 @@
 -- `turn::step` meets its contract. Assumes nothing.
 use borrow.Author.Needs.{needs}
-use mathlib.Core.Path.{_≡_, subst}
+use mathlib.Core.Path.{_≡_, _∙_, subst}
+use Prim.Native.Nat.{_<_}
+use Rattle.routine.specs.Routine.{maxDevices}
 use Rattle.rules.specs.Turn.{turnNext, turnOf}
 use Rattle.slot.specs.View.{nextOf}
 use Rattle.slot.specs.declared.Next.{Next}
 use Rattle.state.specs.View.{stateOf, found}
-use Rattle.state.specs.Valid.{Stood}
+use Rattle.sequence.proofs.Laws.{stands-gap}
+use Rattle.state.specs.Valid.{StateOk, Stood}
 use Rattle.state.specs.Contract.{StepGives}
 use Rattle.state.proofs.Laws.{stands-at, stood-at}
-use Rattle.turn.proofs.Laws.{next-below, turn-nowhere, turn-sent, turn-next}
+use Rattle.turn.proofs.Laws.{next-below, turn-nowhere, turn-sent, turn-next, wait-search, wait-gives}
 use Rattle.turn.proofs.step.Statement.{statement}
 use Rattle.turn.proofs.step.Tie as tie
 
@@ -94,15 +97,45 @@ returns-3 : tie.Need-returns-3
 returns-3 c =
     subst (StepGives _ _) (goes-on (c .before .before .before) _ (c .before .enum-told4 .given .1)) (c .commit .ensures)
 
-wait-or-go-requires : tie.Need-wait-or-go-requires
-wait-or-go-requires c κs =
+-- the place and the next command are as going on asks for them
+ready : (c : tie.After-known-told2) →
+    let x = c .before .before .before .before .before .before .before in
+    let l = x .before .before .before .before .before .before in
+    (StateOk (l .args .state)) × (Stood (l .args .state) (x .before .before .place .given .0 .0) (x .slot-at .result)) × (c .before .next .given .0 .0 .device < maxDevices)
+ready c =
     let x = c .before .before .before .before .before .before .before in
     let n = c .before .before .before .next-command in
     (x .before .before .before .before .before .before .pre, stood x, next-below _ _ _ (x .slot-at .ensures .0) (n .ensures) (c .before .next .given .1))
 
+first-holder-requires : tie.Need-first-holder-requires
+first-holder-requires c κs = (ready c .0 .sequence-ok, stands-gap _ _ (ready c .1 .stands))
+
+enum-known-holder : tie.Need-enum-known-holder
+enum-known-holder c = search needs
+
+enum-told-5 : tie.Need-enum-told-5
+enum-told-5 c = search needs
+
+go-on-requires : tie.Need-go-on-requires
+go-on-requires c κs = ready (c .before .before .before)
+
 returns-4 : tie.Need-returns-4
 returns-4 c =
-    subst (StepGives _ _) (goes-on (c .before .before .before .before) _ (c .before .before .next .given .1)) (c .wait-or-go .ensures)
+    let f = c .before .before .before in
+    let k = f .before in
+    subst (StepGives _ _)
+    (wait-search _ _ _ _ (f .first-holder .ensures) _ (c .before .enum-told5 .given .1) ∙ goes-on (k .before .before .before) _ (k .before .next .given .1))
+    (c .go-on .ensures)
+
+plain-requires : tie.Need-plain-requires
+plain-requires c κs = search needs
+
+returns-5 : tie.Need-returns-5
+returns-5 c =
+    let f = c .before .before .before .before in
+    let k = f .before in
+    subst (StepGives _ _) (goes-on (k .before .before .before) _ (k .before .next .given .1))
+    (wait-gives _ _ _ (ready k .1) _ _ _ _ (ready k .0) (f .first-holder .ensures) (c .before .before .holder .given .1) (c .plain .ensures))
 
 pub step-spec : {M : Type 1} → statement M
 step-spec =
@@ -124,5 +157,10 @@ step-spec =
     enum-told-4
     commit-requires
     returns-3
-    wait-or-go-requires
-    returns-4)
+    first-holder-requires
+    enum-known-holder
+    enum-told-5
+    go-on-requires
+    returns-4
+    plain-requires
+    returns-5)
