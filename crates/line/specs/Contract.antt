@@ -35,8 +35,8 @@ pub record Finishes (h : Hub) (buffer buffer′ : List ℕ) (result : ℤ) : Typ
 abbrev pub maxEnd : ℕ
 maxEnd = maxDevices * maxDevice
 
--- What all lines print stands in the buffer, if there is room for it; else the place is one past the room. There is room for it if there is room for
--- so many lines of any kind.
+-- What all lines print stands in the buffer, if there is room for it; else the place is one past the room. If there is room for so many lines of any kind,
+-- it is not longer than they can be.
 pub record RunsLines (h : Hub) (input : List ℕ) (room : ℕ) (buffer buffer′ : List ℕ) (s : Lines) : Type 0 where
   pub valid : Valid (s .hub)
   pub near : s .at ≤ room + maxText
@@ -44,7 +44,7 @@ pub record RunsLines (h : Hub) (input : List ℕ) (room : ℕ) (buffer buffer′
       length (steps (hubIn h) (linesOf input) .text) ≤ room →
       (hubIn (s .hub) ≡ steps (hubIn h) (linesOf input) .hub) × Put buffer buffer′ 0 (s .at) (steps (hubIn h) (linesOf input) .text)
   pub past : room < length (steps (hubIn h) (linesOf input) .text) → room < s .at
-  pub ample : maxText * length (linesOf input) ≤ room → length (steps (hubIn h) (linesOf input) .text) ≤ room
+  pub ample : maxText * length (linesOf input) ≤ room → length (steps (hubIn h) (linesOf input) .text) ≤ maxText * length (linesOf input)
 
 -- How long a text is, if there is room for it; else a number past the room.
 pub record Measures (text : List ℕ) (room long : ℕ) : Type 0 where

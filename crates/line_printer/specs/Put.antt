@@ -18,7 +18,7 @@ halfText = 400
 
 -- No device line is longer.
 abbrev pub maxDevice : ℕ
-maxDevice = 40
+maxDevice = 25
 
 -- The buffer has the text from a place on, as far as it reaches; and the place behind the text.
 pub record Put (before after : List ℕ) (at end : ℕ) (text : List ℕ) : Type 0 where

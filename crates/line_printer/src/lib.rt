@@ -61,7 +61,8 @@ pub fn put_device(out: &mut [u8], at: usize, device: u8, up: bool, due: i16) -> 
     requires { ⌜ at + maxDevice < 2 ^ 64 ⌝ }
     ensures { λ r. ⌜ PutShort maxDevice (now (out .entry)) (now (out .exit)) at r (asLine (deviceTextOf device up due)) ⌝ }
 {
-    let named = text::put_one(out, at, b"device ", device as u64);
+    let word = text::put_word(out, at, b"device ");
+    let named = text::put_number(out, word, device as u64);
     if up {
         let told = text::put_word(out, named, b" up ");
         let end = text::put_setting(out, told, due);

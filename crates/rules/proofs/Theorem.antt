@@ -14,7 +14,7 @@ use Rattle.routine.specs.declared.Verdict.{Verdict}
 use Rattle.routine.specs.declared.Verdict.the-variants.{Accepted, Refused}
 use Rattle.routine.proofs.Laws.{both-accept, not-refused}
 use Rattle.rules.specs.Tables.{anyOf, Each}
-use Rattle.rules.specs.State.{highestPassLimit, State}
+use Rattle.rules.specs.State.{highestPassLimit, Member, State}
 use Rattle.rules.specs.Answers.{Call, submit, turn, report, failure, restart, cancel, Answer, refused, wait, Result}
 use Rattle.rules.specs.Due.{due}
 use Rattle.rules.specs.Settle.{settle, settling}
@@ -23,6 +23,7 @@ use Rattle.rules.specs.Open.{opened, openCheck, newHub, openIf, openOf}
 use Rattle.rules.specs.Submit.{place}
 use Rattle.rules.specs.Turn.{commitTurn, sendTurn, skipTurn}
 use Rattle.rules.specs.Report.{doneReport, skippedState, skipReport}
+use Rattle.rules.specs.Calls.{resultOf}
 use Rattle.rules.specs.History.{Account, noteAnswer, noteAnswers, workingAfter, workingOf}
 use Rattle.rules.specs.Order.{Event, Entry, routine, event, Order, orderAfter, orderAfterAll, beforeBar, entries, moveBar}
 use Rattle.rules.specs.Serial.{allUp, serialRun}
@@ -31,7 +32,7 @@ use Rattle.rules.specs.Demand3.{orderIn, NoneRuns, isBack, committedPart
 use Rattle.rules.specs.HubOrder.{entryOf, routinesIn, OrderIsHubs}
 use Rattle.rules.specs.Attach.{oneRestart, attach}
 use Rattle.rules.proofs.Lists.{byIf, t≠f, fold-++, anyOf-++}
-use Rattle.rules.proofs.Groups.{Group, members, flat, stillHeld, each-held}
+use Rattle.rules.proofs.Groups.{Group, members, alone, flat, stillHeld, each-held}
 use Rattle.rules.proofs.Invariant.{unmarked, HubOk, FliesUp, FirstRuns, OrderOk, Tells, backTo, Comes, has, goes-back, OneFlies, DeviceAt, dead, free, busy, DeviceOk, Honest}
 use Rattle.rules.proofs.View.{Gone, nobody, somebody, Moves, places, commits, sends, skips, dones, misses, aborts, fails, restarts, Seen, is-refused, waits, moves, see}
 use Rattle.rules.proofs.Fields.{Fixed, gone-fixed, attach-fixed, settle-fixed}
@@ -100,6 +101,19 @@ moves-same s l (aborts c a g b e r q) = (refl, refl)
 moves-same s l (fails d r lead k n u g) = (gone-accepted _ d l _ refl g, ap (λ (x : Fixed). x .devices) (gone-fixed _ d l g))
 moves-same s l (restarts d v r lead k n u g) =
     (gone-accepted s d l _ refl g, ap (λ (x : Fixed). x .devices) (attach-fixed (r .state .mark d) (oneRestart d v) (r .state) ∙ gone-fixed s d l g))
+
+members-alone : (l : List Member) → members (map alone l) ≡ l
+members-alone [] = refl
+members-alone (m ∷ l) = ap (λ k. m ∷ k) (members-alone l)
+
+-- whatever the state, a call keeps the number of devices
+pub devices-kept : (s : State) (c : Call) → resultOf s c .state .devices ≡ s .devices
+devices-kept s c = go (see s (map alone (s .sequence)) (sym (members-alone (s .sequence))) c)
+  where
+    go : {r : Result} → Seen s (map alone (s .sequence)) c r → r .state .devices ≡ s .devices
+    go (is-refused r) = refl
+    go (waits i j) = refl
+    go (moves {r = r} m) = ap (λ (q : Fixed). q .devices) (settle-fixed (r .state)) ∙ moves-same s (map alone (s .sequence)) m .1
 
 -- what holds after a call, and the settled part has only grown
 record Next (P : Type 0) (w t : World) : Type 0 where

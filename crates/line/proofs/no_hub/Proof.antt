@@ -1,3 +1,5 @@
+-- `line::no_hub` meets its contract. Assumes nothing.
+use Rattle.line.proofs.Laws.{hub-none}
 use borrow.Author.Needs.{needs}
 use Rattle.line.proofs.no_hub.Statement.{statement}
 use Rattle.line.proofs.no_hub.Tie as tie
@@ -11,7 +13,7 @@ closed-requires c κs = search needs
 
 -- src/lib.rt:26:1
 returns : tie.Need-returns
-returns c = ?
+returns c = (c .closed .ensures .0, hub-none _ (c .closed .ensures .1))
 
 pub no-hub-spec : {M : Type 1} → statement M
 no-hub-spec = tie.close (tie.spec closed-requires returns)

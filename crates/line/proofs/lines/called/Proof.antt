@@ -1,3 +1,5 @@
+-- `line::lines::called` meets its contract. Assumes nothing.
+use Rattle.line.proofs.Laws.{as-call}
 use borrow.Author.Needs.{needs}
 use Rattle.line.proofs.lines.called.Statement.{statement}
 use Rattle.line.proofs.lines.called.Tie as tie
@@ -60,27 +62,27 @@ restart-requires c κs = search needs
 
 -- src/lines.rt:35:1
 returns : tie.Need-returns
-returns c = ?
+returns c = as-call (c .before .enum-told .given .1) (c .submit .ensures)
 
 -- src/lines.rt:35:1
 returns-2 : tie.Need-returns-2
-returns-2 c = ?
+returns-2 c = as-call (c .before .before .call .given .1) (c .turn .ensures)
 
 -- src/lines.rt:35:1
 returns-3 : tie.Need-returns-3
-returns-3 c = ?
+returns-3 c = as-call (c .before .before .call2 .given .1) (c .report .ensures)
 
 -- src/lines.rt:35:1
 returns-4 : tie.Need-returns-4
-returns-4 c = ?
+returns-4 c = as-call (c .before .before .call3 .given .1) (c .cancel .ensures)
 
 -- src/lines.rt:35:1
 returns-5 : tie.Need-returns-5
-returns-5 c = ?
+returns-5 c = as-call (c .before .before .call4 .given .1) (c .fail .ensures)
 
 -- src/lines.rt:35:1
 returns-6 : tie.Need-returns-6
-returns-6 c = ?
+returns-6 c = as-call (c .before .before .call5 .given .1) (c .restart .ensures)
 
 pub called-spec : {M : Type 1} → statement M
 called-spec =

@@ -1,3 +1,9 @@
+-- `line::lines::heard` meets its contract. Assumes nothing.
+use mathlib.Core.Path.{refl, sym, ap, _∙_}
+use borrow.Author.Tests.{eq-eqb}
+use Rattle.line_reader.specs.declared.Line.{Line}
+use Rattle.line.specs.View.{heardOf}
+use Rattle.line.proofs.Laws.{heard-none, heard-some}
 use borrow.Author.Needs.{needs}
 use Rattle.line.proofs.lines.heard.Statement.{statement}
 use Rattle.line.proofs.lines.heard.Tie as tie
@@ -9,15 +15,15 @@ enum-told c = search needs
 
 -- src/lines.rt:27:13
 returns : tie.Need-returns
-returns c = ?
+returns c = heard-none _ _ (c .before .if1 .taken) (c .match .keys2)
 
 -- src/lines.rt:29:9
 returns-2 : tie.Need-returns-2
-returns-2 c = ?
+returns-2 c = sym (ap (λ (l : Line). heardOf l (c .before .before .before .args .devices)) (c .enum-told .given .1) ∙ rw (eq-eqb _ 0 (c .before .before .if1 .taken)) refl)
 
 -- src/lines.rt:22:1
 returns-3 : tie.Need-returns-3
-returns-3 c = ?
+returns-3 c = heard-some _ _ (c .if1 .left)
 
 pub heard-spec : {M : Type 1} → statement M
 heard-spec = tie.close (tie.spec enum-told returns returns-2 returns-3)

@@ -1,3 +1,6 @@
+-- `line::lines::keeps_hub` meets its contract. Assumes nothing.
+use mathlib.Core.Path.{sym}
+use Rattle.line.proofs.Laws.{changes}
 use borrow.Author.Needs.{needs}
 use Rattle.line.proofs.lines.keeps_hub.Statement.{statement}
 use Rattle.line.proofs.lines.keeps_hub.Tie as tie
@@ -12,7 +15,7 @@ enum-told-2 c = search needs
 
 -- src/lines.rt:55:13
 returns : tie.Need-returns
-returns c = ?
+returns c = sym (changes _ (c .before .match .keys2) (c .match2 .keys2))
 
 -- src/lines.rt:57:9
 returns-2 : tie.Need-returns-2

@@ -1,3 +1,10 @@
+-- `line::lines::put_device` meets its contract. Assumes nothing.
+use mathlib.Core.Path.{_≡_, _∙_}
+use mir.Syntax.{w16}
+use mir.Val.{toZ, ofZ}
+use Rattle.line_rules.specs.Printing.{asLine, deviceText}
+use Rattle.line_printer.specs.Put.{deviceTextOf}
+use Rattle.line_printer.proofs.Laws.{as-text}
 use borrow.Author.Needs.{needs}
 use Rattle.line.proofs.lines.put_device.Statement.{statement}
 use Rattle.line.proofs.lines.put_device.Tie as tie
@@ -25,7 +32,13 @@ same-length c = search needs
 
 -- src/lines.rt:63:1
 returns : tie.Need-returns
-returns c = ?
+unfolding deviceText
+returns c =
+    let p = c .before .before in
+    let d = p .before .before in
+    let s = d .before .before .before in
+    let held : toZ w16 (ofZ w16 (d .due-setting .result)) ≡ d .due-setting .result = search needs in
+    as-text (λ i. asLine (deviceTextOf (s .args .device) (d .before .is-up .ensures i) ((held ∙ d .due-setting .ensures) i))) (p .put-device .ensures)
 
 pub put-device-spec : {M : Type 1} → statement M
 put-device-spec =
