@@ -1,35 +1,18 @@
 // The line program from standard input to standard output: document 01, "The line program". It reads in pieces, so that an input may have any length; the lines go
 // through `line::run_part`, and the device lines are those of `line::finish`.
 mod pieces;
+mod streams;
 
 use hub::Hub;
-use libc::STDERR_FILENO;
-use libc::STDIN_FILENO;
 ghost use Prim.Native.Nat.{_+_, _≤_};
 ghost use lib.ListN.{length};
 ghost use Rattle.hub.specs.Valid.{Valid};
-
-extern "C" {
-    // C's `signal`, for a pipe that nobody reads any more: ignored, it makes a write fail instead of ending the process.
-    fn signal(number: i32, handler: usize) -> usize;
-}
-
-const SIGPIPE: i32 = 13;
-
-// C's SIG_IGN.
-const IGNORED: usize = 1;
 
 // How far the reading came: the hub, how many bytes are held of a line whose end has not come, and whether all went well.
 struct Read {
     hub: Hub,
     held: usize,
     good: bool,
-}
-
-fn say(message: &[u8]) {
-    io::write_all(STDERR_FILENO, b"plot_hub: ");
-    io::write_all(STDERR_FILENO, message);
-    io::write_all(STDERR_FILENO, b"\n");
 }
 
 // One piece behind the held bytes: its whole lines are run, and the rest is held.
@@ -57,26 +40,16 @@ fn read_all(input: &mut [u8], out: &mut [u8]) -> Read
     let mut held = 0usize;
     let mut turns = u64::MAX;
     while turns > 0 {
-        let answer = libc::read(STDIN_FILENO, &mut input[held..]);
-        if answer < 0 {
-            say(b"standard input cannot be read");
+        let got = streams::read_behind(input, held);
+        if got.count == 0 {
             return Read {
                 hub,
                 held,
-                good: false,
+                good: got.good,
             };
         }
-        if answer == 0 {
-            return Read {
-                hub,
-                held,
-                good: true,
-            };
-        }
-        let got = pieces::least(answer as usize, input.len() - held);
-        let read = take_piece(hub, held, got, input, out);
+        let read = take_piece(hub, held, got.count, input, out);
         if !read.good {
-            say(b"standard output cannot be written");
             return read;
         }
         hub = read.hub;
@@ -91,15 +64,13 @@ fn read_all(input: &mut [u8], out: &mut [u8]) -> Read
 }
 
 fn main() {
-    signal(SIGPIPE, IGNORED);
+    streams::ignore_broken_pipes();
     let mut input = io::large_buffer();
     let mut out = io::large_buffer();
     let read = read_all(&mut input, &mut out);
     if read.good {
         let hub = read.hub;
         let held = read.held;
-        if !pieces::finish(hub, &input[..held], &mut out) {
-            say(b"standard output cannot be written");
-        }
+        pieces::finish(hub, &input[..held], &mut out);
     }
 }

@@ -1,6 +1,6 @@
 // Pieces of the input: whole lines go through the line program, a group at a time, and what they print to standard output.
+use crate::streams;
 use hub::Hub;
-use libc::STDOUT_FILENO;
 use line_reader::MAX_LINE;
 ghost use Prim.Native.Nat.{_≤_, min};
 ghost use mathlib.Core.Path.{_≡_};
@@ -17,7 +17,7 @@ pub struct Ran {
     pub good: bool,
 }
 
-pub fn least(a: usize, b: usize) -> usize
+fn least(a: usize, b: usize) -> usize
     ensures { λ r. ⌜ r ≡ min a b ⌝ }
 {
     if a < b { a } else { b }
@@ -41,20 +41,19 @@ fn group_end(piece: &[u8], from: usize) -> usize
     at
 }
 
-// A group of lines: what they print is written.
-fn run_group(hub: Hub, group: &[u8], out: &mut [u8]) -> Ran
-    requires { ⌜ Valid hub ⌝ }
-    ensures { λ r. ⌜ Valid (r .hub) ⌝ }
+// The group of lines from one place to another: what they print is written.
+fn run_group(hub: Hub, piece: &[u8], from: usize, end: usize, out: &mut [u8]) -> Ran
+    requires { ⌜ (Valid hub) × (from ≤ end) × (end ≤ length (now piece)) ⌝ }
+    ensures { λ r. ⌜ (Valid (r .hub)) × (r .from ≡ end) ⌝ }
 {
-    let written = line::run_part(hub, group, out);
+    let written = line::run_part(hub, &piece[from..end], out);
     let next = written.hub;
     let result = written.result;
     let count = io::count(result as isize, out);
-    let good = io::write_all(STDOUT_FILENO, &out[..count]);
     Ran {
         hub: next,
-        from: 0,
-        good,
+        from: end,
+        good: streams::write_out(&out[..count]),
     }
 }
 
@@ -67,16 +66,12 @@ pub fn run_lines(hub: Hub, piece: &[u8], out: &mut [u8]) -> Ran
     let mut from = 0;
     let mut end = group_end(piece, 0);
     while from < end {
-        let ran = run_group(now, &piece[from..end], out);
+        let ran = run_group(now, piece, from, end, out);
+        if !ran.good {
+            return ran;
+        }
         now = ran.hub;
         from = end;
-        if !ran.good {
-            return Ran {
-                hub: now,
-                from,
-                good: false,
-            };
-        }
         end = group_end(piece, from);
     }
     Ran {
@@ -101,13 +96,15 @@ pub fn keep(input: &mut [u8], from: usize, filled: usize) -> usize
 }
 
 // The last line, if its end is missing, and the device lines.
-pub fn finish(hub: Hub, line: &[u8], out: &mut [u8]) -> bool
+pub fn finish(hub: Hub, line: &[u8], out: &mut [u8])
     requires { ⌜ Valid hub ⌝ }
 {
-    let last = run_group(hub, line, out);
+    let last = run_group(hub, line, 0, line.len(), out);
+    if !last.good {
+        return;
+    }
     let next = last.hub;
     let result = line::finish(next, out);
     let count = io::count(result as isize, out);
-    let good = io::write_all(STDOUT_FILENO, &out[..count]);
-    last.good && good
+    streams::write_out(&out[..count]);
 }
