@@ -58,7 +58,7 @@ pieces-one byte bs h = rw (pieces-reach byte bs, le-ltb (reach byte bs) (length 
 -- ---- lines
 
 -- no last line is taken away before there are others
-without-more : (l : List ℕ) (byte : ℕ) (bs : List ℕ) → withoutEmptyLast (l ∷ pieces byte bs) ≡ l ∷ withoutEmptyLast (pieces byte bs)
+pub without-more : (l : List ℕ) (byte : ℕ) (bs : List ℕ) → withoutEmptyLast (l ∷ pieces byte bs) ≡ l ∷ withoutEmptyLast (pieces byte bs)
 unfolding withoutEmptyLast
 without-more l byte bs =
     rw (pieces-reach byte bs)

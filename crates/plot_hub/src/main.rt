@@ -1,5 +1,5 @@
-// The line program from standard input to standard output: document 01, "The line program". It reads in pieces, so that an input may have any length; the lines go
-// through `line::run_part`, and the device lines are those of `line::finish`.
+// The line program from standard input to standard output: document 01, "The line program". It reads in pieces, so that an input may have any length;
+// the lines go through `line::run_part`, and the device lines are those of `line::finish`. crates/line_rules/specs/Claims.antt says why pieces do.
 mod pieces;
 mod streams;
 
