@@ -4,7 +4,7 @@ use mathlib.Core.Logic.{_≢_}
 use mathlib.Core.Bool.{Bool, true, false, _||_}
 use mathlib.Core.List.{List, [], _∷_, _++_, append-nil, append-assoc}
 use mathlib.Core.Option.{Option, none, some}
-use Prim.Native.Nat.{ℕ, suc, _+_, _-_, _≤_, _<_, _^_}
+use Prim.Native.Nat.{ℕ, _+_, _-_, _≤_, _<_, _^_}
 use native.Mathlib.Omega.{arith}
 use borrow.Author.Tests.{ltb-true, ltb-false, ne-eqb, eqb-false}
 use types.Run.{OneOf, miss}
@@ -22,7 +22,7 @@ use Rattle.routine.specs.declared.Verdict.the-variants.{Accepted, Refused}
 use Rattle.routine.proofs.Laws.{byTest, both-accept, not-refused, or-false, length-commandsOf, routineOf-commands, routineOf-count, with-more, check-long}
 use Rattle.rules.specs.State.{highestPassLimit, State}
 use Rattle.rules.specs.Answers.{Call as Told, submit, turn, report, failure, restart, cancel, Result, turnedDown}
-use Rattle.rules.specs.Open.{Opening, opened, not-opened, openCheck, newHub, openIf, openOf}
+use Rattle.rules.specs.Open.{opened, not-opened, openCheck, newHub, openIf, openOf}
 use Rattle.rules.specs.Submit.{submitOf}
 use Rattle.rules.specs.Calls.{resultOf}
 use Rattle.rules.proofs.Theorem.{devices-kept}
@@ -40,11 +40,12 @@ use Rattle.hub.specs.declared.Outcome.{Outcome}
 use Rattle.line_rules.specs.Text.{bytes}
 use Rattle.line_rules.specs.Reading.{Line as Said, opening, calling, unread}
 use Rattle.line_rules.specs.Printing.{asLine, refusalText, answersText}
-use Rattle.line_rules.specs.Program.{Printed, printsUnread, printsOpening, printsResult, printsCall, step}
+use Rattle.line_rules.specs.Program.{printsUnread, printsOpening, printsResult, printsCall, step}
 use Rattle.line_reader.specs.Held.{together, heldCall, heldRoutine, heldLine}
 use Rattle.line_reader.specs.declared.Call.{Call}
 use Rattle.line_reader.specs.declared.Line.{Line}
 use Rattle.line_reader.specs.declared.Line.the-variants.{Open, Calling, Unread}
+use Rattle.line_reader.specs.declared.LineRead.{LineRead}
 use Rattle.line_reader.proofs.Line.{the-type as line-type}
 use Rattle.line.specs.View.{hubIn, heardOf, callIn}
 
@@ -80,7 +81,8 @@ submit-together s cs =
     (λ e.
     let h = ltb-true maxCommands (length cs) e in
     let r = together noRoutine cs in
-    submit-long s (commandsOf r) (omega (arith, together-many noRoutine cs (omega (arith, routineOf-count [])), length-commandsOf r)) ∙ sym (submit-long s cs h))
+    submit-long s (commandsOf r) (omega (arith, together-many noRoutine cs (omega (arith, routineOf-count [])), length-commandsOf r))
+    ∙ sym (submit-long s cs h))
     (λ e.
     let h = ltb-false maxCommands (length cs) e in
     ap (λ (r : Routine). submitOf s (commandsOf r)) (together-held [] cs (omega arith)) ∙ ap (submitOf s) (routineOf-commands cs h))
@@ -134,7 +136,8 @@ unfolding step hubIn
 line-calling h (opening n k first) call e = let z : _≡_ {A = ℕ} 0 1 = cc in absurd (omega arith)
 line-calling h (calling c) call e =
     byTest
-    (λ (t : Bool). heardIf t c ≡ Calling call → (view h .devices ≢ 0) × (printsCall (hubIf t h) c ≡ printsResult (resultOf (view h) (callIn call (heldRoutine c)))))
+    (λ (t : Bool). heardIf t c ≡ Calling call →
+    (view h .devices ≢ 0) × (printsCall (hubIf t h) c ≡ printsResult (resultOf (view h) (callIn call (heldRoutine c)))))
     (eqb (view h .devices) 0)
     (λ _ f. let z : _≡_ {A = ℕ} 0 1 = cc in absurd (omega arith))
     (λ t f.
@@ -170,8 +173,9 @@ opened-some n k first s = go (openCheck n k first) refl
     go (Refused r) a e = let z : _≡_ {A = ℕ} 0 1 = cc in absurd (omega arith)
 
 -- which call it is
-pub as-call : {h : Hub} {o : Outcome} {r : Routine} {c d : Call} → c ≡ d → Gives h o (resultOf (view h) (callIn d r)) → Gives h o (resultOf (view h) (callIn c r))
-as-call {h} {o} {r} e g = subst (λ (x : Call). Gives h o (resultOf (view h) (callIn x r))) (sym e) g
+pub as-call : {h : Hub} {o : Outcome} (r : Routine) {c d : Call} → c ≡ d → Gives h o (resultOf (view h) (callIn d r)) →
+    Gives h o (resultOf (view h) (callIn c r))
+as-call {h} {o} r e g = subst (λ (x : Call). Gives h o (resultOf (view h) (callIn x r))) (sym e) g
 
 -- an answer that is neither a refusal nor a wait changes something
 pub changes : (a : Answer) → OneOf notRefused (tagOf the-type a) → OneOf notWait (tagOf the-type a) → changesNothing a ≡ false
@@ -204,7 +208,8 @@ module _ (h : Hub) (q : Said) (n k first : ℕ) (e : heardOf (heldLine q .line) 
       let there = hub-some (o .hub) (opened-some n k first (view (o .hub)) f) in
       record {
         valid = w .valid;
-        is = line-opening h q n k first e ∙ ap (printsOpening (hubIn h)) f ∙ ap (λ (s : Option State). record { hub = s; text = asLine (bytes "opened") }) (sym there);
+        is = line-opening h q n k first e ∙ ap (printsOpening (hubIn h)) f
+            ∙ ap (λ (s : Option State). record { hub = s; text = asLine (bytes "opened") }) (sym there);
       }
 
   pub does-not-open : Valid h → (r : Refusal) → o .verdict ≡ Refused r → Does h q h (asLine (refusalText r))
@@ -212,17 +217,20 @@ module _ (h : Hub) (q : Said) (n k first : ℕ) (e : heardOf (heldLine q .line) 
       let f : openOf n k first ≡ not-opened r = sym (w .gives) ∙ ap (λ (u : Verdict). openIf u (view (o .hub))) a in
       record { valid = v; is = line-opening h q n k first e ∙ ap (printsOpening (hubIn h)) f }
 
-module _ (h : Hub) (q : Said) (call : Call) (e : heardOf (heldLine q .line) (view h .devices) ≡ Calling call) (o : Outcome)
-    (g : Gives h o (resultOf (view h) (callIn call (heldLine q .routine)))) where
+module _ (h : Hub) (q : Said) (call : Call) (e : heardOf (heldLine q .line) (view h .devices) ≡ Calling call) (o : Outcome) {r : LineRead} (f : r ≡ heldLine q)
+    (g : Gives h o (resultOf (view h) (callIn call (r .routine)))) where
+  gives-it : Gives h o (resultOf (view h) (callIn call (heldLine q .routine)))
+  gives-it = subst (λ (x : LineRead). Gives h o (resultOf (view h) (callIn call (x .routine)))) f g
+
   pub does-call : Does h q (o .hub) (answersText (answersIn o))
   does-call =
       let l = line-calling h q call e in
-      let result = resultOf (view h) (callIn call (heldLine q .routine)) in
-      let same : view (o .hub) .devices ≡ view h .devices = ap (λ (r : Result). r .state .devices) (g .gives) ∙ devices-kept (view h) (callIn call (heldLine q .routine)) in
+      let same : view (o .hub) .devices ≡ view h .devices =
+      ap (λ (x : Result). x .state .devices) (gives-it .gives) ∙ devices-kept (view h) (callIn call (heldLine q .routine)) in
       let there = hub-some (o .hub) (subst (λ (d : ℕ). d ≢ 0) (sym same) (l .0)) in
       record {
         valid = g .valid;
-        is = l .1 ∙ ap printsResult (sym (g .gives)) ∙ ap (λ (s : Option State). record { hub = s; text = answersText (answersIn o) }) (sym there);
+        is = l .1 ∙ ap printsResult (sym (gives-it .gives)) ∙ ap (λ (s : Option State). record { hub = s; text = answersText (answersIn o) }) (sym there);
       }
 
   pub does-same : changesNothing (o .answer) ≡ true → Does h q h (answersText (answersIn o))

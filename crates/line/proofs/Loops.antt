@@ -1,18 +1,21 @@
 -- Lines in turn, the device lines, and what is left in the buffer. Assumes nothing.
 use mathlib.Core.Path.{_≡_, refl, sym, ap, ap₂, _∙_, subst}
 use mathlib.Core.Logic.{_≢_}
-use mathlib.Core.Bool.{Bool, true, false}
+use mathlib.Core.Bool.{Bool}
 use mathlib.Core.List.{List, [], _∷_, _++_, append-nil, append-assoc}
 use mathlib.Core.Option.{Option, none, some}
-use Prim.Native.Nat.{ℕ, zero, suc, _+_, _-_, _*_, _≤_, _<_}
+use Prim.Native.Nat.{ℕ, zero, suc, _+_, _-_, _*_, _≤_, _<_, _^_}
 use native.Mathlib.Nat.{add-zero, zero-add}
 use native.Mathlib.Numerals.{add-one}
 use native.Mathlib.Omega.{arith}
-use borrow.Author.Tests.{lt-ltb, le-ltb, eq-eqb, ne-eqb, eqb-true}
+use borrow.Author.Tests.{ltb-true, ltb-false, lt-ltb, le-ltb, eq-eqb, ne-eqb, eqb-true}
 use lib.Dec.{ltb, eqb}
-use lib.IntN.{ℤ, pos, negsuc}
-use lib.ListN.{length, take, drop, getD, length-append}
-use lib.Seq.{sets, sets-eq}
+use lib.IntN.{pos, negsuc}
+use mir.Syntax.{w64}
+use mir.Val.{toZ}
+use mir.Facts.{toZ-pos}
+use lib.ListN.{length, take, drop, getD, length-append, length-drop, drop-of-length-le}
+use lib.Seq.{sets, sets-eq, length-sets, drop-cons}
 use Rattle.routine.specs.Choice.{if_then_else_}
 use Rattle.routine.proofs.Laws.{byTest}
 use Rattle.rules.specs.State.{State}
@@ -22,14 +25,14 @@ use Rattle.hub.specs.Valid.{Valid}
 use Rattle.hub.specs.declared.Hub.{Hub}
 use Rattle.line_rules.specs.Text.{lineEnd}
 use Rattle.line_rules.specs.Pieces.{piecesFrom, pieces, reach, withoutEmptyLast, linesOf}
-use Rattle.line_rules.specs.Reading.{readLine}
+use Rattle.line_rules.specs.Reading.{Line as Said, readLine}
 use Rattle.line_rules.specs.Printing.{asLine, deviceText, deviceLines}
-use Rattle.line_rules.specs.Program.{Printed, step, before, steps, endText, runFrom, lengthOr21, bufferWith, hubWith}
-use Rattle.line_rules.proofs.Laws.{lines-first, lines-none}
-use Rattle.line_printer.specs.Put.{maxText, maxDevice, Put, PutShort}
+use Rattle.line_rules.specs.Program.{Printed, before, steps, endText, runFrom, lengthOr21, bufferWith, hubWith}
+use Rattle.line_rules.proofs.Laws.{reach-within, lines-first, lines-none}
+use Rattle.line_printer.specs.Put.{maxText, Put, PutShort}
 use Rattle.line_printer.proofs.Laws.{put-none, put-then}
 use Rattle.line.specs.View.{hubIn}
-use Rattle.line.specs.Contract.{Wrote, Finishes, RunsLines, Measures}
+use Rattle.line.specs.Contract.{maxEnd, Wrote, Finishes, RunsLines, Measures}
 use Rattle.line.specs.declared.running.Lines.{Lines}
 use Rattle.line.proofs.Laws.{Does}
 
@@ -58,33 +61,61 @@ ran-none h input buffer room v = record {
   short = omega arith;
 }
 
+-- the buffer is as long as it was
+pub ran-length : {h : Hub} {input buffer out : List ℕ} {room : ℕ} {now : Hub} {at from : ℕ} → Ran h input buffer out room now at from →
+    length out ≡ length buffer
+ran-length {buffer = buffer} r = ap length (r .put .is) ∙ length-sets buffer 0 (r .text)
+
+-- a line ends within the input
+pub end-within : (input : List ℕ) (from : ℕ) → from < length input → from + reach lineEnd (drop from input) ≤ length input
+end-within input from h = omega (arith, reach-within lineEnd (drop from input), length-drop from input)
+
+-- One line goes: what it prints is put, and it leaves this hub.
+pub record Goes (h : Hub) (q : Said) (out : List ℕ) (at : ℕ) (next : Hub) (out′ : List ℕ) (at′ : ℕ) : Type 0 where
+  pub text : List ℕ
+  pub does : Does h q next text
+  pub put : PutShort maxText out out′ at at′ text
+
+pub goes : {h : Hub} {q : Said} {out out′ out″ : List ℕ} {at at′ at″ : ℕ} {next next′ : Hub} {text : List ℕ} →
+    Does h q next text → PutShort maxText out out′ at at′ text → out″ ≡ out′ → next′ ≡ next → at″ ≡ at′ → Goes h q out at next′ out″ at″
+goes {h} {q} {out} {out′ = out′} {at = at} {at″ = at″} {text = text} d p a b c = record {
+  text = text;
+  does = subst (λ (x : Hub). Does h q x text) (sym b) d;
+  put = subst (λ (l : List ℕ). PutShort maxText out l at at″ text) (sym a) (subst (λ (n : ℕ). PutShort maxText out out′ at n text) (sym c) p);
+}
+
 -- one line more
-pub ran-more : {h : Hub} {input buffer out out′ : List ℕ} {room : ℕ} {now next : Hub} {at at′ from : ℕ} {text : List ℕ} → Ran h input buffer out room now at from →
-    from < length input → at ≤ room → Does now (readLine (take (reach lineEnd (drop from input)) (drop from input))) next text → PutShort maxText out out′ at at′ text →
-    Ran h input buffer out′ room next at′ (suc (from + reach lineEnd (drop from input)))
+pub ran-more : {h : Hub} {input buffer out out′ : List ℕ} {room : ℕ} {now next : Hub} {at at′ from : ℕ} (end : ℕ) →
+    Ran h input buffer out room now at from → from < length input → at ≤ room → end ≡ from + reach lineEnd (drop from input) →
+    Goes now (readLine (take (end - from) (drop from input))) out at next out′ at′ → Ran h input buffer out′ room next at′ (end + 1)
 unfolding steps
-ran-more {h} {input} {buffer} {out} {out′} {room} {now} {next} {at} {at′} {from} {text} r here fits d p =
-    let after = suc (from + reach lineEnd (drop from input)) in
-    let line = take (reach lineEnd (drop from input)) (drop from input) in
-    let first = lines-first input from here in
+ran-more {h} {input} {buffer} {out} {out′} {room} {now} {next} {at} {at′} {from} end r here fits ends g =
+    let line = take (end - from) (drop from input) in
+    let text = g .text in
+    let p = g .put in
+    let reached : reach lineEnd (drop from input) ≡ end - from = omega arith in
+    let after : suc (from + reach lineEnd (drop from input)) ≡ end + 1 = omega arith in
+    let first : linesOf (drop from input) ≡ line ∷ linesOf (drop (end + 1) input) =
+    lines-first input from here ∙ ap₂ (λ (n m : ℕ). take n (drop from input) ∷ linesOf (drop m input)) reached after in
+    let rest = steps (hubIn next) (linesOf (drop (end + 1) input)) in
     record {
-      valid = d .valid;
+      valid = g .does .valid;
       near = omega (arith, p .put .ends, p .short);
       text = r .text ++ text;
       put = put-then (r .put) (p .put);
       left =
           r .left
           ∙ ap (λ (l : List (List ℕ)). before (r .text) (steps (hubIn now) l)) first
-          ∙ ap (λ (q : Printed). before (r .text) (before (q .text) (steps (q .hub) (linesOf (drop after input))))) (d .is)
-          ∙ ap (λ (t : List ℕ). record { hub = steps (hubIn next) (linesOf (drop after input)) .hub; text = t })
-          (sym (append-assoc (r .text) text (steps (hubIn next) (linesOf (drop after input)) .text)));
+          ∙ ap (λ (q : Printed). before (r .text) (before (q .text) (steps (q .hub) (linesOf (drop (end + 1) input))))) (g .does .is)
+          ∙ ap (λ (t : List ℕ). record { hub = rest .hub; text = t }) (sym (append-assoc (r .text) text (rest .text)));
       done = suc (r .done);
       counted = let k = ap length first in omega (arith, r .counted);
       short = omega (arith, r .short, p .put .ends, p .short);
     }
 
 -- what is put is the beginning of the whole
-begins : {h : Hub} {input buffer out : List ℕ} {room : ℕ} {now : Hub} {at from : ℕ} → Ran h input buffer out room now at from → at ≤ length (steps (hubIn h) (linesOf input) .text)
+begins : {h : Hub} {input buffer out : List ℕ} {room : ℕ} {now : Hub} {at from : ℕ} → Ran h input buffer out room now at from →
+    at ≤ length (steps (hubIn h) (linesOf input) .text)
 begins {input = input} {now = now} {from = from} r =
     let rest = steps (hubIn now) (linesOf (drop from input)) .text in
     let e = ap (λ (p : Printed). length (p .text)) (r .left) in
@@ -102,18 +133,23 @@ ran-past {input = input} {from = from} r past = record {
 }
 
 -- all lines are done
-pub ran-all : {h : Hub} {input buffer out : List ℕ} {room : ℕ} {s : Lines} {from : ℕ} → Ran h input buffer out room (s .hub) (s .at) from → length input ≤ from →
-    RunsLines h input room buffer out s
+pub ran-all : {h : Hub} {input buffer out : List ℕ} {room : ℕ} {s : Lines} {from : ℕ} → Ran h input buffer out room (s .hub) (s .at) from →
+    length input ≤ from → RunsLines h input room buffer out s
 unfolding steps
 ran-all {h} {input} {buffer} {out} {room} {s} {from} r end =
     let none = lines-none input from end in
     let whole : steps (hubIn h) (linesOf input) ≡ record { hub = hubIn (s .hub); text = r .text } =
-    r .left ∙ ap (λ (l : List (List ℕ)). before (r .text) (steps (hubIn (s .hub)) l)) none ∙ ap (λ (t : List ℕ). record { hub = hubIn (s .hub); text = t }) (append-nil (r .text)) in
-    let long : s .at ≡ length (steps (hubIn h) (linesOf input) .text) = r .put .ends ∙ zero-add (length (r .text)) ∙ sym (ap (λ (p : Printed). length (p .text)) whole) in
+    r .left ∙ ap (λ (l : List (List ℕ)). before (r .text) (steps (hubIn (s .hub)) l)) none
+    ∙ ap (λ (t : List ℕ). record { hub = hubIn (s .hub); text = t }) (append-nil (r .text)) in
+    let long : s .at ≡ length (steps (hubIn h) (linesOf input) .text) =
+    r .put .ends ∙ zero-add (length (r .text)) ∙ sym (ap (λ (p : Printed). length (p .text)) whole) in
     record {
       valid = r .valid;
       near = r .near;
-      fits = λ _. (sym (ap (λ (p : Printed). p .hub) whole), subst (λ (t : List ℕ). Put buffer out 0 (s .at) t) (sym (ap (λ (p : Printed). p .text) whole)) (r .put));
+      fits = λ _. (
+        sym (ap (λ (p : Printed). p .hub) whole),
+        subst (λ (t : List ℕ). Put buffer out 0 (s .at) t) (sym (ap (λ (p : Printed). p .text) whole)) (r .put),
+      );
       past = λ k. omega (arith, long);
       ample = λ _. let k = ap length none in omega (arith, long, r .short, r .counted);
     }
@@ -126,21 +162,23 @@ unfolding pieces piecesFrom
 pieces-held byte held [] = refl
 pieces-held byte held (b ∷ bs) =
     byTest
-    (λ (t : Bool). length (if t then held ∷ piecesFrom byte [] bs else piecesFrom byte (held ++ (b ∷ [])) bs) ≡ length (if t then [] ∷ piecesFrom byte [] bs else piecesFrom byte ([] ++ (b ∷ [])) bs))
+    (λ (t : Bool). length (if t then held ∷ piecesFrom byte [] bs else piecesFrom byte (held ++ (b ∷ [])) bs)
+    ≡ length (if t then [] ∷ piecesFrom byte [] bs else piecesFrom byte ([] ++ (b ∷ [])) bs))
     (eqb b byte) (λ _. refl) (λ _. pieces-held byte (held ++ (b ∷ [])) bs ∙ sym (pieces-held byte ([] ++ (b ∷ [])) bs))
 
 -- a byte that parts makes one more
-pub count-end : (byte b : ℕ) (bs : List ℕ) → b ≡ byte → length (pieces byte (b ∷ bs)) ≡ suc (length (pieces byte bs))
+pub count-end : (byte : ℕ) (bs : List ℕ) (i : ℕ) → i < length bs → getD bs i 0 ≡ byte →
+    length (pieces byte (drop i bs)) ≡ suc (length (pieces byte (drop (i + 1) bs)))
 unfolding pieces piecesFrom
-count-end byte b bs e = rw (eq-eqb b byte e)
+count-end byte bs i h e = rw (drop-cons bs i 0 h, eq-eqb (getD bs i 0) byte e, add-one i)
 
-pub count-on : (byte b : ℕ) (bs : List ℕ) → b ≢ byte → length (pieces byte (b ∷ bs)) ≡ length (pieces byte bs)
+pub count-on : (byte : ℕ) (bs : List ℕ) (i : ℕ) → i < length bs → getD bs i 0 ≢ byte → length (pieces byte (drop i bs)) ≡ length (pieces byte (drop (i + 1) bs))
 unfolding pieces piecesFrom
-count-on byte b bs e = rw (ne-eqb b byte e) (pieces-held byte (b ∷ []) bs)
+count-on byte bs i h e = rw (drop-cons bs i 0 h, ne-eqb (getD bs i 0) byte e, add-one i) (pieces-held byte (getD bs i 0 ∷ []) (drop (suc i) bs))
 
-pub count-last : (byte : ℕ) → length (pieces byte []) ≡ 1
+pub count-last : (byte : ℕ) (bs : List ℕ) (i : ℕ) → length bs ≤ i → length (pieces byte (drop i bs)) ≡ 1
 unfolding pieces piecesFrom
-count-last byte = refl
+count-last byte bs i h = rw (drop-of-length-le bs h)
 
 without-shorter : (l : List (List ℕ)) → length (withoutEmptyLast l) ≤ length l
 unfolding withoutEmptyLast
@@ -186,7 +224,9 @@ buffer-short text buffer h = rw (lt-ltb (length buffer) (length text) h)
 
 buffer-fits : (text buffer : List ℕ) → length text ≤ length buffer → bufferWith text buffer ≡ sets buffer 0 text
 unfolding bufferWith
-buffer-fits text buffer h = rw (le-ltb (length buffer) (length text) h) (sym (sets-eq text buffer 0 (omega arith) ∙ ap (λ (k : ℕ). text ++ drop k buffer) (zero-add (length text))))
+buffer-fits text buffer h =
+    rw (le-ltb (length buffer) (length text) h)
+    (sym (sets-eq text buffer 0 (omega arith) ∙ ap (λ (k : ℕ). text ++ drop k buffer) (zero-add (length text))))
 
 length-short : (text : List ℕ) (room : ℕ) → room < length text → lengthOr21 text room ≡ negsuc 20
 unfolding lengthOr21
@@ -206,46 +246,106 @@ wrote-none p h buffer v short = record {
   kept = λ _. refl;
 }
 
-pub wrote-all : (p : Printed) (h next : Hub) (buffer buffer′ : List ℕ) (at : ℕ) → Valid next → hubIn next ≡ p .hub → length (p .text) ≤ length buffer → Put buffer buffer′ 0 at (p .text) →
-    Wrote p h next buffer buffer′ (pos at)
+-- the length as a signed number
+pub cast-fits : {text buffer buffer′ : List ℕ} {at : ℕ} → length buffer < 2 ^ 63 → length text ≤ length buffer → Put buffer buffer′ 0 at text → at < 2 ^ 63
+cast-fits small fits put = omega (arith, put .ends)
+
+answers-all : (text buffer buffer′ : List ℕ) (at : ℕ) → length buffer < 2 ^ 63 → length text ≤ length buffer → Put buffer buffer′ 0 at text →
+    toZ w64 at ≡ lengthOr21 text (length buffer)
+answers-all text buffer buffer′ at small fits put =
+    toZ-pos w64 (cast-fits small fits put) ∙ ap pos (put .ends ∙ zero-add (length text)) ∙ sym (length-fits text (length buffer) fits)
+
+pub wrote-all : (p : Printed) (h next : Hub) (buffer buffer′ : List ℕ) (at : ℕ) → length buffer < 2 ^ 63 → Valid next → hubIn next ≡ p .hub →
+    length (p .text) ≤ length buffer → Put buffer buffer′ 0 at (p .text) → Wrote p h next buffer buffer′ (toZ w64 at)
 unfolding hubWith
-wrote-all p h next buffer buffer′ at v e fits put = record {
+wrote-all p h next buffer buffer′ at small v e fits put = record {
   valid = v;
-  answers = ap pos (put .ends ∙ zero-add _) ∙ sym (length-fits (p .text) (length buffer) fits);
+  answers = answers-all (p .text) buffer buffer′ at small fits put;
   leaves = put .is ∙ sym (buffer-fits (p .text) buffer fits);
   hub = rw (le-ltb (length buffer) (length (p .text)) fits) e;
   kept = λ k. absurd (omega arith);
 }
 
 pub finishes-none : (h : Hub) (buffer : List ℕ) → length buffer < length (endText (hubIn h)) → Finishes h buffer buffer (negsuc 20)
-finishes-none h buffer short = record { answers = sym (length-short (endText (hubIn h)) (length buffer) short); leaves = sym (buffer-short (endText (hubIn h)) buffer short) }
+finishes-none h buffer short = record {
+  answers = sym (length-short (endText (hubIn h)) (length buffer) short);
+  leaves = sym (buffer-short (endText (hubIn h)) buffer short);
+}
 
-pub finishes-all : (h : Hub) (buffer buffer′ : List ℕ) (at : ℕ) → length (endText (hubIn h)) ≤ length buffer → Put buffer buffer′ 0 at (endText (hubIn h)) → Finishes h buffer buffer′ (pos at)
-finishes-all h buffer buffer′ at fits put = record {
-  answers = ap pos (put .ends ∙ zero-add _) ∙ sym (length-fits (endText (hubIn h)) (length buffer) fits);
+pub finishes-all : (h : Hub) (buffer buffer′ : List ℕ) (at : ℕ) → length buffer < 2 ^ 63 → length (endText (hubIn h)) ≤ length buffer →
+    Put buffer buffer′ 0 at (endText (hubIn h)) → Finishes h buffer buffer′ (toZ w64 at)
+finishes-all h buffer buffer′ at small fits put = record {
+  answers = answers-all (endText (hubIn h)) buffer buffer′ at small fits put;
   leaves = put .is ∙ sym (buffer-fits (endText (hubIn h)) buffer fits);
 }
 
+-- ---- texts measured
+
+pub measured-past : {text : List ℕ} {room long : ℕ} → Measures text room long → room < long → room < length text
+measured-past {text} {room} m h =
+    byTest (λ (_ : Bool). room < length text) (ltb room (length text))
+    (λ e. ltb-true room (length text) e)
+    (λ e. let k = ltb-false room (length text) e in absurd (omega (arith, m .fits k)))
+
+pub measured-fits : {text : List ℕ} {room long : ℕ} → Measures text room long → long ≤ room → length text ≤ room
+measured-fits {text} {room} m h =
+    byTest (λ (_ : Bool). length text ≤ room) (ltb room (length text))
+    (λ e. absurd (omega (arith, m .past (ltb-true room (length text) e))))
+    (λ e. ltb-false room (length text) e)
+
+-- the place behind the lines measures them
+pub lines-measured : {h : Hub} {input buffer buffer′ : List ℕ} {room : ℕ} {s : Lines} → RunsLines h input room buffer buffer′ s →
+    Measures (steps (hubIn h) (linesOf input) .text) room (s .at)
+lines-measured r = record { fits = λ k. r .fits k .1 .ends ∙ zero-add _; past = r .past }
+
+-- there is room for all lines
+pub lines-fit : {h : Hub} {input buffer buffer′ : List ℕ} {room : ℕ} {s : Lines} → RunsLines h input room buffer buffer′ s →
+    maxText * suc (length (linesOf input)) ≤ room → length (steps (hubIn h) (linesOf input) .text) ≤ room
+lines-fit r k = omega (arith, r .ample (omega arith))
+
 -- ---- the whole text: that of the lines, and then the device lines
 
--- the lines do not fit
-pub whole-past : (h : Hub) (input : List ℕ) (room : ℕ) (buffer buffer′ : List ℕ) (s : Lines) → RunsLines h input room buffer buffer′ s → room < s .at → Measures (runFrom (hubIn h) input .text) room (s .at)
-unfolding runFrom
-whole-past h input room buffer buffer′ s r past =
-    let lines = steps (hubIn h) (linesOf input) in
-    record {
-      fits = λ k. let e = r .fits (omega (arith, length-append (lines .text) (endText (lines .hub)))) .1 .ends in absurd (omega (arith, length-append (lines .text) (endText (lines .hub))));
-      past = λ _. past;
-    }
+module _ (h : Hub) (input : List ℕ) (room : ℕ) (buffer out : List ℕ) (s : Lines) (r : RunsLines h input room buffer out s) where
+  abbrev lines : Printed
+  lines = steps (hubIn h) (linesOf input)
 
--- they fit, and the device lines stand behind them
-pub record Whole (h : Hub) (input buffer buffer′ : List ℕ) (next : Hub) (end : ℕ) : Type 0 where
-  pub hub : hubIn next ≡ runFrom (hubIn h) input .hub
-  pub put : Put buffer buffer′ 0 end (runFrom (hubIn h) input .text)
+  whole-long : length (runFrom (hubIn h) input .text) ≡ length (lines .text) + length (endText (lines .hub))
+  unfolding runFrom
+  whole-long = length-append (lines .text) (endText (lines .hub))
 
-pub whole-put : (h : Hub) (input : List ℕ) (room : ℕ) (buffer out buffer′ : List ℕ) (s : Lines) (end : ℕ) → RunsLines h input room buffer out s → length (steps (hubIn h) (linesOf input) .text) ≤ room →
-    Put out buffer′ (s .at) end (endText (hubIn (s .hub))) → Whole h input buffer buffer′ (s .hub) end
-unfolding runFrom
-whole-put h input room buffer out buffer′ s end r fits p =
-    let f = r .fits fits in
-    record { hub = f .0; put = put-then (f .1) (subst (λ (o : Option State). Put out buffer′ (s .at) end (endText o)) (f .0) p) }
+  -- the lines alone go past the room
+  pub whole-past : room < s .at → Measures (runFrom (hubIn h) input .text) room (s .at)
+  whole-past past = record {
+    fits = λ k. let e = measured-past (lines-measured r) past in absurd (omega (arith, whole-long));
+    past = λ _. past;
+  }
+
+  module _ (buffer′ : List ℕ) (end : ℕ) (p : PutShort maxEnd out buffer′ (s .at) end (endText (hubIn (s .hub)))) where
+    -- they fit, and the device lines stand behind them
+    whole-put : length (lines .text) ≤ room → Put buffer buffer′ 0 end (runFrom (hubIn h) input .text)
+    unfolding runFrom
+    whole-put fits = let f = r .fits fits in put-then (f .1) (subst (λ (o : Option State). Put out buffer′ (s .at) end (endText o)) (f .0) (p .put))
+
+    pub whole-measured : s .at ≤ room → Measures (runFrom (hubIn h) input .text) room end
+    whole-measured here =
+        let e : end ≡ length (runFrom (hubIn h) input .text) = whole-put (measured-fits (lines-measured r) here) .ends ∙ zero-add _ in
+        record { fits = λ _. e; past = λ k. omega arith }
+
+    -- there is room for all lines and the device lines
+    pub whole-fits : maxText * suc (length (linesOf input)) ≤ room → length (runFrom (hubIn h) input .text) ≤ room
+    whole-fits k =
+        let f = r .fits (lines-fit r k) in
+        let e = ap (λ (o : Option State). length (endText o)) (f .0) in
+        omega (arith, r .ample (omega arith), p .short, whole-long)
+
+    module _ (same : length buffer ≡ room) (small : room < 2 ^ 63) (fits : length (runFrom (hubIn h) input .text) ≤ room) where
+      here : length (lines .text) ≤ room
+      here = omega (arith, whole-long)
+
+      pub whole-cast : end < 2 ^ 63
+      whole-cast = cast-fits (omega arith) (omega arith) (whole-put here)
+
+      -- what is written
+      pub whole-wrote : Wrote (runFrom (hubIn h) input) h (s .hub) buffer buffer′ (toZ w64 end)
+      unfolding runFrom
+      whole-wrote = wrote-all (runFrom (hubIn h) input) h (s .hub) buffer buffer′ end (omega arith) (r .valid) (r .fits here .0) (omega arith) (whole-put here)

@@ -7,21 +7,18 @@ use Rattle.line.proofs.Laws.{heard-none, heard-some}
 use borrow.Author.Needs.{needs}
 use Rattle.line.proofs.lines.heard.Statement.{statement}
 use Rattle.line.proofs.lines.heard.Tie as tie
-use Rattle.line.proofs.lines.heard.Reads as reads
-use Rattle.line.proofs.lines.heard.Lts as lts
 
 enum-told : tie.Need-enum-told
 enum-told c = search needs
 
--- src/lines.rt:27:13
 returns : tie.Need-returns
 returns c = heard-none _ _ (c .before .if1 .taken) (c .match .keys2)
 
--- src/lines.rt:29:9
 returns-2 : tie.Need-returns-2
-returns-2 c = sym (ap (λ (l : Line). heardOf l (c .before .before .before .args .devices)) (c .enum-told .given .1) ∙ rw (eq-eqb _ 0 (c .before .before .if1 .taken)) refl)
+returns-2 c =
+    let s = c .before .before .before in
+    sym (ap (λ (l : Line). heardOf l (s .args .devices)) (c .enum-told .given .1) ∙ rw (eq-eqb _ 0 (c .before .before .if1 .taken)) refl)
 
--- src/lines.rt:22:1
 returns-3 : tie.Need-returns-3
 returns-3 c = heard-some _ _ (c .if1 .left)
 

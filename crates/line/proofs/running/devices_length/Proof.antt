@@ -1,20 +1,18 @@
+-- `line::running::devices_length` meets its contract. Assumes nothing.
+use mathlib.Core.Path.{_∙_}
+use native.Mathlib.Nat.{zero-add}
+use borrow.Author.Needs.{needs}
 use Rattle.line.proofs.running.devices_length.Statement.{statement}
 use Rattle.line.proofs.running.devices_length.Tie as tie
-use Rattle.line.proofs.running.devices_length.Reads as reads
-use Rattle.line.proofs.running.devices_length.Lts as lts
-use Rattle.line.proofs.lines.put_devices.Reads as put-devices-reads
 
--- src/running.rt:100:29
 slice-aggregate-put-devices : tie.Need-slice-aggregate-put-devices
-slice-aggregate-put-devices c = ?
+slice-aggregate-put-devices c = search needs
 
--- src/running.rt:100:5
 put-devices-requires : tie.Need-put-devices-requires
-put-devices-requires c κs = ?
+put-devices-requires c κs = search needs
 
--- src/running.rt:95:1
 returns : tie.Need-returns
-returns c = ?
+returns c = c .before .put-devices .ensures .put .ends ∙ zero-add _
 
 pub devices-length-spec : {M : Type 1} → statement M
 devices-length-spec = tie.close (tie.spec slice-aggregate-put-devices put-devices-requires returns)

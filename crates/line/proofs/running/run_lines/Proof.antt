@@ -1,132 +1,163 @@
+-- `line::running::run_lines` meets its contract. The loop's invariant: the lines up to a place are done, and what is left gives the rest. Assumes nothing.
+use mathlib.Core.Path.{_≡_, sym, _∙_}
+use Prim.Native.Nat.{_+_, _-_, _≤_, _<_, _^_}
+use native.Mathlib.Omega.{arith}
+use borrow.Author.Needs.{needs}
+use borrow.Author.Tests.{not-false}
+use mathlib.Core.Logic.{⊎-elim}
+use lib.ListN.{length, take, drop}
+use Rattle.line_rules.specs.Reading.{Line as Said, readLine}
+use Rattle.line_reader.specs.Held.{heldLine}
+use Rattle.line_printer.specs.Put.{maxText}
+use Rattle.hub.specs.View.{view}
+use Rattle.line.specs.View.{heardOf}
+use Rattle.line.proofs.Laws.{does-unread, does-open, does-not-open, does-call, does-same}
+use Rattle.line.proofs.Loops.{Goes, goes, Ran, ran-none, ran-more, ran-length, ran-past, ran-all, end-within}
 use Rattle.line.proofs.running.run_lines.Statement.{statement}
 use Rattle.line.proofs.running.run_lines.Tie as tie
-use Rattle.line.proofs.running.run_lines.Reads as reads
-use Rattle.line.proofs.running.run_lines.Lts as lts
-use Rattle.hub.proofs.device_count.Reads as device-count-reads
-use Rattle.hub.proofs.open.Reads as open-reads
-use Rattle.line.proofs.lines.called.Reads as called-reads
-use Rattle.line.proofs.lines.heard.Reads as heard-reads
-use Rattle.line.proofs.lines.keeps_hub.Reads as keeps-hub-reads
-use Rattle.line_printer.proofs.put_answers.Reads as put-answers-reads
-use Rattle.line_printer.proofs.put_opened.Reads as put-opened-reads
-use Rattle.line_printer.proofs.put_refusal.Reads as put-refusal-reads
-use Rattle.line_printer.proofs.put_unread.Reads as put-unread-reads
-use Rattle.line_reader.proofs.line_end.Reads as line-end-reads
-use Rattle.line_reader.proofs.read_line.Reads as read-line-reads
 
 abbrev Inv-loop : tie.InvT-loop
-Inv-loop input out₀ room now₀ at₀ from₀ out now at from = ?
+Inv-loop input out₀ room now₀ at₀ from₀ out now at from = Ran now₀ input out₀ out room now at from
 
 abbrev μ-loop : tie.MeasureT-loop
-μ-loop input out₀ room now₀ at₀ from₀ out now at from = ?
+μ-loop input out₀ room now₀ at₀ from₀ out now at from = length input - from
 
--- src/running.rt:36:5
+-- the line ends within the input
+ends : (c : tie.After-line-end Inv-loop μ-loop) → c .line-end .result ≤ length (c .before .before .before .before .before .before .args .input .now)
+ends c =
+    let o = c .before .before .before in
+    omega (arith, c .line-end .ensures, end-within (o .before .before .before .args .input .now) (o .loop .from) (c .before .before .loop-test .taken))
+
+-- there is room for a line's text
+room-left : (c : tie.Else1 Inv-loop μ-loop) → c .before .before .loop .at + maxText < 2 ^ 64
+room-left c = omega (arith, c .before .before .before .before .before .pre, c .if1 .left)
+
+-- what the line says
+abbrev says : tie.After-line-end Inv-loop μ-loop → Said
+says l =
+    let o = l .before .before .before in
+    readLine (take (l .line-end .result - o .loop .from) (drop (o .loop .from) (o .before .before .before .args .input .now)))
+
+line-read : (c : tie.After-read-line Inv-loop μ-loop) → c .read-line .result ≡ heldLine (says (c .before .before))
+line-read c = c .read-line .ensures
+
+-- and what of it is heard
+line-heard : (c : tie.After-heard Inv-loop μ-loop) →
+    let l = c .before .before .before .before in heardOf (heldLine (says l) .line) (view (l .before .before .before .loop .now) .devices) ≡ c .heard .result
+line-heard c = sym (c .heard .ensures ∙ (λ i. heardOf (line-read (c .before .before) i .line) (c .before .device-count .ensures i)))
+
+-- each way that it can go
+line-goes : (c : tie.At-match-came Inv-loop μ-loop) →
+    let l = c .before .before .before .before .before in
+    let o = l .before .before .before in Goes (o .loop .now) (says l) (o .loop .out) (o .loop .at) (c .match .now) (c .match .out) (c .match .at)
+line-goes c =
+    let h = c .before in
+    let r = h .before .before in
+    let l = r .before .before in
+    let o = l .before .before .before in
+    let now = o .loop .now in
+    let valid = o .loop .inv .valid in
+    ⊎-elim
+    (λ w. goes (does-open now (says l) _ _ _ (line-heard h ∙ w .1 .given .1) (w .3 .result) (w .3 .ensures) (w .5 .given .1))
+    (w .7 .ensures) (w .11) (w .12) (w .13))
+    (⊎-elim
+    (λ w. goes (does-not-open now (says l) _ _ _ (line-heard h ∙ w .1 .given .1) (w .3 .result) (w .3 .ensures) valid _ (w .5 .given .1))
+    (w .8 .ensures) (w .11) (w .12) (w .13))
+    (⊎-elim
+    (λ w. goes (does-call now (says l) (w .1 .given .0 .0) (line-heard h ∙ w .1 .given .1) (w .4 .result) (line-read r) (w .4 .ensures))
+    (w .7 .ensures) (w .13) (w .14) (w .15))
+    (⊎-elim
+    (λ w. goes (does-same now (says l) (w .1 .given .0 .0) (line-heard h ∙ w .1 .given .1) (w .4 .result) (line-read r) (w .4 .ensures)
+    (sym (w .10 .ensures) ∙ not-false _ (w .11 .left)))
+    (w .7 .ensures) (w .12) (w .13) (w .14))
+    (λ w. goes (does-unread now (says l) valid (line-heard h ∙ w .1 .given .1)) (w .3 .ensures) (w .6) (w .7) (w .8)))))
+    (c .match .came)
+
 loop-holds : tie.Need-loop-holds Inv-loop μ-loop
-loop-holds c = ?
+loop-holds c = ran-none _ _ _ _ (c .before .before .pre .0)
 
--- src/running.rt:38:13
 same-length : tie.Need-same-length Inv-loop μ-loop
-same-length c = ?
+same-length c = ran-length (c .before .before .loop .inv)
 
--- src/running.rt:38:13
 returns : tie.Need-returns Inv-loop μ-loop
-returns c = ?
+returns c = ran-past (c .before .before .loop .inv) (c .if1 .taken)
 
--- src/running.rt:40:13
 line-end-requires : tie.Need-line-end-requires Inv-loop μ-loop
-line-end-requires c κs = ?
+line-end-requires c κs = search needs
 
--- src/running.rt:41:43
 sub-read-line : tie.Need-sub-read-line Inv-loop μ-loop
-sub-read-line c = ?
+sub-read-line c = omega (arith, c .line-end .ensures)
 
--- src/running.rt:41:43
 part-read-line-start : tie.Need-part-read-line-start Inv-loop μ-loop
-part-read-line-start c = ?
+part-read-line-start c = search needs
 
--- src/running.rt:41:43
 part-read-line-end : tie.Need-part-read-line-end Inv-loop μ-loop
-part-read-line-end c = ?
+part-read-line-end c = let h = ends c in search needs
 
--- src/running.rt:41:13
 read-line-requires : tie.Need-read-line-requires Inv-loop μ-loop
-read-line-requires c κs = ?
+read-line-requires c κs = search needs
 
--- src/running.rt:43:39
 device-count-requires : tie.Need-device-count-requires Inv-loop μ-loop
-device-count-requires c κs = ?
+device-count-requires c κs = search needs
 
--- src/running.rt:43:13
 heard-requires : tie.Need-heard-requires Inv-loop μ-loop
-heard-requires c κs = ?
+heard-requires c κs = search needs
 
--- src/running.rt:45:24
 enum-known-said : tie.Need-enum-known-said Inv-loop μ-loop
-enum-known-said c = ?
+enum-known-said c = search needs
 
--- src/running.rt:46:21
 open-requires : tie.Need-open-requires Inv-loop μ-loop
-open-requires c κs = ?
+open-requires c κs = search needs
 
--- src/running.rt:50:55
 enum-told : tie.Need-enum-told Inv-loop μ-loop
-enum-told c = ?
+enum-told c = search needs
 
--- src/running.rt:50:25
 put-opened-requires : tie.Need-put-opened-requires Inv-loop μ-loop
-put-opened-requires c κs = ?
+put-opened-requires c κs = room-left (c .before .before .before .before .before .before .before .before .before .before .before .before)
 
--- src/running.rt:53:38
 enum-known-verdict : tie.Need-enum-known-verdict Inv-loop μ-loop
-enum-known-verdict c = ?
+enum-known-verdict c = search needs
 
--- src/running.rt:54:25
 put-refusal-requires : tie.Need-put-refusal-requires Inv-loop μ-loop
-put-refusal-requires c κs = ?
+put-refusal-requires c κs = room-left (c .before .before .before .before .before .before .before .before .before .before .before .before .before)
 
--- src/running.rt:58:27
 enum-known-said-2 : tie.Need-enum-known-said-2 Inv-loop μ-loop
-enum-known-said-2 c = ?
+enum-known-said-2 c = search needs
 
--- src/running.rt:60:21
 called-requires : tie.Need-called-requires Inv-loop μ-loop
-called-requires c κs = ?
+called-requires c κs = c .before .before .before .before .before .before .before .before .before .before .before .loop .inv .valid
 
--- src/running.rt:64:17
 put-answers-requires : tie.Need-put-answers-requires Inv-loop μ-loop
-put-answers-requires c κs = ?
+put-answers-requires c κs =
+    let h = c .before .before .before .before .before .before .before in
+    (room-left (h .before .before .before .before .before), c .before .before .called .ensures .backs-fit)
 
--- src/running.rt:65:21
 keeps-hub-requires : tie.Need-keeps-hub-requires Inv-loop μ-loop
-keeps-hub-requires c κs = ?
+keeps-hub-requires c κs = search needs
 
--- src/running.rt:70:47
 enum-told-2 : tie.Need-enum-told-2 Inv-loop μ-loop
-enum-told-2 c = ?
+enum-told-2 c = search needs
 
--- src/running.rt:70:17
 put-unread-requires : tie.Need-put-unread-requires Inv-loop μ-loop
-put-unread-requires c κs = ?
+put-unread-requires c κs = room-left (c .before .before .before .before .before .before .before .before)
 
--- src/running.rt:73:16
 add-from : tie.Need-add-from Inv-loop μ-loop
-add-from c = ?
+add-from c = let h = ends (c .before .before .before .before .before) in search needs
 
--- src/running.rt:36:5
 loop-less : tie.Need-loop-less Inv-loop μ-loop
-loop-less c = ?
+loop-less c = let l = c .before .before .before .before .before in omega (arith, l .line-end .ensures, l .before .before .loop-test .taken)
 
--- src/running.rt:36:5
 loop-again : tie.Need-loop-again Inv-loop μ-loop
-loop-again c = ?
+loop-again c =
+    let l = c .before .before .before .before .before in
+    ran-more (l .line-end .result) (l .before .before .before .loop .inv) (l .before .before .loop-test .taken) (l .before .if1 .left)
+    (l .line-end .ensures) (line-goes c)
 
--- src/running.rt:29:1
 same-length-2 : tie.Need-same-length-2 Inv-loop μ-loop
-same-length-2 c = ?
+same-length-2 c = ran-length (c .before .loop .inv)
 
--- src/running.rt:29:1
 returns-2 : tie.Need-returns-2 Inv-loop μ-loop
-returns-2 c = ?
+returns-2 c = ran-all (c .before .loop .inv) (c .loop-test .left)
 
 pub run-lines-spec : {M : Type 1} → statement M
 run-lines-spec =

@@ -1,39 +1,57 @@
+-- `line::running::run_part` meets its contract. Assumes nothing.
+use mathlib.Core.Logic.{⊎-elim}
+use Prim.Native.Nat.{_≤_, _<_, _^_}
+use borrow.Author.Tests.{not-false}
+use lib.ListN.{length}
+use Rattle.line_rules.specs.Pieces.{linesOf}
+use Rattle.line_rules.specs.Program.{steps}
+use Rattle.line.specs.View.{hubIn}
+use Rattle.line.proofs.Loops.{measured-past, measured-fits, lines-fit, cast-fits, wrote-none, wrote-all}
 use borrow.Author.Needs.{needs}
 use Rattle.line.proofs.running.run_part.Statement.{statement}
 use Rattle.line.proofs.running.run_part.Tie as tie
-use Rattle.line.proofs.running.run_part.Reads as reads
-use Rattle.line.proofs.running.run_part.Lts as lts
-use Rattle.line.proofs.running.is_ample.Reads as is-ample-reads
-use Rattle.line.proofs.running.lines_length.Reads as lines-length-reads
-use Rattle.line.proofs.running.run_lines.Reads as run-lines-reads
 
--- src/running.rt:133:9
+small : (c : tie.After-slice-known) → length (c .before .before .args .out .now) < 2 ^ 63
+small c = search needs
+
+-- whether it was measured or not, the text fits
+fits : (c : tie.After-run-lines) →
+    let s = c .before .before .before .before .before .before in
+    length (steps (hubIn (s .args .hub)) (linesOf (s .args .input .now)) .text) ≤ length (s .args .out .now)
+fits c =
+    let a = c .before .before .before in
+    ⊎-elim
+    (λ w. measured-fits (w .1 .ensures) (w .2 .left))
+    (λ w. lines-fit (c .run-lines .ensures) (a .is-ample .ensures (not-false _ (w .left))))
+    (c .before .before .if1 .came)
+
 is-ample-requires : tie.Need-is-ample-requires
 is-ample-requires c κs = search needs
 
--- src/running.rt:134:13
 lines-length-requires : tie.Need-lines-length-requires
 lines-length-requires c κs = search needs
 
--- src/running.rt:136:13
 returns : tie.Need-returns
-returns c = ?
+returns c = wrote-none _ _ _ (c .before .before .before .before .before .before .pre) (measured-past (c .before .lines-length .ensures) (c .if2 .taken))
 
--- src/running.rt:142:9
 run-lines-requires : tie.Need-run-lines-requires
 run-lines-requires c κs = search needs
 
--- src/running.rt:146:17
 cast-t13 : tie.Need-cast-t13
-cast-t13 c = ?
+cast-t13 c =
+    let l = c .before .before .before .before in
+    let h = cast-fits (small (l .before .before .before .before)) (fits l) (l .run-lines .ensures .fits (fits l) .1) in
+    search needs
 
--- src/running.rt:128:1
 same-length : tie.Need-same-length
 same-length c = search needs
 
--- src/running.rt:128:1
 returns-2 : tie.Need-returns-2
-returns-2 c = ?
+returns-2 c =
+    let l = c .before .before .before .before in
+    let r = l .run-lines .ensures in
+    let f = r .fits (fits l) in
+    wrote-all _ _ _ _ _ _ (small (l .before .before .before .before)) (r .valid) (f .0) (fits l) (f .1)
 
 pub run-part-spec : {M : Type 1} → statement M
 run-part-spec =

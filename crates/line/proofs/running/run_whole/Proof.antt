@@ -1,44 +1,68 @@
+-- `line::running::run_whole` meets its contract. Assumes nothing.
+use mathlib.Core.Path.{refl}
+use mathlib.Core.Logic.{⊎-elim}
+use Prim.Native.Nat.{_≤_, _<_, _^_}
+use native.Mathlib.Omega.{arith}
+use borrow.Author.Tests.{not-false}
+use lib.ListN.{length}
+use Rattle.line_rules.specs.Program.{runFrom}
+use Rattle.line.specs.View.{hubIn}
+use Rattle.line.proofs.Loops.{measured-past, measured-fits, wrote-none, whole-fits, whole-cast, whole-wrote}
 use borrow.Author.Needs.{needs}
 use Rattle.line.proofs.running.run_whole.Statement.{statement}
 use Rattle.line.proofs.running.run_whole.Tie as tie
-use Rattle.line.proofs.running.run_whole.Reads as reads
-use Rattle.line.proofs.running.run_whole.Lts as lts
-use Rattle.line.proofs.lines.put_devices.Reads as put-devices-reads
-use Rattle.line.proofs.running.is_ample.Reads as is-ample-reads
-use Rattle.line.proofs.running.run_lines.Reads as run-lines-reads
-use Rattle.line.proofs.running.whole_length.Reads as whole-length-reads
 
--- src/running.rt:156:9
+small : (c : tie.After-slice-known) → length (c .before .before .args .out .now) < 2 ^ 63
+small c = search needs
+
+-- whether it was measured or not, the text fits
+fits : (c : tie.After-put-devices) →
+    let s = c .before .before .before .before .before .before .before .before .before .before .before in
+    length (runFrom (hubIn (s .args .hub)) (s .args .input .now) .text) ≤ length (s .args .out .now)
+fits c =
+    let l = c .before .before .before .before .before in
+    ⊎-elim
+    (λ w. measured-fits (w .1 .ensures) (w .2 .left))
+    (λ w. whole-fits _ _ _ _ _ _ (l .run-lines .ensures) _ _ (c .put-devices .ensures) (l .before .before .before .is-ample .ensures (not-false _ (w .left))))
+    (l .before .before .if1 .came)
+
+fits-cast : (c : tie.After-put-devices) → c .put-devices .result < 2 ^ 63
+fits-cast c =
+    let l = c .before .before .before .before .before in
+    whole-cast _ _ _ _ _ _ (l .run-lines .ensures) _ _ (c .put-devices .ensures) refl (small (l .before .before .before .before)) (fits c)
+
 is-ample-requires : tie.Need-is-ample-requires
 is-ample-requires c κs = search needs
 
--- src/running.rt:157:13
 whole-length-requires : tie.Need-whole-length-requires
 whole-length-requires c κs = search needs
 
--- src/running.rt:159:13
 returns : tie.Need-returns
-returns c = ?
+returns c = wrote-none _ _ _ (c .before .before .before .before .before .before .pre) (measured-past (c .before .whole-length .ensures) (c .if2 .taken))
 
--- src/running.rt:165:9
 run-lines-requires : tie.Need-run-lines-requires
 run-lines-requires c κs = search needs
 
--- src/running.rt:167:9
 put-devices-requires : tie.Need-put-devices-requires
-put-devices-requires c κs = search needs
+put-devices-requires c κs =
+    let l = c .before .before .before .before in
+    (l .run-lines .ensures .valid, omega (arith, l .run-lines .ensures .near, small (l .before .before .before .before)))
 
--- src/running.rt:170:17
 cast-t16 : tie.Need-cast-t16
-cast-t16 c = ?
+cast-t16 c =
+    let d = c .before .before in
+    let h = fits-cast d in
+    search needs
 
--- src/running.rt:151:1
 same-length : tie.Need-same-length
 same-length c = search needs
 
--- src/running.rt:151:1
 returns-2 : tie.Need-returns-2
-returns-2 c = ?
+returns-2 c =
+    let d = c .before .before in
+    let l = d .before .before .before .before .before in
+    let o = l .before .before .before .before in
+    whole-wrote _ _ _ _ _ _ (l .run-lines .ensures) _ _ (d .put-devices .ensures) refl (small o) (fits d)
 
 pub run-whole-spec : {M : Type 1} → statement M
 run-whole-spec =
