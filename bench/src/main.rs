@@ -32,6 +32,10 @@ fn main() {
     let lines = input.iter().filter(|byte| **byte == 10).count();
     let room = if who == "tight" { reference::run(&input).len() } else { 800 * (lines + 4) };
     let mut out = vec![0; room];
+    if who != "reference" {
+        let result = product(&input, &mut out);
+        assert!(out[..usize::try_from(result).expect("room")] == reference::run(&input), "another text than the reference's");
+    }
     let mut fastest = u128::MAX;
     for _ in 0..rounds {
         let start = Instant::now();

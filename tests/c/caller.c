@@ -3,7 +3,7 @@
  * Standard input is a row of records: a letter, a length (4 bytes, low byte first), that many bytes of input for the line
  * program. For each the program writes a record to standard output: a length, and what plot_hub_run printed. The letters:
  *
- *   p   the input is run with buffers of exactly the right length
+ *   p   the input is run with buffers of exactly the right length, in one of LONG_BUFFERS records with long ones, too
  *   e   and with every buffer length from 0 to three more than needed
  *   t   and, at the same time as the inputs of the records before it, from several threads
  *
@@ -26,7 +26,7 @@
 #include <sys/mman.h>
 #include <unistd.h>
 
-enum { THREADS = 4, ROUNDS = 10, MORE = 3, BESIDE = 256 };
+enum { THREADS = 4, ROUNDS = 10, MORE = 3, BESIDE = 256, LONG_BUFFERS = 8 };
 static const size_t STACK = 128 * 1024;
 
 static unsigned long record_number;
@@ -206,6 +206,25 @@ static void on_heap(struct text input, struct text expected, size_t length, size
     free(out);
 }
 
+/* A buffer of this length is enough for any output of so many lines, and the input is then run once; with one byte less it is
+ * run twice, first to measure. */
+static size_t always_enough(struct text input)
+{
+    size_t ends = 0;
+    for (size_t i = 0; i < input.length; i++)
+        ends += input.bytes[i] == 10;
+    return 800 * (ends + 2);
+}
+
+/* Both ways of running, on long buffers. */
+static void both_ways(struct text input, struct text expected, size_t salt)
+{
+    size_t length = always_enough(input);
+    guarded(input, expected, length, AT_END, salt);
+    guarded(input, expected, length - 1, AT_START, salt + 1);
+    on_heap(input, expected, length, salt + 2);
+}
+
 /* What is printed, found with longer and longer buffers. Each too short one must be left as it was. */
 static struct text first_run(struct text input)
 {
@@ -251,7 +270,7 @@ static void *one_thread(void *argument)
     const struct run *run = argument;
     pthread_barrier_wait(&together);
     for (size_t round = 0; round < ROUNDS; round++)
-        on_heap(run->input, run->output, run->output.length, round);
+        on_heap(run->input, run->output, round % 2 == 0 ? run->output.length : always_enough(run->input), round);
     return NULL;
 }
 
@@ -306,6 +325,8 @@ static void *records(void *nothing)
         on_heap(input, output, output.length, record_number);
         if (output.length > 0)
             guarded(input, output, output.length - 1, AT_END, record_number + 2);
+        if (record_number % LONG_BUFFERS == 0 || letter != 'p')
+            both_ways(input, output, record_number + 3);
         if (letter == 'e') {
             for (size_t n = 0; n <= output.length + MORE; n++) {
                 guarded(input, output, n, AT_END, n);

@@ -64,7 +64,6 @@ fn read_all(input: &mut [u8], out: &mut [u8]) -> Read
 }
 
 fn main() {
-    streams::ignore_broken_pipes();
     let mut input = io::large_buffer();
     let mut out = io::large_buffer();
     let read = read_all(&mut input, &mut out);

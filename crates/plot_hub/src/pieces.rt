@@ -48,12 +48,10 @@ fn run_group(hub: Hub, piece: &[u8], from: usize, end: usize, out: &mut [u8]) ->
 {
     let written = line::run_part(hub, &piece[from..end], out);
     let next = written.hub;
-    let result = written.result;
-    let count = io::count(result as isize, out);
     Ran {
         hub: next,
         from: end,
-        good: streams::write_out(&out[..count]),
+        good: streams::write_out(out, written.result),
     }
 }
 
@@ -105,6 +103,5 @@ pub fn finish(hub: Hub, line: &[u8], out: &mut [u8])
     }
     let next = last.hub;
     let result = line::finish(next, out);
-    let count = io::count(result as isize, out);
-    streams::write_out(&out[..count]);
+    streams::write_out(out, result);
 }

@@ -5,20 +5,6 @@ use libc::STDOUT_FILENO;
 ghost use Prim.Native.Nat.{_+_, _≤_};
 ghost use lib.ListN.{length};
 
-extern "C" {
-    // C's `signal`, for a pipe that nobody reads any more: ignored, it makes a write fail instead of ending the process.
-    fn signal(number: i32, handler: usize) -> usize;
-}
-
-const SIGPIPE: i32 = 13;
-
-// C's SIG_IGN.
-const IGNORED: usize = 1;
-
-pub fn ignore_broken_pipes() {
-    signal(SIGPIPE, IGNORED);
-}
-
 fn say(message: &[u8]) {
     io::write_all(STDERR_FILENO, b"plot_hub: ");
     io::write_all(STDERR_FILENO, message);
@@ -47,9 +33,14 @@ pub fn read_behind(input: &mut [u8], held: usize) -> Got
     }
 }
 
-// Whether all of the text could be written.
-pub fn write_out(text: &[u8]) -> bool {
-    let good = io::write_all(STDOUT_FILENO, text);
+// Writes the text whose length the line program answered; whether all of it could be written.
+pub fn write_out(out: &[u8], result: i64) -> bool {
+    if result < 0 {
+        say(b"a text is longer than the buffer");
+        return false;
+    }
+    let count = io::count(result as isize, out);
+    let good = io::write_all(STDOUT_FILENO, &out[..count]);
     if !good {
         say(b"standard output cannot be written");
     }

@@ -5,9 +5,6 @@ use lib.ListN.{length-take}
 use Rattle.plot_hub.proofs.main.Statement.{statement}
 use Rattle.plot_hub.proofs.main.Tie as tie
 
-ignore-broken-pipes-requires : tie.Need-ignore-broken-pipes-requires
-ignore-broken-pipes-requires c κs = search needs
-
 large-buffer-requires : tie.Need-large-buffer-requires
 large-buffer-requires c κs = search needs
 
@@ -45,7 +42,6 @@ pub main-spec : {M : Type 1} → statement M
 main-spec =
     tie.close
     (tie.spec
-    ignore-broken-pipes-requires
     large-buffer-requires
     large-buffer-requires-2
     slice-aggregate-read-all
