@@ -15,14 +15,14 @@ use Rattle.sequence.specs.View.{membersOf}
 use Rattle.sequence.specs.Tests.{firstCommitted}
 use Rattle.state.specs.View.{stateOf, backsOf, answersOf, answersIn as stepAnswers, resultIn as stepResult, backsIn}
 use Rattle.state.specs.Valid.{StateOk, BacksOk}
-use Rattle.state.specs.Contract.{changesNothing, settleFor, afterSettling, StepGives}
+use Rattle.state.specs.Contract.{changesNothing, afterSettling, StepGives}
 use Rattle.state.specs.declared.HubState.{HubState}
 use Rattle.state.specs.declared.Answer.{Answer}
 use Rattle.state.specs.declared.Answer.the-variants.{Refused, Placed, Wait, Sent, Done, Skipped, Committed, Aborted, Down, Up}
 use Rattle.state.specs.declared.StepOutcome.{StepOutcome}
 use Rattle.state.proofs.Answer.{the-type}
 use Rattle.hub.specs.View.{answersIn}
-use Rattle.hub.specs.Contract.{Gives, SettledStep}
+use Rattle.hub.specs.Contract.{Gives, settlesAfter, SettledStep}
 use Rattle.hub.specs.declared.Hub.{Hub}
 use Rattle.hub.specs.declared.Outcome.{Outcome}
 
@@ -53,30 +53,44 @@ notRefused = 1 ∷ 2 ∷ 3 ∷ 4 ∷ 5 ∷ 6 ∷ 7 ∷ 8 ∷ 9 ∷ []
 abbrev pub notWait : List ℕ
 notWait = 0 ∷ 1 ∷ 3 ∷ 4 ∷ 5 ∷ 6 ∷ 7 ∷ 8 ∷ 9 ∷ []
 
--- after any other answer the hub settles
-pub settles : (a : Answer) → OneOf notRefused (tagOf the-type a) → OneOf notWait (tagOf the-type a) → (changesNothing a ≡ false) × ((r : Result) → settleFor a r ≡ settling r)
-settles (Refused x) h k = absurd (miss notRefused 0 tt h)
-settles (Placed x) h k = (refl, λ r. refl)
-settles (Wait i j) h k = absurd (miss notWait 2 tt k)
-settles (Sent x) h k = (refl, λ r. refl)
-settles (Done i) h k = (refl, λ r. refl)
-settles (Skipped i) h k = (refl, λ r. refl)
-settles (Committed i) h k = (refl, λ r. refl)
-settles (Aborted i) h k = (refl, λ r. refl)
-settles (Down d i) h k = (refl, λ r. refl)
-settles (Up d i) h k = (refl, λ r. refl)
+-- any other answer tells of a change
+pub changes : (a : Answer) → OneOf notRefused (tagOf the-type a) → OneOf notWait (tagOf the-type a) → changesNothing a ≡ false
+changes (Refused x) h k = absurd (miss notRefused 0 tt h)
+changes (Placed x) h k = refl
+changes (Wait i j) h k = absurd (miss notWait 2 tt k)
+changes (Sent x) h k = refl
+changes (Done i) h k = refl
+changes (Skipped i) h k = refl
+changes (Committed i) h k = refl
+changes (Aborted i) h k = refl
+changes (Down d i) h k = refl
+changes (Up d i) h k = refl
 
--- a step with such an answer has settled
-pub step-settles : (s : HubState) (step : StepOutcome) (o : Outcome) → OneOf notRefused (tagOf the-type (step .answer)) → OneOf notWait (tagOf the-type (step .answer)) →
-    StateOk s → stateOf s ≡ settle (stateOf (step .state)) → Wraps s step o → SettledStep step o
-step-settles s step o h k v e w =
-    let f = settles (step .answer) h k in
-    wraps-settled s step o w v ((λ i. record { state = e i; answers = stepAnswers step }) ∙ sym (f .1 (stepResult step))) (λ t. t≠f (sym t ∙ f .0))
+-- after a refusal or a wait nothing settles
+pub none-after : (step : StepOutcome) (a : Answer) → step .answer ≡ a → changesNothing a ≡ true → settlesAfter step ≡ false
+none-after step a e f = ap (λ (t : Bool). if t then false else firstCommitted (membersOf (step .state .sequence))) (ap changesNothing e ∙ f)
 
--- after a refusal or a wait it stands
-pub step-stands : (step : StepOutcome) (o : Outcome) (a : Answer) → step .answer ≡ a → ((r : Result) → settleFor a r ≡ r) → StateOk (step .state) → Wraps (step .state) step o →
-    SettledStep step o
-step-stands step o a e f v w = wraps-settled (step .state) step o w v (sym (ap (λ (b : Answer). settleFor b (stepResult step)) e ∙ f (stepResult step))) (λ t. refl)
+-- after a change, it is the first in the sequence that decides
+first-decides : (step : StepOutcome) → changesNothing (step .answer) ≡ false → settlesAfter step ≡ firstCommitted (membersOf (step .state .sequence))
+first-decides step e = ap (λ (t : Bool). if t then false else firstCommitted (membersOf (step .state .sequence))) e
+
+pub due-after : (step : StepOutcome) → OneOf notRefused (tagOf the-type (step .answer)) → OneOf notWait (tagOf the-type (step .answer)) →
+    settlesAfter step ≡ firstCommitted (membersOf (step .state .sequence))
+due-after step h k = first-decides step (changes (step .answer) h k)
+
+-- what settles has changed
+changed : (t u : Bool) → (if t then false else u) ≡ true → t ≡ false
+changed true u e = t≠f (sym e)
+changed false u e = refl
+
+-- a step after which the hub settles has settled
+pub step-settles : (s : HubState) (step : StepOutcome) (o : Outcome) → settlesAfter step ≡ true → StateOk s → stateOf s ≡ settle (stateOf (step .state)) →
+    Wraps s step o → SettledStep step o
+step-settles s step o d v e w =
+    let f : changesNothing (step .answer) ≡ false = changed (changesNothing (step .answer)) (firstCommitted (membersOf (step .state .sequence))) d in
+    wraps-settled s step o w v
+    ((λ i. record { state = e i; answers = stepAnswers step }) ∙ sym (ap (λ (t : Bool). if t then stepResult step else settling (stepResult step)) f))
+    (λ t. t≠f (sym t ∙ f))
 
 -- where the first is running, settling changes nothing
 settle-from-none : (s : State) (l : List Member) → s .sequence ≡ l → firstCommitted l ≡ false → settleFrom s l ≡ s
@@ -87,11 +101,12 @@ settle-none : (h : HubState) → firstCommitted (membersOf (h .sequence)) ≡ fa
 unfolding settle stateOf
 settle-none h e = settle-from-none (stateOf h) (membersOf (h .sequence)) refl e
 
--- and a step has settled as it stands
-pub step-unsettled : (step : StepOutcome) (o : Outcome) → StateOk (step .state) → firstCommitted (membersOf (step .state .sequence)) ≡ false → Wraps (step .state) step o → SettledStep step o
-step-unsettled step o v e w =
+-- any other step has settled as it stands
+pub step-stands : (step : StepOutcome) (o : Outcome) → StateOk (step .state) → settlesAfter step ≡ false → Wraps (step .state) step o → SettledStep step o
+step-stands step o v d w =
     wraps-settled (step .state) step o w v
-    (byIf (λ r. stepResult step ≡ r) (changesNothing (step .answer)) (λ _. refl) (λ _. λ i. record { state = sym (settle-none (step .state) e) i; answers = stepAnswers step }))
+    (byIf (λ r. stepResult step ≡ r) (changesNothing (step .answer)) (λ _. refl)
+    (λ f. λ i. record { state = sym (settle-none (step .state) (sym (first-decides step f) ∙ d)) i; answers = stepAnswers step }))
     (λ t. refl)
 
 -- a step that has settled gives what the call's contract says

@@ -1,8 +1,9 @@
 -- The contracts of the public calls. Assumes nothing.
 use mathlib.Core.Path.{_≡_}
-use mathlib.Core.Bool.{true}
+use mathlib.Core.Bool.{Bool, true, false}
 use Prim.Native.Nat.{ℕ}
 use lib.IntN.{ℤ}
+use Rattle.routine.specs.Choice.{if_then_else_}
 use Rattle.routine.specs.Routine.{commandsOf}
 use Rattle.routine.specs.declared.Refusal.{Refusal}
 use Rattle.routine.specs.declared.Routine.{Routine}
@@ -14,6 +15,8 @@ use Rattle.rules.specs.Turn.{turnOf}
 use Rattle.rules.specs.Report.{reportOf}
 use Rattle.rules.specs.Events.{failureOf, restartOf}
 use Rattle.rules.specs.Cancel.{cancelOf}
+use Rattle.sequence.specs.View.{membersOf}
+use Rattle.sequence.specs.Tests.{firstCommitted}
 use Rattle.state.specs.View.{backsOf, backsIn}
 use Rattle.state.specs.Valid.{BacksOk}
 use Rattle.state.specs.Contract.{changesNothing, afterSettling}
@@ -56,6 +59,11 @@ Failed h device o = Gives h o (failureOf (view h) device)
 
 abbrev pub Restarted : Hub → ℕ → ℤ → Outcome → Type 0
 Restarted h device setting o = Gives h o (restartOf (view h) device setting)
+
+-- Does a routine settle after this step? Document 01, "Settling": "After each call, while the first in the sequence is committed"; but a refusal and a wait
+-- change nothing.
+abbrev pub settlesAfter : StepOutcome → Bool
+settlesAfter step = if changesNothing (step .answer) then false else firstCommitted (membersOf (step .state .sequence))
 
 -- The outcome of a step, once it has settled: the answers are the step's own.
 pub record SettledStep (step : StepOutcome) (o : Outcome) : Type 0 where

@@ -6,11 +6,9 @@ use state::HubState;
 use state::StepOutcome;
 use state::settle;
 ghost use mathlib.Core.Path.{_≡_};
-ghost use mathlib.Core.Bool.{false};
-ghost use Rattle.sequence.specs.View.{membersOf};
-ghost use Rattle.sequence.specs.Tests.{firstCommitted};
+ghost use mathlib.Core.Bool.{true, false};
 ghost use Rattle.state.specs.Valid.{StateOk};
-ghost use Rattle.hub.specs.Contract.{SettledStep};
+ghost use Rattle.hub.specs.Contract.{settlesAfter, SettledStep};
 
 // The outcome of a call that leaves this state, with the answers of its step.
 fn outcome_with(state: HubState, step: StepOutcome) -> Outcome
@@ -27,38 +25,39 @@ fn outcome_with(state: HubState, step: StepOutcome) -> Outcome
     }
 }
 
-// Does the hub settle after this step? Each call asks first: where it does not, the step's state is handed on as it is, with no copy for settling to work on.
+// Does the hub settle after this step? "After each call": a refusal and a wait change nothing, so that nothing settles after them. Each call asks first: where it
+// does not settle, the step's state is handed on as it is, with no copy for settling to work on.
 pub fn is_due(step: StepOutcome) -> bool
     requires { ⌜ StateOk (step .state) ⌝ }
-    ensures { λ r. ⌜ r ≡ firstCommitted (membersOf (step .state .sequence)) ⌝ }
+    ensures { λ r. ⌜ r ≡ settlesAfter step ⌝ }
 {
-    let state = step.state;
-    let sequence = state.sequence;
-    sequence::settle::settles(sequence)
-}
-
-// Where it does not, the step's state stands.
-pub fn unsettled(step: StepOutcome) -> Outcome
-    requires { ⌜ (StateOk (step .state)) × (firstCommitted (membersOf (step .state .sequence)) ≡ false) ⌝ }
-    ensures { λ r. ⌜ SettledStep step r ⌝ }
-{
-    let state = step.state;
-    outcome_with(state, step)
-}
-
-// "After each call, while the first in the sequence is committed". A refusal and a wait change nothing.
-pub fn settled(step: StepOutcome) -> Outcome
-    requires { ⌜ StateOk (step .state) ⌝ }
-    ensures { λ r. ⌜ SettledStep step r ⌝ }
-{
-    let state = step.state;
     let answer = step.answer;
     let Answer::Refused(_) = answer else {
         let Answer::Wait(_, _) = answer else {
-            let after = settle::settled_state(state);
-            return outcome_with(after, step);
+            let state = step.state;
+            let sequence = state.sequence;
+            return sequence::settle::settles(sequence);
         };
-        return outcome_with(state, step);
+        return false;
     };
+    false
+}
+
+// After a step that changed something, the first in the sequence being committed: it and those committed behind it settle.
+pub fn settled(step: StepOutcome) -> Outcome
+    requires { ⌜ (StateOk (step .state)) × (settlesAfter step ≡ true) ⌝ }
+    ensures { λ r. ⌜ SettledStep step r ⌝ }
+{
+    let state = step.state;
+    let after = settle::settled_state(state);
+    outcome_with(after, step)
+}
+
+// Else the step's state stands.
+pub fn unsettled(step: StepOutcome) -> Outcome
+    requires { ⌜ (StateOk (step .state)) × (settlesAfter step ≡ false) ⌝ }
+    ensures { λ r. ⌜ SettledStep step r ⌝ }
+{
+    let state = step.state;
     outcome_with(state, step)
 }

@@ -1,7 +1,7 @@
 -- What one line does: for each way that a line can go, what the line program does of it, and the hub afterwards. Assumes nothing.
 use mathlib.Core.Path.{_≡_, refl, sym, ap, _∙_, subst}
 use mathlib.Core.Logic.{_≢_}
-use mathlib.Core.Bool.{Bool, true, false, _||_}
+use mathlib.Core.Bool.{Bool, true, _||_}
 use mathlib.Core.List.{List, [], _∷_, _++_, append-nil, append-assoc}
 use mathlib.Core.Option.{Option, none, some}
 use Prim.Native.Nat.{ℕ, _+_, _-_, _≤_, _<_, _^_}
@@ -28,9 +28,6 @@ use Rattle.rules.specs.Calls.{resultOf}
 use Rattle.rules.proofs.Theorem.{devices-kept}
 use Rattle.submit.proofs.Laws.{check-routine, submit-refused}
 use Rattle.state.specs.Contract.{changesNothing}
-use Rattle.state.specs.declared.Answer.{Answer}
-use Rattle.state.proofs.Answer.{the-type}
-use Rattle.hub.proofs.Laws.{notRefused, notWait, settles}
 use Rattle.hub.specs.View.{view, answersIn}
 use Rattle.hub.specs.Valid.{Valid}
 use Rattle.hub.specs.Contract.{Opens, Gives}
@@ -176,10 +173,6 @@ opened-some n k first s = go (openCheck n k first) refl
 pub as-call : {h : Hub} {o : Outcome} (r : Routine) {c d : Call} → c ≡ d → Gives h o (resultOf (view h) (callIn d r)) →
     Gives h o (resultOf (view h) (callIn c r))
 as-call {h} {o} r e g = subst (λ (x : Call). Gives h o (resultOf (view h) (callIn x r))) (sym e) g
-
--- an answer that is neither a refusal nor a wait changes something
-pub changes : (a : Answer) → OneOf notRefused (tagOf the-type a) → OneOf notWait (tagOf the-type a) → changesNothing a ≡ false
-changes a h k = settles a h k .0
 
 -- what is heard by a hub of no devices, and by one with devices
 pub heard-none : (l : Line) (n : ℕ) → n ≡ 0 → OneOf (0 ∷ 2 ∷ []) (tagOf line-type l) → l ≡ heardOf l n

@@ -18,7 +18,7 @@ is-due-requires : tie.Need-is-due-requires
 is-due-requires c κs = search needs
 
 settled-requires : tie.Need-settled-requires
-settled-requires c κs = search needs
+settled-requires c κs = (c .before .before .restart .ensures .valid, sym (c .before .is-due .ensures) ∙ c .if1 .taken)
 
 -- what the step gives, of the setting as it was handed over
 stepped : (c : tie.After-restart) →

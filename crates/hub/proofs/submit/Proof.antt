@@ -12,7 +12,7 @@ is-due-requires : tie.Need-is-due-requires
 is-due-requires c κs = search needs
 
 settled-requires : tie.Need-settled-requires
-settled-requires c κs = search needs
+settled-requires c κs = (c .before .before .step .ensures .valid, sym (c .before .is-due .ensures) ∙ c .if1 .taken)
 
 returns : tie.Need-returns
 returns c = settled-gives _ _ _ _ (c .before .before .before .step .ensures) (c .settled .ensures)
