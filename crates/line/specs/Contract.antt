@@ -7,7 +7,7 @@ use lib.ListN.{length}
 use Rattle.routine.specs.Routine.{maxDevices}
 use Rattle.line_rules.specs.Pieces.{linesOf}
 use Rattle.line_rules.specs.Program.{Printed, steps, endText, lengthOr21, bufferWith, hubWith}
-use Rattle.line_printer.specs.Put.{maxText, maxDevice, Put}
+use Rattle.line_printer.specs.Put.{maxText, maxDeviceLine, Put}
 use Rattle.hub.specs.Valid.{Valid}
 use Rattle.hub.specs.declared.Hub.{Hub}
 use Rattle.line.specs.View.{hubIn}
@@ -33,7 +33,7 @@ pub record Finishes (h : Hub) (buffer buffer′ : List ℕ) (result : ℤ) : Typ
 
 -- The device lines are not longer than this.
 abbrev pub maxEnd : ℕ
-maxEnd = maxDevices * maxDevice
+maxEnd = maxDevices * maxDeviceLine
 
 -- What all lines print stands in the buffer, if there is room for it; else the place is one past the room. If there is room for so many lines of any kind,
 -- it is not longer than they can be.

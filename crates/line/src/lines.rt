@@ -10,7 +10,7 @@ ghost use Prim.Native.Nat.{_+_, _<_, _^_};
 ghost use Rattle.rules.specs.Calls.{resultOf};
 ghost use Rattle.line_rules.specs.Printing.{asLine, deviceText};
 ghost use Rattle.line_rules.specs.Program.{endText};
-ghost use Rattle.line_printer.specs.Put.{maxDevice, PutShort};
+ghost use Rattle.line_printer.specs.Put.{maxDeviceLine, PutShort};
 ghost use Rattle.state.specs.Contract.{changesNothing};
 ghost use Rattle.hub.specs.View.{view};
 ghost use Rattle.hub.specs.Valid.{Valid};
@@ -61,8 +61,8 @@ pub fn keeps_hub(answer: Answer) -> bool
 
 // "one line a device, with its due setting if it is up"
 fn put_device(hub: Hub, device: u8, out: &mut [u8], at: usize) -> usize
-    requires { ⌜ (Valid hub) × (at + maxDevice < 2 ^ 64) ⌝ }
-    ensures { λ r. ⌜ PutShort maxDevice (now (out .entry)) (now (out .exit)) at r (asLine (deviceText (view hub) device)) ⌝ }
+    requires { ⌜ (Valid hub) × (at + maxDeviceLine < 2 ^ 64) ⌝ }
+    ensures { λ r. ⌜ PutShort maxDeviceLine (now (out .entry)) (now (out .exit)) at r (asLine (deviceText (view hub) device)) ⌝ }
 {
     let up = hub::is_up(hub, device);
     let due = hub::due_setting(hub, device);

@@ -1,13 +1,9 @@
 -- Text put into a buffer from a place on, and how long the texts are. Assumes nothing.
 use mathlib.Core.Path.{_≡_}
-use mathlib.Core.Bool.{Bool}
-use mathlib.Core.List.{List, _++_}
+use mathlib.Core.List.{List}
 use Prim.Native.Nat.{ℕ, _+_, _≤_}
-use lib.IntN.{ℤ}
 use lib.ListN.{length}
 use lib.Seq.{sets}
-use Rattle.routine.specs.Choice.{if_then_else_}
-use Rattle.line_rules.specs.Text.{bytes, decimal, signed}
 
 -- The answers of a line are not longer; one answer has half of it.
 abbrev pub maxText : ℕ
@@ -17,8 +13,8 @@ abbrev pub halfText : ℕ
 halfText = 400
 
 -- No device line is longer.
-abbrev pub maxDevice : ℕ
-maxDevice = 25
+abbrev pub maxDeviceLine : ℕ
+maxDeviceLine = 25
 
 -- The buffer has the text from a place on, as far as it reaches; and the place behind the text.
 pub record Put (before after : List ℕ) (at end : ℕ) (text : List ℕ) : Type 0 where
@@ -29,7 +25,3 @@ pub record Put (before after : List ℕ) (at end : ℕ) (text : List ℕ) : Type
 pub record PutShort (most : ℕ) (before after : List ℕ) (at end : ℕ) (text : List ℕ) : Type 0 where
   pub put : Put before after at end text
   pub short : length text ≤ most
-
--- A device's line, of whether it is up and its due setting.
-abbrev pub deviceTextOf : ℕ → Bool → ℤ → List ℕ
-deviceTextOf d up due = bytes "device " ++ decimal d ++ (if up then bytes " up " ++ signed due else bytes " down")

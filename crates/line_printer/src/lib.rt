@@ -9,10 +9,10 @@ use state::First;
 use state::PutBacks;
 ghost use Prim.Native.Nat.{_+_, _<_, _^_};
 ghost use Rattle.line_rules.specs.Text.{bytes};
-ghost use Rattle.line_rules.specs.Printing.{asLine, refusalText, answersText};
+ghost use Rattle.line_rules.specs.Printing.{asLine, refusalText, answersText, deviceTextOf};
 ghost use Rattle.state.specs.View.{answersOf};
 ghost use Rattle.state.specs.Valid.{BacksOk};
-ghost use Rattle.line_printer.specs.Put.{maxText, maxDevice, PutShort, deviceTextOf};
+ghost use Rattle.line_printer.specs.Put.{maxText, maxDeviceLine, PutShort};
 
 // The answers of a line are not longer.
 pub const MAX_TEXT: usize = 800;
@@ -58,8 +58,8 @@ pub fn put_answers(
 
 // "one line a device, with its due setting if it is up"
 pub fn put_device(out: &mut [u8], at: usize, device: u8, up: bool, due: i16) -> usize
-    requires { ⌜ at + maxDevice < 2 ^ 64 ⌝ }
-    ensures { λ r. ⌜ PutShort maxDevice (now (out .entry)) (now (out .exit)) at r (asLine (deviceTextOf device up due)) ⌝ }
+    requires { ⌜ at + maxDeviceLine < 2 ^ 64 ⌝ }
+    ensures { λ r. ⌜ PutShort maxDeviceLine (now (out .entry)) (now (out .exit)) at r (asLine (deviceTextOf device up due)) ⌝ }
 {
     let word = text::put_word(out, at, b"device ");
     let named = text::put_number(out, word, device as u64);

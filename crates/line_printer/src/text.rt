@@ -1,13 +1,11 @@
 // Words and numbers put into a buffer. Past its end they are counted and not put.
+use line_rules::LINE_END;
+use line_rules::MINUS;
 ghost use mathlib.Core.List.{[], _∷_, _++_};
 ghost use Prim.Native.Nat.{_+_, _<_, _^_};
 ghost use lib.ListN.{length};
 ghost use Rattle.line_rules.specs.Text.{lineEnd, decimal, signed};
 ghost use Rattle.line_printer.specs.Put.{Put, PutShort};
-
-const LINE_END: u8 = 10;
-
-const MINUS: u8 = 45;
 
 const DIGIT_0: u64 = 48;
 

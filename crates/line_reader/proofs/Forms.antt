@@ -6,7 +6,7 @@ use mathlib.Core.List.{List, [], _∷_}
 use mathlib.Core.Option.{Option, none, some}
 use Prim.Native.Nat.{ℕ, suc, _+_, _≤_, _<_}
 use native.Mathlib.Omega.{arith}
-use borrow.Author.Tests.{lt-ltb, le-ltb, eqb-true, eqb-false, ne-eqb}
+use borrow.Author.Tests.{le-ltb, eqb-true, eqb-false, ne-eqb}
 use lib.Dec.{eqb}
 use lib.IntN.{ℤ}
 use lib.ListN.{length, getD}
@@ -20,13 +20,13 @@ use Rattle.rules.proofs.Lists.{byIf, t≠f}
 use Rattle.line_rules.specs.Text.{space, same}
 use Rattle.line_rules.specs.Pieces.{wordsOf}
 use Rattle.line_rules.specs.Reading.{Line as Said, opening, calling, unread, maxLine, highest8, highest32, numberUpTo, setting, openingWith, openingLine, commandBefore, commands, submitLine, submitWith, callWith, oneNumber, restartWith, restartLine, lineWith, lineBy, readLine}
-use Rattle.line_reader.specs.Places.{wordAt, wordEnd, wordsFrom, commandBehind, CommandAt}
+use Rattle.line_reader.specs.Places.{behindLetter, wordAt, wordEnd, wordsFrom, commandBehind, CommandAt}
 use Rattle.line_reader.specs.declared.Call.the-variants.{Submit}
 use Rattle.line_reader.specs.declared.Line.{Line}
 use Rattle.line_reader.specs.declared.Line.the-variants.{Calling}
 use Rattle.line_reader.specs.declared.LineRead.{LineRead}
 use Rattle.line_reader.specs.declared.calls.CommandRead.{CommandRead}
-use Rattle.line_reader.specs.Held.{together, heldLine, oneOf, idCallWith, idLine}
+use Rattle.line_reader.specs.Held.{together, letterOf, heldLine, idCallWith, idLine}
 use Rattle.line_reader.proofs.Laws.{word-past, word-none, word-more, words-none, words-first, words-all, WordSays, NotFirst}
 
 -- A line that was read, as it is held without its routine.
@@ -46,29 +46,23 @@ module _ (line : List ℕ) (end : ℕ) where
 
 -- ---- one number
 
-one-not : (highest : ℕ) (says : Option ℕ → Said) → says none ≡ unread → (ws : List (List ℕ)) → NotFirst (numberUpTo highest) ws → oneOf highest says ws ≡ unread
-unfolding oneOf
+one-not : (highest : ℕ) (says : Option ℕ → Said) → says none ≡ unread → (ws : List (List ℕ)) → NotFirst (numberUpTo highest) ws → oneNumber highest says ws ≡ unread
+unfolding oneNumber
 one-not highest says u [] e = refl
 one-not highest says u (w ∷ []) e = ap says e ∙ u
 one-not highest says u (w ∷ v ∷ ws) e = refl
 
 module _ (highest : ℕ) (says : Option ℕ → Said) (u : says none ≡ unread) (line : List ℕ) (at : ℕ) where
-  pub one-none : NotFirst (numberUpTo highest) (wordsFrom line at) → oneOf highest says (wordsFrom line at) ≡ unread
+  pub one-none : NotFirst (numberUpTo highest) (wordsFrom line at) → oneNumber highest says (wordsFrom line at) ≡ unread
   one-none e = one-not highest says u (wordsFrom line at) e
 
-  pub one-more : {n end : ℕ} → WordSays (numberUpTo highest) line at n end → end < length line → oneOf highest says (wordsFrom line at) ≡ unread
-  unfolding oneOf
+  pub one-more : {n end : ℕ} → WordSays (numberUpTo highest) line at n end → end < length line → oneNumber highest says (wordsFrom line at) ≡ unread
+  unfolding oneNumber
   one-more {n} {end} a h = rw (a .words, more-words line end h)
 
-  pub one-found : {n end : ℕ} → WordSays (numberUpTo highest) line at n end → length line ≤ end → oneOf highest says (wordsFrom line at) ≡ says (some n)
-  unfolding oneOf
+  pub one-found : {n end : ℕ} → WordSays (numberUpTo highest) line at n end → length line ≤ end → oneNumber highest says (wordsFrom line at) ≡ says (some n)
+  unfolding oneNumber
   one-found {n} {end} a h = rw (a .words, last-word line end h, a .says)
-
-pub one-number : (highest : ℕ) (call : ℕ → Call) (ws : List (List ℕ)) → oneNumber highest call ws ≡ oneOf highest (callWith call) ws
-unfolding oneNumber oneOf
-one-number highest call [] = refl
-one-number highest call (w ∷ []) = refl
-one-number highest call (w ∷ v ∷ ws) = refl
 
 -- ---- "`O` N K first"
 
@@ -233,19 +227,19 @@ two-letters : (a b : ℕ) (word : List ℕ) (ws : List (List ℕ)) → lineWith 
 unfolding lineWith same
 two-letters a b word ws = simp and-false
 
-pub letter-open : (letter : ℕ) (ws : List (List ℕ)) → letter ≡ 79 → lineWith (letter ∷ []) ws ≡ openingLine ws
+pub letter-open : (letter : ℕ) (ws : List (List ℕ)) → letter ≡ letterOf "O" → lineWith (letter ∷ []) ws ≡ openingLine ws
 unfolding lineWith same
 letter-open letter ws e = rw e
 
-pub letter-submit : (letter : ℕ) (ws : List (List ℕ)) → letter ≡ 83 → lineWith (letter ∷ []) ws ≡ submitLine ws
+pub letter-submit : (letter : ℕ) (ws : List (List ℕ)) → letter ≡ letterOf "S" → lineWith (letter ∷ []) ws ≡ submitLine ws
 unfolding lineWith same
 letter-submit letter ws e = rw e
 
-pub letter-fail : (letter : ℕ) (ws : List (List ℕ)) → letter ≡ 70 → lineWith (letter ∷ []) ws ≡ oneNumber highest8 failure ws
+pub letter-fail : (letter : ℕ) (ws : List (List ℕ)) → letter ≡ letterOf "F" → lineWith (letter ∷ []) ws ≡ oneNumber highest8 (callWith failure) ws
 unfolding lineWith same
 letter-fail letter ws e = rw e
 
-pub letter-restart : (letter : ℕ) (ws : List (List ℕ)) → letter ≡ 82 → lineWith (letter ∷ []) ws ≡ restartLine ws
+pub letter-restart : (letter : ℕ) (ws : List (List ℕ)) → letter ≡ letterOf "R" → lineWith (letter ∷ []) ws ≡ restartLine ws
 unfolding lineWith same
 letter-restart letter ws e = rw e
 
@@ -257,26 +251,26 @@ either false said = refl
 -- a form for each, or none
 abbrev byId : ℕ → ((ℕ → Call) → Said) → Said
 byId letter form =
-    if eqb letter 78 then form turn
-    else if eqb letter 68 then form (λ i. report i codeDone)
-    else if eqb letter 66 then form (λ i. report i codeFailed)
-    else if eqb letter 67 then form cancel
+    if eqb letter (letterOf "N") then form turn
+    else if eqb letter (letterOf "D") then form (λ i. report i codeDone)
+    else if eqb letter (letterOf "B") then form (λ i. report i codeFailed)
+    else if eqb letter (letterOf "C") then form cancel
     else unread
 
 id-says : (letter : ℕ) (o : Option ℕ) → byId letter (λ call. callWith call o) ≡ idCallWith letter o
 id-says letter none = simp either
 id-says letter (some i) = refl
 
-id-forms : (letter : ℕ) (ws : List (List ℕ)) → byId letter (λ call. oneOf highest32 (callWith call) ws) ≡ idLine letter ws
-unfolding oneOf
+id-forms : (letter : ℕ) (ws : List (List ℕ)) → byId letter (λ call. oneNumber highest32 (callWith call) ws) ≡ idLine letter ws
+unfolding oneNumber
 id-forms letter [] = simp either
 id-forms letter (w ∷ []) = id-says letter (numberUpTo highest32 w)
 id-forms letter (w ∷ v ∷ ws) = simp either
 
-pub letter-other : (letter : ℕ) (ws : List (List ℕ)) → letter ≢ 79 → letter ≢ 83 → letter ≢ 70 → letter ≢ 82 → lineWith (letter ∷ []) ws ≡ idLine letter ws
+pub letter-other : (letter : ℕ) (ws : List (List ℕ)) → letter ≢ letterOf "O" → letter ≢ letterOf "S" → letter ≢ letterOf "F" → letter ≢ letterOf "R" → lineWith (letter ∷ []) ws ≡ idLine letter ws
 unfolding lineWith same
 letter-other letter ws a b c d =
-    simp (and-true, ne-eqb letter 79 a, ne-eqb letter 83 b, ne-eqb letter 70 c, ne-eqb letter 82 d, one-number) (id-forms letter ws)
+    simp (and-true, ne-eqb letter (letterOf "O") a, ne-eqb letter (letterOf "S") b, ne-eqb letter (letterOf "F") c, ne-eqb letter (letterOf "R") d) (id-forms letter ws)
 
 -- ---- the first word of a line
 
@@ -313,21 +307,21 @@ module _ (line : List ℕ) where
           ∙ two-letters (getD line 0 0) (getD line 1 0) (wordAt line 2) (wordsFrom line (suc (wordEnd line 1)))
 
   -- a byte alone is the first word, or a space, which makes an empty one
-  byte-alone : 0 < length line → (wordAt line 1 ≡ []) × (wordEnd line 1 ≡ 1) → lineBy (wordsOf line) ≡ lineWith (getD line 0 0 ∷ []) (wordsFrom line 2)
+  byte-alone : 0 < length line → (wordAt line 1 ≡ []) × (wordEnd line 1 ≡ 1) → lineBy (wordsOf line) ≡ lineWith (getD line 0 0 ∷ []) (wordsFrom line behindLetter)
   byte-alone h e = go (eqb (getD line 0 0) space) refl
     where
-      go : (t : Bool) → eqb (getD line 0 0) space ≡ t → lineBy (wordsOf line) ≡ lineWith (getD line 0 0 ∷ []) (wordsFrom line 2)
+      go : (t : Bool) → eqb (getD line 0 0) space ≡ t → lineBy (wordsOf line) ≡ lineWith (getD line 0 0 ∷ []) (wordsFrom line behindLetter)
       go true t =
           let s = eqb-true (getD line 0 0) space t in
-          first-empty (word-none line 0 h s .0) ∙ sym (blank (getD line 0 0) (wordsFrom line 2) s)
+          first-empty (word-none line 0 h s .0) ∙ sym (blank (getD line 0 0) (wordsFrom line behindLetter) s)
       go false t =
           first-letter h (eqb-false (getD line 0 0) space t)
           ∙ ap₂ (λ (w : List ℕ) (k : ℕ). lineWith (getD line 0 0 ∷ w) (wordsFrom line (suc k))) (e .0) (e .1)
 
-  pub one-byte : length line ≡ 1 → lineBy (wordsOf line) ≡ lineWith (getD line 0 0 ∷ []) (wordsFrom line 2)
+  pub one-byte : length line ≡ 1 → lineBy (wordsOf line) ≡ lineWith (getD line 0 0 ∷ []) (wordsFrom line behindLetter)
   one-byte h = byte-alone (omega arith) (word-past line 1 (omega arith))
 
-  pub letter-alone : 1 < length line → getD line 1 0 ≡ space → lineBy (wordsOf line) ≡ lineWith (getD line 0 0 ∷ []) (wordsFrom line 2)
+  pub letter-alone : 1 < length line → getD line 1 0 ≡ space → lineBy (wordsOf line) ≡ lineWith (getD line 0 0 ∷ []) (wordsFrom line behindLetter)
   letter-alone h s = byte-alone (omega arith) (word-none line 1 h s)
 
 -- ---- beside a line that submits nothing there is the empty routine
@@ -359,8 +353,8 @@ restart-routine (d ∷ v ∷ []) = go (numberUpTo highest8 d) (setting v)
 restart-routine (d ∷ v ∷ w ∷ ws) = refl
 
 one-routine : (highest : ℕ) (says : Option ℕ → Said) → ((o : Option ℕ) → heldLine (says o) .routine ≡ noRoutine) →
-    (ws : List (List ℕ)) → heldLine (oneOf highest says ws) .routine ≡ noRoutine
-unfolding oneOf
+    (ws : List (List ℕ)) → heldLine (oneNumber highest says ws) .routine ≡ noRoutine
+unfolding oneNumber
 one-routine highest says h [] = refl
 one-routine highest says h (w ∷ []) = h (numberUpTo highest w)
 one-routine highest says h (w ∷ v ∷ ws) = refl
@@ -372,33 +366,29 @@ fail-routine (some d) = refl
 id-routine : (letter : ℕ) (o : Option ℕ) → heldLine (idCallWith letter o) .routine ≡ noRoutine
 id-routine letter none = refl
 id-routine letter (some i) =
-    byIf P (eqb letter 78) (λ _. refl)
-    (λ _. byIf P (eqb letter 68) (λ _. refl) (λ _. byIf P (eqb letter 66) (λ _. refl) (λ _. byIf P (eqb letter 67) (λ _. refl) (λ _. refl))))
+    byIf P (eqb letter (letterOf "N")) (λ _. refl)
+    (λ _. byIf P (eqb letter (letterOf "D")) (λ _. refl) (λ _. byIf P (eqb letter (letterOf "B")) (λ _. refl) (λ _. byIf P (eqb letter (letterOf "C")) (λ _. refl) (λ _. refl))))
   where
     P : Said → Type 0
     P said = heldLine said .routine ≡ noRoutine
 
-pub plain-routine : (letter : ℕ) (ws : List (List ℕ)) → letter ≢ 83 → heldLine (lineWith (letter ∷ []) ws) .routine ≡ noRoutine
-plain-routine letter ws h = go (eqb letter 79) (eqb letter 70) (eqb letter 82) refl refl refl
+pub plain-routine : (letter : ℕ) (ws : List (List ℕ)) → letter ≢ letterOf "S" → heldLine (lineWith (letter ∷ []) ws) .routine ≡ noRoutine
+plain-routine letter ws h = go (eqb letter (letterOf "O")) (eqb letter (letterOf "F")) (eqb letter (letterOf "R")) refl refl refl
   where
     routineOf : Said → Routine
     routineOf said = heldLine said .routine
 
-    go : (o f r : Bool) → eqb letter 79 ≡ o → eqb letter 70 ≡ f → eqb letter 82 ≡ r → routineOf (lineWith (letter ∷ []) ws) ≡ noRoutine
-    go true f r a b c = ap routineOf (letter-open letter ws (eqb-true letter 79 a)) ∙ open-routine ws
+    go : (o f r : Bool) → eqb letter (letterOf "O") ≡ o → eqb letter (letterOf "F") ≡ f → eqb letter (letterOf "R") ≡ r → routineOf (lineWith (letter ∷ []) ws) ≡ noRoutine
+    go true f r a b c = ap routineOf (letter-open letter ws (eqb-true letter (letterOf "O") a)) ∙ open-routine ws
     go false true r a b c =
-        ap routineOf (letter-fail letter ws (eqb-true letter 70 b) ∙ one-number highest8 failure ws)
+        ap routineOf (letter-fail letter ws (eqb-true letter (letterOf "F") b))
         ∙ one-routine highest8 (callWith failure) fail-routine ws
-    go false false true a b c = ap routineOf (letter-restart letter ws (eqb-true letter 82 c)) ∙ restart-routine ws
+    go false false true a b c = ap routineOf (letter-restart letter ws (eqb-true letter (letterOf "R") c)) ∙ restart-routine ws
     go false false false a b c =
-        ap routineOf (letter-other letter ws (eqb-false letter 79 a) h (eqb-false letter 70 b) (eqb-false letter 82 c))
+        ap routineOf (letter-other letter ws (eqb-false letter (letterOf "O") a) h (eqb-false letter (letterOf "F") b) (eqb-false letter (letterOf "R") c))
         ∙ one-routine highest32 (idCallWith letter) (id-routine letter) ws
 
--- ---- lines by their length
-
-pub line-long : (line : List ℕ) → maxLine < length line → readLine line ≡ unread
-unfolding readLine
-line-long line h = rw (lt-ltb maxLine (length line) h)
+-- ---- a line that is not too long
 
 pub line-short : (line : List ℕ) → length line ≤ maxLine → readLine line ≡ lineBy (wordsOf line)
 unfolding readLine

@@ -2,6 +2,8 @@
 use mathlib.Core.List.{List, [], _∷_}
 use mathlib.Core.Option.{Option, none, some}
 use Prim.Native.Nat.{ℕ}
+use Prim.Native.Char.{code}
+use Prim.Native.String.{String, [] as end, _∷_ as _then_}
 use lib.Dec.{eqb}
 use Rattle.routine.specs.Choice.{if_then_else_}
 use Rattle.routine.specs.Routine.{noRoutine, withCommand}
@@ -9,7 +11,7 @@ use Rattle.routine.specs.declared.Command.{Command}
 use Rattle.routine.specs.declared.Routine.{Routine}
 use Rattle.rules.specs.Answers.{Call as Told, submit, turn, report, failure, restart, cancel}
 use Rattle.rules.specs.Report.{codeDone, codeFailed}
-use Rattle.line_rules.specs.Reading.{Line as Said, opening, calling, unread, highest32, numberUpTo}
+use Rattle.line_rules.specs.Reading.{Line as Said, opening, calling, unread, highest32, oneNumber}
 use Rattle.line_reader.specs.declared.Call.{Call}
 use Rattle.line_reader.specs.declared.Call.the-variants.{Submit, Turn, Report, Cancel, Fail, Restart}
 use Rattle.line_reader.specs.declared.Line.the-variants.{Open, Calling, Unread}
@@ -41,21 +43,20 @@ heldLine (opening n k first) = record { line = Open n k first; routine = noRouti
 heldLine (calling c) = record { line = Calling (heldCall c); routine = heldRoutine c }
 heldLine unread = record { line = Unread; routine = noRoutine }
 
--- ---- lines with one number
+-- ---- lines with an id
 
--- Of a width: what such a line says by its number.
-unfoldable pub oneOf : ℕ → (Option ℕ → Said) → List (List ℕ) → Said
-oneOf highest says [] = unread
-oneOf highest says (w ∷ []) = says (numberUpTo highest w)
-oneOf highest says (w ∷ v ∷ ws) = unread
+-- The byte of a letter.
+abbrev pub letterOf : String → ℕ
+letterOf end = 0
+letterOf (c then s) = code c
 
 -- A letter that an id follows: `N`, `D`, `B`, `C`. Any other is unread.
 abbrev pub idCall : ℕ → ℕ → Said
 idCall letter i =
-    if eqb letter 78 then calling (turn i)
-    else if eqb letter 68 then calling (report i codeDone)
-    else if eqb letter 66 then calling (report i codeFailed)
-    else if eqb letter 67 then calling (cancel i)
+    if eqb letter (letterOf "N") then calling (turn i)
+    else if eqb letter (letterOf "D") then calling (report i codeDone)
+    else if eqb letter (letterOf "B") then calling (report i codeFailed)
+    else if eqb letter (letterOf "C") then calling (cancel i)
     else unread
 
 abbrev pub idCallWith : ℕ → Option ℕ → Said
@@ -63,4 +64,4 @@ idCallWith letter none = unread
 idCallWith letter (some i) = idCall letter i
 
 abbrev pub idLine : ℕ → List (List ℕ) → Said
-idLine letter ws = oneOf highest32 (idCallWith letter) ws
+idLine letter ws = oneNumber highest32 (idCallWith letter) ws

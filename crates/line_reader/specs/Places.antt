@@ -18,6 +18,10 @@ use Rattle.line_reader.specs.declared.numbers.Number.the-variants.{Found
 use Rattle.line_reader.specs.declared.numbers.Setting.{Setting}
 use Rattle.line_reader.specs.declared.numbers.Setting.the-variants.{Found as SettingFound, Missing as SettingMissing}
 
+-- Where the words behind a line's letter begin.
+abbrev pub behindLetter : ℕ
+behindLetter = 2
+
 -- The word that begins at a place of a line, and where it ends.
 unfoldable pub wordAt : List ℕ → ℕ → List ℕ
 wordAt line at = take (reach space (drop at line)) (drop at line)

@@ -4,11 +4,14 @@ use crate::Call;
 use crate::Line;
 use crate::LineRead;
 use crate::numbers::Number;
-use crate::numbers::SPACE;
 use crate::numbers::Setting;
 use crate::numbers::number_at;
 use crate::numbers::setting_at;
+use line_rules::SPACE;
 use routine::Command;
+use state::CODE_DONE;
+use state::CODE_FAILED;
+use state::HIGHEST_ID;
 ghost use mathlib.Core.Path.{_≡_};
 ghost use mathlib.Core.Bool.{false};
 ghost use mathlib.Core.List.{[], _∷_};
@@ -16,9 +19,9 @@ ghost use mathlib.Core.Logic.{_≢_};
 ghost use Rattle.routine.specs.Routine.{noRoutine};
 ghost use Rattle.rules.specs.Answers.{failure};
 ghost use Rattle.line_rules.specs.Pieces.{wordsOf};
-ghost use Rattle.line_rules.specs.Reading.{highest8, unread as notRead, openingLine, restartLine, submitLine, callWith, lineWith, lineBy};
-ghost use Rattle.line_reader.specs.Held.{oneOf, idCall, idLine, heldLine};
-ghost use Rattle.line_reader.specs.Places.{wordsFrom, CommandAt};
+ghost use Rattle.line_rules.specs.Reading.{highest8, unread as notRead, openingLine, restartLine, submitLine, callWith, oneNumber, lineWith, lineBy};
+ghost use Rattle.line_reader.specs.Held.{letterOf, idCall, idLine, heldLine};
+ghost use Rattle.line_reader.specs.Places.{behindLetter, wordsFrom, CommandAt};
 
 // Letters of 01's lines.
 const OPEN: u8 = 79;
@@ -42,13 +45,6 @@ const BEHIND_LETTER: usize = 2;
 
 const HIGHEST_8: u64 = 255;
 
-const HIGHEST_32: u64 = 4294967295;
-
-// The codes of a report.
-const CODE_DONE: u8 = 0;
-
-const CODE_FAILED: u8 = 1;
-
 fn without_routine(line: Line) -> LineRead
     ensures { λ r. ⌜ (r .line ≡ line) × (r .routine ≡ noRoutine) ⌝ }
 {
@@ -67,7 +63,7 @@ pub fn unread() -> LineRead
 
 // "`O` N K first"
 fn open_line(line: &[u8]) -> Line
-    ensures { λ r. ⌜ r ≡ heldLine (openingLine (wordsFrom (now (line .entry)) 2)) .line ⌝ }
+    ensures { λ r. ⌜ r ≡ heldLine (openingLine (wordsFrom (now (line .entry)) behindLetter)) .line ⌝ }
 {
     let devices = number_at(line, BEHIND_LETTER, HIGHEST_8);
     let Number::Found(n, n_end) = devices else {
@@ -77,7 +73,7 @@ fn open_line(line: &[u8]) -> Line
     let Number::Found(k, k_end) = pass_limit else {
         return Line::Unread;
     };
-    let first = number_at(line, k_end + 1, HIGHEST_32);
+    let first = number_at(line, k_end + 1, HIGHEST_ID);
     let Number::Found(id, end) = first else {
         return Line::Unread;
     };
@@ -89,7 +85,7 @@ fn open_line(line: &[u8]) -> Line
 
 // "`R` device setting"
 fn restart_line(line: &[u8]) -> Line
-    ensures { λ r. ⌜ r ≡ heldLine (restartLine (wordsFrom (now (line .entry)) 2)) .line ⌝ }
+    ensures { λ r. ⌜ r ≡ heldLine (restartLine (wordsFrom (now (line .entry)) behindLetter)) .line ⌝ }
 {
     let device = number_at(line, BEHIND_LETTER, HIGHEST_8);
     let Number::Found(d, d_end) = device else {
@@ -107,7 +103,7 @@ fn restart_line(line: &[u8]) -> Line
 
 // "`F` device"
 fn fail_line(line: &[u8]) -> Line
-    ensures { λ r. ⌜ r ≡ heldLine (oneOf highest8 (callWith failure) (wordsFrom (now (line .entry)) 2)) .line ⌝ }
+    ensures { λ r. ⌜ r ≡ heldLine (oneNumber highest8 (callWith failure) (wordsFrom (now (line .entry)) behindLetter)) .line ⌝ }
 {
     let device = number_at(line, BEHIND_LETTER, HIGHEST_8);
     let Number::Found(d, end) = device else {
@@ -140,9 +136,9 @@ fn id_call(letter: u8, id: u32) -> Line
 
 // "`N` id (turn), `D` id (done), `B` id (failed), `C` id (cancel)"
 fn id_line(line: &[u8], letter: u8) -> Line
-    ensures { λ r. ⌜ r ≡ heldLine (idLine letter (wordsFrom (now (line .entry)) 2)) .line ⌝ }
+    ensures { λ r. ⌜ r ≡ heldLine (idLine letter (wordsFrom (now (line .entry)) behindLetter)) .line ⌝ }
 {
-    let number = number_at(line, BEHIND_LETTER, HIGHEST_32);
+    let number = number_at(line, BEHIND_LETTER, HIGHEST_ID);
     let Number::Found(id, end) = number else {
         return Line::Unread;
     };
@@ -204,7 +200,7 @@ fn command_at(line: &[u8], from: usize) -> CommandRead
 
 // "`S` device tag setting repeated"; "`S` alone is a routine of 0 commands".
 fn submit_line(line: &[u8]) -> LineRead
-    ensures { λ r. ⌜ r ≡ heldLine (submitLine (wordsFrom (now (line .entry)) 2)) ⌝ }
+    ensures { λ r. ⌜ r ≡ heldLine (submitLine (wordsFrom (now (line .entry)) behindLetter)) ⌝ }
 {
     let mut routine = routine::empty();
     let mut at = BEHIND_LETTER;
@@ -225,8 +221,8 @@ fn submit_line(line: &[u8]) -> LineRead
 
 // The lines that hold no routine.
 fn plain_line(line: &[u8], letter: u8) -> Line
-    requires { ⌜ letter ≢ 83 ⌝ }
-    ensures { λ r. ⌜ r ≡ heldLine (lineWith (letter ∷ []) (wordsFrom (now (line .entry)) 2)) .line ⌝ }
+    requires { ⌜ letter ≢ letterOf "S" ⌝ }
+    ensures { λ r. ⌜ r ≡ heldLine (lineWith (letter ∷ []) (wordsFrom (now (line .entry)) behindLetter)) .line ⌝ }
 {
     if letter == OPEN {
         return open_line(line);

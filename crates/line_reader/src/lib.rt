@@ -3,19 +3,18 @@ mod calls;
 mod numbers;
 mod pieces;
 
+use line_rules::LINE_END;
 use routine::Routine;
 ghost use mathlib.Core.Path.{_≡_};
 ghost use Prim.Native.Nat.{_+_};
 ghost use lib.ListN.{drop};
+ghost use Rattle.line_rules.specs.Text.{lineEnd};
 ghost use Rattle.line_rules.specs.Pieces.{reach};
 ghost use Rattle.line_rules.specs.Reading.{readLine};
 ghost use Rattle.line_reader.specs.Held.{heldLine};
 
 // Lines of up to this many bytes are read.
 pub const MAX_LINE: usize = 128;
-
-// The byte that ends a line.
-pub const LINE_END: u8 = 10;
 
 // The calls that lines make. The commands of a submission stand beside it.
 pub enum Call {
@@ -42,7 +41,7 @@ pub struct LineRead {
 
 // Where the line that begins at a place ends: at the next byte 10, or at the end of the input.
 pub fn line_end(input: &[u8], from: usize) -> usize
-    ensures { λ r. ⌜ r ≡ from + reach 10 (drop from (now (input .entry))) ⌝ }
+    ensures { λ r. ⌜ r ≡ from + reach lineEnd (drop from (now (input .entry))) ⌝ }
 {
     pieces::piece_end(input, from, LINE_END)
 }

@@ -1,12 +1,10 @@
 // Numbers at a place of a line: the word that begins there.
+use line_rules::MINUS;
+use line_rules::SPACE;
 ghost use mathlib.Core.Path.{_≡_};
 ghost use Prim.Native.Nat.{_≤_, _^_};
-ghost use Rattle.line_rules.specs.Reading.{minusOf};
+ghost use Rattle.line_rules.specs.Reading.{lowest16, minusOf};
 ghost use Rattle.line_reader.specs.Places.{foundFrom, numberAt, settingAt};
-
-pub const SPACE: u8 = 32;
-
-const MINUS: u8 = 45;
 
 const DIGIT_0: u8 = 48;
 
@@ -31,7 +29,7 @@ pub enum Setting {
 
 // A number of up to 32,768 with a minus before it.
 fn negated(value: u64) -> i16
-    requires { ⌜ value ≤ 32768 ⌝ }
+    requires { ⌜ value ≤ lowest16 ⌝ }
     ensures { λ r. ⌜ r ≡ minusOf value ⌝ }
 {
     let size = value as i64;

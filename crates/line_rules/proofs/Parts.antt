@@ -79,7 +79,7 @@ whole-in-parts h part behind w =
 
 -- ---- a line that is too long
 
-long-unread : (line : List ℕ) → maxLine < length line → readLine line ≡ unread
+pub long-unread : (line : List ℕ) → maxLine < length line → readLine line ≡ unread
 unfolding readLine
 long-unread line long = rw (lt-ltb maxLine (length line) long)
 

@@ -1,6 +1,8 @@
 -- The words that the line program prints: document 01, "The line program". Assumes nothing.
+use mathlib.Core.Bool.{Bool}
 use mathlib.Core.List.{List, [], _∷_, _++_}
 use Prim.Native.Nat.{ℕ, zero, suc}
+use lib.IntN.{ℤ}
 use lib.ListN.{length}
 use Rattle.routine.specs.Choice.{if_then_else_}
 use Rattle.routine.specs.declared.Refusal.{Refusal}
@@ -50,9 +52,12 @@ unfoldable pub answersText : List Answer → List ℕ
 answersText [] = []
 answersText (a ∷ l) = asLine (answerText a) ++ answersText l
 
--- "one line a device, with its due setting if it is up"
+-- "one line a device, with its due setting if it is up": of whether it is up, and that setting
+abbrev pub deviceTextOf : ℕ → Bool → ℤ → List ℕ
+deviceTextOf d isUp setting = bytes "device " ++ decimal d ++ (if isUp then bytes " up " ++ signed setting else bytes " down")
+
 unfoldable pub deviceText : State → ℕ → List ℕ
-deviceText s d = bytes "device " ++ decimal d ++ (if s .up d then bytes " up " ++ signed (due s d) else bytes " down")
+deviceText s d = deviceTextOf d (s .up d) (due s d)
 
 -- So many devices, from d on.
 unfoldable pub deviceLines : State → ℕ → ℕ → List ℕ

@@ -117,16 +117,16 @@ submitWith (some cs) = calling (submit cs)
 abbrev pub submitLine : List (List ℕ) → Line
 submitLine ws = submitWith (commands ws)
 
--- "`N` id (turn), `D` id (done), `B` id (failed), `C` id (cancel)"
+-- "`N` id (turn), `D` id (done), `B` id (failed), `C` id (cancel)", "`F` device"
 abbrev pub callWith : (ℕ → Call) → Option ℕ → Line
 callWith call none = unread
 callWith call (some n) = calling (call n)
 
--- A call with one number, of a width.
-unfoldable pub oneNumber : ℕ → (ℕ → Call) → List (List ℕ) → Line
-oneNumber highest call [] = unread
-oneNumber highest call (n ∷ []) = callWith call (numberUpTo highest n)
-oneNumber highest call (n ∷ w ∷ ws) = unread
+-- One number, of a width, and what a line says by it.
+unfoldable pub oneNumber : ℕ → (Option ℕ → Line) → List (List ℕ) → Line
+oneNumber highest form [] = unread
+oneNumber highest form (n ∷ []) = form (numberUpTo highest n)
+oneNumber highest form (n ∷ w ∷ ws) = unread
 
 -- "`R` device setting"
 abbrev pub restartWith : Option ℕ → Option ℤ → Line
@@ -150,11 +150,11 @@ unfoldable pub lineWith : List ℕ → List (List ℕ) → Line
 lineWith word ws =
     if is word "O" then openingLine ws
     else if is word "S" then submitLine ws
-    else if is word "N" then oneNumber highest32 turn ws
-    else if is word "D" then oneNumber highest32 (λ i. report i codeDone) ws
-    else if is word "B" then oneNumber highest32 (λ i. report i codeFailed) ws
-    else if is word "C" then oneNumber highest32 cancel ws
-    else if is word "F" then oneNumber highest8 failure ws
+    else if is word "N" then oneNumber highest32 (callWith turn) ws
+    else if is word "D" then oneNumber highest32 (callWith (λ i. report i codeDone)) ws
+    else if is word "B" then oneNumber highest32 (callWith (λ i. report i codeFailed)) ws
+    else if is word "C" then oneNumber highest32 (callWith cancel) ws
+    else if is word "F" then oneNumber highest8 (callWith failure) ws
     else if is word "R" then restartLine ws
     else unread
 

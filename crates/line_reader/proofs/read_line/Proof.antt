@@ -1,8 +1,9 @@
 -- `line_reader::read_line` meets its contract. Assumes nothing.
 use mathlib.Core.Path.{sym, ap, _∙_}
 use native.Mathlib.Omega.{arith}
+use Rattle.line_rules.proofs.Parts.{long-unread}
 use Rattle.line_reader.specs.Held.{heldLine}
-use Rattle.line_reader.proofs.Forms.{line-long, line-short}
+use Rattle.line_reader.proofs.Forms.{line-short}
 use borrow.Author.Needs.{needs}
 use Rattle.line_reader.proofs.read_line.Statement.{statement}
 use Rattle.line_reader.proofs.read_line.Tie as tie
@@ -11,7 +12,7 @@ unread-requires : tie.Need-unread-requires
 unread-requires c κs = search needs
 
 returns : tie.Need-returns
-returns c = c .unread .ensures ∙ sym (ap heldLine (line-long (c .before .before .before .args .line .now) (omega arith)))
+returns c = c .unread .ensures ∙ sym (ap heldLine (long-unread (c .before .before .before .args .line .now) (omega arith)))
 
 by-letter-requires : tie.Need-by-letter-requires
 by-letter-requires c κs = search needs

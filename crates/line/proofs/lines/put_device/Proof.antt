@@ -2,8 +2,7 @@
 use mathlib.Core.Path.{_≡_, _∙_}
 use mir.Syntax.{w16}
 use mir.Val.{toZ, ofZ}
-use Rattle.line_rules.specs.Printing.{asLine, deviceText}
-use Rattle.line_printer.specs.Put.{deviceTextOf}
+use Rattle.line_rules.specs.Printing.{asLine, deviceTextOf, deviceText}
 use Rattle.line_printer.proofs.Laws.{as-text}
 use borrow.Author.Needs.{needs}
 use Rattle.line.proofs.lines.put_device.Statement.{statement}

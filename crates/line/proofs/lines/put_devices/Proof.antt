@@ -6,7 +6,7 @@ use borrow.Author.Needs.{needs}
 use lib.ListN.{length}
 use Rattle.hub.specs.View.{view}
 use Rattle.line_rules.specs.Printing.{deviceLines}
-use Rattle.line_printer.specs.Put.{maxDevice, PutShort}
+use Rattle.line_printer.specs.Put.{maxDeviceLine, PutShort}
 use Rattle.line_printer.proofs.Laws.{put-none, short-then, within, as-text, reaches}
 use Rattle.line.proofs.Loops.{devices-are, devices-next, end-is}
 use Rattle.line.proofs.lines.put_devices.Statement.{statement}
@@ -14,7 +14,7 @@ use Rattle.line.proofs.lines.put_devices.Tie as tie
 
 abbrev Inv-loop : tie.InvT-loop
 Inv-loop hub out₀ at count to₀ device₀ out to device =
-    (device ≤ count) × (length out ≡ length out₀) × PutShort (maxDevice * device) out₀ out at to (deviceLines (view hub) 0 device)
+    (device ≤ count) × (length out ≡ length out₀) × PutShort (maxDeviceLine * device) out₀ out at to (deviceLines (view hub) 0 device)
 
 abbrev μ-loop : tie.MeasureT-loop
 μ-loop hub out₀ at count to₀ device₀ out to device = count - device

@@ -7,7 +7,7 @@ use lib.ListN.{getD}
 use Rattle.line_rules.specs.Pieces.{wordsOf}
 use Rattle.line_rules.specs.Reading.{lineWith, lineBy}
 use Rattle.line_reader.specs.Held.{heldLine}
-use Rattle.line_reader.specs.Places.{wordsFrom}
+use Rattle.line_reader.specs.Places.{behindLetter, wordsFrom}
 use Rattle.line_reader.proofs.Forms.{no-words, letter-and-more, one-byte, letter-alone, letter-submit, plain-routine}
 use borrow.Author.Needs.{needs}
 use Rattle.line_reader.proofs.calls.by_letter.Statement.{statement}
@@ -34,7 +34,7 @@ shared-slice-read-letter c = search needs
 
 -- the letter is a word alone
 alone : (c : tie.Joined2) → let line = c .before .before .before .args .line .now in
-    lineBy (wordsOf line) ≡ lineWith (getD line 0 0 ∷ []) (wordsFrom line 2)
+    lineBy (wordsOf line) ≡ lineWith (getD line 0 0 ∷ []) (wordsFrom line behindLetter)
 alone c = let line = c .before .before .before .args .line .now in
     ⊎-elim (λ w. letter-alone line (w .0 .taken) (w .2 .left)) (λ w. one-byte line (omega (arith, w .left))) (c .if2 .came)
 

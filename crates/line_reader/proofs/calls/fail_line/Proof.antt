@@ -3,6 +3,7 @@ use mathlib.Core.Path.{refl, sym, ap, _∙_}
 use native.Mathlib.Omega.{arith}
 use Rattle.rules.specs.Answers.{failure}
 use Rattle.line_rules.specs.Reading.{highest8, callWith, numberUpTo}
+use Rattle.line_reader.specs.Places.{behindLetter}
 use Rattle.line_reader.proofs.Laws.{WordSays, no-number, number-says, number-bound}
 use Rattle.line_reader.proofs.Forms.{heldAs, one-none, one-more, one-found}
 use borrow.Author.Needs.{needs}
@@ -20,7 +21,7 @@ enum-told c = search needs
 
 -- the device's word
 device : (c : tie.After-known-told) → let g = c .before .device .given .0 in
-    WordSays (numberUpTo highest8) (c .before .before .before .before .before .args .line .now) 2 (g .0) (g .1 .0)
+    WordSays (numberUpTo highest8) (c .before .before .before .before .before .args .line .now) behindLetter (g .0) (g .1 .0)
 device c = number-says highest8 _ _ _ _ (sym (c .before .before .before .number-at .ensures) ∙ c .before .device .given .1)
 
 returns : tie.Need-returns

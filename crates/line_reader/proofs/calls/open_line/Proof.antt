@@ -3,6 +3,7 @@ use Prim.Native.Nat.{_+_}
 use mathlib.Core.Path.{sym, ap, _∙_}
 use native.Mathlib.Omega.{arith}
 use Rattle.line_rules.specs.Reading.{highest8, highest32, numberUpTo}
+use Rattle.line_reader.specs.Places.{behindLetter}
 use Rattle.line_reader.proofs.Laws.{WordSays, no-number, number-says, number-bound}
 use Rattle.line_reader.proofs.Forms.{heldAs, open-none, open-one, open-two, open-more, open-all}
 use borrow.Author.Needs.{needs}
@@ -20,7 +21,7 @@ enum-told c = search needs
 
 -- the words, as they are found
 devices : (c : tie.After-known-told) → let g = c .before .devices .given .0 in
-    WordSays (numberUpTo highest8) (c .before .before .before .before .before .args .line .now) 2 (g .0) (g .1 .0)
+    WordSays (numberUpTo highest8) (c .before .before .before .before .before .args .line .now) behindLetter (g .0) (g .1 .0)
 devices c = number-says highest8 _ _ _ _ (sym (c .before .before .before .number-at .ensures) ∙ c .before .devices .given .1)
 
 limit : (c : tie.After-known-told2) → let g = c .before .pass-limit .given .0 in

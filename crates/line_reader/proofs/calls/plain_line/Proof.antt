@@ -1,8 +1,6 @@
 -- `line_reader::calls::plain_line` meets its contract. Assumes nothing.
 use mathlib.Core.Path.{sym, ap, _∙_}
-use Rattle.rules.specs.Answers.{failure}
-use Rattle.line_rules.specs.Reading.{highest8}
-use Rattle.line_reader.proofs.Forms.{heldAs, one-number, letter-open, letter-fail, letter-restart, letter-other}
+use Rattle.line_reader.proofs.Forms.{heldAs, letter-open, letter-fail, letter-restart, letter-other}
 use borrow.Author.Needs.{needs}
 use Rattle.line_reader.proofs.calls.plain_line.Statement.{statement}
 use Rattle.line_reader.proofs.calls.plain_line.Tie as tie
@@ -17,7 +15,7 @@ fail-line-requires : tie.Need-fail-line-requires
 fail-line-requires c κs = search needs
 
 returns-2 : tie.Need-returns-2
-returns-2 c = c .fail-line .ensures ∙ sym (ap heldAs (letter-fail _ _ (c .before .if2 .taken) ∙ one-number highest8 failure _))
+returns-2 c = c .fail-line .ensures ∙ sym (ap heldAs (letter-fail _ _ (c .before .if2 .taken)))
 
 restart-line-requires : tie.Need-restart-line-requires
 restart-line-requires c κs = search needs

@@ -5,6 +5,7 @@ use native.Mathlib.Omega.{arith}
 use mir.Syntax.{w16}
 use mir.Val.{toZ, ofZ}
 use Rattle.line_rules.specs.Reading.{highest8, numberUpTo, setting}
+use Rattle.line_reader.specs.Places.{behindLetter}
 use Rattle.line_reader.proofs.Laws.{WordSays, no-number, number-says, number-bound, no-setting, setting-says}
 use Rattle.line_reader.proofs.Forms.{heldAs, restart-none, restart-one, restart-more, restart-all}
 use borrow.Author.Needs.{needs}
@@ -22,7 +23,7 @@ enum-told c = search needs
 
 -- the words, as they are found
 device : (c : tie.After-known-told) → let g = c .before .device .given .0 in
-    WordSays (numberUpTo highest8) (c .before .before .before .before .before .args .line .now) 2 (g .0) (g .1 .0)
+    WordSays (numberUpTo highest8) (c .before .before .before .before .before .args .line .now) behindLetter (g .0) (g .1 .0)
 device c = number-says highest8 _ _ _ _ (sym (c .before .before .before .number-at .ensures) ∙ c .before .device .given .1)
 
 value : (c : tie.After-known-told2) → let g = c .before .setting .given .0 in

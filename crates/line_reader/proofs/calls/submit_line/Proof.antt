@@ -7,7 +7,7 @@ use lib.ListN.{length}
 use Rattle.routine.specs.declared.Routine.{Routine}
 use Rattle.line_rules.specs.Reading.{commands, submitLine}
 use Rattle.line_reader.specs.Held.{heldLine}
-use Rattle.line_reader.specs.Places.{wordsFrom, commandBehind}
+use Rattle.line_reader.specs.Places.{behindLetter, wordsFrom, commandBehind}
 use Rattle.line_reader.proofs.Forms.{submitFrom, submit-all, submit-more, submit-end}
 use borrow.Author.Needs.{needs}
 use Rattle.line_reader.proofs.calls.submit_line.Statement.{statement}
@@ -15,7 +15,7 @@ use Rattle.line_reader.proofs.calls.submit_line.Tie as tie
 
 -- what is left: the commands of the words from a place on, behind those that the routine has
 abbrev Inv-loop : tie.InvT-loop
-Inv-loop line routine₀ at₀ routine at = submitFrom routine (commands (wordsFrom line at)) ≡ heldLine (submitLine (wordsFrom line 2))
+Inv-loop line routine₀ at₀ routine at = submitFrom routine (commands (wordsFrom line at)) ≡ heldLine (submitLine (wordsFrom line behindLetter))
 
 abbrev μ-loop : tie.MeasureT-loop
 μ-loop line routine₀ at₀ routine at = suc (length line) - at
