@@ -35,8 +35,8 @@ pub record Finishes (h : Hub) (buffer buffer′ : List ℕ) (result : ℤ) : Typ
 abbrev pub maxEnd : ℕ
 maxEnd = maxDevices * maxDeviceLine
 
--- What all lines print stands in the buffer, if there is room for it; else the place is one past the room. If there is room for so many lines of any kind,
--- it is not longer than they can be.
+-- What all lines print stands in the buffer, if there is room for it; else the place is some place past the room, at most maxText further. `ample`: where the room
+-- is maxText bytes for each line, what they print has no more bytes than that.
 pub record RunsLines (h : Hub) (input : List ℕ) (room : ℕ) (buffer buffer′ : List ℕ) (s : Lines) : Type 0 where
   pub valid : Valid (s .hub)
   pub near : s .at ≤ room + maxText

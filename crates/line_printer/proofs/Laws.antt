@@ -20,6 +20,7 @@ use Rattle.state.specs.View.{backOf, backsOf}
 use Rattle.state.specs.declared.PutBack.{PutBack}
 use Rattle.state.specs.declared.PutBacks.{PutBacks}
 use Rattle.line_rules.specs.Text.{minus, bytes, decimal, signed}
+use Rattle.line_rules.specs.Reading.{lowest16}
 use Rattle.line_rules.specs.Printing.{asLine, backList, backText, backIfAny, answerText, answersText}
 use Rattle.line_printer.specs.Put.{Put, PutShort}
 
@@ -111,7 +112,7 @@ wider v h = record { sfits = omega (arith, h .sfits) }
 pub kept : (v : ℤ) → SFits w16 v → toZ w16 (ofZ w16 v) ≡ v
 kept v h = toZ-ofZ h
 
-pub size-fits : (v : ℤ) → SFits w16 v → natAbs v ≤ 32768
+pub size-fits : (v : ℤ) → SFits w16 v → natAbs v ≤ lowest16
 size-fits (pos n) h = omega (arith, h .sfits)
 size-fits (negsuc n) h = omega (arith, h .sfits)
 

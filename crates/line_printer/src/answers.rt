@@ -1,4 +1,4 @@
-// The words of answers: document 01, "The line program". They have at most 399 bytes, with the line's end 400.
+// The words of answers: document 01, "The line program".
 use crate::text::put_end;
 use crate::text::put_one;
 use crate::text::put_setting;
@@ -16,12 +16,12 @@ ghost use Rattle.rules.specs.Answers.{send, skipped, aborted};
 ghost use Rattle.line_rules.specs.Printing.{asLine, refusalText, backList, backText, answerText, answersText};
 ghost use Rattle.state.specs.View.{backOf, backsOf, answerOf, firstOf};
 ghost use Rattle.state.specs.Valid.{BacksOk};
-ghost use Rattle.line_printer.specs.Put.{halfText, PutShort};
+ghost use Rattle.line_printer.specs.Put.{maxBack, maxBacks, ahead, maxAnswer, halfText, PutShort};
 
 // The word, the number, and the index if there is one; no line's end.
 pub fn put_refused(out: &mut [u8], at: usize, refusal: Refusal) -> usize
     requires { ⌜ at + halfText < 2 ^ 64 ⌝ }
-    ensures { λ r. ⌜ PutShort 399 (now (out .entry)) (now (out .exit)) at r (refusalText refusal) ⌝ }
+    ensures { λ r. ⌜ PutShort maxAnswer (now (out .entry)) (now (out .exit)) at r (refusalText refusal) ⌝ }
 {
     match refusal {
         Refusal::Number(number) => put_one(out, at, b"refused ", number as u64),
@@ -38,8 +38,8 @@ pub fn put_refused(out: &mut [u8], at: usize, refusal: Refusal) -> usize
 
 // "device and setting for each"
 fn put_back(out: &mut [u8], at: usize, back: PutBack) -> usize
-    requires { ⌜ at + 21 < 2 ^ 64 ⌝ }
-    ensures { λ r. ⌜ PutShort 11 (now (out .entry)) (now (out .exit)) at r (backList (backOf back ∷ [])) ⌝ }
+    requires { ⌜ at + maxBack + ahead < 2 ^ 64 ⌝ }
+    ensures { λ r. ⌜ PutShort maxBack (now (out .entry)) (now (out .exit)) at r (backList (backOf back ∷ [])) ⌝ }
 {
     let named = put_one(out, at, b" ", back.device as u64);
     let from = put_word(out, named, b" ");
@@ -49,8 +49,8 @@ fn put_back(out: &mut [u8], at: usize, back: PutBack) -> usize
 
 // "`back` a count, then device and setting for each"
 fn put_backs(out: &mut [u8], at: usize, backs: PutBacks) -> usize
-    requires { ⌜ (at + 370 < 2 ^ 64) × BacksOk backs ⌝ }
-    ensures { λ r. ⌜ PutShort 360 (now (out .entry)) (now (out .exit)) at r (backText (backsOf backs)) ⌝ }
+    requires { ⌜ (at + maxBacks + ahead < 2 ^ 64) × BacksOk backs ⌝ }
+    ensures { λ r. ⌜ PutShort maxBacks (now (out .entry)) (now (out .exit)) at r (backText (backsOf backs)) ⌝ }
 {
     let count = backs.count;
     let mut to = put_one(out, at, b" back ", count as u64);
@@ -66,7 +66,7 @@ fn put_backs(out: &mut [u8], at: usize, backs: PutBacks) -> usize
 // "`aborted 1 back 0`"
 fn put_aborted(out: &mut [u8], at: usize, id: u32, backs: PutBacks) -> usize
     requires { ⌜ (at + halfText < 2 ^ 64) × BacksOk backs ⌝ }
-    ensures { λ r. ⌜ PutShort 399 (now (out .entry)) (now (out .exit)) at r (answerText (aborted id (backsOf backs))) ⌝ }
+    ensures { λ r. ⌜ PutShort maxAnswer (now (out .entry)) (now (out .exit)) at r (answerText (aborted id (backsOf backs))) ⌝ }
 {
     let named = put_one(out, at, b"aborted ", id as u64);
     put_backs(out, named, backs)
@@ -89,7 +89,7 @@ pub fn put_first(out: &mut [u8], at: usize, first: First, backs: PutBacks) -> us
 // "`send` has id, device, setting"
 fn put_sent(out: &mut [u8], at: usize, sent: Sent) -> usize
     requires { ⌜ at + halfText < 2 ^ 64 ⌝ }
-    ensures { λ r. ⌜ PutShort 399 (now (out .entry)) (now (out .exit)) at r (answerText (send (sent .id) (sent .command))) ⌝ }
+    ensures { λ r. ⌜ PutShort maxAnswer (now (out .entry)) (now (out .exit)) at r (answerText (send (sent .id) (sent .command))) ⌝ }
 {
     let command = sent.command;
     let named = put_two(
@@ -108,7 +108,7 @@ fn put_sent(out: &mut [u8], at: usize, sent: Sent) -> usize
 // "`skipped 1` (followed by `back` in the same form where a setting was sent back)"
 fn put_skipped(out: &mut [u8], at: usize, id: u32, backs: PutBacks) -> usize
     requires { ⌜ (at + halfText < 2 ^ 64) × BacksOk backs ⌝ }
-    ensures { λ r. ⌜ PutShort 399 (now (out .entry)) (now (out .exit)) at r (answerText (skipped id (backsOf backs))) ⌝ }
+    ensures { λ r. ⌜ PutShort maxAnswer (now (out .entry)) (now (out .exit)) at r (answerText (skipped id (backsOf backs))) ⌝ }
 {
     let named = put_one(out, at, b"skipped ", id as u64);
     if backs.count == 0 {
@@ -120,7 +120,7 @@ fn put_skipped(out: &mut [u8], at: usize, id: u32, backs: PutBacks) -> usize
 // An answer, without its line's end.
 fn put_words(out: &mut [u8], at: usize, answer: Answer, backs: PutBacks) -> usize
     requires { ⌜ (at + halfText < 2 ^ 64) × BacksOk backs ⌝ }
-    ensures { λ r. ⌜ PutShort 399 (now (out .entry)) (now (out .exit)) at r (answerText (answerOf answer (backsOf backs))) ⌝ }
+    ensures { λ r. ⌜ PutShort maxAnswer (now (out .entry)) (now (out .exit)) at r (answerText (answerOf answer (backsOf backs))) ⌝ }
 {
     match answer {
         Answer::Refused(refusal) => put_refused(out, at, refusal),

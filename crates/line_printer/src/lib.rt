@@ -1,5 +1,5 @@
 // The lines that the line program prints, put into a lent buffer from a place on: document 01, "The line program". What lies past the buffer's end is
-// counted and not put, so that a line can be measured on a buffer of no bytes.
+// counted and not put, so that a line can be measured on a buffer of one byte.
 mod answers;
 mod text;
 
@@ -41,7 +41,7 @@ pub fn put_refusal(out: &mut [u8], at: usize, refusal: Refusal) -> usize
     text::put_end(out, end)
 }
 
-// The answers of a call that is not turned down, each on a line of its own; what is put back belongs to the one that has it.
+// The answers of a call, each on a line of its own; what is put back belongs to the answer that has it.
 pub fn put_answers(
     out: &mut [u8],
     at: usize,

@@ -5,7 +5,7 @@ ghost use mathlib.Core.List.{[], _∷_, _++_};
 ghost use Prim.Native.Nat.{_+_, _<_, _^_};
 ghost use lib.ListN.{length};
 ghost use Rattle.line_rules.specs.Text.{lineEnd, decimal, signed};
-ghost use Rattle.line_printer.specs.Put.{Put, PutShort};
+ghost use Rattle.line_printer.specs.Put.{maxDigits, maxSetting, Put, PutShort};
 
 const DIGIT_0: u64 = 48;
 
@@ -52,10 +52,10 @@ pub fn put_number(out: &mut [u8], at: usize, n: u64) -> usize
     put_byte(out, end, (DIGIT_0 + n % 10) as u8)
 }
 
-// At most five digits, perhaps with a minus.
+// A setting: digits, perhaps with a minus before them.
 pub fn put_setting(out: &mut [u8], at: usize, setting: i16) -> usize
-    requires { ⌜ at + 6 < 2 ^ 64 ⌝ }
-    ensures { λ r. ⌜ PutShort 6 (now (out .entry)) (now (out .exit)) at r (signed setting) ⌝ }
+    requires { ⌜ at + maxSetting < 2 ^ 64 ⌝ }
+    ensures { λ r. ⌜ PutShort maxSetting (now (out .entry)) (now (out .exit)) at r (signed setting) ⌝ }
 {
     if setting < 0 {
         let from = put_byte(out, at, MINUS);
@@ -65,10 +65,10 @@ pub fn put_setting(out: &mut [u8], at: usize, setting: i16) -> usize
     put_number(out, at, setting as u64)
 }
 
-// A word and a number, which has at most 20 digits.
+// A word and a number.
 pub fn put_one(out: &mut [u8], at: usize, word: &[u8], n: u64) -> usize
-    requires { ⌜ at + (length (now word) + 20) < 2 ^ 64 ⌝ }
-    ensures { λ r. ⌜ PutShort (length (now (word .entry)) + 20) (now (out .entry)) (now (out .exit)) at r (now (word .entry) ++ decimal n) ⌝ }
+    requires { ⌜ at + (length (now word) + maxDigits) < 2 ^ 64 ⌝ }
+    ensures { λ r. ⌜ PutShort (length (now (word .entry)) + maxDigits) (now (out .entry)) (now (out .exit)) at r (now (word .entry) ++ decimal n) ⌝ }
 {
     let from = put_word(out, at, word);
     put_number(out, from, n)
@@ -76,9 +76,9 @@ pub fn put_one(out: &mut [u8], at: usize, word: &[u8], n: u64) -> usize
 
 // A word, a number, another word, another number.
 pub fn put_two(out: &mut [u8], at: usize, word: &[u8], n: u64, between: &[u8], m: u64) -> usize
-    requires { ⌜ at + (length (now word) + 20 + length (now between) + 20) < 2 ^ 64 ⌝ }
+    requires { ⌜ at + (length (now word) + maxDigits + length (now between) + maxDigits) < 2 ^ 64 ⌝ }
     ensures { λ r. ⌜
-        PutShort (length (now (word .entry)) + 20 + length (now (between .entry)) + 20) (now (out .entry)) (now (out .exit)) at r
+        PutShort (length (now (word .entry)) + maxDigits + length (now (between .entry)) + maxDigits) (now (out .entry)) (now (out .exit)) at r
         (now (word .entry) ++ decimal n ++ now (between .entry) ++ decimal m)
         ⌝ }
 {

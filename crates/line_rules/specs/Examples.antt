@@ -40,6 +40,20 @@ pub aborted-first : Prints
 unfolding calc
 aborted-first = refl
 
+-- The same of `R`: the routine has begun the device with a skipped command, and the restart finds it unfinished.
+pub aborted-by-restart : Prints
+    "O 1 0 1\nF 0\nS 0 1 5 0 1 6\nN 1\nR 0 7\n"
+    "opened\ndown 0 after 0\nplaced 1 after 0\nskipped 1\naborted 1 back 0\nup 0 after 0\ndevice 0 up 7\n"
+unfolding calc
+aborted-by-restart = refl
+
+-- A cancel that puts two devices back, by rising device, at settings below 0: on one a command is in flight, on the other the due setting changes.
+pub two-back : Prints
+    "O 2 1 1\nS 0 0 -15 1 0 -1000\nN 1\nD 1\nN 1\nD 1\nN 1\nS 1 0 40 0 0 -7\nN 2\nD 2\nN 2\nC 2\n"
+    "opened\nplaced 1 after 0\nsend 1 0 -15\ndone 1\nsend 1 1 -1000\ndone 1\ncommitted 1\nplaced 2 after 0\nsend 2 1 40\ndone 2\nsend 2 0 -7\naborted 2 back 2 0 -15 1 -1000\ndevice 0 up -15\ndevice 1 up -1000\n"
+unfolding calc
+two-back = refl
+
 pub waits : Prints
     "O 1 0 2\nS 0 0 1\nS 0 0 2\nN 3\nS 0 2 1\nS 0 0 1 1 0 1\n"
     "opened\nplaced 2 after 0\nplaced 3 after 2\nwait 3 on 2\nrefused 7 0\nrefused 5 1\ndevice 0 up 0\n"

@@ -29,13 +29,16 @@ abbrev pub printsOpening : Option State → Opening → Printed
 printsOpening h (opened s) = record { hub = some s; text = asLine (bytes "opened") }
 printsOpening h (not-opened r) = record { hub = h; text = asLine (refusalText r) }
 
+-- "One line of output each, ended by byte 10; an abort caused by `F` or `R` is printed first, on a line of its own." They are the answers of the call.
 abbrev pub printsResult : Result → Printed
 printsResult r = record { hub = some (r .state); text = answersText (r .answers) }
 
+-- A call on the hub of the last accepted `O`. "before an accepted `O`, prints `unread`"
 abbrev pub printsCall : Option State → Call → Printed
 printsCall none c = printsUnread none
 printsCall (some s) c = printsResult (resultOf s c)
 
+-- A line. "One line of output each": an opening's, a call's or `unread`.
 unfoldable pub step : Option State → Line → Printed
 step h (opening n k first) = printsOpening h (openOf n k first)
 step h (calling c) = printsCall h c

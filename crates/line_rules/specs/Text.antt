@@ -27,7 +27,8 @@ minus = 45
 abbrev pub digit0 : ℕ
 digit0 = 48
 
--- The decimal digits of n, with no zero before them. The first argument bounds how many there are; the second says whether n is a single digit.
+-- The decimal digits of n, with no zero before them. The first argument bounds how many there are; the second says whether n is a single digit. That test is an
+-- argument, so that a computation goes no further than the digits go: it would follow both branches of an `if`, down to the bound.
 unfoldable pub digits : ℕ → Bool → ℕ → List ℕ
 digits zero true n = (digit0 + n) ∷ []
 digits zero false n = []

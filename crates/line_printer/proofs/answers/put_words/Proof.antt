@@ -7,15 +7,15 @@ use Rattle.rules.specs.Answers.{Back}
 use Rattle.state.specs.View.{answerOf}
 use Rattle.state.specs.declared.Answer.{Answer}
 use Rattle.line_rules.specs.Printing.{answerText}
-use Rattle.line_printer.specs.Put.{PutShort}
+use Rattle.line_printer.specs.Put.{maxAnswer, PutShort}
 use Rattle.line_printer.proofs.Laws.{within, as-text}
 use borrow.Author.Needs.{needs}
 use Rattle.line_printer.proofs.answers.put_words.Statement.{statement}
 use Rattle.line_printer.proofs.answers.put_words.Tie as tie
 
 -- the text of the case that the answer is
-answered : {k : ℕ} {a b : List ℕ} {at e : ℕ} (x y : Answer) (l : List Back) → x ≡ y → k ≤ 399 → PutShort k a b at e (answerText (answerOf y l)) →
-    PutShort 399 a b at e (answerText (answerOf x l))
+answered : {k : ℕ} {a b : List ℕ} {at e : ℕ} (x y : Answer) (l : List Back) → x ≡ y → k ≤ maxAnswer → PutShort k a b at e (answerText (answerOf y l)) →
+    PutShort maxAnswer a b at e (answerText (answerOf x l))
 answered x y l h n p = as-text (ap (λ (z : Answer). answerText (answerOf z l)) (sym h)) (within n p)
 
 enum-known-answer : tie.Need-enum-known-answer
