@@ -26,8 +26,8 @@ extern "C" {
  * says, were written; nothing past them was touched. No byte 0 is added behind them.
  * Or PLOT_HUB_TOO_SHORT: what is printed is longer than output_length. The whole buffer is then as it was before the call.
  * The result is never another negative number. It does not say how long a buffer would be enough: call again with a longer
- * one. A buffer of 800 bytes for each byte 10 of the input and 1,600 more is always enough, and with one the input is gone
- * over only once; with a shorter one it is gone over twice, first to see whether the buffer is long enough.
+ * one. A buffer of 800 bytes for each byte 10 of the input and 1,600 more is always enough, and with one the lines are run
+ * only once; with a shorter one they are run twice, first to see whether the buffer is long enough.
  *
  * Input of no bytes prints nothing: the result is 0 with any buffer, one of length 0 included.
  *

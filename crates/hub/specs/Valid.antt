@@ -1,4 +1,4 @@
--- Validity of a hub: what opening gives and every call keeps. Assumes nothing.
+-- Validity of a hub: what `open` and `closed` give and every call keeps. Assumes nothing.
 use Rattle.state.specs.Valid.{StateOk}
 use Rattle.hub.specs.declared.Hub.{Hub}
 
