@@ -6,7 +6,6 @@ use Prim.Native.Char.{code}
 use Prim.Native.String.{String, [] as end, _∷_ as _then_}
 use lib.Dec.{ltb, eqb}
 use lib.IntN.{ℤ, pos, negsuc}
-use Rattle.routine.specs.Choice.{if_then_else_}
 
 -- The bytes of a word, as 01 writes it.
 abbrev pub bytes : String → List ℕ

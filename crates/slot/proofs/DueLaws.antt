@@ -11,7 +11,7 @@ use mir.Val.{toZ, ofZ}
 use mir.Syntax.{w16}
 use lib.Dec.{eqb, ltb}
 use lib.IntN.{ℤ, pos, negsuc}
-use lib.ListN.{length, set, List·getD-eq-default}
+use lib.ListN.{length, List·getD-eq-default}
 use Rattle.routine.specs.Choice.{if_then_else_}
 use Rattle.rules.specs.Tables.{put, sameSetting}
 use Rattle.rules.specs.State.{Step}

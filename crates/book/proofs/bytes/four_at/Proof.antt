@@ -1,3 +1,4 @@
+-- `book::bytes::four_at` meets its contract. Assumes nothing.
 use native.Mathlib.Omega.{arith}
 use Rattle.layout.specs.Numbers.{fourAt}
 use borrow.Author.Needs.{needs}

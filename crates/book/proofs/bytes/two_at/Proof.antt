@@ -1,3 +1,4 @@
+-- `book::bytes::two_at` meets its contract. Assumes nothing.
 use mathlib.Core.Path.{_∙_}
 use native.Mathlib.Omega.{arith}
 use Rattle.layout.specs.Numbers.{twoAt}

@@ -1,3 +1,4 @@
+-- `book::reading::check_placed` meets its contract. Assumes nothing.
 use Prim.Native.Nat.{ℕ, _/_}
 use mathlib.Core.Bool.{true}
 use mathlib.Core.Path.{_≡_, sym, ap, _∙_}

@@ -1,3 +1,4 @@
+-- `book::reading::ended` meets its contract. Assumes nothing.
 use mathlib.Core.Path.{ap}
 use Rattle.routine.specs.declared.Routine.{Routine}
 use Rattle.layout.specs.declared.Item.the-variants.{End}

@@ -1,3 +1,4 @@
+-- `book::reading::length_fits` meets its contract. Assumes nothing.
 use borrow.Author.Tests.{le-leb, lt-leb}
 use Rattle.layout.specs.Reading.{lengthFits}
 use borrow.Author.Needs.{needs}

@@ -4,7 +4,7 @@ use borrow.Author.Needs.{needs}
 use Prim.Native.Nat.{_-_, _≤_, min}
 use mathlib.Core.Path.{_≡_, refl, sym, ap, _∙_}
 use native.Mathlib.Omega.{arith}
-use lib.ListN.{length, take, drop, getD}
+use lib.ListN.{length, drop, getD}
 use Rattle.layout.specs.Writing.{rowOf, routinesOf}
 use Rattle.layout.specs.Writing.{routinesCheck}
 use Rattle.book_writer.proofs.Row.{routines-more, routines-end, check-none, check-more, check-stops}

@@ -1,3 +1,4 @@
+-- `book_writer::writing::put_four` meets its contract. Assumes nothing.
 use native.Mathlib.Numerals.{add-one, add-two, add-three}
 use native.Mathlib.Omega.{arith}
 use lib.ListN.{length-set}

@@ -1,3 +1,4 @@
+-- `book_writer::writing::put_two` meets its contract. Assumes nothing.
 use native.Mathlib.Numerals.{add-one}
 use native.Mathlib.Omega.{arith}
 use lib.ListN.{length-set}
