@@ -11,7 +11,7 @@ use borrow.Author.Tests.{ltb-true, ltb-false, lt-ltb, le-ltb, le-leb, lt-leb, le
 use lib.Dec.{ltb, leb, eqb}
 use lib.IntN.{ℤ, pos, negsuc, _-ℤ_, +ℤ-idl}
 use lib.ListN.{length, take, drop, getD, length-drop, drop-of-length-le}
-use lib.Seq.{drop-cons, drop-drop, take-all, length-take-le}
+use lib.Seq.{drop-cons, take-all, length-take-le}
 use mir.Syntax.{w16}
 use mir.Val.{SFits}
 use Rattle.routine.specs.Choice.{if_then_else_}
@@ -19,7 +19,7 @@ use Rattle.routine.proofs.Laws.{byTest}
 use Rattle.line_rules.specs.Text.{space, minus, digit0}
 use Rattle.line_rules.specs.Pieces.{pieces, reach, wordsOf}
 use Rattle.line_rules.specs.Reading.{highest16, lowest16, isDigit, digitsFrom, number, within, numberUpTo, positive, minusOf, negative, setting}
-use Rattle.line_rules.proofs.Laws.{reach-within, pieces-parted, pieces-one}
+use Rattle.line_rules.proofs.Laws.{drop-behind, reach-within, pieces-parted, pieces-one}
 use Rattle.line_reader.specs.Places.{wordAt, wordEnd, wordsFrom, heldNumber, foundFrom, numberAt, heldSetting, settingAt}
 use Rattle.line_reader.specs.declared.numbers.Number.{Number}
 use Rattle.line_reader.specs.declared.numbers.Number.the-variants.{Found, Missing}
@@ -100,9 +100,8 @@ module _ (line : List ℕ) (at : ℕ) where
           pieces space bs ≡ take r bs ∷ (if leb (suc (at + r)) (length line) then pieces space (drop (suc (at + r)) line) else [])
       go true e =
           let more = ltb-true r (length bs) e in
-          let n : at + suc r ≡ suc (at + r) = omega arith in
           rw (le-leb (suc (at + r)) (length line) (omega (arith, left)))
-          (pieces-parted space bs more ∙ ap (λ (l : List ℕ). take r bs ∷ pieces space l) (drop-drop (suc r) at line ∙ ap (λ (k : ℕ). drop k line) n))
+          (pieces-parted space bs more ∙ ap (λ (l : List ℕ). take r bs ∷ pieces space l) (drop-behind line at r))
       go false e =
           let past = ltb-false r (length bs) e in
           rw (lt-leb (suc (at + r)) (length line) (omega (arith, left)), take-all r bs past) (pieces-one space bs past)

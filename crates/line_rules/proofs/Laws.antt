@@ -13,6 +13,10 @@ use Rattle.routine.proofs.Laws.{byTest}
 use Rattle.line_rules.specs.Text.{lineEnd}
 use Rattle.line_rules.specs.Pieces.{piecesFrom, pieces, reach, withoutEmptyLast, linesOf}
 
+-- what is behind some bytes and one more, from a place on
+pub drop-behind : (bs : List ℕ) (at n : ℕ) → drop (suc n) (drop at bs) ≡ drop (suc (at + n)) bs
+drop-behind bs at n = let e : at + suc n ≡ suc (at + n) = omega arith in drop-drop (suc n) at bs ∙ ap (λ (k : ℕ). drop k bs) e
+
 -- a piece reaches no further than the bytes do
 pub reach-within : (byte : ℕ) (bs : List ℕ) → reach byte bs ≤ length bs
 unfolding reach
@@ -100,9 +104,7 @@ lines-first input from h = go (ltb r (length bs)) refl
     left = length-drop from input
 
     go : (t : Bool) → ltb r (length bs) ≡ t → linesOf bs ≡ take r bs ∷ linesOf (drop (suc (from + r)) input)
-    go true e =
-        let n : from + suc r ≡ suc (from + r) = omega arith in
-        lines-parted bs (ltb-true r (length bs) e) ∙ ap (λ (l : List ℕ). take r bs ∷ linesOf l) (drop-drop (suc r) from input ∙ ap (λ (k : ℕ). drop k input) n)
+    go true e = lines-parted bs (ltb-true r (length bs) e) ∙ ap (λ (l : List ℕ). take r bs ∷ linesOf l) (drop-behind input from r)
     go false e =
         let past = ltb-false r (length bs) e in
         lines-last bs (omega (arith, left)) past ∙ (rw (take-all r bs past, lines-none input (suc (from + r)) (omega (arith, left))))

@@ -4,8 +4,9 @@ mod pieces;
 mod streams;
 
 use hub::Hub;
-ghost use Prim.Native.Nat.{_+_, _≤_};
+ghost use Prim.Native.Nat.{suc, _+_, _≤_};
 ghost use lib.ListN.{length};
+ghost use Rattle.line_rules.specs.Reading.{maxLine};
 ghost use Rattle.hub.specs.Valid.{Valid};
 
 // How far the reading came: the hub, how many bytes are held of a line whose end has not come, and whether all went well.
@@ -18,7 +19,7 @@ struct Read {
 // One piece behind the held bytes: its whole lines are run, and the rest is held.
 fn take_piece(hub: Hub, held: usize, got: usize, input: &mut [u8], out: &mut [u8]) -> Read
     requires { ⌜ (Valid hub) × (held + got ≤ length (now input)) ⌝ }
-    ensures { λ r. ⌜ (Valid (r .hub)) × (r .held ≤ 129) ⌝ }
+    ensures { λ r. ⌜ (Valid (r .hub)) × (r .held ≤ suc maxLine) ⌝ }
 {
     let filled = held + got;
     let ran = pieces::run_lines(hub, &input[..filled], out);
@@ -34,7 +35,7 @@ fn take_piece(hub: Hub, held: usize, got: usize, input: &mut [u8], out: &mut [u8
 // Piece by piece to the end of the input. Nothing says that an input ends, so the loop counts its turns down.
 fn read_all(input: &mut [u8], out: &mut [u8]) -> Read
     requires { ⌜ 65536 ≤ length (now input) ⌝ }
-    ensures { λ r. ⌜ (Valid (r .hub)) × (r .held ≤ 129) ⌝ }
+    ensures { λ r. ⌜ (Valid (r .hub)) × (r .held ≤ suc maxLine) ⌝ }
 {
     let mut hub = line::no_hub();
     let mut held = 0usize;

@@ -2,9 +2,10 @@
 use crate::streams;
 use hub::Hub;
 use line_reader::MAX_LINE;
-ghost use Prim.Native.Nat.{_≤_, min};
+ghost use Prim.Native.Nat.{suc, _≤_, min};
 ghost use mathlib.Core.Path.{_≡_};
 ghost use lib.ListN.{length};
+ghost use Rattle.line_rules.specs.Reading.{maxLine};
 ghost use Rattle.hub.specs.Valid.{Valid};
 
 // So many lines at a time: what they print has room in the buffer, whatever it is.
@@ -82,7 +83,7 @@ pub fn run_lines(hub: Hub, piece: &[u8], out: &mut [u8]) -> Ran
 // Moves a line whose end has not come to the front. One that is too long already stays too long when it is cut one byte past the longest.
 pub fn keep(input: &mut [u8], from: usize, filled: usize) -> usize
     requires { ⌜ (from ≤ filled) × (filled ≤ length (now input)) ⌝ }
-    ensures { λ r. ⌜ r ≤ 129 ⌝ }
+    ensures { λ r. ⌜ r ≤ suc maxLine ⌝ }
 {
     let kept = least(filled - from, MAX_LINE + 1);
     let mut i = 0;

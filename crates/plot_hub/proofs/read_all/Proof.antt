@@ -1,14 +1,15 @@
 -- `plot_hub::read_all` is safe and ends, by its turns: the hub is valid at every piece. Assumes nothing.
 use borrow.Author.Needs.{needs}
-use Prim.Native.Nat.{_≤_}
+use Prim.Native.Nat.{suc, _≤_}
 use mathlib.Core.Path.{_≡_}
 use lib.ListN.{length}
+use Rattle.line_rules.specs.Reading.{maxLine}
 use Rattle.hub.specs.Valid.{Valid}
 use Rattle.plot_hub.proofs.read_all.Statement.{statement}
 use Rattle.plot_hub.proofs.read_all.Tie as tie
 
 abbrev Inv-loop : tie.InvT-loop
-Inv-loop input₀ out₀ hub₀ held₀ turns₀ input out hub held turns = Valid hub × (held ≤ 129) × (length input ≡ length input₀) × (length out ≡ length out₀)
+Inv-loop input₀ out₀ hub₀ held₀ turns₀ input out hub held turns = Valid hub × (held ≤ suc maxLine) × (length input ≡ length input₀) × (length out ≡ length out₀)
 
 abbrev μ-loop : tie.MeasureT-loop
 μ-loop input₀ out₀ hub₀ held₀ turns₀ input out hub held turns = turns
