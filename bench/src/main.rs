@@ -20,7 +20,7 @@ fn product(input: &[u8], out: &mut [u8]) -> i64 {
 /// The reference's, under a name that callgrind can be told.
 #[no_mangle]
 #[inline(never)]
-extern "C" fn reference_run(input: &[u8], out: &mut [u8]) -> i64 {
+fn reference_run(input: &[u8], out: &mut [u8]) -> i64 {
     reference::run_into(input, out)
 }
 
