@@ -152,7 +152,7 @@ pub fn due_setting(hub: Hub, device: u8) -> i16
     state::due_setting(state, device)
 }
 
-// A hub of no devices: one that is not opened. Every call on it that names a device or a routine is turned down.
+// A hub of no devices: one that is not opened. Every call on it is turned down.
 pub fn closed() -> Hub
     ensures { λ r. ⌜ (Valid r) × (view r ≡ newHub 0 0 1) ⌝ }
 {
