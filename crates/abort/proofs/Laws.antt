@@ -26,12 +26,13 @@ use Rattle.slot.specs.declared.Slot.{Slot}
 use Rattle.sequence.specs.View.{membersOf, upTo}
 use Rattle.sequence.specs.declared.Sequence.{Sequence}
 use Rattle.sequence.proofs.Laws.{there-ahead}
-use Rattle.state.specs.View.{upOf, stateOf, found, backsOf}
+use Rattle.answers.specs.View.{backsOf}
+use Rattle.state.specs.View.{upOf, stateOf, found}
 use Rattle.state.specs.Valid.{Stood}
 use Rattle.state.specs.Contract.{StepGives}
 use Rattle.state.specs.declared.HubState.{HubState}
-use Rattle.state.specs.declared.Answer.the-variants.{Aborted}
-use Rattle.state.specs.declared.First.the-variants.{NoAbort}
+use Rattle.answers.specs.declared.Answer.the-variants.{Aborted}
+use Rattle.answers.specs.declared.First.the-variants.{NoAbort}
 use Rattle.state.proofs.Laws.{stateWith, id-is}
 use Rattle.abort.specs.PutBacks.{isBackBy, backsBy, TablesAre}
 use Rattle.abort.specs.Contract.{Aborts}

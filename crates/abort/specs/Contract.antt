@@ -2,8 +2,9 @@
 use mathlib.Core.Path.{_≡_}
 use Prim.Native.Nat.{ℕ}
 use Rattle.rules.specs.Abort.{leave, putBacks}
-use Rattle.state.specs.View.{stateOf, found, backsOf}
-use Rattle.state.specs.Valid.{StateOk, BacksOk}
+use Rattle.answers.specs.View.{backsOf, BacksOk}
+use Rattle.state.specs.View.{stateOf, found}
+use Rattle.state.specs.Valid.{StateOk}
 use Rattle.state.specs.declared.HubState.{HubState}
 use Rattle.abort.specs.declared.AfterAbort.{AfterAbort}
 

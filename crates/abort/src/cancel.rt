@@ -1,11 +1,11 @@
 // Document 01, "Cancel aborts R". Refusal: 10.
+use routine::refusals::NOT_RUNNING;
 use sequence::Place;
 use sequence::find;
 use sequence::keep;
 use state::HubState;
-use state::NOT_RUNNING;
 use state::StepOutcome;
-use state::answers;
+use state::outcomes;
 ghost use Rattle.rules.specs.Cancel.{cancelOf};
 ghost use Rattle.state.specs.View.{stateOf};
 ghost use Rattle.state.specs.Valid.{StateOk};
@@ -18,7 +18,7 @@ pub fn step(state: HubState, id: u32) -> StepOutcome
     let sequence = state.sequence;
     let place = find::running(sequence, id);
     let Place::At(at) = place else {
-        return answers::refused(state, NOT_RUNNING);
+        return outcomes::refused(state, NOT_RUNNING);
     };
     let slot = keep::slot_at(sequence, at);
     crate::step(state, at, slot)

@@ -1,20 +1,20 @@
 // Document 01, "Abort of R".
 pub mod cancel;
 
+use answers::Answer;
+use answers::First;
+use answers::PutBack;
+use answers::PutBacks;
 use routine::MAX_DEVICES;
 use sequence::keep;
 use sequence::settle;
 use sequence::walk;
 use slot::Slot;
 use slot::due;
-use state::Answer;
-use state::First;
 use state::HubState;
-use state::PutBack;
-use state::PutBacks;
 use state::StepOutcome;
-use state::answers;
 use state::attach;
+use state::outcomes;
 ghost use mathlib.Core.Path.{_≡_};
 ghost use mathlib.Core.Bool.{not, _&&_, _||_};
 ghost use Prim.Native.Nat.{_≤_};
@@ -25,8 +25,9 @@ ghost use Rattle.rules.specs.Settle.{settling};
 ghost use Rattle.rules.specs.Progress.{inFlightOn};
 ghost use Rattle.slot.specs.View.{settingsOf, flagsOf, memberOf};
 ghost use Rattle.slot.specs.Valid.{SlotOk};
-ghost use Rattle.state.specs.View.{stateOf, found, backsOf};
-ghost use Rattle.state.specs.Valid.{StateOk, BacksOk, Stood};
+ghost use Rattle.answers.specs.View.{backsOf, BacksOk};
+ghost use Rattle.state.specs.View.{stateOf, found};
+ghost use Rattle.state.specs.Valid.{StateOk, Stood};
 ghost use Rattle.state.specs.Contract.{StepGives};
 ghost use Rattle.abort.specs.Contract.{Aborts};
 ghost use Rattle.abort.specs.PutBacks.{isBackBy, backsBy, TablesAre};

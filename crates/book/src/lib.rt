@@ -4,13 +4,13 @@ pub mod reader;
 mod reading;
 
 use layout::COUNT_SIZE;
-use layout::CUT_SHORT;
 use layout::Item;
 use layout::MAX_ROUTINES;
 use layout::Next;
 use layout::PAIR_SIZE;
 use routine::Refusal;
 use routine::Verdict;
+use routine::refusals::CUT_SHORT;
 ghost use mathlib.Core.Path.{_≡_};
 ghost use Rattle.layout.specs.Reading.{bookCheck, nextOf};
 

@@ -25,14 +25,15 @@ use Rattle.slot.proofs.Laws.{set-put, fun-ext}
 use Rattle.sequence.specs.View.{membersOf, foundAt}
 use Rattle.sequence.specs.declared.Place.{Place}
 use Rattle.sequence.specs.declared.Place.the-variants.{At, Nowhere}
-use Rattle.state.specs.View.{upOf, stateOf, backsOf, firstOf, backsIn}
-use Rattle.state.specs.Valid.{StateOk, Stood, BacksOk}
+use Rattle.answers.specs.View.{backsOf, firstOf, backsIn, BacksOk}
+use Rattle.state.specs.View.{upOf, stateOf}
+use Rattle.state.specs.Valid.{StateOk, Stood}
 use Rattle.state.specs.Contract.{StepGives}
 use Rattle.state.specs.declared.HubState.{HubState}
-use Rattle.state.specs.declared.Answer.the-variants.{Down, Up}
-use Rattle.state.specs.declared.First.{First}
-use Rattle.state.specs.declared.First.the-variants.{NoAbort, Abort}
-use Rattle.state.specs.declared.PutBacks.{PutBacks}
+use Rattle.answers.specs.declared.Answer.the-variants.{Down, Up}
+use Rattle.answers.specs.declared.First.{First}
+use Rattle.answers.specs.declared.First.the-variants.{NoAbort, Abort}
+use Rattle.answers.specs.declared.PutBacks.{PutBacks}
 use Rattle.state.proofs.Laws.{stateWith, valid-with, found-as}
 use Rattle.abort.specs.Contract.{Aborts}
 use Rattle.abort.specs.declared.AfterAbort.{AfterAbort}

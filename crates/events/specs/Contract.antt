@@ -2,8 +2,9 @@
 use mathlib.Core.Path.{_≡_}
 use Prim.Native.Nat.{ℕ}
 use Rattle.rules.specs.Events.{abortHalfway}
-use Rattle.state.specs.View.{stateOf, backsOf, firstOf, backsIn}
-use Rattle.state.specs.Valid.{StateOk, BacksOk}
+use Rattle.answers.specs.View.{backsOf, firstOf, backsIn, BacksOk}
+use Rattle.state.specs.View.{stateOf}
+use Rattle.state.specs.Valid.{StateOk}
 use Rattle.state.specs.declared.HubState.{HubState}
 use Rattle.events.specs.declared.Halfway.{Halfway}
 

@@ -1,18 +1,18 @@
 // Document 01, "Failure or restart of D". Refusals: failure 14, 15; restart 14, 16, 17.
+use answers::Answer;
+use answers::First;
+use answers::PutBacks;
+use routine::refusals::EVENT_DEVICE;
+use routine::refusals::FAILURE_OF_DOWN;
+use routine::refusals::RESTART_OF_UP;
+use routine::refusals::RESTART_SETTING;
 use sequence::Place;
 use sequence::find;
 use sequence::keep;
-use state::Answer;
-use state::EVENT_DEVICE;
-use state::FAILURE_OF_DOWN;
-use state::First;
 use state::HubState;
-use state::PutBacks;
-use state::RESTART_OF_UP;
-use state::RESTART_SETTING;
 use state::StepOutcome;
-use state::answers;
 use state::attach;
+use state::outcomes;
 ghost use mathlib.Core.Path.{_≡_};
 ghost use mathlib.Core.Bool.{true};
 ghost use Prim.Native.Nat.{_<_};
@@ -106,10 +106,10 @@ pub fn failure(state: HubState, device: u8) -> StepOutcome
     ensures { λ r. ⌜ StepGives state r (failureOf (stateOf state) device) ⌝ }
 {
     if state.devices <= device {
-        return answers::refused(state, EVENT_DEVICE);
+        return outcomes::refused(state, EVENT_DEVICE);
     }
     if !state::is_up(state, device) {
-        return answers::refused(state, FAILURE_OF_DOWN);
+        return outcomes::refused(state, FAILURE_OF_DOWN);
     }
     failed(state, device)
 }
@@ -119,13 +119,13 @@ pub fn restart(state: HubState, device: u8, setting: i16) -> StepOutcome
     ensures { λ r. ⌜ StepGives state r (restartOf (stateOf state) device setting) ⌝ }
 {
     if state.devices <= device {
-        return answers::refused(state, EVENT_DEVICE);
+        return outcomes::refused(state, EVENT_DEVICE);
     }
     if state::is_up(state, device) {
-        return answers::refused(state, RESTART_OF_UP);
+        return outcomes::refused(state, RESTART_OF_UP);
     }
     if !routine::in_range(setting) {
-        return answers::refused(state, RESTART_SETTING);
+        return outcomes::refused(state, RESTART_SETTING);
     }
     restarted(state, device, setting)
 }

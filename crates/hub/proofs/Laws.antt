@@ -13,14 +13,15 @@ use Rattle.rules.specs.Settle.{joinSettled, settleFrom, settle, settling}
 use Rattle.rules.proofs.Lists.{byIf, t≠f}
 use Rattle.sequence.specs.View.{membersOf}
 use Rattle.sequence.specs.Tests.{firstCommitted}
-use Rattle.state.specs.View.{stateOf, backsOf, answersOf, answersIn as stepAnswers, resultIn as stepResult, backsIn}
-use Rattle.state.specs.Valid.{StateOk, BacksOk}
-use Rattle.state.specs.Contract.{changesNothing, afterSettling, StepGives}
+use Rattle.answers.specs.View.{backsOf, answersOf, backsIn, BacksOk, changesNothing}
+use Rattle.state.specs.View.{stateOf, answersIn as stepAnswers, resultIn as stepResult}
+use Rattle.state.specs.Valid.{StateOk}
+use Rattle.state.specs.Contract.{afterSettling, StepGives}
 use Rattle.state.specs.declared.HubState.{HubState}
-use Rattle.state.specs.declared.Answer.{Answer}
-use Rattle.state.specs.declared.Answer.the-variants.{Refused, Placed, Wait, Sent, Done, Skipped, Committed, Aborted, Down, Up}
+use Rattle.answers.specs.declared.Answer.{Answer}
+use Rattle.answers.specs.declared.Answer.the-variants.{Refused, Placed, Wait, Sent, Done, Skipped, Committed, Aborted, Down, Up}
 use Rattle.state.specs.declared.StepOutcome.{StepOutcome}
-use Rattle.state.proofs.Answer.{the-type}
+use Rattle.answers.proofs.Answer.{the-type}
 use Rattle.hub.specs.View.{answersIn}
 use Rattle.hub.specs.Contract.{Gives, settlesAfter, SettledStep}
 use Rattle.hub.specs.declared.Hub.{Hub}

@@ -17,9 +17,8 @@ use Rattle.rules.specs.Events.{failureOf, restartOf}
 use Rattle.rules.specs.Cancel.{cancelOf}
 use Rattle.sequence.specs.View.{membersOf}
 use Rattle.sequence.specs.Tests.{firstCommitted}
-use Rattle.state.specs.View.{backsOf, backsIn}
-use Rattle.state.specs.Valid.{BacksOk}
-use Rattle.state.specs.Contract.{changesNothing, afterSettling}
+use Rattle.answers.specs.View.{backsOf, backsIn, BacksOk, changesNothing}
+use Rattle.state.specs.Contract.{afterSettling}
 use Rattle.state.specs.declared.StepOutcome.{StepOutcome}
 use Rattle.hub.specs.View.{view, answersIn, resultIn}
 use Rattle.hub.specs.Valid.{Valid}

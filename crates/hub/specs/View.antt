@@ -3,7 +3,8 @@
 use mathlib.Core.List.{List}
 use Rattle.rules.specs.State.{State}
 use Rattle.rules.specs.Answers.{Answer as Told, Result}
-use Rattle.state.specs.View.{stateOf, answersOf}
+use Rattle.answers.specs.View.{answersOf}
+use Rattle.state.specs.View.{stateOf}
 use Rattle.hub.specs.declared.Hub.{Hub}
 use Rattle.hub.specs.declared.Outcome.{Outcome}
 

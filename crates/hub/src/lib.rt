@@ -3,12 +3,12 @@
 mod opening;
 mod settling;
 
+use answers::Answer;
+use answers::First;
+use answers::PutBacks;
 use routine::Routine;
 use routine::Verdict;
-use state::Answer;
-use state::First;
 use state::HubState;
-use state::PutBacks;
 ghost use mathlib.Core.Path.{_≡_};
 ghost use Rattle.rules.specs.Due.{due};
 ghost use Rattle.rules.specs.Open.{newHub};

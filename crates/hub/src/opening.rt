@@ -1,14 +1,14 @@
 // The opening: document 01, "Things and ranges".
 use crate::Hub;
+use routine::HIGHEST_PASS_LIMIT;
 use routine::MAX_DEVICES;
 use routine::Refusal;
 use routine::Verdict;
+use routine::refusals::DEVICES_OUT_OF_RANGE;
+use routine::refusals::FIRST_ID_0;
+use routine::refusals::PASS_LIMIT_OUT_OF_RANGE;
 use sequence::keep;
-use state::DEVICES_OUT_OF_RANGE;
-use state::FIRST_ID_0;
-use state::HIGHEST_PASS_LIMIT;
 use state::HubState;
-use state::PASS_LIMIT_OUT_OF_RANGE;
 ghost use mathlib.Core.Path.{_≡_};
 ghost use Prim.Native.Nat.{_<_, _≤_};
 ghost use Rattle.routine.specs.Routine.{maxDevices};

@@ -1,7 +1,7 @@
 // After a step, its hub settles: document 01, "Settling".
 use crate::Hub;
 use crate::Outcome;
-use state::Answer;
+use answers::Answer;
 use state::HubState;
 use state::StepOutcome;
 use state::settle;

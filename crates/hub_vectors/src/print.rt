@@ -1,4 +1,7 @@
 // Prints outcomes and device lines in the words of document 01, "The line program".
+use answers::Answer;
+use answers::First;
+use answers::PutBacks;
 use book_print::print_number;
 use book_print::print_refusal;
 use book_print::print_setting;
@@ -6,9 +9,6 @@ use hub::Hub;
 use hub::Outcome;
 use libc::STDOUT_FILENO;
 use routine::MAX_DEVICES;
-use state::Answer;
-use state::First;
-use state::PutBacks;
 ghost use Rattle.hub.specs.Valid.{Valid};
 
 fn print_line_end() {
@@ -61,7 +61,7 @@ fn print_event(device: u8, id: u32) {
     print_line_end();
 }
 
-fn print_placed(placed: state::Placed) {
+fn print_placed(placed: answers::Placed) {
     io::write_all(STDOUT_FILENO, b"placed");
     print_id(placed.id);
     io::write_all(STDOUT_FILENO, b" after");
@@ -69,7 +69,7 @@ fn print_placed(placed: state::Placed) {
     print_line_end();
 }
 
-fn print_sent(sent: state::Sent) {
+fn print_sent(sent: answers::Sent) {
     io::write_all(STDOUT_FILENO, b"send");
     print_id(sent.id);
     let command = sent.command;

@@ -22,15 +22,6 @@ pub const MAX_ROUTINES: usize = 64;
 
 pub const BOOK_DEVICES: u8 = MAX_DEVICES as u8;
 
-// The numbers of the table that belong to books.
-pub const CUT_SHORT: u8 = 18;
-
-pub const MISPLACED: u8 = 19;
-
-pub const LENGTH: u8 = 20;
-
-pub const NO_ROOM: u8 = 21;
-
 // What a step of reading gives: a routine is handed out, or the end is reached, or the book is turned down.
 pub enum Item {
     Handed,

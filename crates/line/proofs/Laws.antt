@@ -27,7 +27,7 @@ use Rattle.rules.specs.Submit.{submitOf}
 use Rattle.rules.specs.Calls.{resultOf}
 use Rattle.rules.proofs.Theorem.{devices-kept}
 use Rattle.submit.proofs.Laws.{check-routine, submit-refused}
-use Rattle.state.specs.Contract.{changesNothing}
+use Rattle.answers.specs.View.{changesNothing}
 use Rattle.hub.specs.View.{view, answersIn}
 use Rattle.hub.specs.Valid.{Valid}
 use Rattle.hub.specs.Contract.{Opens, Gives}

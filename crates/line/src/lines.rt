@@ -1,17 +1,17 @@
 // What a line does, and the device lines at the end.
+use answers::Answer;
 use hub::Hub;
 use hub::Outcome;
 use line_reader::Call;
 use line_reader::Line;
 use routine::Routine;
-use state::Answer;
 ghost use mathlib.Core.Path.{_≡_};
 ghost use Prim.Native.Nat.{_+_, _<_, _^_};
 ghost use Rattle.rules.specs.Calls.{resultOf};
 ghost use Rattle.line_rules.specs.Printing.{asLine, deviceText};
 ghost use Rattle.line_rules.specs.Program.{endText};
 ghost use Rattle.line_printer.specs.Put.{maxDeviceLine, PutShort};
-ghost use Rattle.state.specs.Contract.{changesNothing};
+ghost use Rattle.answers.specs.View.{changesNothing};
 ghost use Rattle.hub.specs.View.{view};
 ghost use Rattle.hub.specs.Valid.{Valid};
 ghost use Rattle.hub.specs.Contract.{Gives};

@@ -16,9 +16,9 @@ use mir.Val.{SFits, toZ, ofZ}
 use mir.Facts.{toZ-ofZ}
 use Rattle.routine.proofs.Laws.{sets-append}
 use Rattle.rules.specs.Answers.{Back, Answer}
-use Rattle.state.specs.View.{backOf, backsOf}
-use Rattle.state.specs.declared.PutBack.{PutBack}
-use Rattle.state.specs.declared.PutBacks.{PutBacks}
+use Rattle.answers.specs.View.{backOf, backsOf}
+use Rattle.answers.specs.declared.PutBack.{PutBack}
+use Rattle.answers.specs.declared.PutBacks.{PutBacks}
 use Rattle.line_rules.specs.Text.{minus, bytes, decimal, signed}
 use Rattle.line_rules.specs.Reading.{lowest16}
 use Rattle.line_rules.specs.Printing.{asLine, backList, backText, backIfAny, answerText, answersText}

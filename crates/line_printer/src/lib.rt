@@ -1,17 +1,16 @@
 // The lines that the line program prints, put into a lent buffer from a place on: document 01, "The line program". What lies past the buffer's end is
 // counted and not put, so that a line can be measured on a buffer of one byte.
-mod answers;
 mod text;
+mod words;
 
+use answers::Answer;
+use answers::First;
+use answers::PutBacks;
 use routine::Refusal;
-use state::Answer;
-use state::First;
-use state::PutBacks;
 ghost use Prim.Native.Nat.{_+_, _<_, _^_};
 ghost use Rattle.line_rules.specs.Text.{bytes};
 ghost use Rattle.line_rules.specs.Printing.{asLine, refusalText, answersText, deviceTextOf};
-ghost use Rattle.state.specs.View.{answersOf};
-ghost use Rattle.state.specs.Valid.{BacksOk};
+ghost use Rattle.answers.specs.View.{answersOf, BacksOk};
 ghost use Rattle.line_printer.specs.Put.{maxText, maxDeviceLine, PutShort};
 
 // The answers of a line are not longer.
@@ -37,7 +36,7 @@ pub fn put_refusal(out: &mut [u8], at: usize, refusal: Refusal) -> usize
     requires { ⌜ at + maxText < 2 ^ 64 ⌝ }
     ensures { λ r. ⌜ PutShort maxText (now (out .entry)) (now (out .exit)) at r (asLine (refusalText refusal)) ⌝ }
 {
-    let end = answers::put_refused(out, at, refusal);
+    let end = words::put_refused(out, at, refusal);
     text::put_end(out, end)
 }
 
@@ -52,8 +51,8 @@ pub fn put_answers(
     requires { ⌜ (at + maxText < 2 ^ 64) × BacksOk backs ⌝ }
     ensures { λ r. ⌜ PutShort maxText (now (out .entry)) (now (out .exit)) at r (answersText (answersOf first answer backs)) ⌝ }
 {
-    let from = answers::put_first(out, at, first, backs);
-    answers::put_answer(out, from, answer, backs)
+    let from = words::put_first(out, at, first, backs);
+    words::put_answer(out, from, answer, backs)
 }
 
 // "one line a device, with its due setting if it is up"

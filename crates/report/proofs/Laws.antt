@@ -24,13 +24,14 @@ use Rattle.slot.specs.declared.Slot.{Slot}
 use Rattle.slot.specs.declared.SentCommand.{SentCommand}
 use Rattle.sequence.specs.View.{membersOf}
 use Rattle.sequence.specs.declared.Sequence.{Sequence}
-use Rattle.state.specs.View.{stateOf, found, backsOf}
-use Rattle.state.specs.Valid.{StateOk, Stood, BacksOk}
+use Rattle.answers.specs.View.{backsOf, BacksOk}
+use Rattle.state.specs.View.{stateOf, found}
+use Rattle.state.specs.Valid.{StateOk, Stood}
 use Rattle.state.specs.Contract.{StepGives, Plain}
 use Rattle.state.specs.declared.HubState.{HubState}
-use Rattle.state.specs.declared.Answer.the-variants.{Done, Skipped}
-use Rattle.state.specs.declared.First.the-variants.{NoAbort}
-use Rattle.state.specs.declared.PutBacks.{PutBacks}
+use Rattle.answers.specs.declared.Answer.the-variants.{Done, Skipped}
+use Rattle.answers.specs.declared.First.the-variants.{NoAbort}
+use Rattle.answers.specs.declared.PutBacks.{PutBacks}
 use Rattle.state.specs.declared.StepOutcome.{StepOutcome}
 use Rattle.state.proofs.Laws.{plain-gives, stateWith, id-is, view-changed}
 

@@ -1,4 +1,14 @@
 // Document 01, "Report on R". Refusals: 10, 12, 13.
+use answers::Answer;
+use answers::First;
+use answers::PutBack;
+use answers::PutBacks;
+use routine::refusals::NONE_IN_FLIGHT;
+use routine::refusals::NOT_RUNNING;
+use routine::refusals::REPORT_CODE;
+use routine::reports::CODE_DONE;
+use routine::reports::CODE_FAILED;
+use routine::tags::MUST;
 use sequence::Place;
 use sequence::find;
 use sequence::keep;
@@ -8,27 +18,18 @@ use slot::Slot;
 use slot::Stage;
 use slot::due;
 use slot::progress;
-use state::Answer;
-use state::CODE_DONE;
-use state::CODE_FAILED;
-use state::First;
 use state::HubState;
-use state::MUST;
-use state::NONE_IN_FLIGHT;
-use state::NOT_RUNNING;
-use state::PutBack;
-use state::PutBacks;
-use state::REPORT_CODE;
 use state::StepOutcome;
-use state::answers;
+use state::outcomes;
 ghost use mathlib.Core.Path.{_≡_};
 ghost use Rattle.rules.specs.Progress.{answerFlight, withSteps};
 ghost use Rattle.rules.specs.Sequence.{change};
 ghost use Rattle.rules.specs.Report.{doneReport, backIfChanged, skipReport, reported, reportOf};
 ghost use Rattle.rules.specs.Settle.{settling};
 ghost use Rattle.slot.specs.View.{statusOf, flightIn};
-ghost use Rattle.state.specs.View.{stateOf, found, backsOf};
-ghost use Rattle.state.specs.Valid.{StateOk, BacksOk, Stood};
+ghost use Rattle.answers.specs.View.{backsOf, BacksOk};
+ghost use Rattle.state.specs.View.{stateOf, found};
+ghost use Rattle.state.specs.Valid.{StateOk, Stood};
 ghost use Rattle.state.specs.Contract.{StepGives};
 
 // The command in flight gets this stage.
@@ -50,7 +51,7 @@ fn done(state: HubState, at: usize, slot: Slot) -> StepOutcome
     ensures { λ r. ⌜ StepGives state r (settling (doneReport (stateOf state) (found state at))) ⌝ }
 {
     let next = answered(state, at, slot, Stage::Done);
-    answers::plain(next, Answer::Done(slot.id))
+    outcomes::plain(next, Answer::Done(slot.id))
 }
 
 // "its device is then sent its due setting if that is another than when the command was sent"
@@ -109,15 +110,15 @@ pub fn step(state: HubState, id: u32, code: u8) -> StepOutcome
     let sequence = state.sequence;
     let place = find::running(sequence, id);
     let Place::At(at) = place else {
-        return answers::refused(state, NOT_RUNNING);
+        return outcomes::refused(state, NOT_RUNNING);
     };
     let slot = keep::slot_at(sequence, at);
     let pending = progress::pending(slot);
     let Pending::Sent(sent) = pending else {
-        return answers::refused(state, NONE_IN_FLIGHT);
+        return outcomes::refused(state, NONE_IN_FLIGHT);
     };
     if CODE_FAILED < code {
-        return answers::refused(state, REPORT_CODE);
+        return outcomes::refused(state, REPORT_CODE);
     }
     reported_on(state, at, slot, sent, code)
 }

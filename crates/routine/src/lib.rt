@@ -1,4 +1,13 @@
 // Commands, routines, and what turns a call down: document 01, "Things and ranges" and "When a call is turned down".
+pub mod refusals;
+pub mod reports;
+pub mod tags;
+
+use refusals::COMMAND_COUNT;
+use refusals::DEVICE;
+use refusals::SETTING;
+use refusals::TAG;
+use tags::HIGHEST_TAG;
 ghost use mathlib.Core.Path.{_≡_};
 ghost use Rattle.routine.specs.Range.{inRange};
 ghost use Rattle.routine.specs.Routine.{commandsOf, noRoutine, withCommand, commandCheck, routineCheck};
@@ -9,21 +18,16 @@ pub const MAX_COMMANDS: usize = 8;
 // Devices are below this number.
 pub const MAX_DEVICES: usize = 32;
 
-// Settings and tags.
+// Settings are from one to the other.
 pub const LOWEST_SETTING: i16 = -1000;
 
 pub const HIGHEST_SETTING: i16 = 1000;
 
-pub const HIGHEST_TAG: u8 = 1;
+// Pass limit K, 0 to 8.
+pub const HIGHEST_PASS_LIMIT: u8 = 8;
 
-// The numbers of the table that a routine's check gives.
-pub const COMMAND_COUNT: u8 = 4;
-
-pub const DEVICE: u8 = 5;
-
-pub const SETTING: u8 = 6;
-
-pub const TAG: u8 = 7;
+// The last id that can be given.
+pub const HIGHEST_ID: u64 = 4294967295;
 
 pub struct Command {
     pub device: u8,

@@ -27,13 +27,14 @@ use Rattle.sequence.specs.Valid.{SequenceOk, Stands, PlaceOk}
 use Rattle.sequence.specs.declared.Sequence.{Sequence}
 use Rattle.sequence.specs.declared.Place.{Place}
 use Rattle.sequence.specs.declared.Place.the-variants.{At}
-use Rattle.state.specs.View.{stateOf, found, backOf, answerOf, firstOf, answersIn, backsIn}
+use Rattle.answers.specs.View.{backOf, answerOf, firstOf, backsIn, changesNothing}
+use Rattle.state.specs.View.{stateOf, found, answersIn}
 use Rattle.state.specs.Valid.{StateOk, Stood}
-use Rattle.state.specs.Contract.{changesNothing, settleFor, StepGives, Plain}
+use Rattle.state.specs.Contract.{settleFor, StepGives, Plain}
 use Rattle.state.specs.declared.HubState.{HubState}
-use Rattle.state.specs.declared.Answer.{Answer}
-use Rattle.state.specs.declared.Answer.the-variants.{Refused}
-use Rattle.state.specs.declared.PutBack.{PutBack}
+use Rattle.answers.specs.declared.Answer.{Answer}
+use Rattle.answers.specs.declared.Answer.the-variants.{Refused}
+use Rattle.answers.specs.declared.PutBack.{PutBack}
 use Rattle.state.specs.declared.StepOutcome.{StepOutcome}
 
 -- ---- outcomes
@@ -56,12 +57,6 @@ plain-gives h g a o result p v e b k = record {
 -- a call that is turned down
 pub refused-gives : (h : HubState) (r : Refusal) (o : StepOutcome) (result : Result) → Plain h (Refused r) o → StateOk h → turnedDown r (stateOf h) ≡ result → StepGives h o result
 refused-gives h r o result p v e = plain-gives h h (Refused r) o result p v e refl (λ t. refl)
-
--- ---- the list of put-backs
-
--- one more
-pub backs-longer : (l : List PutBack) (n : ℕ) (b : PutBack) → n < length l → map backOf (take (n + 1) (set l n b)) ≡ map backOf (take n l) ++ (backOf b ∷ [])
-backs-longer l n b h = rw (add-one n, take-suc-set l n b h) (map-append backOf (take n l) (b ∷ []))
 
 -- ---- restarts attached to an id
 

@@ -5,26 +5,14 @@ use mathlib.Core.List.{[]}
 use Rattle.routine.specs.Choice.{if_then_else_}
 use Rattle.rules.specs.Answers.{Result}
 use Rattle.rules.specs.Settle.{settling}
-use Rattle.state.specs.View.{backsOf, answersIn, resultIn, backsIn}
-use Rattle.state.specs.Valid.{StateOk, BacksOk}
+use Rattle.answers.specs.View.{backsOf, backsIn, BacksOk}
+use Rattle.state.specs.View.{answersIn, resultIn}
+use Rattle.state.specs.Valid.{StateOk}
 use Rattle.state.specs.declared.HubState.{HubState}
-use Rattle.state.specs.declared.Answer.{Answer}
-use Rattle.state.specs.declared.Answer.the-variants.{Refused, Placed, Wait, Sent, Done, Skipped, Committed, Aborted, Down, Up}
-use Rattle.state.specs.declared.First.the-variants.{NoAbort}
+use Rattle.answers.specs.declared.Answer.{Answer}
+use Rattle.answers.specs.declared.Answer.the-variants.{Refused, Placed, Wait, Sent, Done, Skipped, Committed, Aborted, Down, Up}
+use Rattle.answers.specs.declared.First.the-variants.{NoAbort}
 use Rattle.state.specs.declared.StepOutcome.{StepOutcome}
-
--- A refusal and a wait change nothing.
-abbrev pub changesNothing : Answer → Bool
-changesNothing (Refused r) = true
-changesNothing (Placed p) = false
-changesNothing (Wait i j) = true
-changesNothing (Sent x) = false
-changesNothing (Done i) = false
-changesNothing (Skipped i) = false
-changesNothing (Committed i) = false
-changesNothing (Aborted i) = false
-changesNothing (Down d i) = false
-changesNothing (Up d i) = false
 
 -- What the rules give after a call with this answer: its result settles unless nothing changed.
 abbrev pub settleFor : Answer → Result → Result

@@ -9,17 +9,13 @@ use Rattle.slot.specs.declared.Slot.{Slot}
 use Rattle.sequence.specs.Valid.{SequenceOk, Stands}
 use Rattle.state.specs.View.{found}
 use Rattle.state.specs.declared.HubState.{HubState}
-use Rattle.state.specs.declared.PutBacks.{PutBacks}
+use Rattle.answers.specs.declared.PutBacks.{PutBacks}
 
 pub record StateOk (h : HubState) : Type 0 where
   pub devices-fit : h .devices ≤ maxDevices
   pub some-id : 0 < h .«next_id»
   pub ids-fit : h .«next_id» ≤ suc highestId
   pub sequence-ok : SequenceOk (h .sequence)
-
--- The put-backs fit their array.
-abbrev pub BacksOk : PutBacks → Type 0
-BacksOk b = b .count ≤ maxDevices
 
 -- This routine stands at this place of the sequence.
 pub record Stood (h : HubState) (i : ℕ) (s : Slot) : Type 0 where

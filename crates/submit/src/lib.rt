@@ -1,17 +1,17 @@
 // Document 01, "Submit". Refusals: 4; then the commands in turn, each 5, 6, 7; then 8, 9.
+use answers::Answer;
+use answers::Placed;
+use routine::HIGHEST_ID;
 use routine::Refusal;
 use routine::Routine;
 use routine::Verdict;
+use routine::refusals::IDS_USED_UP;
+use routine::refusals::SEQUENCE_FULL;
 use sequence::MAX_HELD;
 use sequence::keep;
-use state::Answer;
-use state::HIGHEST_ID;
 use state::HubState;
-use state::IDS_USED_UP;
-use state::Placed;
-use state::SEQUENCE_FULL;
 use state::StepOutcome;
-use state::answers;
+use state::outcomes;
 ghost use mathlib.Core.Path.{_≡_};
 ghost use Rattle.routine.specs.Routine.{commandsOf};
 ghost use Rattle.routine.specs.declared.Verdict.the-variants.{Accepted};
@@ -57,7 +57,7 @@ fn place(state: HubState, routine: Routine) -> StepOutcome
     changed.sequence = placed;
     changed.next_id = next_id + 1;
     let answer = Placed { id, after };
-    answers::plain(changed, Answer::Placed(answer))
+    outcomes::plain(changed, Answer::Placed(answer))
 }
 
 pub fn step(state: HubState, routine: Routine) -> StepOutcome
@@ -68,5 +68,5 @@ pub fn step(state: HubState, routine: Routine) -> StepOutcome
     let Verdict::Refused(refusal) = verdict else {
         return place(state, routine);
     };
-    answers::turned_down(state, refusal)
+    outcomes::turned_down(state, refusal)
 }

@@ -46,7 +46,7 @@ use Rattle.state.specs.View.{stateOf, found}
 use Rattle.state.specs.Valid.{StateOk, Stood}
 use Rattle.state.specs.Contract.{StepGives, Plain}
 use Rattle.state.specs.declared.HubState.{HubState}
-use Rattle.state.specs.declared.Answer.the-variants.{Refused, Wait, Sent as ToSend, Skipped, Committed}
+use Rattle.answers.specs.declared.Answer.the-variants.{Refused, Wait, Sent as ToSend, Skipped, Committed}
 use Rattle.state.specs.declared.StepOutcome.{StepOutcome}
 use Rattle.state.proofs.Laws.{plain-gives, refused-gives, stateWith, valid-with, up-read, found-as, id-is, stood-steps, flight-as, view-changed}
 

@@ -1,6 +1,11 @@
 // Document 01, "Mark" and "Turn of R". Refusals: 10, 11.
+use answers::Answer;
+use answers::Sent;
 use routine::Command;
 use routine::MAX_DEVICES;
+use routine::refusals::NOT_RUNNING;
+use routine::refusals::TURN_IN_FLIGHT;
+use routine::tags::MUST;
 use sequence::Holder;
 use sequence::Place;
 use sequence::find;
@@ -10,14 +15,9 @@ use slot::Pending;
 use slot::Slot;
 use slot::Stage;
 use slot::progress;
-use state::Answer;
 use state::HubState;
-use state::MUST;
-use state::NOT_RUNNING;
-use state::Sent;
 use state::StepOutcome;
-use state::TURN_IN_FLIGHT;
-use state::answers;
+use state::outcomes;
 ghost use mathlib.Core.Path.{_≡_};
 ghost use Prim.Native.Nat.{_<_};
 ghost use Rattle.routine.specs.Routine.{maxDevices};
@@ -39,7 +39,7 @@ fn commit(state: HubState, at: usize, slot: Slot) -> StepOutcome
     let changed = keep::replace(sequence, at, done);
     let mut next = state;
     next.sequence = changed;
-    answers::plain(next, Answer::Committed(slot.id))
+    outcomes::plain(next, Answer::Committed(slot.id))
 }
 
 // Mark (document 01, The steps): "It becomes R when R begins the device."
@@ -83,7 +83,7 @@ fn send(state: HubState, at: usize, slot: Slot, command: Command) -> StepOutcome
         id: slot.id,
         command,
     };
-    answers::plain(next, Answer::Sent(sent))
+    outcomes::plain(next, Answer::Sent(sent))
 }
 
 // "a best-effort is skipped"
@@ -92,7 +92,7 @@ fn skip(state: HubState, at: usize, slot: Slot, command: Command) -> StepOutcome
     ensures { λ r. ⌜ StepGives state r (settling (skipTurn (stateOf state) (found state at) command)) ⌝ }
 {
     let next = next_becomes(state, at, slot, command, Stage::Skipped);
-    answers::plain(next, Answer::Skipped(slot.id))
+    outcomes::plain(next, Answer::Skipped(slot.id))
 }
 
 // "If D is down, a must aborts R and a best-effort is skipped. Otherwise the command is sent and is in flight."
@@ -118,12 +118,12 @@ pub fn step(state: HubState, id: u32) -> StepOutcome
     let sequence = state.sequence;
     let place = find::running(sequence, id);
     let Place::At(at) = place else {
-        return answers::refused(state, NOT_RUNNING);
+        return outcomes::refused(state, NOT_RUNNING);
     };
     let slot = keep::slot_at(sequence, at);
     let pending = progress::pending(slot);
     let Pending::NothingSent = pending else {
-        return answers::refused(state, TURN_IN_FLIGHT);
+        return outcomes::refused(state, TURN_IN_FLIGHT);
     };
     let next = progress::next_command(slot);
     let Next::Left(command) = next else {
@@ -134,5 +134,5 @@ pub fn step(state: HubState, id: u32) -> StepOutcome
     let Holder::Routine(other) = holder else {
         return go_on(state, at, slot, command);
     };
-    answers::plain(state, Answer::Wait(slot.id, other))
+    outcomes::plain(state, Answer::Wait(slot.id, other))
 }

@@ -13,8 +13,8 @@ use mir.Syntax.{w16}
 use Rattle.routine.proofs.Laws.{length-mapped}
 use Rattle.rules.specs.Answers.{Back}
 use Rattle.slot.specs.View.{settingsOf}
-use Rattle.state.specs.View.{backsOf}
-use Rattle.state.specs.declared.PutBacks.{PutBacks}
+use Rattle.answers.specs.View.{backsOf}
+use Rattle.answers.specs.declared.PutBacks.{PutBacks}
 use Rattle.state.proofs.Laws.{any-default}
 use Rattle.abort.specs.PutBacks.{isBackBy, backsBy}
 use Rattle.abort.proofs.Laws.{test-read, backs-more, backs-same, backs-end}

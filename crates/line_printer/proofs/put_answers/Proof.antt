@@ -2,7 +2,7 @@
 use mathlib.Core.Path.{sym, ap, _∙_}
 use mathlib.Core.List.{List, [], _∷_, _++_}
 use Prim.Native.Nat.{ℕ}
-use Rattle.state.specs.View.{backsOf, answerOf, firstOf}
+use Rattle.answers.specs.View.{backsOf, answerOf, firstOf}
 use Rattle.line_rules.specs.Printing.{answersText}
 use Rattle.line_printer.proofs.Laws.{short-then, as-text, answers-one, answers-append}
 use borrow.Author.Needs.{needs}

@@ -1,4 +1,4 @@
--- `line_printer::answers::put_backs` meets its contract. The loop's invariant: the first i are put behind the count. Assumes nothing.
+-- `line_printer::words::put_backs` meets its contract. The loop's invariant: the first i are put behind the count. Assumes nothing.
 use mathlib.Core.Path.{_≡_, refl, sym, ap₂, _∙_}
 use mathlib.Core.List.{_++_, map}
 use Prim.Native.Nat.{ℕ, _-_, _*_, _≤_, _<_}
@@ -6,14 +6,14 @@ use native.Mathlib.Omega.{arith}
 use borrow.Author.Needs.{needs}
 use lib.ListN.{length, take}
 use Rattle.routine.proofs.Laws.{length-mapped}
-use Rattle.state.specs.View.{backOf}
+use Rattle.answers.specs.View.{backOf}
 use Rattle.line_rules.specs.Text.{bytes, decimal}
 use Rattle.line_rules.specs.Printing.{backList, backText}
 use Rattle.line_rules.proofs.TextLaws.{decimal-short}
 use Rattle.line_printer.specs.Put.{maxBack, PutShort}
 use Rattle.line_printer.proofs.Laws.{put-none, short-then, shorter, within, as-text, reaches, backs-next, backs-count}
-use Rattle.line_printer.proofs.answers.put_backs.Statement.{statement}
-use Rattle.line_printer.proofs.answers.put_backs.Tie as tie
+use Rattle.line_printer.proofs.words.put_backs.Statement.{statement}
+use Rattle.line_printer.proofs.words.put_backs.Tie as tie
 
 abbrev Inv-loop : tie.InvT-loop
 Inv-loop out₀ at backs count to₀ i₀ out to i =

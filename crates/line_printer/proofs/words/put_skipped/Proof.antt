@@ -1,17 +1,17 @@
--- `line_printer::answers::put_skipped` meets its contract. Assumes nothing.
+-- `line_printer::words::put_skipped` meets its contract. Assumes nothing.
 use mathlib.Core.Path.{_≡_, sym, ap, _∙_}
 use mathlib.Core.List.{List, _++_, append-nil}
 use Prim.Native.Nat.{ℕ, _≤_, _<_}
 use native.Mathlib.Omega.{arith}
 use lib.ListN.{length}
 use Rattle.routine.proofs.Laws.{length-mapped}
-use Rattle.state.specs.View.{backsOf}
+use Rattle.answers.specs.View.{backsOf}
 use Rattle.line_rules.specs.Text.{bytes, decimal}
 use Rattle.line_rules.specs.Printing.{answerText}
 use Rattle.line_printer.proofs.Laws.{short-then, within, as-text, reaches, backs-count, back-none, back-some}
 use borrow.Author.Needs.{needs}
-use Rattle.line_printer.proofs.answers.put_skipped.Statement.{statement}
-use Rattle.line_printer.proofs.answers.put_skipped.Tie as tie
+use Rattle.line_printer.proofs.words.put_skipped.Statement.{statement}
+use Rattle.line_printer.proofs.words.put_skipped.Tie as tie
 
 -- those that are counted are there
 fit : (s : tie.Start) → s .args .backs .count ≤ length (s .args .backs .items)

@@ -1,13 +1,14 @@
--- `state::answers::with_back` meets its contract. Assumes nothing.
+-- `answers::with_back` meets its contract. Assumes nothing.
 use mathlib.Core.Path.{_≡_}
 use native.Mathlib.Numerals.{add-one}
 use native.Mathlib.Omega.{arith}
 use borrow.Author.Needs.{needs}
 use lib.ListN.{length}
+use Rattle.routine.specs.Routine.{maxDevices}
 use Rattle.routine.proofs.Laws.{length-mapped}
-use Rattle.state.proofs.Laws.{backs-longer}
-use Rattle.state.proofs.answers.with_back.Statement.{statement}
-use Rattle.state.proofs.answers.with_back.Tie as tie
+use Rattle.answers.proofs.Laws.{backs-longer}
+use Rattle.answers.proofs.with_back.Statement.{statement}
+use Rattle.answers.proofs.with_back.Tie as tie
 
 mul-back : tie.Need-mul-back
 mul-back c = search needs
@@ -21,7 +22,7 @@ add-more c = search needs
 returns : tie.Need-returns
 returns c =
     let b = c .args .backs in
-    let l : length (b .items) ≡ 32 = search (needs, length-mapped) in
+    let l : length (b .items) ≡ maxDevices = search (needs, length-mapped) in
     (add-one (b .count), backs-longer (b .items) (b .count) (c .args .back) (omega (arith, l, c .pre)))
 
 pub with-back-spec : {M : Type 1} → statement M

@@ -4,18 +4,17 @@ use crate::text::put_one;
 use crate::text::put_setting;
 use crate::text::put_two;
 use crate::text::put_word;
+use answers::Answer;
+use answers::First;
+use answers::PutBack;
+use answers::PutBacks;
+use answers::Sent;
 use routine::Refusal;
-use state::Answer;
-use state::First;
-use state::PutBack;
-use state::PutBacks;
-use state::Sent;
 ghost use mathlib.Core.List.{[], _∷_};
 ghost use Prim.Native.Nat.{_+_, _<_, _^_};
 ghost use Rattle.rules.specs.Answers.{send, skipped, aborted};
 ghost use Rattle.line_rules.specs.Printing.{asLine, refusalText, backList, backText, answerText, answersText};
-ghost use Rattle.state.specs.View.{backOf, backsOf, answerOf, firstOf};
-ghost use Rattle.state.specs.Valid.{BacksOk};
+ghost use Rattle.answers.specs.View.{backOf, backsOf, answerOf, firstOf, BacksOk};
 ghost use Rattle.line_printer.specs.Put.{maxBack, maxBacks, ahead, maxAnswer, halfText, PutShort};
 
 // The word, the number, and the index if there is one; no line's end.

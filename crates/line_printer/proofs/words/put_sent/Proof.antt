@@ -1,4 +1,4 @@
--- `line_printer::answers::put_sent` meets its contract. Assumes nothing.
+-- `line_printer::words::put_sent` meets its contract. Assumes nothing.
 use mathlib.Core.Path.{_≡_}
 use native.Mathlib.Omega.{arith}
 use mir.Syntax.{w16}
@@ -6,8 +6,8 @@ use mir.Val.{toZ, ofZ}
 use Rattle.line_rules.specs.Printing.{answerText}
 use Rattle.line_printer.proofs.Laws.{short-then, exactly, within, reaches}
 use borrow.Author.Needs.{needs}
-use Rattle.line_printer.proofs.answers.put_sent.Statement.{statement}
-use Rattle.line_printer.proofs.answers.put_sent.Tie as tie
+use Rattle.line_printer.proofs.words.put_sent.Statement.{statement}
+use Rattle.line_printer.proofs.words.put_sent.Tie as tie
 
 held : (s : tie.Start) → toZ w16 (ofZ w16 (s .args .sent .command .setting)) ≡ s .args .sent .command .setting
 held s = search needs

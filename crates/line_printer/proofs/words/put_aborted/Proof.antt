@@ -1,10 +1,10 @@
--- `line_printer::answers::put_aborted` meets its contract. Assumes nothing.
+-- `line_printer::words::put_aborted` meets its contract. Assumes nothing.
 use native.Mathlib.Omega.{arith}
 use Rattle.line_rules.specs.Printing.{answerText}
 use Rattle.line_printer.proofs.Laws.{short-then, within, reaches}
 use borrow.Author.Needs.{needs}
-use Rattle.line_printer.proofs.answers.put_aborted.Statement.{statement}
-use Rattle.line_printer.proofs.answers.put_aborted.Tie as tie
+use Rattle.line_printer.proofs.words.put_aborted.Statement.{statement}
+use Rattle.line_printer.proofs.words.put_aborted.Tie as tie
 
 slice-aggregate-put-one : tie.Need-slice-aggregate-put-one
 slice-aggregate-put-one c = search needs

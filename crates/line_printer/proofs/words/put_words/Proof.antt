@@ -1,17 +1,17 @@
--- `line_printer::answers::put_words` meets its contract. Assumes nothing.
+-- `line_printer::words::put_words` meets its contract. Assumes nothing.
 use mathlib.Core.Path.{_≡_, sym, ap}
 use mathlib.Core.List.{List}
 use Prim.Native.Nat.{ℕ, _≤_}
 use native.Mathlib.Omega.{arith}
 use Rattle.rules.specs.Answers.{Back}
-use Rattle.state.specs.View.{answerOf}
-use Rattle.state.specs.declared.Answer.{Answer}
+use Rattle.answers.specs.View.{answerOf}
+use Rattle.answers.specs.declared.Answer.{Answer}
 use Rattle.line_rules.specs.Printing.{answerText}
 use Rattle.line_printer.specs.Put.{maxAnswer, PutShort}
 use Rattle.line_printer.proofs.Laws.{within, as-text}
 use borrow.Author.Needs.{needs}
-use Rattle.line_printer.proofs.answers.put_words.Statement.{statement}
-use Rattle.line_printer.proofs.answers.put_words.Tie as tie
+use Rattle.line_printer.proofs.words.put_words.Statement.{statement}
+use Rattle.line_printer.proofs.words.put_words.Tie as tie
 
 -- the text of the case that the answer is
 answered : {k : ℕ} {a b : List ℕ} {at e : ℕ} (x y : Answer) (l : List Back) → x ≡ y → k ≤ maxAnswer → PutShort k a b at e (answerText (answerOf y l)) →

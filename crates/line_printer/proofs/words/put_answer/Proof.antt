@@ -1,9 +1,9 @@
--- `line_printer::answers::put_answer` meets its contract. Assumes nothing.
+-- `line_printer::words::put_answer` meets its contract. Assumes nothing.
 use native.Mathlib.Omega.{arith}
 use Rattle.line_printer.proofs.Laws.{short-then, exactly, reaches}
 use borrow.Author.Needs.{needs}
-use Rattle.line_printer.proofs.answers.put_answer.Statement.{statement}
-use Rattle.line_printer.proofs.answers.put_answer.Tie as tie
+use Rattle.line_printer.proofs.words.put_answer.Statement.{statement}
+use Rattle.line_printer.proofs.words.put_answer.Tie as tie
 
 put-words-requires : tie.Need-put-words-requires
 put-words-requires c κs = search needs

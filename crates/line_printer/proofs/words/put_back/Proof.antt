@@ -1,17 +1,17 @@
--- `line_printer::answers::put_back` meets its contract. Assumes nothing.
+-- `line_printer::words::put_back` meets its contract. Assumes nothing.
 use mathlib.Core.Path.{_≡_, sym}
 use Prim.Native.Nat.{_≤_}
 use native.Mathlib.Omega.{arith}
 use lib.ListN.{length}
 use mir.Syntax.{w8, w16}
 use mir.Val.{Fits, toZ, ofZ}
-use Rattle.state.specs.View.{backOf}
+use Rattle.answers.specs.View.{backOf}
 use Rattle.line_rules.specs.Text.{bytes, decimal}
 use Rattle.line_rules.proofs.TextLaws.{decimal-short}
 use Rattle.line_printer.proofs.Laws.{short-then, exactly, shorter, as-text, back-one}
 use borrow.Author.Needs.{needs}
-use Rattle.line_printer.proofs.answers.put_back.Statement.{statement}
-use Rattle.line_printer.proofs.answers.put_back.Tie as tie
+use Rattle.line_printer.proofs.words.put_back.Statement.{statement}
+use Rattle.line_printer.proofs.words.put_back.Tie as tie
 
 -- a device has at most three digits
 few : (s : tie.Start) → length (decimal (s .args .back .device)) ≤ 3

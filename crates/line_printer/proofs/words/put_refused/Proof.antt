@@ -1,11 +1,11 @@
--- `line_printer::answers::put_refused` meets its contract. Assumes nothing.
+-- `line_printer::words::put_refused` meets its contract. Assumes nothing.
 use mathlib.Core.Path.{sym, ap}
 use native.Mathlib.Omega.{arith}
 use Rattle.line_rules.specs.Printing.{refusalText}
 use Rattle.line_printer.proofs.Laws.{within, as-text}
 use borrow.Author.Needs.{needs}
-use Rattle.line_printer.proofs.answers.put_refused.Statement.{statement}
-use Rattle.line_printer.proofs.answers.put_refused.Tie as tie
+use Rattle.line_printer.proofs.words.put_refused.Statement.{statement}
+use Rattle.line_printer.proofs.words.put_refused.Tie as tie
 
 enum-known-refusal : tie.Need-enum-known-refusal
 enum-known-refusal c = search needs

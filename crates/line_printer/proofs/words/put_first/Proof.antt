@@ -1,14 +1,14 @@
--- `line_printer::answers::put_first` meets its contract. Assumes nothing.
+-- `line_printer::words::put_first` meets its contract. Assumes nothing.
 use mathlib.Core.Path.{sym, ap, _∙_}
 use native.Mathlib.Omega.{arith}
 use Rattle.rules.specs.Answers.{aborted}
-use Rattle.state.specs.View.{backsOf, firstOf}
-use Rattle.state.specs.declared.First.{First}
+use Rattle.answers.specs.View.{backsOf, firstOf}
+use Rattle.answers.specs.declared.First.{First}
 use Rattle.line_rules.specs.Printing.{answersText}
 use Rattle.line_printer.proofs.Laws.{put-none, short-then, exactly, as-text, reaches, answers-one}
 use borrow.Author.Needs.{needs}
-use Rattle.line_printer.proofs.answers.put_first.Statement.{statement}
-use Rattle.line_printer.proofs.answers.put_first.Tie as tie
+use Rattle.line_printer.proofs.words.put_first.Statement.{statement}
+use Rattle.line_printer.proofs.words.put_first.Tie as tie
 
 enum-told : tie.Need-enum-told
 enum-told c = search needs
