@@ -14,7 +14,6 @@ use slot::due;
 use state::HubState;
 use state::StepOutcome;
 use state::attach;
-use state::outcomes;
 ghost use mathlib.Core.Path.{_≡_};
 ghost use mathlib.Core.Bool.{not, _&&_, _||_};
 ghost use Prim.Native.Nat.{_≤_};

@@ -1,5 +1,5 @@
 -- Laws for the proofs of the opening. Assumes nothing.
-use mathlib.Core.Path.{_≡_, sym, ap, _∙_}
+use mathlib.Core.Path.{_≡_, sym, ap, _∙_, subst}
 use mathlib.Core.Bool.{true, _||_}
 use mathlib.Core.List.{[]}
 use Prim.Native.Nat.{ℕ, suc, _<_, _≤_}
@@ -15,7 +15,9 @@ use Rattle.routine.specs.declared.Verdict.{Verdict}
 use Rattle.routine.specs.declared.Verdict.the-variants.{Accepted, Refused as TurnedDown}
 use Rattle.routine.proofs.Laws.{both-accept, not-refused, or-false}
 use Rattle.rules.specs.State.{highestPassLimit, highestId}
-use Rattle.rules.specs.Open.{openCheck, newHub, openIf, openOf}
+use Rattle.rules.specs.Open.{openCheck, newHub, closedHub, openIf, openOf}
+use Rattle.rules.specs.Calls.{TurnsAllDown}
+use Rattle.rules.proofs.Closed.{closed-turns-all-down}
 use Rattle.slot.proofs.Laws.{all-same}
 use Rattle.sequence.specs.View.{membersOf}
 use Rattle.sequence.specs.Valid.{SequenceOk}
@@ -26,7 +28,12 @@ use Rattle.state.specs.declared.HubState.{HubState}
 use Rattle.hub.specs.View.{view}
 use Rattle.hub.specs.Valid.{Valid}
 use Rattle.hub.specs.Contract.{Opens}
+use Rattle.hub.specs.declared.Hub.{Hub}
 use Rattle.hub.specs.declared.Opened.{Opened}
+
+-- every call on the hub of no devices is turned down
+pub turns-all-down : (h : Hub) → view h ≡ closedHub → TurnsAllDown (view h)
+turns-all-down h e = subst TurnsAllDown (sym e) closed-turns-all-down
 
 module _ (n k first : ℕ) where
   -- one law for each way out of the check
@@ -99,10 +106,11 @@ module _ (n k first : ℕ) where
     no-hub = λ r t. let z : _≡_ {A = ℕ} 0 1 = cc in absurd (omega arith);
   }
 
-  pub opens-not : (o : Opened) (r : Refusal) → o .verdict ≡ openCheck n k first → o .verdict ≡ TurnedDown r → Valid (o .hub) → view (o .hub) ≡ newHub 1 0 1 → Opens n k first o
+  pub opens-not : (o : Opened) (r : Refusal) → o .verdict ≡ openCheck n k first → o .verdict ≡ TurnedDown r → Valid (o .hub) →
+      view (o .hub) ≡ closedHub → Opens n k first o
   unfolding openOf
   opens-not o r c e v w = record {
     valid = v;
     gives = ap (λ (d : Verdict). openIf d (view (o .hub))) e ∙ sym (ap (λ (d : Verdict). openIf d (newHub n k first)) (sym c ∙ e));
-    no-hub = λ s t. w;
+    no-hub = λ s t. (w, turns-all-down (o .hub) w);
   }

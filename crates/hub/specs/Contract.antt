@@ -9,7 +9,8 @@ use Rattle.routine.specs.declared.Refusal.{Refusal}
 use Rattle.routine.specs.declared.Routine.{Routine}
 use Rattle.routine.specs.declared.Verdict.the-variants.{Refused}
 use Rattle.rules.specs.Answers.{Result}
-use Rattle.rules.specs.Open.{newHub, openIf, openOf}
+use Rattle.rules.specs.Open.{closedHub, openIf, openOf}
+use Rattle.rules.specs.Calls.{TurnsAllDown}
 use Rattle.rules.specs.Submit.{submitOf}
 use Rattle.rules.specs.Turn.{turnOf}
 use Rattle.rules.specs.Report.{reportOf}
@@ -26,11 +27,12 @@ use Rattle.hub.specs.declared.Hub.{Hub}
 use Rattle.hub.specs.declared.Opened.{Opened}
 use Rattle.hub.specs.declared.Outcome.{Outcome}
 
--- The opening is accepted, with the hub that the rules give, or turned down as they say. Beside a refusal stands a new hub of one device.
+-- The opening is accepted, with the hub that the rules give, or turned down as they say. "no hub made": beside a refusal
+-- stands the hub of no devices, on which every call is turned down.
 pub record Opens (n k first : ℕ) (o : Opened) : Type 0 where
   pub valid : Valid (o .hub)
   pub gives : openIf (o .verdict) (view (o .hub)) ≡ openOf n k first
-  pub no-hub : (r : Refusal) → o .verdict ≡ Refused r → view (o .hub) ≡ newHub 1 0 1
+  pub no-hub : (r : Refusal) → o .verdict ≡ Refused r → (view (o .hub) ≡ closedHub) × TurnsAllDown (view (o .hub))
 
 -- A call on the hub h gives what the rules give: the answers and, as the rules see it, the next hub, which is valid again. Its list of put-backs fits its
 -- array and is that of the answers. Where nothing changes, it is the same hub, whole.

@@ -11,7 +11,8 @@ use routine::Verdict;
 use state::HubState;
 ghost use mathlib.Core.Path.{_≡_};
 ghost use Rattle.rules.specs.Due.{due};
-ghost use Rattle.rules.specs.Open.{newHub};
+ghost use Rattle.rules.specs.Open.{closedHub};
+ghost use Rattle.rules.specs.Calls.{TurnsAllDown};
 ghost use Rattle.hub.specs.View.{view};
 ghost use Rattle.hub.specs.Valid.{Valid};
 ghost use Rattle.hub.specs.Contract.{Opens, Submitted, Turned, Reported, Cancelled, Failed, Restarted};
@@ -21,7 +22,8 @@ pub struct Hub {
     state: HubState,
 }
 
-// What an opening gives: whether it is accepted, and then the hub. An enum holds no array, so that a hub stands beside a refusal too: it is of no use.
+// What an opening gives: whether it is accepted, and then the hub. An enum holds no array, so that a hub stands beside
+// a refusal too: the one of no devices.
 pub struct Opened {
     pub verdict: Verdict,
     pub hub: Hub,
@@ -42,7 +44,7 @@ pub fn open(devices: u8, pass_limit: u8, first_id: u32) -> Opened
 {
     let verdict = opening::check(devices, pass_limit, first_id);
     let Verdict::Accepted = verdict else {
-        let hub = opening::new_hub(1, 0, 1);
+        let hub = closed();
         return Opened { verdict, hub };
     };
     let hub = opening::new_hub(devices, pass_limit, first_id);
@@ -154,7 +156,7 @@ pub fn due_setting(hub: Hub, device: u8) -> i16
 
 // A hub of no devices: one that is not opened. Every call on it is turned down.
 pub fn closed() -> Hub
-    ensures { λ r. ⌜ (Valid r) × (view r ≡ newHub 0 0 1) ⌝ }
+    ensures { λ r. ⌜ (Valid r) × (view r ≡ closedHub) × (TurnsAllDown (view r)) ⌝ }
 {
     opening::new_hub(0, 0, 1)
 }

@@ -22,7 +22,7 @@ use Rattle.routine.specs.declared.Verdict.the-variants.{Accepted, Refused}
 use Rattle.routine.proofs.Laws.{byTest, both-accept, not-refused, or-false, length-commandsOf, routineOf-commands, routineOf-count, with-more, check-long}
 use Rattle.rules.specs.State.{highestPassLimit, State}
 use Rattle.rules.specs.Answers.{Call as Told, submit, turn, report, failure, restart, cancel, Result, turnedDown}
-use Rattle.rules.specs.Open.{opened, not-opened, openCheck, newHub, openIf, openOf}
+use Rattle.rules.specs.Open.{opened, not-opened, openCheck, newHub, closedHub, openIf, openOf}
 use Rattle.rules.specs.Submit.{submitOf}
 use Rattle.rules.specs.Calls.{resultOf}
 use Rattle.rules.proofs.Theorem.{devices-kept}
@@ -145,13 +145,17 @@ line-calling h unread call e = let z : _≡_ {A = ℕ} 0 1 = cc in absurd (omega
 
 -- ---- the hub
 
-pub hub-none : (h : Hub) → view h ≡ newHub 0 0 1 → hubIn h ≡ none
+pub hub-none : (h : Hub) → view h ≡ closedHub → hubIn h ≡ none
 unfolding hubIn newHub
 hub-none h e = ap (λ (s : State). if eqb (s .devices) 0 then none else some s) e
 
 pub hub-some : (h : Hub) → view h .devices ≢ 0 → hubIn h ≡ some (view h)
 unfolding hubIn
 hub-some h e = ap (λ (t : Bool). if t then none else some (view h)) (ne-eqb (view h .devices) 0 e)
+
+-- a hub with devices is not none
+not-none : {h : Hub} {s : State} {P : Type 0} → hubIn h ≡ some s → hubIn h ≡ none → P
+not-none there z = let w : _≡_ {A = ℕ} 0 1 = cc in absurd (omega arith)
 
 -- an accepted opening has devices
 open-some : (n k first : ℕ) → openCheck n k first ≡ Accepted → n ≢ 0
@@ -190,9 +194,10 @@ heard-some Unread n e = refl
 pub record Does (h : Hub) (q : Said) (next : Hub) (text : List ℕ) : Type 0 where
   pub valid : Valid next
   pub is : step (hubIn h) q ≡ record { hub = hubIn next; text = text }
+  pub unopened : hubIn next ≡ none → next ≡ h
 
 pub does-unread : (h : Hub) (q : Said) → Valid h → heardOf (heldLine q .line) (view h .devices) ≡ Unread → Does h q h (asLine (bytes "unread"))
-does-unread h q v e = record { valid = v; is = line-unread h q e }
+does-unread h q v e = record { valid = v; is = line-unread h q e; unopened = λ _. refl }
 
 module _ (h : Hub) (q : Said) (n k first : ℕ) (e : heardOf (heldLine q .line) (view h .devices) ≡ Open n k first) (o : Opened) (w : Opens n k first o) where
   pub does-open : o .verdict ≡ Accepted → Does h q (o .hub) (asLine (bytes "opened"))
@@ -203,12 +208,13 @@ module _ (h : Hub) (q : Said) (n k first : ℕ) (e : heardOf (heldLine q .line) 
         valid = w .valid;
         is = line-opening h q n k first e ∙ ap (printsOpening (hubIn h)) f
             ∙ ap (λ (s : Option State). record { hub = s; text = asLine (bytes "opened") }) (sym there);
+        unopened = λ z. not-none there z;
       }
 
   pub does-not-open : Valid h → (r : Refusal) → o .verdict ≡ Refused r → Does h q h (asLine (refusalText r))
   does-not-open v r a =
       let f : openOf n k first ≡ not-opened r = sym (w .gives) ∙ ap (λ (u : Verdict). openIf u (view (o .hub))) a in
-      record { valid = v; is = line-opening h q n k first e ∙ ap (printsOpening (hubIn h)) f }
+      record { valid = v; is = line-opening h q n k first e ∙ ap (printsOpening (hubIn h)) f; unopened = λ _. refl }
 
 module _ (h : Hub) (q : Said) (call : Call) (e : heardOf (heldLine q .line) (view h .devices) ≡ Calling call) (o : Outcome) {r : LineRead} (f : r ≡ heldLine q)
     (g : Gives h o (resultOf (view h) (callIn call (r .routine)))) where
@@ -224,6 +230,7 @@ module _ (h : Hub) (q : Said) (call : Call) (e : heardOf (heldLine q .line) (vie
       record {
         valid = g .valid;
         is = l .1 ∙ ap printsResult (sym (gives-it .gives)) ∙ ap (λ (s : Option State). record { hub = s; text = answersText (answersIn o) }) (sym there);
+        unopened = λ z. not-none there z;
       }
 
   pub does-same : changesNothing (o .answer) ≡ true → Does h q h (answersText (answersIn o))

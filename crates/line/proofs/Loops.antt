@@ -48,6 +48,7 @@ pub record Ran (h : Hub) (input buffer buffer′ : List ℕ) (room : ℕ) (now :
   pub done : ℕ
   pub counted : done + length (linesOf (drop from input)) ≡ length (linesOf input)
   pub short : at ≤ maxText * done
+  pub unopened : hubIn now ≡ none → now ≡ h
 
 pub ran-none : (h : Hub) (input buffer : List ℕ) (room : ℕ) → Valid h → Ran h input buffer buffer room h 0 0
 ran-none h input buffer room v = record {
@@ -59,6 +60,7 @@ ran-none h input buffer room v = record {
   done = 0;
   counted = zero-add (length (linesOf input));
   short = omega arith;
+  unopened = λ _. refl;
 }
 
 -- the buffer is as long as it was
@@ -111,6 +113,7 @@ ran-more {h} {input} {buffer} {out} {out′} {room} {now} {next} {at} {at′} {f
       done = suc (r .done);
       counted = let k = ap length first in omega (arith, r .counted);
       short = omega (arith, r .short, p .put .ends, p .short);
+      unopened = λ z. let s = g .does .unopened z in s ∙ r .unopened (sym (ap hubIn s) ∙ z);
     }
 
 -- what is put is the beginning of the whole
@@ -129,6 +132,7 @@ ran-past {input = input} {from = from} r past = record {
   near = r .near;
   fits = λ k. absurd (omega (arith, begins r));
   past = λ k. past;
+  unopened = r .unopened;
   ample = λ k. absurd (omega (arith, r .short, r .counted));
 }
 
@@ -151,6 +155,7 @@ ran-all {h} {input} {buffer} {out} {room} {s} {from} r end =
         subst (λ (t : List ℕ). Put buffer out 0 (s .at) t) (sym (ap (λ (p : Printed). p .text) whole)) (r .put),
       );
       past = λ k. omega (arith, long);
+      unopened = r .unopened;
       ample = λ _. let k = ap length none in omega (arith, long, r .short, r .counted);
     }
 
@@ -244,6 +249,7 @@ wrote-none p h buffer v short = record {
   leaves = sym (buffer-short (p .text) buffer short);
   hub = rw (lt-ltb (length buffer) (length (p .text)) short);
   kept = λ _. refl;
+  unopened = λ _. refl;
 }
 
 -- the length as a signed number
@@ -256,14 +262,15 @@ answers-all text buffer buffer′ at small fits put =
     toZ-pos w64 (cast-fits small fits put) ∙ ap pos (put .ends ∙ zero-add (length text)) ∙ sym (length-fits text (length buffer) fits)
 
 pub wrote-all : (p : Printed) (h next : Hub) (buffer buffer′ : List ℕ) (at : ℕ) → length buffer < 2 ^ 63 → Valid next → hubIn next ≡ p .hub →
-    length (p .text) ≤ length buffer → Put buffer buffer′ 0 at (p .text) → Wrote p h next buffer buffer′ (toZ w64 at)
+    length (p .text) ≤ length buffer → Put buffer buffer′ 0 at (p .text) → (hubIn next ≡ none → next ≡ h) → Wrote p h next buffer buffer′ (toZ w64 at)
 unfolding hubWith
-wrote-all p h next buffer buffer′ at small v e fits put = record {
+wrote-all p h next buffer buffer′ at small v e fits put unopened = record {
   valid = v;
   answers = answers-all (p .text) buffer buffer′ at small fits put;
   leaves = put .is ∙ sym (buffer-fits (p .text) buffer fits);
   hub = rw (le-ltb (length buffer) (length (p .text)) fits) e;
   kept = λ k. absurd (omega arith);
+  unopened = unopened;
 }
 
 pub finishes-none : (h : Hub) (buffer : List ℕ) → length buffer < length (endText (hubIn h)) → Finishes h buffer buffer (negsuc 20)
@@ -349,3 +356,4 @@ module _ (h : Hub) (input : List ℕ) (room : ℕ) (buffer out : List ℕ) (s : 
       pub whole-wrote : Wrote (runFrom (hubIn h) input) h (s .hub) buffer buffer′ (toZ w64 end)
       unfolding runFrom
       whole-wrote = wrote-all (runFrom (hubIn h) input) h (s .hub) buffer buffer′ end (omega arith) (r .valid) (r .fits here .0) (omega arith) (whole-put here)
+          (r .unopened)

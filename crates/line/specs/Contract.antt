@@ -1,6 +1,7 @@
 -- The contracts of the line program's calls. Assumes nothing.
 use mathlib.Core.Path.{_≡_}
 use mathlib.Core.List.{List}
+use mathlib.Core.Option.{none}
 use Prim.Native.Nat.{ℕ, _+_, _*_, _<_, _≤_}
 use lib.IntN.{ℤ}
 use lib.ListN.{length}
@@ -16,13 +17,15 @@ use Rattle.line.specs.declared.running.Lines.{Lines}
 -- ---- the calls that others make
 
 -- What is printed is written: the result is the length of the text or −21; the text stands in the buffer and nothing else is changed there; and the hub
--- afterwards is the one that the program leaves. If the buffer is too short, it and the hub are as they were, whole.
+-- afterwards is the one that the program leaves. If the buffer is too short, it and the hub are as they were, whole. Where no `O` was
+-- accepted, the hub of no devices is the same hub, whole.
 pub record Wrote (p : Printed) (before after : Hub) (buffer buffer′ : List ℕ) (result : ℤ) : Type 0 where
   pub valid : Valid after
   pub answers : result ≡ lengthOr21 (p .text) (length buffer)
   pub leaves : buffer′ ≡ bufferWith (p .text) buffer
   pub hub : hubIn after ≡ hubWith (hubIn before) p (length buffer)
   pub kept : length buffer < length (p .text) → after ≡ before
+  pub unopened : hubIn after ≡ none → after ≡ before
 
 -- The device lines.
 pub record Finishes (h : Hub) (buffer buffer′ : List ℕ) (result : ℤ) : Type 0 where
@@ -44,6 +47,7 @@ pub record RunsLines (h : Hub) (input : List ℕ) (room : ℕ) (buffer buffer′
       length (steps (hubIn h) (linesOf input) .text) ≤ room →
       (hubIn (s .hub) ≡ steps (hubIn h) (linesOf input) .hub) × Put buffer buffer′ 0 (s .at) (steps (hubIn h) (linesOf input) .text)
   pub past : room < length (steps (hubIn h) (linesOf input) .text) → room < s .at
+  pub unopened : hubIn (s .hub) ≡ none → s .hub ≡ h
   pub ample : maxText * length (linesOf input) ≤ room → length (steps (hubIn h) (linesOf input) .text) ≤ maxText * length (linesOf input)
 
 -- How long a text is, if there is room for it; else a number past the room.

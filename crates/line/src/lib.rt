@@ -5,10 +5,11 @@ mod running;
 
 use hub::Hub;
 ghost use mathlib.Core.Path.{_≡_};
-ghost use mathlib.Core.Option.{none};
 ghost use lib.ListN.{length};
 ghost use Rattle.line_rules.specs.Pieces.{linesOf};
 ghost use Rattle.line_rules.specs.Program.{steps, runFrom, programText, lengthOr21, bufferWith};
+ghost use Rattle.rules.specs.Open.{closedHub};
+ghost use Rattle.hub.specs.View.{view};
 ghost use Rattle.hub.specs.Valid.{Valid};
 ghost use Rattle.line.specs.View.{hubIn};
 ghost use Rattle.line.specs.Contract.{Wrote, Finishes};
@@ -22,9 +23,9 @@ pub struct Written {
     pub result: i64,
 }
 
-// No hub, as before an accepted `O`.
+// No hub, as before an accepted `O`: the hub of no devices. It stays the same hub until an `O` is accepted (`unopened` of `Wrote`).
 pub fn no_hub() -> Hub
-    ensures { λ r. ⌜ (Valid r) × (hubIn r ≡ none) ⌝ }
+    ensures { λ r. ⌜ (Valid r) × (view r ≡ closedHub) ⌝ }
 {
     hub::closed()
 }

@@ -8,7 +8,7 @@ use lib.ListN.{replicate}
 use Rattle.rules.specs.Examples.{calc as calcRules}
 use Rattle.line_rules.specs.Text.{bytes, digits, decimal, signed, same}
 use Rattle.line_rules.specs.Pieces.{piecesFrom, pieces, withoutEmptyLast, linesOf, wordsOf}
-use Rattle.line_rules.specs.Reading.{unread, digitsFrom, number, numberUpTo, setting, openingLine, commands, oneNumber, restartLine, lineWith, lineBy, readLine}
+use Rattle.line_rules.specs.Reading.{digitsFrom, number, numberUpTo, setting, openingLine, commands, oneNumber, restartLine, lineWith, lineBy, readLine}
 use Rattle.line_rules.specs.Printing.{refusalText, backList, backText, backIfAny, answerText, answersText, deviceText, deviceLines}
 use Rattle.line_rules.specs.Program.{step, steps, endText, runFrom, programText, lengthOr21, bufferWith, hubWith}
 

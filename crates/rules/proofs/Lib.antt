@@ -17,6 +17,7 @@ pub mod Messages
 pub mod Devices
 pub mod DeviceAborts
 pub mod DeviceKept
+pub mod Closed
 pub mod Theorem
 pub mod Worlds
 pub mod Controls

@@ -1,6 +1,8 @@
 -- All calls: from a state and a call to the answers and the next state. Assumes nothing.
+use mathlib.Core.Path.{_≡_}
+use Rattle.routine.specs.declared.Refusal.{Refusal}
 use Rattle.rules.specs.State.{State}
-use Rattle.rules.specs.Answers.{Call, submit, turn, report, failure, restart, cancel, Result}
+use Rattle.rules.specs.Answers.{Call, submit, turn, report, failure, restart, cancel, Result, turnedDown}
 use Rattle.rules.specs.Submit.{submitOf}
 use Rattle.rules.specs.Turn.{turnOf}
 use Rattle.rules.specs.Report.{reportOf}
@@ -14,3 +16,7 @@ resultOf s (report i code) = reportOf s i code
 resultOf s (failure d) = failureOf s d
 resultOf s (restart d v) = restartOf s d v
 resultOf s (cancel i) = cancelOf s i
+
+-- A hub on which every call is turned down. That `closedHub` is one is `closed-turns-all-down` of `proofs/Closed.antt`.
+abbrev pub TurnsAllDown : State → Type 0
+TurnsAllDown s = (c : Call) → (r : Refusal) × (resultOf s c ≡ turnedDown r s)

@@ -26,6 +26,11 @@ openCheck n k first =
 unfoldable pub newHub : ℕ → ℕ → ℕ → State
 newHub n k first = record { devices = n; passLimit = k; nextId = first; sequence = []; settled = λ d. pos 0; up = λ d. true; mark = λ d. 0 }
 
+-- No hub, where a hub has to stand: beside a refused opening, and before an accepted one. It has no devices, and every call on it is turned
+-- down (`TurnsAllDown` of `Calls.antt`).
+abbrev pub closedHub : State
+closedHub = newHub 0 0 1
+
 abbrev pub openIf : Verdict → State → Opening
 openIf Accepted s = opened s
 openIf (Refused r) s = not-opened r

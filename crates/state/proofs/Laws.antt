@@ -1,15 +1,13 @@
 -- Laws that the proofs of this crate, and those above it, cite. Assumes nothing.
 use mathlib.Core.Path.{_≡_, refl, sym, ap, _∙_, subst}
 use mathlib.Core.Bool.{Bool, true}
-use mathlib.Core.List.{List, [], _∷_, _++_, map, map-append}
+use mathlib.Core.List.{List, [], _∷_, _++_}
 use mathlib.Core.Option.{Option}
 use Prim.Native.Nat.{ℕ, zero, suc, _+_, _<_, _≤_}
-use native.Mathlib.Numerals.{add-one}
 use native.Mathlib.Omega.{arith}
 use borrow.Author.Tests.{eq-eqb, ne-eqb}
 use lib.IntN.{ℤ, pos}
-use lib.ListN.{length, take, getD, set, List·getD-eq-default}
-use lib.Seq.{take-suc-set}
+use lib.ListN.{length, getD, List·getD-eq-default}
 use Rattle.routine.specs.declared.Refusal.{Refusal}
 use Rattle.rules.specs.State.{highestId, Member, State}
 use Rattle.rules.specs.Answers.{Result, turnedDown}
@@ -27,14 +25,13 @@ use Rattle.sequence.specs.Valid.{SequenceOk, Stands, PlaceOk}
 use Rattle.sequence.specs.declared.Sequence.{Sequence}
 use Rattle.sequence.specs.declared.Place.{Place}
 use Rattle.sequence.specs.declared.Place.the-variants.{At}
-use Rattle.answers.specs.View.{backOf, answerOf, firstOf, backsIn, changesNothing}
+use Rattle.answers.specs.View.{answerOf, firstOf, backsIn, changesNothing}
 use Rattle.state.specs.View.{stateOf, found, answersIn}
 use Rattle.state.specs.Valid.{StateOk, Stood}
 use Rattle.state.specs.Contract.{settleFor, StepGives, Plain}
 use Rattle.state.specs.declared.HubState.{HubState}
 use Rattle.answers.specs.declared.Answer.{Answer}
 use Rattle.answers.specs.declared.Answer.the-variants.{Refused}
-use Rattle.answers.specs.declared.PutBack.{PutBack}
 use Rattle.state.specs.declared.StepOutcome.{StepOutcome}
 
 -- ---- outcomes

@@ -1,16 +1,15 @@
 -- What a step promises. Assumes nothing.
 use mathlib.Core.Path.{_≡_}
-use mathlib.Core.Bool.{Bool, true, false}
+use mathlib.Core.Bool.{true}
 use mathlib.Core.List.{[]}
 use Rattle.routine.specs.Choice.{if_then_else_}
 use Rattle.rules.specs.Answers.{Result}
 use Rattle.rules.specs.Settle.{settling}
-use Rattle.answers.specs.View.{backsOf, backsIn, BacksOk}
+use Rattle.answers.specs.View.{backsOf, backsIn, BacksOk, changesNothing}
 use Rattle.state.specs.View.{answersIn, resultIn}
 use Rattle.state.specs.Valid.{StateOk}
 use Rattle.state.specs.declared.HubState.{HubState}
 use Rattle.answers.specs.declared.Answer.{Answer}
-use Rattle.answers.specs.declared.Answer.the-variants.{Refused, Placed, Wait, Sent, Done, Skipped, Committed, Aborted, Down, Up}
 use Rattle.answers.specs.declared.First.the-variants.{NoAbort}
 use Rattle.state.specs.declared.StepOutcome.{StepOutcome}
 

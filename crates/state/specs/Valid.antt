@@ -9,7 +9,6 @@ use Rattle.slot.specs.declared.Slot.{Slot}
 use Rattle.sequence.specs.Valid.{SequenceOk, Stands}
 use Rattle.state.specs.View.{found}
 use Rattle.state.specs.declared.HubState.{HubState}
-use Rattle.answers.specs.declared.PutBacks.{PutBacks}
 
 pub record StateOk (h : HubState) : Type 0 where
   pub devices-fit : h .devices ≤ maxDevices

@@ -1,21 +1,16 @@
--- The hub's state read as the state of the rules, and a step's outcome as their answers. For each case of each enum it is set out here which answer of document 01 it
--- is, and with which values. (For `Refusal` that is `refusalOf` of crate `routine`: for each cause of the table its case, number and index.) Assumes nothing.
+-- The hub's state read as the state of the rules, and a step's outcome as their answers. Which answer of document 01 each case of each enum is
+-- stands in `specs/View.antt` of crate `answers`. Assumes nothing.
 use mathlib.Core.Bool.{Bool, true}
-use mathlib.Core.List.{List, [], _∷_, _++_, map}
+use mathlib.Core.List.{List}
 use Prim.Native.Nat.{ℕ}
-use lib.ListN.{take, getD}
+use lib.ListN.{getD}
 use Rattle.rules.specs.State.{State}
-use Rattle.rules.specs.Answers.{Back, Answer as Told, refused, placed, wait, send, done, skipped, committed, aborted, down, up, Result}
+use Rattle.rules.specs.Answers.{Answer as Told, Result}
 use Rattle.rules.specs.Sequence.{Found}
 use Rattle.slot.specs.View.{settingsOf, marksOf}
 use Rattle.sequence.specs.View.{membersOf, there}
+use Rattle.answers.specs.View.{answersOf}
 use Rattle.state.specs.declared.HubState.{HubState}
-use Rattle.answers.specs.declared.Answer.{Answer}
-use Rattle.answers.specs.declared.Answer.the-variants.{Refused, Placed, Wait, Sent, Done, Skipped, Committed, Aborted, Down, Up}
-use Rattle.answers.specs.declared.First.{First}
-use Rattle.answers.specs.declared.First.the-variants.{NoAbort, Abort}
-use Rattle.answers.specs.declared.PutBack.{PutBack}
-use Rattle.answers.specs.declared.PutBacks.{PutBacks}
 use Rattle.state.specs.declared.StepOutcome.{StepOutcome}
 
 -- ---- the state

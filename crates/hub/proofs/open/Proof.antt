@@ -14,23 +14,23 @@ enum-told c = search needs
 enum-told-2 : tie.Need-enum-told-2
 enum-told-2 c = search needs
 
-new-hub-requires : tie.Need-new-hub-requires
-new-hub-requires c κs = search needs
+closed-requires : tie.Need-closed-requires
+closed-requires c κs = search needs
 
 returns : tie.Need-returns
 returns c =
     let k = c .before .before .before .check in
-    opens-not _ _ _ _ _ (k .ensures) (c .before .enum-told2 .given .1) (c .new-hub .ensures .0) (c .new-hub .ensures .1)
+    opens-not _ _ _ _ _ (k .ensures) (c .before .enum-told2 .given .1) (c .closed .ensures .0) (c .closed .ensures .1)
 
-new-hub-requires-2 : tie.Need-new-hub-requires-2
-new-hub-requires-2 c κs =
+new-hub-requires : tie.Need-new-hub-requires
+new-hub-requires c κs =
     let k = c .before .before .check in
     open-fits _ _ _ (sym (k .ensures) ∙ c .enum-told .given .1)
 
 returns-2 : tie.Need-returns-2
 returns-2 c =
     let k = c .before .before .before .check in
-    opens _ _ _ _ (k .ensures) (c .before .enum-told .given .1) (c .new-hub2 .ensures .0) (c .new-hub2 .ensures .1)
+    opens _ _ _ _ (k .ensures) (c .before .enum-told .given .1) (c .new-hub .ensures .0) (c .new-hub .ensures .1)
 
 pub open-spec : {M : Type 1} → statement M
 open-spec =
@@ -39,7 +39,7 @@ open-spec =
     check-requires
     enum-told
     enum-told-2
-    new-hub-requires
+    closed-requires
     returns
-    new-hub-requires-2
+    new-hub-requires
     returns-2)

@@ -48,12 +48,15 @@ use denote.Triple.Clauses.{ensured, lasts}
 use denote.Exit.{yes}
 use Rattle.rules.specs.State.{State}
 use Rattle.line_rules.specs.Program.{runFrom, programText, lengthOr21, bufferWith}
+use Rattle.rules.specs.Open.{closedHub}
+use Rattle.hub.specs.View.{view}
 use Rattle.hub.specs.Valid.{Valid}
 use Rattle.hub.specs.declared.Hub.{Hub}
 use Rattle.hub.proofs.Hub as T
 use Rattle.hub.proofs.Hub.Laws as T′
 use Rattle.line.specs.View.{hubIn}
 use Rattle.line.specs.Contract.{Wrote}
+use Rattle.line.proofs.Laws.{hub-none}
 use Rattle.line.proofs.no_hub as none-yet
 use Rattle.line.proofs.no_hub.Symbol as none-yet-def
 use Rattle.line.proofs.no_hub.Symbol.{name as #no-hub}
@@ -110,8 +113,8 @@ module _ {M : Type 1} (𝓤 : URA M) (H : Heap 𝓤) (A : Atoms 𝓤) (at-mem : 
   abbrev Run : Contract 𝓤
   Run = tripleOf 𝓤 H A over-lent.signature (over-lent.spec 𝓤 H A at-mem run)
 
-  no-hub-said : (r : Hub) → ent 𝓤 (ensured 𝓤 H A none-yet.ended (none-yet.clauses 𝓤 H A at-mem run) tt tt tt r) (fact 𝓤 (Valid r × (hubIn r ≡ none)))
-  no-hub-said r = exE 𝓤 _ (λ ws. snd∗ 𝓤 (sem 𝓤 H A (lasts none-yet.ended tt tt ws)) (fact 𝓤 (Valid r × (hubIn r ≡ none))))
+  no-hub-said : (r : Hub) → ent 𝓤 (ensured 𝓤 H A none-yet.ended (none-yet.clauses 𝓤 H A at-mem run) tt tt tt r) (fact 𝓤 (Valid r × (view r ≡ closedHub)))
+  no-hub-said r = exE 𝓤 _ (λ ws. snd∗ 𝓤 (sem 𝓤 H A (lasts none-yet.ended tt tt ws)) (fact 𝓤 (Valid r × (view r ≡ closedHub))))
 
 module _ {M : Type 1} (𝓤 : URA M) (H : Heap 𝓤) (A : Atoms 𝓤) (W : Given 𝓤 H A) (at-mem : Memory → SProp 𝓤) (run : Routine → Fun 𝓤)
     (κ₀ κ₁ : Lft) (q₀ q₁ : Share) (s t : RefT (List ℕ)) where
@@ -177,8 +180,8 @@ module _ {M : Type 1} (𝓤 : URA M) (H : Heap 𝓤) (A : Atoms 𝓤) (W : Given
         calls-at ! fm (NoHub 𝓤 H A at-mem run) known-no-hub to-no-hub (no-more !) (λ v.
         use1 W (later (some (λ (r : Hub). (‵ ftrue ⊛ ‵ (T.the-row .own r (v ∷ [])))
         ⊛ raw (ensured 𝓤 H A none-yet.ended (none-yet.clauses 𝓤 H A at-mem run) tt tt tt r)))) (id⊢ 𝓤 _) $ await ! tt $ pick ! (λ r.
-        split ! $ move ! (1 ∷ []) $ use1 W (raw (fact 𝓤 (Valid r × (hubIn r ≡ none)))) (no-hub-said 𝓤 H A at-mem run r) $
-        heard ! (Valid r × (hubIn r ≡ none)) (λ e₁. split ! $ drop ! $
+        split ! $ move ! (1 ∷ []) $ use1 W (raw (fact 𝓤 (Valid r × (view r ≡ closedHub)))) (no-hub-said 𝓤 H A at-mem run r) $
+        heard ! (Valid r × (view r ≡ closedHub)) (λ e₁. split ! $ drop ! $
         peeks ! T.the-row (Is T.the-row) (shows 𝓤 H A T.the-row) r (v ∷ []) (λ is₁.
         land ! (from ! (stop !)) (init ! 7 refl (LL.lawful T.the-type T′.the-laws 𝓤 H A W .typed r _ is₁ .0)) $
         assigns ! (of-opd ! (load ! (from ! (stop !)) (look ! 7 refl))) (from ! (stop !))
@@ -224,8 +227,8 @@ module _ {M : Type 1} (𝓤 : URA M) (H : Heap 𝓤) (A : Atoms 𝓤) (W : Given
         move ! (19 ∷ 20 ∷ []) $ free1 ! $ move ! (17 ∷ 18 ∷ []) $ free1 ! $ move ! (15 ∷ 16 ∷ []) $ free1 ! $ move ! (0 ∷ 14 ∷ []) $ free1 ! $
         move ! (11 ∷ 12 ∷ []) $ free1 ! $ move ! (9 ∷ 10 ∷ []) $ free1 ! $ move ! (7 ∷ 8 ∷ []) $ free1 ! $ move ! (5 ∷ 6 ∷ []) $ free1 ! $ free0 ! $
         keep ! (1 ∷ 3 ∷ 2 ∷ []) $ by ! (exits c w (zs .1 .1 .0)
-        (e₂ .answers ∙ ap (λ (text : List ℕ). lengthOr21 text (length (t .now))) (from-none (hubIn r) (s .now) (e₁ .1)))
-        (e₂ .leaves ∙ ap (λ (text : List ℕ). bufferWith text (t .now)) (from-none (hubIn r) (s .now) (e₁ .1))) l))))))))))))))))))))))
+        (e₂ .answers ∙ ap (λ (text : List ℕ). lengthOr21 text (length (t .now))) (from-none (hubIn r) (s .now) (hub-none r (e₁ .1))))
+        (e₂ .leaves ∙ ap (λ (text : List ℕ). bufferWith text (t .now)) (from-none (hubIn r) (s .now) (hub-none r (e₁ .1)))) l))))))))))))))))))))))
 
 module _ {M : Type 1} (𝓤 : URA M) (H : Heap 𝓤) (A : Atoms 𝓤) (W : Given 𝓤 H A) (at-mem : Memory → SProp 𝓤) (run : Routine → Fun 𝓤) where
   plot-hub-run-walks : (C : Calls 𝓤 H) (Λ : Loops 𝓤 H) → FmC 𝓤 H (W .laws) C → Triple 𝓤 (C #no-hub) (NoHub 𝓤 H A at-mem run)

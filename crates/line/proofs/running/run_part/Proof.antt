@@ -51,7 +51,7 @@ returns-2 c =
     let l = c .before .before .before .before in
     let r = l .run-lines .ensures in
     let f = r .fits (fits l) in
-    wrote-all _ _ _ _ _ _ (small (l .before .before .before .before)) (r .valid) (f .0) (fits l) (f .1)
+    wrote-all _ _ _ _ _ _ (small (l .before .before .before .before)) (r .valid) (f .0) (fits l) (f .1) (r .unopened)
 
 pub run-part-spec : {M : Type 1} → statement M
 run-part-spec =
