@@ -1,28 +1,28 @@
 -- The printed key and demand 3 of it, proved: the theorems of the rules, carried along the lines. Assumes nothing.
 use mathlib.Core.Path.{_≡_, refl, sym, ap, _∙_, subst}
 use mathlib.Core.Logic.{_⊎_, inl, inr}
-use mathlib.Core.Bool.{false}
+use mathlib.Core.Bool.{Bool, true, false}
 use mathlib.Core.List.{List, [], _∷_, _++_, append-assoc, append-nil}
 use mathlib.Core.Option.{Option, none, some}
-use Prim.Native.Nat.{ℕ, zero, suc, _<_}
+use Prim.Native.Nat.{ℕ, zero, suc, _+_, _<_}
+use native.Mathlib.Omega.{arith}
 use Rattle.rules.specs.State.{State}
-use Rattle.rules.specs.Answers.{Call}
 use Rattle.rules.specs.Due.{due}
 use Rattle.rules.specs.Open.{newHub}
-use Rattle.rules.specs.History.{Told, accountsOf}
+use Rattle.rules.specs.History.{Told, accountsOf, workingOf}
 use Rattle.rules.specs.Order.{Entry, entries, orderOf}
 use Rattle.rules.specs.Serial.{DeviceState, allUp, serialRun}
-use Rattle.rules.specs.World.{World, Act, worldAfterAll, newWorld}
-use Rattle.rules.specs.Demand3.{orderIn, Begins, CommandsStand, Demand3}
+use Rattle.rules.specs.World.{World, Act, worldAfterAll, PremiseAll, newWorld}
+use Rattle.rules.specs.Demand3.{orderIn, NoneRuns, committedPart, Begins, CommandsStand, Demand3}
 use Rattle.rules.specs.Examples.{stateAfter}
 use Rattle.rules.proofs.Lists.{or-left, anyOf-++}
-use Rattle.rules.proofs.Theorem.{opening, demand-3, hub-order, order-committed}
+use Rattle.rules.proofs.Theorem.{opening, demand-3, hub-order, order-committed, working-up}
 use Rattle.line_rules.specs.Text.{bytes}
 use Rattle.line_rules.specs.Pieces.{linesOf}
 use Rattle.line_rules.specs.Reading.{readLine}
 use Rattle.line_rules.specs.Printing.{asLine, deviceText, deviceTextOf, deviceLines}
 use Rattle.line_rules.specs.Program.{Printed, steps, endText, runFrom, programText}
-use Rattle.key.specs.Key.{repliesTo, repliesText, toldBy, runOf, lineOf, linesFrom, opens, anyOpens, LastOpening, repliesBehind, history, Key, NoHub, PrintedKey, callsBy, callsIn, KeyStatement}
+use Rattle.key.specs.Key.{repliesTo, repliesText, toldBy, runOf, lineOf, linesFrom, opens, anyOpens, LastOpening, repliesBehind, history, Key, NoHub, PrintedKey, callsBy, callsIn, deviceIn, LinesTell, KeyStatement, KeyOfDevices}
 use Rattle.key.proofs.Lines.{replies-printed, opened-at, none-hub, none-told, calls-hub, last-opening}
 use Rattle.key.proofs.Acts.{calls-devices, told-same, alone, calls-alone, alone-append, state-alone, calls-append}
 
@@ -102,35 +102,81 @@ printed-key input = go (last-opening (linesOf input))
 
 -- ---- demand 3
 
+-- of a device that is down, no setting is printed
+down-line : (d : ℕ) (x y : DeviceState) → x .up ≡ false → y .up ≡ false → lineOf d x ≡ lineOf d y
+down-line d x y e f = ap (λ (t : Bool). asLine (deviceTextOf d t (x .setting))) e ∙ sym (ap (λ (t : Bool). asLine (deviceTextOf d t (y .setting))) f)
+
+module _ {lines : List (List ℕ)} (o : LastOpening lines) where
+  told : (acts : List Act) → callsIn acts ≡ callsBy (o .behind) → worldAfterAll (newWorld (o .hub)) acts .history ≡ history o
+  told acts e = told-same (o .hub) (o .behind) (o .is-last) acts e
+
+  rules : (acts : List Act) → Demand3 (o .hub) acts
+  rules acts = demand-3 (o .devices) (o .passLimit) (o .firstId) (o .hub) (o .accepted) acts
+
+  -- what is told of the calls alone
+  told-alone : worldAfterAll (newWorld (o .hub)) (alone (callsBy (o .behind))) .history ≡ history o
+  told-alone = told (alone (callsBy (o .behind))) (calls-alone (callsBy (o .behind)))
+
+  up-works : (d : ℕ) → runOf (history o) d .up ≡ workingOf (history o) d
+  unfolding hubAtEnd
+  up-works d =
+      let cs = callsBy (o .behind) in
+      ap (λ (x : DeviceState). x .up) (run-same o d) ∙ ap (λ (s : State). s .up d) (sym (state-alone (o .hub) cs))
+      ∙ sym (working-up (o .devices) (o .passLimit) (o .firstId) (o .hub) (o .accepted) (alone cs) d)
+      ∙ ap (λ (l : List Told). workingOf l d) told-alone
+
+  lines-tell : (acts : List Act) → callsIn acts ≡ callsBy (o .behind) → PremiseAll (newWorld (o .hub)) acts →
+      LinesTell (o .devices) (runOf (history o)) (worldAfterAll (newWorld (o .hub)) acts)
+  lines-tell acts e p none-runs d n back = go (workingOf (w .history) d) refl
+    where
+      w : World
+      w = worldAfterAll (newWorld (o .hub)) acts
+
+      -- the run of what the lines tell is that of the committed routines and events
+      run-committed : runOf (history o) d ≡ serialRun (committedPart (entries (orderIn w))) allUp d
+      run-committed =
+          ap (λ (l : List Told). runOf l d) (sym (told acts e))
+          ∙ ap (λ (l : List Entry). serialRun l allUp d)
+          (sym (order-committed (o .devices) (o .passLimit) (o .firstId) (o .hub) (o .accepted) acts none-runs))
+
+      go : (works : Bool) → workingOf (w .history) d ≡ works → lineOf d (runOf (history o) d) ≡ lineOf d (deviceIn w d)
+      go true f =
+          ap (lineOf d) (run-committed ∙ rules acts .end-state p none-runs d (subst (λ m. d < m) (sym (devices-of o)) n) f (back f))
+          ∙ ap (λ (t : Bool). lineOf d (record { up = t; setting = w .devices d .setting })) (sym f)
+      go false f = down-line d (runOf (history o) d) (deviceIn w d) (up-works d ∙ ap (λ (l : List Told). workingOf l d) (sym (told acts e)) ∙ f) f
+
+  settled-part : (before rest : List (List ℕ)) → o .behind ≡ before ++ rest →
+      Begins (orderOf (toldBy (repliesTo (some (o .hub)) before)) .settled) (entries (orderOf (history o)))
+  settled-part before rest e =
+      let w = newWorld (o .hub) in
+      let fits = ap alone (ap callsBy e ∙ calls-append before rest) ∙ alone-append (callsBy before) (callsBy rest) in
+      let none-opens = or-left (anyOpens before) (anyOpens rest) (sym (anyOf-++ (λ l. opens (readLine l)) before rest) ∙ ap anyOpens (sym e) ∙ o .is-last) in
+      subst (λ (l : List Told). Begins (orderOf l .settled) (entries (orderOf (history o))))
+      (told-same (o .hub) before none-opens (alone (callsBy before)) (calls-alone (callsBy before)))
+      (subst (λ (l : List Told). Begins (orderIn (worldAfterAll w (alone (callsBy before))) .settled) (entries (orderOf l))) told-alone
+      (rules (alone (callsBy (o .behind))) .settled-part (alone (callsBy before)) (alone (callsBy rest)) fits))
+
 pub key-demand-3 : KeyStatement
 key-demand-3 lines o = record {
-  end-state = λ acts e. (
-    told acts e,
-    λ p none-runs d n works no-back.
-        ap (λ (x : DeviceState). lineOf d x) (ap (λ (l : List Told). runOf l d) (sym (told acts e))
-        ∙ ap (λ (l : List Entry). serialRun l allUp d) (sym (order-committed (o .devices) (o .passLimit) (o .firstId) s (o .accepted) acts none-runs))
-        ∙ rules acts .end-state p none-runs d (subst (λ m. d < m) (sym (devices-of o)) n) works no-back),
-  );
-  settled-part = λ before rest e.
-      let fits = ap alone (ap callsBy e ∙ calls-append before rest) ∙ alone-append (callsBy before) (callsBy rest) in
-      subst (λ (l : List Told). Begins (orderOf l .settled) (entries (orderOf (history o))))
-      (told-same s before (or-left _ _ (sym (anyOf-++ (λ l. opens (readLine l)) before rest) ∙ ap anyOpens (sym e) ∙ o .is-last)) (alone (callsBy before)) (calls-alone (callsBy before)))
-      (subst (λ (l : List Told). Begins (orderIn (worldAfterAll (newWorld s) (alone (callsBy before))) .settled) (entries (orderOf l))) same
-      (rules (alone cs) .settled-part (alone (callsBy before)) (alone (callsBy rest)) fits));
-  commands-stand = subst (λ (l : List Told). CommandsStand (accountsOf l) (entries (orderOf l)) allUp) same (rules (alone cs) .commands-stand);
+  end-state = λ acts e. (told o acts e, lines-tell o acts e);
+  settled-part = settled-part o;
+  commands-stand =
+      subst (λ (l : List Told). CommandsStand (accountsOf l) (entries (orderOf l)) allUp) (told-alone o) (rules o (alone (callsBy (o .behind))) .commands-stand);
+  up-works = up-works o;
 }
-  where
-    s : State
-    s = o .hub
 
-    cs : List Call
-    cs = callsBy (o .behind)
+-- the lines of devices one by one
+lines-same : (n : ℕ) (run as-is : ℕ → DeviceState) → ((d : ℕ) → d < n → lineOf d (run d) ≡ lineOf d (as-is d)) → (d left : ℕ) → d + left ≡ n →
+    linesFrom run d left ≡ linesFrom as-is d left
+lines-same n run as-is e d zero f = refl
+lines-same n run as-is e d (suc left) f =
+    ap (λ (l : List ℕ). l ++ linesFrom run (suc d) left) (e d (omega arith))
+    ∙ ap (λ (l : List ℕ). lineOf d (as-is d) ++ l) (lines-same n run as-is e (suc d) left (omega arith))
 
-    rules : (acts : List Act) → Demand3 s acts
-    rules acts = demand-3 (o .devices) (o .passLimit) (o .firstId) s (o .accepted) acts
-
-    told : (acts : List Act) → callsIn acts ≡ callsBy (o .behind) → worldAfterAll (newWorld (o .hub)) acts .history ≡ history o
-    told acts e = told-same (o .hub) (o .behind) (o .is-last) acts e
-
-    same : worldAfterAll (newWorld (o .hub)) (alone (callsBy (o .behind))) .history ≡ history o
-    same = told-same (o .hub) (o .behind) (o .is-last) (alone (callsBy (o .behind))) (calls-alone (callsBy (o .behind)))
+pub key-of-devices : KeyOfDevices
+key-of-devices input k acts e p none-runs back =
+    let o = k .last in
+    let w = worldAfterAll (newWorld (o .hub)) acts in
+    k .text-is
+    ∙ ap (λ (l : List ℕ). repliesText (repliesTo none (o .front)) ++ asLine (bytes "opened") ++ repliesText (repliesBehind o) ++ l)
+    (lines-same (o .devices) (runOf (history o)) (deviceIn w) (λ d n. lines-tell o acts e p none-runs d n (back d n)) 0 (o .devices) (omega arith))

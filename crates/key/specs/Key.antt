@@ -1,5 +1,6 @@
 -- The printed key: what the line program prints, told by calls, answers and the serial run in the hub's order. The statements are `PrintedKey` and
--- `KeyStatement`; their proofs are `printed-key` and `key-demand-3` of `proofs/Theorem.antt`. Assumes nothing.
+-- `KeyStatement`, and `KeyOfDevices` puts them together; the proofs are `printed-key`, `key-demand-3` and `key-of-devices` of `proofs/Theorem.antt`. Assumes
+-- nothing.
 use mathlib.Core.Path.{_≡_}
 use mathlib.Core.Logic.{_⊎_}
 use mathlib.Core.Bool.{Bool, true, false}
@@ -178,15 +179,21 @@ callsIn [] = []
 callsIn (calls c v ∷ l) = c ∷ callsIn l
 callsIn (takes-one d k ∷ l) = callsIn l
 
--- At the end, if none runs, the line that is printed of a working device, nothing that puts it back being left to take, tells the setting that it has.
+-- A device as it is: does it work, by the answers; and the setting that it has.
+abbrev pub deviceIn : World → ℕ → DeviceState
+deviceIn w d = record { up = workingOf (w .history) d; setting = w .devices d .setting }
+
+-- "a command that puts a working device back is carried out before the settings are compared": none is left to take.
+abbrev pub PutBack : World → ℕ → Type 0
+PutBack w d = workingOf (w .history) d ≡ true → anyOf isBack (w .devices d .sent) ≡ false
+
+-- If no routine runs at the end, the line that is printed of a device is the line of the device as it is.
 abbrev pub LinesTell : ℕ → (ℕ → DeviceState) → World → Type 0
-LinesTell n run w =
-    NoneRuns w → (d : ℕ) → d < n → workingOf (w .history) d ≡ true → anyOf isBack (w .devices d .sent) ≡ false →
-    lineOf d (run d) ≡ asLine (deviceTextOf d true (w .devices d .setting))
+LinesTell n run w = NoneRuns w → (d : ℕ) → d < n → PutBack w d → lineOf d (run d) ≡ lineOf d (deviceIn w d)
 
 -- Demand 3 of the lines behind the last accepted `O`, about the order whose serial run is printed.
 pub record KeyDemand3 {lines : List (List ℕ)} (o : LastOpening lines) : Type 0 where
-  -- Whatever happens with these calls: it tells what the lines tell; and within the premise the printed lines tell the settings of the devices.
+  -- Whatever happens with these calls: it tells what the lines tell; and within the premise the printed lines are those of the devices.
   pub end-state :
       (acts : List Act) → callsIn acts ≡ callsBy (o .behind) →
       let w = worldAfterAll (newWorld (o .hub)) acts in
@@ -197,6 +204,18 @@ pub record KeyDemand3 {lines : List (List ℕ)} (o : LastOpening lines) : Type 0
       Begins (orderOf (toldBy (repliesTo (some (o .hub)) before)) .settled) (entries (orderOf (history o)))
   -- "In it every done command finds its device up; every skipped one was reported failed or finds it down."
   pub commands-stand : CommandsStand (accountsOf (history o)) (entries (orderOf (history o))) allUp
+  -- Whether or not a routine runs: up is printed of the devices that work.
+  pub up-works : (d : ℕ) → runOf (history o) d .up ≡ workingOf (history o) d
 
 abbrev pub KeyStatement : Type 0
 KeyStatement = (lines : List (List ℕ)) (o : LastOpening lines) → KeyDemand3 o
+
+-- So the whole text, within the premise, if no routine runs at the end: the answers, and each device as it is.
+abbrev pub KeyOfDevices : Type 0
+KeyOfDevices =
+    (input : List ℕ) (k : Key input) (acts : List Act) → callsIn acts ≡ callsBy (k .last .behind) → PremiseAll (newWorld (k .last .hub)) acts →
+    let w = worldAfterAll (newWorld (k .last .hub)) acts in
+    NoneRuns w → ((d : ℕ) → d < k .last .devices → PutBack w d) →
+    programText input
+    ≡ repliesText (repliesTo none (k .last .front)) ++ asLine (bytes "opened") ++ repliesText (repliesBehind (k .last))
+    ++ linesFrom (deviceIn w) 0 (k .last .devices)

@@ -368,3 +368,9 @@ pub order-committed : (n k first : ℕ) (s : State) → openOf n k first ≡ ope
 order-committed n k first s e acts =
     whole-committed (Unit {0} × PremiseAll (newWorld s) acts) (worldAfterAll (newWorld s) acts)
     (acts-hold (Unit {0}) (newWorld s) acts (started n k first s e) .next)
+
+-- whatever runs, a device works, by the answers, exactly if it is up at the hub
+pub working-up : (n k first : ℕ) (s : State) → openOf n k first ≡ opened s → (acts : List Act) (d : ℕ) →
+    let w = worldAfterAll (newWorld s) acts in
+    workingOf (w .history) d ≡ w .state .up d
+working-up n k first s e acts d = acts-hold (Unit {0}) (newWorld s) acts (started n k first s e) .next .known .works d
