@@ -1,4 +1,4 @@
--- Line by line: what the program prints is the replies' text; the hub at the end, and what is told, are those of the calls. Assumes nothing.
+-- Line by line: what the program prints is the replies' text; the hub at the end and what is told are those of the calls. Assumes nothing.
 use mathlib.Core.Path.{_≡_, refl, ap, _∙_}
 use mathlib.Core.Logic.{_⊎_, inl, inr}
 use mathlib.Core.Bool.{true, false}
@@ -17,7 +17,8 @@ use Rattle.line_rules.specs.Reading.{Line, opening, calling, unread, readLine}
 use Rattle.line_rules.specs.Printing.{asLine}
 use Rattle.line_rules.specs.Program.{before, printsOpening, step, steps}
 use Rattle.line_rules.proofs.Parts.{steps-append}
-use Rattle.key.specs.Key.{opening-gave, replyTo, hubOpened, hubLeft, repliesTo, replyText, repliesText, tells, toldBehind, isOpened, opens, anyOpens, LastOpening, callBefore, callsBy}
+use Rattle.key.specs.Key.{opening-gave, replyTo, hubOpened, hubLeft, repliesTo, replyText, repliesText, tells, toldBehind, isOpened}
+use Rattle.key.specs.Key.{opens, anyOpens, LastOpening, callBefore, callsBy}
 
 -- ---- what is printed
 
@@ -52,16 +53,17 @@ replies-printed h (l ∷ ls) =
     ∙ ap (λ (text : List ℕ). replyText (replyTo h said) ++ text)
     (ap (λ (t : Option State). steps t ls .text) (hub-left h said) ∙ replies-printed (hubLeft h said) ls)
 
--- at an accepted opening: what was printed before it, `opened`, and what the lines behind it print on its hub
-pub opened-at : (h : Option State) (front : List (List ℕ)) (line : List ℕ) (behind : List (List ℕ)) (n k first : ℕ) (s : State) →
-    readLine line ≡ opening n k first → openOf n k first ≡ opened s →
-    steps h (front ++ (line ∷ behind)) ≡ before (steps h front .text) (before (asLine (bytes "opened")) (steps (some s) behind))
+-- at the last accepted opening: what was printed before it, `opened`, and what the lines behind it print on its hub
+pub opened-last : (h : Option State) {lines : List (List ℕ)} (o : LastOpening lines) →
+    steps h (o .front ++ (o .line ∷ o .behind))
+    ≡ before (steps h (o .front) .text) (before (asLine (bytes "opened")) (steps (some (o .hub)) (o .behind)))
 unfolding steps step
-opened-at h front line behind n k first s e f =
-    let t = steps h front .hub in
-    steps-append h front (line ∷ behind)
-    ∙ ap (before (steps h front .text)) (ap (λ (said : Line). before (step t said .text) (steps (step t said .hub) behind)) e
-    ∙ ap (λ (o : Opening). before (printsOpening t o .text) (steps (printsOpening t o .hub) behind)) f)
+opened-last h o =
+    let t = steps h (o .front) .hub in
+    steps-append h (o .front) (o .line ∷ o .behind)
+    ∙ ap (before (steps h (o .front) .text))
+    (ap (λ (said : Line). before (step t said .text) (steps (step t said .hub) (o .behind))) (o .reads-as)
+    ∙ ap (λ (a : Opening). before (printsOpening t a .text) (steps (printsOpening t a .hub) (o .behind))) (o .accepted))
 
 -- ---- without an accepted opening
 
@@ -84,8 +86,9 @@ pub none-hub : (ls : List (List ℕ)) → anyOpens ls ≡ false → steps none l
 unfolding steps
 none-hub [] e = refl
 none-hub (l ∷ ls) e =
-    ap (λ (t : Option State). steps t ls .hub) (hub-left none (readLine l) ∙ no-hub-left (readLine l) (or-left (opens (readLine l)) (anyOpens ls) e))
-    ∙ none-hub ls (or-right (opens (readLine l)) (anyOpens ls) e)
+    let said = readLine l in
+    ap (λ (t : Option State). steps t ls .hub) (hub-left none said ∙ no-hub-left said (or-left (opens said) (anyOpens ls) e))
+    ∙ none-hub ls (or-right (opens said) (anyOpens ls) e)
 
 pub none-told : (earlier : List Told) (ls : List (List ℕ)) → anyOpens ls ≡ false → toldBehind earlier (repliesTo none ls) ≡ earlier
 none-told earlier [] e = refl
@@ -104,8 +107,9 @@ pub calls-hub : (s : State) (ls : List (List ℕ)) → anyOpens ls ≡ false →
 unfolding steps
 calls-hub s [] e = refl
 calls-hub s (l ∷ ls) e =
-    ap (λ (t : Option State). steps t ls .hub) (hub-left (some s) (readLine l))
-    ∙ go (λ t. calls-hub t ls (or-right (opens (readLine l)) (anyOpens ls) e)) (readLine l) (or-left (opens (readLine l)) (anyOpens ls) e)
+    let said = readLine l in
+    ap (λ (t : Option State). steps t ls .hub) (hub-left (some s) said)
+    ∙ go (λ t. calls-hub t ls (or-right (opens said) (anyOpens ls) e)) said (or-left (opens said) (anyOpens ls) e)
   where
     go : ((t : State) → steps (some t) ls .hub ≡ some (stateAfter t (callsBy ls))) → (said : Line) → opens said ≡ false →
         steps (hubLeft (some s) said) ls .hub ≡ some (stateAfter s (callBefore said (callsBy ls)))
@@ -122,12 +126,15 @@ pub calls-told : (earlier : List Told) (s : State) (ls : List (List ℕ)) → an
     toldBehind earlier (repliesTo (some s) ls) ≡ toldCalls earlier s (callsBy ls)
 calls-told earlier s [] e = refl
 calls-told earlier s (l ∷ ls) e =
-    go (λ told t. calls-told told t ls (or-right (opens (readLine l)) (anyOpens ls) e)) (readLine l) (or-left (opens (readLine l)) (anyOpens ls) e)
+    let said = readLine l in
+    go (λ told t. calls-told told t ls (or-right (opens said) (anyOpens ls) e)) said (or-left (opens said) (anyOpens ls) e)
   where
     go : ((told : List Told) (t : State) → toldBehind told (repliesTo (some t) ls) ≡ toldCalls told t (callsBy ls)) →
         (said : Line) → opens said ≡ false →
-        toldBehind (tells (replyTo (some s) said) earlier) (repliesTo (hubLeft (some s) said) ls) ≡ toldCalls earlier s (callBefore said (callsBy ls))
-    go rest (opening n k first) f = ap (λ (t : Option State). toldBehind earlier (repliesTo t ls)) (stays s (openOf n k first) f) ∙ rest earlier s
+        toldBehind (tells (replyTo (some s) said) earlier) (repliesTo (hubLeft (some s) said) ls)
+        ≡ toldCalls earlier s (callBefore said (callsBy ls))
+    go rest (opening n k first) f =
+        ap (λ (t : Option State). toldBehind earlier (repliesTo t ls)) (stays s (openOf n k first) f) ∙ rest earlier s
     go rest (calling c) f = rest (record { call = c; answers = resultOf s c .answers } ∷ earlier) (resultOf s c .state)
     go rest unread f = rest earlier s
 
@@ -150,7 +157,8 @@ further l ls p = record {
 }
 
 -- the first line, with none behind it
-here : (l : List ℕ) (ls : List (List ℕ)) → anyOpens ls ≡ false → (said : Line) → readLine l ≡ said → (opens said ≡ false) ⊎ LastOpening (l ∷ ls)
+here : (l : List ℕ) (ls : List (List ℕ)) → anyOpens ls ≡ false → (said : Line) → readLine l ≡ said →
+    (opens said ≡ false) ⊎ LastOpening (l ∷ ls)
 here l ls e (opening n k first) q = go (openOf n k first) refl
   where
     go : (o : Opening) → openOf n k first ≡ o → (isOpened o ≡ false) ⊎ LastOpening (l ∷ ls)

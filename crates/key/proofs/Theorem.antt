@@ -22,8 +22,9 @@ use Rattle.line_rules.specs.Pieces.{linesOf}
 use Rattle.line_rules.specs.Reading.{readLine}
 use Rattle.line_rules.specs.Printing.{asLine, deviceText, deviceTextOf, deviceLines}
 use Rattle.line_rules.specs.Program.{Printed, steps, endText, runFrom, programText}
-use Rattle.key.specs.Key.{repliesTo, repliesText, toldBy, runOf, lineOf, linesFrom, opens, anyOpens, LastOpening, repliesBehind, history, Key, NoHub, PrintedKey, callsBy, callsIn, deviceIn, LinesTell, KeyStatement, KeyOfDevices}
-use Rattle.key.proofs.Lines.{replies-printed, opened-at, none-hub, none-told, calls-hub, last-opening}
+use Rattle.key.specs.Key.{repliesTo, repliesText, toldBy, runOf, lineOf, linesFrom, opens, anyOpens, LastOpening, repliesBehind}
+use Rattle.key.specs.Key.{history, Key, NoHub, PrintedKey, callsBy, callsIn, deviceIn, LinesTell, KeyStatement, KeyOfDevices}
+use Rattle.key.proofs.Lines.{replies-printed, opened-last, none-hub, none-told, calls-hub, last-opening}
 use Rattle.key.proofs.Acts.{calls-devices, told-same, alone, calls-alone, alone-append, state-alone, calls-append}
 
 -- ---- the text
@@ -34,7 +35,8 @@ lines-of : (s : State) (run : ℕ → DeviceState) → ((d : ℕ) → run d ≡ 
 unfolding deviceLines deviceText
 lines-of s run e d zero = refl
 lines-of s run e d (suc left) =
-    ap (λ (x : DeviceState). lineOf d x ++ deviceLines s (suc d) left) (sym (e d)) ∙ ap (λ (l : List ℕ). lineOf d (run d) ++ l) (lines-of s run e (suc d) left)
+    ap (λ (x : DeviceState). lineOf d x ++ deviceLines s (suc d) left) (sym (e d))
+    ∙ ap (λ (l : List ℕ). lineOf d (run d) ++ l) (lines-of s run e (suc d) left)
 
 -- the hub that the calls behind the last accepted `O` leave
 hubAtEnd : {lines : List (List ℕ)} → LastOpening lines → State
@@ -73,14 +75,14 @@ unfolding programText runFrom
 key-of input o = record {
   last = o;
   text-is =
+      let front = repliesText (repliesTo none (o .front)) in
       let word = asLine (bytes "opened") in
       let rest = steps (some (o .hub)) (o .behind) in
-      ap (λ (ls : List (List ℕ)). withEnd (steps none ls)) (o .lines-are)
-      ∙ ap withEnd (opened-at none (o .front) (o .line) (o .behind) (o .devices) (o .passLimit) (o .firstId) (o .hub) (o .reads-as) (o .accepted))
+      ap (λ (ls : List (List ℕ)). withEnd (steps none ls)) (o .lines-are) ∙ ap withEnd (opened-last none o)
       ∙ ap (λ (l : List ℕ). l ++ endText (rest .hub)) (sym (append-assoc (steps none (o .front) .text) word (rest .text)))
       ∙ ap (λ (l : List ℕ). l ++ word ++ rest .text ++ endText (rest .hub)) (replies-printed none (o .front))
-      ∙ ap (λ (l : List ℕ). repliesText (repliesTo none (o .front)) ++ word ++ l ++ endText (rest .hub)) (replies-printed (some (o .hub)) (o .behind))
-      ∙ ap (λ (l : List ℕ). repliesText (repliesTo none (o .front)) ++ word ++ repliesText (repliesBehind o) ++ l) (end-same o);
+      ∙ ap (λ (l : List ℕ). front ++ word ++ l ++ endText (rest .hub)) (replies-printed (some (o .hub)) (o .behind))
+      ∙ ap (λ (l : List ℕ). front ++ word ++ repliesText (repliesBehind o) ++ l) (end-same o);
 }
 
 no-hub-of : (input : List ℕ) → anyOpens (linesOf input) ≡ false → NoHub input
@@ -104,7 +106,8 @@ printed-key input = go (last-opening (linesOf input))
 
 -- of a device that is down, no setting is printed
 down-line : (d : ℕ) (x y : DeviceState) → x .up ≡ false → y .up ≡ false → lineOf d x ≡ lineOf d y
-down-line d x y e f = ap (λ (t : Bool). asLine (deviceTextOf d t (x .setting))) e ∙ sym (ap (λ (t : Bool). asLine (deviceTextOf d t (y .setting))) f)
+down-line d x y e f =
+    ap (λ (t : Bool). asLine (deviceTextOf d t (x .setting))) e ∙ sym (ap (λ (t : Bool). asLine (deviceTextOf d t (y .setting))) f)
 
 module _ {lines : List (List ℕ)} (o : LastOpening lines) where
   told : (acts : List Act) → callsIn acts ≡ callsBy (o .behind) → worldAfterAll (newWorld (o .hub)) acts .history ≡ history o
@@ -143,14 +146,17 @@ module _ {lines : List (List ℕ)} (o : LastOpening lines) where
       go true f =
           ap (lineOf d) (run-committed ∙ rules acts .end-state p none-runs d (subst (λ m. d < m) (sym (devices-of o)) n) f (back f))
           ∙ ap (λ (t : Bool). lineOf d (record { up = t; setting = w .devices d .setting })) (sym f)
-      go false f = down-line d (runOf (history o) d) (deviceIn w d) (up-works d ∙ ap (λ (l : List Told). workingOf l d) (sym (told acts e)) ∙ f) f
+      go false f =
+          let down = up-works d ∙ ap (λ (l : List Told). workingOf l d) (sym (told acts e)) ∙ f in
+          down-line d (runOf (history o) d) (deviceIn w d) down f
 
   settled-part : (before rest : List (List ℕ)) → o .behind ≡ before ++ rest →
       Begins (orderOf (toldBy (repliesTo (some (o .hub)) before)) .settled) (entries (orderOf (history o)))
   settled-part before rest e =
       let w = newWorld (o .hub) in
       let fits = ap alone (ap callsBy e ∙ calls-append before rest) ∙ alone-append (callsBy before) (callsBy rest) in
-      let none-opens = or-left (anyOpens before) (anyOpens rest) (sym (anyOf-++ (λ l. opens (readLine l)) before rest) ∙ ap anyOpens (sym e) ∙ o .is-last) in
+      let apart = sym (anyOf-++ (λ l. opens (readLine l)) before rest) ∙ ap anyOpens (sym e) ∙ o .is-last in
+      let none-opens = or-left (anyOpens before) (anyOpens rest) apart in
       subst (λ (l : List Told). Begins (orderOf l .settled) (entries (orderOf (history o))))
       (told-same (o .hub) before none-opens (alone (callsBy before)) (calls-alone (callsBy before)))
       (subst (λ (l : List Told). Begins (orderIn (worldAfterAll w (alone (callsBy before))) .settled) (entries (orderOf l))) told-alone
@@ -161,13 +167,14 @@ key-demand-3 lines o = record {
   end-state = λ acts e. (told o acts e, lines-tell o acts e);
   settled-part = settled-part o;
   commands-stand =
-      subst (λ (l : List Told). CommandsStand (accountsOf l) (entries (orderOf l)) allUp) (told-alone o) (rules o (alone (callsBy (o .behind))) .commands-stand);
+      subst (λ (l : List Told). CommandsStand (accountsOf l) (entries (orderOf l)) allUp) (told-alone o)
+      (rules o (alone (callsBy (o .behind))) .commands-stand);
   up-works = up-works o;
 }
 
 -- the lines of devices one by one
-lines-same : (n : ℕ) (run as-is : ℕ → DeviceState) → ((d : ℕ) → d < n → lineOf d (run d) ≡ lineOf d (as-is d)) → (d left : ℕ) → d + left ≡ n →
-    linesFrom run d left ≡ linesFrom as-is d left
+lines-same : (n : ℕ) (run as-is : ℕ → DeviceState) → ((d : ℕ) → d < n → lineOf d (run d) ≡ lineOf d (as-is d)) →
+    (d left : ℕ) → d + left ≡ n → linesFrom run d left ≡ linesFrom as-is d left
 lines-same n run as-is e d zero f = refl
 lines-same n run as-is e d (suc left) f =
     ap (λ (l : List ℕ). l ++ linesFrom run (suc d) left) (e d (omega arith))
@@ -179,4 +186,5 @@ key-of-devices input k acts e p none-runs back =
     let w = worldAfterAll (newWorld (o .hub)) acts in
     k .text-is
     ∙ ap (λ (l : List ℕ). repliesText (repliesTo none (o .front)) ++ asLine (bytes "opened") ++ repliesText (repliesBehind o) ++ l)
-    (lines-same (o .devices) (runOf (history o)) (deviceIn w) (λ d n. lines-tell o acts e p none-runs d n (back d n)) 0 (o .devices) (omega arith))
+    (lines-same (o .devices) (runOf (history o)) (deviceIn w) (λ d n. lines-tell o acts e p none-runs d n (back d n))
+    0 (o .devices) (omega arith))

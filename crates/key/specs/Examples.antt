@@ -1,23 +1,24 @@
--- Inputs by computation: document 01's listing, and one with what stands before the last accepted `O`, lines that are not read, an opening that is turned
--- down, and a routine that runs at the end. The theorem is not used. Assumes nothing.
-use mathlib.Core.Path.{_≡_, refl}
+-- Inputs by computation: document 01's listing; and one with lines before the last accepted `O`, lines that are not read, openings that are
+-- turned down, and a routine that runs at the end. The theorem is not used. Assumes nothing.
+use mathlib.Core.Path.{_≡_, refl, sym, _∙_}
 use mathlib.Core.Bool.{true, false}
 use mathlib.Core.List.{List, [], _∷_, _++_}
 use mathlib.Core.Option.{none, some}
 use Prim.Native.Nat.{ℕ, zero, suc}
 use lib.IntN.{pos}
 use Rattle.routine.specs.declared.Refusal.the-variants.{Number}
-use Rattle.rules.specs.Answers.{Call, submit, turn, report, failure, restart, cancel, Answer, refused, placed, wait, send, done, committed, aborted, down, up}
+use Rattle.rules.specs.Answers.{Call, submit, turn, report, failure, restart, cancel, Answer, refused, placed, wait, send, done, committed}
+use Rattle.rules.specs.Answers.{aborted, down, up}
 use Rattle.rules.specs.Open.{not-opened, newHub}
 use Rattle.rules.specs.Order.{Order, failure-of, restart-of, routine, event, putAfter, moveBar, orderOf}
 use Rattle.rules.specs.Serial.{DeviceState}
 use Rattle.rules.specs.Examples.{must}
 use Rattle.line_rules.specs.Text.{bytes}
 use Rattle.line_rules.specs.Pieces.{linesOf}
-use Rattle.line_rules.specs.Printing.{asLine}
 use Rattle.line_rules.specs.Program.{programText}
-use Rattle.line_rules.specs.Examples.{calc as calcLines}
-use Rattle.key.specs.Key.{Reply, answered, opening-gave, not-read, repliesTo, repliesText, toldBy, runOf, linesFrom, anyOpens, LastOpening, repliesBehind, history, NoHub}
+use Rattle.line_rules.specs.Examples.{calc as calcLines, listing as listing-printed}
+use Rattle.key.specs.Key.{Reply, answered, opening-gave, not-read, repliesTo, repliesText, runOf, LastOpening, repliesBehind, history}
+use Rattle.key.specs.Key.{keyText, Key, NoHub}
 
 -- All that a computation with the key opens.
 unfoldable pub calc : Unit {0}
@@ -40,8 +41,8 @@ listing = bytes "O 3 2 1\nS 0 0 50 1 0 20\nS 0 0 70\nN 2\nD 2\nN 2\nN 1\nD 1\nF 
 
 abbrev pub listingBehind : List (List ℕ)
 listingBehind =
-    bytes "S 0 0 50 1 0 20" ∷ bytes "S 0 0 70" ∷ bytes "N 2" ∷ bytes "D 2" ∷ bytes "N 2" ∷ bytes "N 1" ∷ bytes "D 1" ∷ bytes "F 0" ∷ bytes "C 1"
-    ∷ bytes "R 0 15" ∷ []
+    bytes "S 0 0 50 1 0 20" ∷ bytes "S 0 0 70" ∷ bytes "N 2" ∷ bytes "D 2" ∷ bytes "N 2" ∷ bytes "N 1" ∷ bytes "D 1"
+    ∷ bytes "F 0" ∷ bytes "C 1" ∷ bytes "R 0 15" ∷ []
 
 unfoldable pub listingLast : LastOpening (linesOf listing)
 unfolding calc
@@ -84,13 +85,17 @@ pub listing-run :
 unfolding calc listingLast
 listing-run = refl
 
--- What is printed: `listing` of the line program's examples has the same text whole.
+-- What document 01 prints is their text and these device lines; so the theorem's equation holds of it.
 pub listing-text :
-    (repliesText (repliesBehind listingLast)
-    ≡ bytes "placed 1 after 0\nplaced 2 after 0\nsend 2 0 70\ndone 2\ncommitted 2\nsend 1 0 50\ndone 1\ndown 0 after 1\naborted 1 back 0\nup 0 after 0\n")
-    × (linesFrom (runOf (history listingLast)) 0 3 ≡ bytes "device 0 up 15\ndevice 1 up 0\ndevice 2 up 0\n")
+    keyText listingLast (runOf (history listingLast))
+    ≡ bytes "opened\nplaced 1 after 0\nplaced 2 after 0\nsend 2 0 70\ndone 2\ncommitted 2\nsend 1 0 50\ndone 1\ndown 0 after 1\n"
+    ++ bytes "aborted 1 back 0\nup 0 after 0\ndevice 0 up 15\ndevice 1 up 0\ndevice 2 up 0\n"
 unfolding calc listingLast
-listing-text = (refl, refl)
+listing-text = refl
+
+pub listing-key : Key listing
+unfolding calc
+listing-key = record { last = listingLast; text-is = listing-printed ∙ sym listing-text }
 
 -- ---- more before the last accepted `O`, and less calm behind it
 
@@ -132,15 +137,21 @@ pub running-order :
 unfolding calc runningLast
 running-order = refl
 
-pub running-text :
-    (repliesText (repliesTo none (runningLast .front)) ≡ bytes "unread\nopened\ndown 0 after 0\n")
-    × (repliesText (repliesBehind runningLast)
-    ≡ bytes "placed 5 after 0\nsend 5 0 7\nrefused 1\ndone 5\nunread\ndown 1 after 0\nrefused 16\nrefused 2\n")
-    × (linesFrom (runOf (history runningLast)) 0 2 ≡ bytes "device 0 up 7\ndevice 1 down\n")
-    × (programText running
-    ≡ bytes "unread\nopened\ndown 0 after 0\nopened\nplaced 5 after 0\nsend 5 0 7\nrefused 1\ndone 5\nunread\ndown 1 after 0\nrefused 16\nrefused 2\ndevice 0 up 7\ndevice 1 down\n")
+abbrev runningText : List ℕ
+runningText =
+    bytes "unread\nopened\ndown 0 after 0\nopened\nplaced 5 after 0\nsend 5 0 7\nrefused 1\ndone 5\nunread\ndown 1 after 0\n"
+    ++ bytes "refused 16\nrefused 2\ndevice 0 up 7\ndevice 1 down\n"
+
+pub running-text : keyText runningLast (runOf (history runningLast)) ≡ runningText
 unfolding calc runningLast
-running-text = (refl, refl, refl, refl)
+running-text = refl
+
+running-printed : programText running ≡ runningText
+unfolding calc
+running-printed = refl
+
+pub running-key : Key running
+running-key = record { last = runningLast; text-is = running-printed ∙ sym running-text }
 
 -- ---- no accepted `O`
 

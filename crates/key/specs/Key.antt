@@ -1,6 +1,6 @@
--- The printed key: what the line program prints, told by calls, answers and the serial run in the hub's order. The statements are `PrintedKey` and
--- `KeyStatement`, and `KeyOfDevices` puts them together; the proofs are `printed-key`, `key-demand-3` and `key-of-devices` of `proofs/Theorem.antt`. Assumes
--- nothing.
+-- The printed key: what the line program prints, told by calls, answers and the serial run in the hub's order. The statements are
+-- `PrintedKey`, `KeyStatement` and, of both together, `KeyOfDevices`; the proofs are `printed-key`, `key-demand-3` and `key-of-devices` of
+-- `proofs/Theorem.antt`. Assumes nothing.
 use mathlib.Core.Path.{_≡_}
 use mathlib.Core.Logic.{_⊎_}
 use mathlib.Core.Bool.{Bool, true, false}
@@ -63,14 +63,11 @@ repliesTo h (l ∷ ls) = replyTo h (readLine l) ∷ repliesTo (hubLeft h (readLi
 
 -- ---- their text
 
-abbrev pub openingText : Opening → List ℕ
-openingText (opened s) = bytes "opened"
-openingText (not-opened r) = refusalText r
-
 -- "One line of output each, ended by byte 10; an abort caused by `F` or `R` is printed first, on a line of its own."
 abbrev pub replyText : Reply → List ℕ
 replyText (answered t) = answersText (t .answers)
-replyText (opening-gave o) = asLine (openingText o)
+replyText (opening-gave (opened s)) = asLine (bytes "opened")
+replyText (opening-gave (not-opened r)) = asLine (refusalText r)
 replyText not-read = asLine (bytes "unread")
 
 abbrev pub repliesText : List Reply → List ℕ
@@ -143,16 +140,18 @@ repliesBehind o = repliesTo (some (o .hub)) (o .behind)
 abbrev pub history : {lines : List (List ℕ)} → LastOpening lines → List Told
 history o = toldBy (repliesBehind o)
 
--- What is printed, whole: what the lines before the last accepted `O` print; `opened`; the text of the answers to the calls that the lines behind it make; and a
--- line for each device, of the serial run in the hub's order that these calls and answers build.
+-- A whole text: what the lines before the last accepted `O` print; `opened`; what the lines behind it print, the answers to the calls that
+-- they make; and a line for each device, of such a run.
+abbrev pub keyText : {lines : List (List ℕ)} → LastOpening lines → (ℕ → DeviceState) → List ℕ
+keyText o run =
+    repliesText (repliesTo none (o .front)) ++ asLine (bytes "opened") ++ repliesText (repliesBehind o) ++ linesFrom run 0 (o .devices)
+
+-- What is printed if an `O` is accepted: the device lines are those of the serial run in the hub's order that these calls and answers build.
 pub record Key (input : List ℕ) : Type 0 where
   pub last : LastOpening (linesOf input)
-  pub text-is :
-      programText input
-      ≡ repliesText (repliesTo none (last .front)) ++ asLine (bytes "opened") ++ repliesText (repliesBehind last)
-      ++ linesFrom (runOf (history last)) 0 (last .devices)
+  pub text-is : programText input ≡ keyText last (runOf (history last))
 
--- No `O` is accepted: each line prints that it is not read, or an opening's refusal. No call is made, and there are no device lines.
+-- What is printed if none is: of each line that it is not read, or an opening's refusal. No call is made, and there are no device lines.
 pub record NoHub (input : List ℕ) : Type 0 where
   pub none-opens : anyOpens (linesOf input) ≡ false
   pub none-told : toldBy (repliesTo none (linesOf input)) ≡ []
@@ -183,13 +182,13 @@ callsIn (takes-one d k ∷ l) = callsIn l
 abbrev pub deviceIn : World → ℕ → DeviceState
 deviceIn w d = record { up = workingOf (w .history) d; setting = w .devices d .setting }
 
--- "a command that puts a working device back is carried out before the settings are compared": none is left to take.
-abbrev pub PutBack : World → ℕ → Type 0
-PutBack w d = workingOf (w .history) d ≡ true → anyOf isBack (w .devices d .sent) ≡ false
+-- The demand: "a command that puts a working device back is carried out before the settings are compared". None is left to take.
+abbrev pub NoneToPutBack : World → ℕ → Type 0
+NoneToPutBack w d = workingOf (w .history) d ≡ true → anyOf isBack (w .devices d .sent) ≡ false
 
 -- If no routine runs at the end, the line that is printed of a device is the line of the device as it is.
 abbrev pub LinesTell : ℕ → (ℕ → DeviceState) → World → Type 0
-LinesTell n run w = NoneRuns w → (d : ℕ) → d < n → PutBack w d → lineOf d (run d) ≡ lineOf d (deviceIn w d)
+LinesTell n run w = NoneRuns w → (d : ℕ) → d < n → NoneToPutBack w d → lineOf d (run d) ≡ lineOf d (deviceIn w d)
 
 -- Demand 3 of the lines behind the last accepted `O`, about the order whose serial run is printed.
 pub record KeyDemand3 {lines : List (List ℕ)} (o : LastOpening lines) : Type 0 where
@@ -213,9 +212,7 @@ KeyStatement = (lines : List (List ℕ)) (o : LastOpening lines) → KeyDemand3 
 -- So the whole text, within the premise, if no routine runs at the end: the answers, and each device as it is.
 abbrev pub KeyOfDevices : Type 0
 KeyOfDevices =
-    (input : List ℕ) (k : Key input) (acts : List Act) → callsIn acts ≡ callsBy (k .last .behind) → PremiseAll (newWorld (k .last .hub)) acts →
+    (input : List ℕ) (k : Key input) (acts : List Act) →
+    callsIn acts ≡ callsBy (k .last .behind) → PremiseAll (newWorld (k .last .hub)) acts →
     let w = worldAfterAll (newWorld (k .last .hub)) acts in
-    NoneRuns w → ((d : ℕ) → d < k .last .devices → PutBack w d) →
-    programText input
-    ≡ repliesText (repliesTo none (k .last .front)) ++ asLine (bytes "opened") ++ repliesText (repliesBehind (k .last))
-    ++ linesFrom (deviceIn w) 0 (k .last .devices)
+    NoneRuns w → ((d : ℕ) → d < k .last .devices → NoneToPutBack w d) → programText input ≡ keyText (k .last) (deviceIn w)

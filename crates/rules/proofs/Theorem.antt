@@ -304,13 +304,16 @@ whole-committed P w h none-runs = ap committedPart settled ∙ all-committed (or
   where
     settled : entries (orderIn w) ≡ orderIn w .settled
     settled =
-        ap (λ l. orderIn w .settled ++ l) (h .known .order .unsettled-is ∙ ap flat (none-held P w h none-runs)) ∙ append-nil (orderIn w .settled)
+        ap (λ l. orderIn w .settled ++ l) (h .known .order .unsettled-is ∙ ap flat (none-held P w h none-runs))
+        ∙ append-nil (orderIn w .settled)
 
 end-state : (P : Type 0) (w : World) → Holds P w → P → EndState (w .state .devices) w
 end-state P w h p none-runs d n works no-back =
-    ap (λ l. serialRun l allUp d) (whole-committed P w h none-runs) ∙ serial-is P w h d ∙ ap (λ u. record { up = u; setting = due (w .state) d }) up
+    ap (λ l. serialRun l allUp d) (whole-committed P w h none-runs) ∙ serial-is P w h d
+    ∙ ap (λ u. record { up = u; setting = due (w .state) d }) up
     ∙ ap (λ v. record { up = true; setting = v }) (settles-at d (w .state) (accounts w) (w .devices d) up no-back
-    (subst (λ l. DeviceAt d (w .state .up d) (due (w .state) d) (accounts w) l (w .devices d)) (none-held P w h none-runs) (h .devices p d n .device-at)))
+    (subst (λ l. DeviceAt d (w .state .up d) (due (w .state) d) (accounts w) l (w .devices d)) (none-held P w h none-runs)
+    (h .devices p d n .device-at)))
   where
     up : w .state .up d ≡ true
     up = sym (h .known .works d) ∙ works
