@@ -22,8 +22,9 @@ use Rattle.line_rules.specs.Pieces.{linesOf}
 use Rattle.line_rules.specs.Reading.{readLine}
 use Rattle.line_rules.specs.Printing.{asLine, deviceText, deviceTextOf, deviceLines}
 use Rattle.line_rules.specs.Program.{Printed, steps, endText, runFrom, programText}
-use Rattle.key.specs.Key.{repliesTo, repliesText, toldBy, runOf, lineOf, linesFrom, opens, anyOpens, LastOpening, repliesBehind}
-use Rattle.key.specs.Key.{history, Key, NoHub, PrintedKey, callsBy, callsIn, deviceIn, LinesTell, KeyStatement, KeyOfDevices}
+use Rattle.key.specs.Key.{repliesTo, repliesText, toldBy, runOf, deviceLine, deviceLinesFrom, opens, anyOpens, LastOpening}
+use Rattle.key.specs.Key.{repliesBehind, history, Key, NoHub, PrintedKey, callsBy, callsIn, deviceIn, LinesTell, KeyStatement}
+use Rattle.key.specs.Key.{KeyOfDevices}
 use Rattle.key.proofs.Lines.{replies-printed, opened-last, none-hub, none-told, calls-hub, last-opening}
 use Rattle.key.proofs.Acts.{calls-devices, told-same, alone, calls-alone, alone-append, state-alone, calls-append}
 
@@ -31,12 +32,12 @@ use Rattle.key.proofs.Acts.{calls-devices, told-same, alone, calls-alon
 
 -- the device lines of a hub are those of a run that gives what the hub has
 lines-of : (s : State) (run : ℕ → DeviceState) → ((d : ℕ) → run d ≡ record { up = s .up d; setting = due s d }) → (d left : ℕ) →
-    deviceLines s d left ≡ linesFrom run d left
+    deviceLines s d left ≡ deviceLinesFrom run d left
 unfolding deviceLines deviceText
 lines-of s run e d zero = refl
 lines-of s run e d (suc left) =
-    ap (λ (x : DeviceState). lineOf d x ++ deviceLines s (suc d) left) (sym (e d))
-    ∙ ap (λ (l : List ℕ). lineOf d (run d) ++ l) (lines-of s run e (suc d) left)
+    ap (λ (x : DeviceState). deviceLine d x ++ deviceLines s (suc d) left) (sym (e d))
+    ∙ ap (λ (l : List ℕ). deviceLine d (run d) ++ l) (lines-of s run e (suc d) left)
 
 -- the hub that the calls behind the last accepted `O` leave
 hubAtEnd : {lines : List (List ℕ)} → LastOpening lines → State
@@ -60,7 +61,7 @@ run-same o d =
     ∙ ap (λ (s : State). record { up = s .up d; setting = due s d }) (state-alone (o .hub) cs)
 
 end-same : {lines : List (List ℕ)} (o : LastOpening lines) →
-    endText (steps (some (o .hub)) (o .behind) .hub) ≡ linesFrom (runOf (history o)) 0 (o .devices)
+    endText (steps (some (o .hub)) (o .behind) .hub) ≡ deviceLinesFrom (runOf (history o)) 0 (o .devices)
 unfolding endText hubAtEnd
 end-same o =
     ap endText (calls-hub (o .hub) (o .behind) (o .is-last)) ∙ ap (deviceLines (hubAtEnd o) 0) (devices-same o)
@@ -105,7 +106,7 @@ printed-key input = go (last-opening (linesOf input))
 -- ---- demand 3
 
 -- of a device that is down, no setting is printed
-down-line : (d : ℕ) (x y : DeviceState) → x .up ≡ false → y .up ≡ false → lineOf d x ≡ lineOf d y
+down-line : (d : ℕ) (x y : DeviceState) → x .up ≡ false → y .up ≡ false → deviceLine d x ≡ deviceLine d y
 down-line d x y e f =
     ap (λ (t : Bool). asLine (deviceTextOf d t (x .setting))) e ∙ sym (ap (λ (t : Bool). asLine (deviceTextOf d t (y .setting))) f)
 
@@ -142,10 +143,10 @@ module _ {lines : List (List ℕ)} (o : LastOpening lines) where
           ∙ ap (λ (l : List Entry). serialRun l allUp d)
           (sym (order-committed (o .devices) (o .passLimit) (o .firstId) (o .hub) (o .accepted) acts none-runs))
 
-      go : (works : Bool) → workingOf (w .history) d ≡ works → lineOf d (runOf (history o) d) ≡ lineOf d (deviceIn w d)
+      go : (works : Bool) → workingOf (w .history) d ≡ works → deviceLine d (runOf (history o) d) ≡ deviceLine d (deviceIn w d)
       go true f =
-          ap (lineOf d) (run-committed ∙ rules acts .end-state p none-runs d (subst (λ m. d < m) (sym (devices-of o)) n) f (back f))
-          ∙ ap (λ (t : Bool). lineOf d (record { up = t; setting = w .devices d .setting })) (sym f)
+          ap (deviceLine d) (run-committed ∙ rules acts .end-state p none-runs d (subst (λ m. d < m) (sym (devices-of o)) n) f (back f))
+          ∙ ap (λ (t : Bool). deviceLine d (record { up = t; setting = w .devices d .setting })) (sym f)
       go false f =
           let down = up-works d ∙ ap (λ (l : List Told). workingOf l d) (sym (told acts e)) ∙ f in
           down-line d (runOf (history o) d) (deviceIn w d) down f
@@ -173,12 +174,12 @@ key-demand-3 lines o = record {
 }
 
 -- the lines of devices one by one
-lines-same : (n : ℕ) (run as-is : ℕ → DeviceState) → ((d : ℕ) → d < n → lineOf d (run d) ≡ lineOf d (as-is d)) →
-    (d left : ℕ) → d + left ≡ n → linesFrom run d left ≡ linesFrom as-is d left
+lines-same : (n : ℕ) (run as-is : ℕ → DeviceState) → ((d : ℕ) → d < n → deviceLine d (run d) ≡ deviceLine d (as-is d)) →
+    (d left : ℕ) → d + left ≡ n → deviceLinesFrom run d left ≡ deviceLinesFrom as-is d left
 lines-same n run as-is e d zero f = refl
 lines-same n run as-is e d (suc left) f =
-    ap (λ (l : List ℕ). l ++ linesFrom run (suc d) left) (e d (omega arith))
-    ∙ ap (λ (l : List ℕ). lineOf d (as-is d) ++ l) (lines-same n run as-is e (suc d) left (omega arith))
+    ap (λ (l : List ℕ). l ++ deviceLinesFrom run (suc d) left) (e d (omega arith))
+    ∙ ap (λ (l : List ℕ). deviceLine d (as-is d) ++ l) (lines-same n run as-is e (suc d) left (omega arith))
 
 pub key-of-devices : KeyOfDevices
 key-of-devices input k acts e p none-runs back =

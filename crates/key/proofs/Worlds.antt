@@ -15,7 +15,7 @@ use Rattle.rules.specs.Examples.{must}
 use Rattle.rules.proofs.Lists.{this-or-other}
 use Rattle.rules.proofs.Worlds.{call, elsewhere}
 use Rattle.line_rules.specs.Text.{bytes}
-use Rattle.key.specs.Key.{linesFrom, callsBy, callsIn, deviceIn, NoneToPutBack}
+use Rattle.key.specs.Key.{deviceLinesFrom, callsBy, callsIn, deviceIn, NoneToPutBack}
 use Rattle.key.specs.Examples.{calc, listingBehind}
 
 -- the devices take what is sent to them; the failure leaves device 0 at 15, and the restart reports it
@@ -34,7 +34,7 @@ pub record Listing : Type 0 where
   pub premise : PremiseAll (newWorld (newHub 3 2 1)) acts
   pub none-runs : NoneRuns world
   pub put-back : (d : ℕ) → NoneToPutBack world d
-  pub lines-are : linesFrom (deviceIn world) 0 3 ≡ bytes "device 0 up 15\ndevice 1 up 0\ndevice 2 up 0\n"
+  pub lines-are : deviceLinesFrom (deviceIn world) 0 3 ≡ bytes "device 0 up 15\ndevice 1 up 0\ndevice 2 up 0\n"
 
 pub listing-world : Listing
 unfolding calc taken

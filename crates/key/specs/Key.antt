@@ -95,13 +95,13 @@ abbrev pub runOf : List Told → ℕ → DeviceState
 runOf history = serialRun (entries (orderOf history)) allUp
 
 -- "one line a device": up, with its setting, or down
-abbrev pub lineOf : ℕ → DeviceState → List ℕ
-lineOf d x = asLine (deviceTextOf d (x .up) (x .setting))
+abbrev pub deviceLine : ℕ → DeviceState → List ℕ
+deviceLine d x = asLine (deviceTextOf d (x .up) (x .setting))
 
 -- Of so many devices, from d on.
-abbrev pub linesFrom : (ℕ → DeviceState) → ℕ → ℕ → List ℕ
-linesFrom run d zero = []
-linesFrom run d (suc left) = lineOf d (run d) ++ linesFrom run (suc d) left
+abbrev pub deviceLinesFrom : (ℕ → DeviceState) → ℕ → ℕ → List ℕ
+deviceLinesFrom run d zero = []
+deviceLinesFrom run d (suc left) = deviceLine d (run d) ++ deviceLinesFrom run (suc d) left
 
 -- ---- the statement about the text
 
@@ -144,9 +144,10 @@ history o = toldBy (repliesBehind o)
 -- they make; and a line for each device, of such a run.
 abbrev pub keyText : {lines : List (List ℕ)} → LastOpening lines → (ℕ → DeviceState) → List ℕ
 keyText o run =
-    repliesText (repliesTo none (o .front)) ++ asLine (bytes "opened") ++ repliesText (repliesBehind o) ++ linesFrom run 0 (o .devices)
+    repliesText (repliesTo none (o .front)) ++ asLine (bytes "opened") ++ repliesText (repliesBehind o)
+    ++ deviceLinesFrom run 0 (o .devices)
 
--- What is printed if an `O` is accepted: the device lines are those of the serial run in the hub's order that these calls and answers build.
+-- What is printed if an `O` is accepted: the device lines are those of the serial run in the hub's order built from these calls and answers.
 pub record Key (input : List ℕ) : Type 0 where
   pub last : LastOpening (linesOf input)
   pub text-is : programText input ≡ keyText last (runOf (history last))
@@ -188,7 +189,7 @@ NoneToPutBack w d = workingOf (w .history) d ≡ true → anyOf isBack (w .devic
 
 -- If no routine runs at the end, the line that is printed of a device is the line of the device as it is.
 abbrev pub LinesTell : ℕ → (ℕ → DeviceState) → World → Type 0
-LinesTell n run w = NoneRuns w → (d : ℕ) → d < n → NoneToPutBack w d → lineOf d (run d) ≡ lineOf d (deviceIn w d)
+LinesTell n run w = NoneRuns w → (d : ℕ) → d < n → NoneToPutBack w d → deviceLine d (run d) ≡ deviceLine d (deviceIn w d)
 
 -- Demand 3 of the lines behind the last accepted `O`, about the order whose serial run is printed.
 pub record KeyDemand3 {lines : List (List ℕ)} (o : LastOpening lines) : Type 0 where
