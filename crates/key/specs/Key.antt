@@ -147,7 +147,8 @@ keyText o run =
     repliesText (repliesTo none (o .front)) ++ asLine (bytes "opened") ++ repliesText (repliesBehind o)
     ++ deviceLinesFrom run 0 (o .devices)
 
--- What is printed if an `O` is accepted: the device lines are those of the serial run in the hub's order built from these calls and answers.
+-- What is printed if an `O` is accepted: the device lines are those of the serial run in the hub's order, built from these calls and
+-- answers.
 pub record Key (input : List ℕ) : Type 0 where
   pub last : LastOpening (linesOf input)
   pub text-is : programText input ≡ keyText last (runOf (history last))
