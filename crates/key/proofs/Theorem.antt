@@ -2,7 +2,7 @@
 use mathlib.Core.Path.{_≡_, refl, sym, ap, _∙_, subst}
 use mathlib.Core.Logic.{_⊎_, inl, inr}
 use mathlib.Core.Bool.{Bool, true, false}
-use mathlib.Core.List.{List, [], _∷_, _++_, append-assoc, append-nil}
+use mathlib.Core.List.{List, [], _++_, append-assoc, append-nil}
 use mathlib.Core.Option.{Option, none, some}
 use Prim.Native.Nat.{ℕ, zero, suc, _+_, _<_}
 use native.Mathlib.Omega.{arith}
@@ -13,7 +13,7 @@ use Rattle.rules.specs.History.{Told, accountsOf, workingOf}
 use Rattle.rules.specs.Order.{Entry, entries, orderOf}
 use Rattle.rules.specs.Serial.{DeviceState, allUp, serialRun}
 use Rattle.rules.specs.World.{World, Act, worldAfterAll, PremiseAll, newWorld}
-use Rattle.rules.specs.Demand3.{orderIn, NoneRuns, committedPart, Begins, CommandsStand, Demand3}
+use Rattle.rules.specs.Demand3.{orderIn, committedPart, Begins, CommandsStand, Demand3}
 use Rattle.rules.specs.Examples.{stateAfter}
 use Rattle.rules.proofs.Lists.{or-left, anyOf-++}
 use Rattle.rules.proofs.Theorem.{opening, demand-3, hub-order, order-committed, working-up}

@@ -1,7 +1,7 @@
 -- The theorem is not empty: a world with the calls of document 01's listing that meets the premise and ends with no routine running. It is
 -- computed; the theorem is not used. Assumes nothing.
 use mathlib.Core.Path.{_≡_, refl, sym}
-use mathlib.Core.Bool.{Bool, false}
+use mathlib.Core.Bool.{false}
 use mathlib.Core.List.{List, [], _∷_}
 use Prim.Native.Nat.{ℕ}
 use borrow.Author.Tests.{ne-eqb}

@@ -3,14 +3,14 @@
 use mathlib.Core.Path.{_≡_, refl, sym, _∙_}
 use mathlib.Core.Bool.{true, false}
 use mathlib.Core.List.{List, [], _∷_, _++_}
-use mathlib.Core.Option.{none, some}
+use mathlib.Core.Option.{none}
 use Prim.Native.Nat.{ℕ, zero, suc}
 use lib.IntN.{pos}
 use Rattle.routine.specs.declared.Refusal.the-variants.{Number}
-use Rattle.rules.specs.Answers.{Call, submit, turn, report, failure, restart, cancel, Answer, refused, placed, wait, send, done, committed}
+use Rattle.rules.specs.Answers.{Call, submit, turn, report, failure, restart, cancel, Answer, refused, placed, send, done, committed}
 use Rattle.rules.specs.Answers.{aborted, down, up}
 use Rattle.rules.specs.Open.{not-opened, newHub}
-use Rattle.rules.specs.Order.{Order, failure-of, restart-of, routine, event, putAfter, moveBar, orderOf}
+use Rattle.rules.specs.Order.{failure-of, restart-of, routine, event, putAfter, moveBar, orderOf}
 use Rattle.rules.specs.Serial.{DeviceState}
 use Rattle.rules.specs.Examples.{must}
 use Rattle.line_rules.specs.Text.{bytes}
