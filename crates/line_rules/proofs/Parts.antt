@@ -53,7 +53,7 @@ unfolding linesFrom piecesFrom pieces linesOf withoutEmptyLast
 lines-append part behind (inl e) = rw e
 lines-append part behind (inr (front, e)) = rw (e, append-snoc front lineEnd behind) (lines-at [] front behind)
 
-steps-append : (h : Option State) (ls ms : List (List ℕ)) → steps h (ls ++ ms) ≡ before (steps h ls .text) (steps (steps h ls .hub) ms)
+pub steps-append : (h : Option State) (ls ms : List (List ℕ)) → steps h (ls ++ ms) ≡ before (steps h ls .text) (steps (steps h ls .hub) ms)
 unfolding steps
 steps-append h [] ms = refl
 steps-append h (l ∷ ls) ms =

@@ -230,7 +230,7 @@ acts-hold P w (x ∷ l) h =
 -- ---- the opening
 
 -- the hub of an accepted opening
-opening : (n k first : ℕ) (s : State) → openOf n k first ≡ opened s → (newHub n k first ≡ s) × (0 < first)
+pub opening : (n k first : ℕ) (s : State) → openOf n k first ≡ opened s → (newHub n k first ≡ s) × (0 < first)
 unfolding openCheck openOf
 opening n k first s e = go (openCheck n k first) refl e
   where
@@ -295,27 +295,28 @@ all-committed (event x ∷ l) e = ap (λ m. event x ∷ m) (all-committed l (tai
 all-committed (routine i cs true ∷ l) e = ap (λ m. routine i cs true ∷ m) (all-committed l (tail-eq-of-cons-eq e))
 all-committed (routine i cs false ∷ l) e = absurd (nil≢cons e)
 
+-- if no routine runs, none is held, and the whole order is committed
+none-held : (P : Type 0) (w : World) (h : Holds P w) → NoneRuns w → h .groups ≡ []
+none-held P w h none-runs = nobody-left w (h .groups) none-runs (h .known .first) (h .known .tells)
+
+whole-committed : (P : Type 0) (w : World) → Holds P w → NoneRuns w → committedPart (entries (orderIn w)) ≡ entries (orderIn w)
+whole-committed P w h none-runs = ap committedPart settled ∙ all-committed (orderIn w .settled) (h .known .order .barred) ∙ sym settled
+  where
+    settled : entries (orderIn w) ≡ orderIn w .settled
+    settled =
+        ap (λ l. orderIn w .settled ++ l) (h .known .order .unsettled-is ∙ ap flat (none-held P w h none-runs))
+        ∙ append-nil (orderIn w .settled)
+
 end-state : (P : Type 0) (w : World) → Holds P w → P → EndState (w .state .devices) w
 end-state P w h p none-runs d n works no-back =
-    ap (λ l. serialRun l allUp d) all-settled ∙ serial-is P w h d ∙ ap (λ u. record { up = u; setting = due (w .state) d }) up
+    ap (λ l. serialRun l allUp d) (whole-committed P w h none-runs) ∙ serial-is P w h d
+    ∙ ap (λ u. record { up = u; setting = due (w .state) d }) up
     ∙ ap (λ v. record { up = true; setting = v }) (settles-at d (w .state) (accounts w) (w .devices d) up no-back
-    (subst (λ l. DeviceAt d (w .state .up d) (due (w .state) d) (accounts w) l (w .devices d)) none-held (h .devices p d n .device-at)))
+    (subst (λ l. DeviceAt d (w .state .up d) (due (w .state) d) (accounts w) l (w .devices d)) (none-held P w h none-runs)
+    (h .devices p d n .device-at)))
   where
-    k : Known (w .state) (orderIn w) (accounts w) (workingOf (w .history)) (h .groups)
-    k = h .known
-
     up : w .state .up d ≡ true
-    up = sym (k .works d) ∙ works
-
-    none-held : h .groups ≡ []
-    none-held = nobody-left w (h .groups) none-runs (k .first) (k .tells)
-
-    -- the whole order is settled
-    settled : entries (orderIn w) ≡ orderIn w .settled
-    settled = ap (λ l. orderIn w .settled ++ l) (k .order .unsettled-is ∙ ap flat none-held) ∙ append-nil (orderIn w .settled)
-
-    all-settled : committedPart (entries (orderIn w)) ≡ entries (orderIn w)
-    all-settled = ap committedPart settled ∙ all-committed (orderIn w .settled) (k .order .barred) ∙ sym settled
+    up = sym (h .known .works d) ∙ works
 
 -- what holds after any list, from an accepted opening
 started : (n k first : ℕ) (s : State) → openOf n k first ≡ opened s → Holds (Unit {0}) (newWorld s)
@@ -362,3 +363,17 @@ hub-order n k first s e acts =
       routines-are = ap routinesIn (h .known .order .unsettled-is) ∙ routines-flat (h .groups) ∙ ap (map entryOf) (sym (h .known .hub .sequence-is));
       devices-are = serial-is (Unit {0} × PremiseAll (newWorld s) acts) (worldAfterAll (newWorld s) acts) h;
     }
+
+-- if no routine runs after the list, what demand 3 has of the committed routines is the whole order
+pub order-committed : (n k first : ℕ) (s : State) → openOf n k first ≡ opened s → (acts : List Act) →
+    let w = worldAfterAll (newWorld s) acts in
+    NoneRuns w → committedPart (entries (orderIn w)) ≡ entries (orderIn w)
+order-committed n k first s e acts =
+    whole-committed (Unit {0} × PremiseAll (newWorld s) acts) (worldAfterAll (newWorld s) acts)
+    (acts-hold (Unit {0}) (newWorld s) acts (started n k first s e) .next)
+
+-- whatever runs, a device works, by the answers, exactly if it is up at the hub
+pub working-up : (n k first : ℕ) (s : State) → openOf n k first ≡ opened s → (acts : List Act) (d : ℕ) →
+    let w = worldAfterAll (newWorld s) acts in
+    workingOf (w .history) d ≡ w .state .up d
+working-up n k first s e acts d = acts-hold (Unit {0}) (newWorld s) acts (started n k first s e) .next .known .works d

@@ -1,0 +1,4 @@
+pub mod Lines
+pub mod Acts
+pub mod Theorem
+pub mod Worlds
