@@ -27,7 +27,7 @@ use Rattle.rules.proofs.Lists.{byIf, put-same, put-other, put-keeps, fo
 use Rattle.rules.proofs.Groups.{Group, ids, alone, with, leaving, attachEvent, other-ids}
 use Rattle.rules.proofs.Same.{Pairwise, Same, same-refl, same-placed, same-leaving, same-attached, same-each}
 use Rattle.rules.proofs.Steps.{leftSteps, answeredSteps, send-step, skip-step, done-step, done-gains, fail-step, fail-done, Fresh, fresh-newcomer}
-use Rattle.rules.proofs.Invariant.{HubOk, commandsIn, Tells}
+use Rattle.rules.proofs.Invariant.{HubOk, commandsIn, AccountTells}
 use Rattle.rules.proofs.View.{sentMember, skippedMember, doneMember, failedMember, Gone, nobody, somebody, Moves, places, commits, sends, skips, dones, misses, aborts, fails, restarts}
 use Rattle.rules.proofs.Fields.{Fixed, gone-fixed, attach-fixed}
 use Rattle.rules.proofs.Marks.{in-turn, ids-at}
@@ -35,7 +35,7 @@ use Rattle.rules.proofs.Marks.{in-turn, ids-at}
 -- ---- one routine
 
 -- the same routine under the same account
-tells-same : (a b : ℕ → Account) (g h : Group) → Same g h → b (g .member .id) ≡ a (g .member .id) → Tells a g → Tells b h
+tells-same : (a b : ℕ → Account) (g h : Group) → Same g h → b (g .member .id) ≡ a (g .member .id) → AccountTells a g → AccountTells b h
 tells-same a b g h q k t = record {
   runs = ap (λ (x : Account). x .running) e ∙ t .runs ∙ ap not (sym (q .same-committed));
   left-is = ap (λ (x : Account). x .left) e ∙ t .left-is ∙ ap leftSteps (sym (q .same-steps));
@@ -47,31 +47,31 @@ tells-same a b g h q k t = record {
     e : b (h .member .id) ≡ a (g .member .id)
     e = ap b (q .same-id) ∙ k
 
-same-tells : (a : ℕ → Account) {l k : List Group} → Pairwise Same l k → Each (Tells a) l → Each (Tells a) k
-same-tells a = same-each (Tells a) (λ g h q. tells-same a a g h q refl)
+same-tells : (a : ℕ → Account) {l k : List Group} → Pairwise Same l k → Each (AccountTells a) l → Each (AccountTells a) k
+same-tells a = same-each (AccountTells a) (λ g h q. tells-same a a g h q refl)
 
 -- the account of another id changes
-others : (a : ℕ → Account) (i : ℕ) (x : Account) (l : List Group) → NotIn i (ids l) → Each (Tells a) l → Each (Tells (put a i x)) l
+others : (a : ℕ → Account) (i : ℕ) (x : Account) (l : List Group) → NotIn i (ids l) → Each (AccountTells a) l → Each (AccountTells (put a i x)) l
 others a i x [] n t = tt
 others a i x (g ∷ l) n t = (tells-same a (put a i x) g g (same-refl g) (put-other a i x (g .member .id) (n .0)) (t .0), others a i x l (n .1) (t .1))
 
 -- the account of g changes, and the others'
-module _ (s : State) (a : ℕ → Account) (x : Account) (ga : List Group) (g : Group) (gb : List Group) (k : HubOk s (ga ++ (g ∷ gb))) (t : Each (Tells a) (ga ++ (g ∷ gb))) where
-  besides : Each (Tells (put a (g .member .id) x)) (ga ++ gb)
-  besides = others a (g .member .id) x (ga ++ gb) (other-ids (s .nextId) ga g gb (k .ids-ok)) (each-drop (Tells a) ga g gb t)
+module _ (s : State) (a : ℕ → Account) (x : Account) (ga : List Group) (g : Group) (gb : List Group) (k : HubOk s (ga ++ (g ∷ gb))) (t : Each (AccountTells a) (ga ++ (g ∷ gb))) where
+  besides : Each (AccountTells (put a (g .member .id) x)) (ga ++ gb)
+  besides = others a (g .member .id) x (ga ++ gb) (other-ids (s .nextId) ga g gb (k .ids-ok)) (each-drop (AccountTells a) ga g gb t)
 
   -- g becomes h
-  around : (h : Group) → Tells (put a (g .member .id) x) h → Each (Tells (put a (g .member .id) x)) (ga ++ (h ∷ gb))
-  around h n = each-insert (Tells (put a (g .member .id) x)) ga h gb besides n
+  around : (h : Group) → AccountTells (put a (g .member .id) x) h → Each (AccountTells (put a (g .member .id) x)) (ga ++ (h ∷ gb))
+  around h n = each-insert (AccountTells (put a (g .member .id) x)) ga h gb besides n
 
   -- g leaves
-  leave-tells : Each (Tells (put a (g .member .id) x)) (leaving ga g gb)
+  leave-tells : Each (AccountTells (put a (g .member .id) x)) (leaving ga g gb)
   leave-tells = same-tells (put a (g .member .id) x) (same-leaving ga g gb) besides
 
 -- the account x tells of h
 own-tells : (a : ℕ → Account) (i : ℕ) (x : Account) (h : Group) → h .member .id ≡ i → x .running ≡ not (h .member .committed) → x .left ≡ leftSteps (h .member .steps) →
     ((y : Flight) → flight (h .member .steps) ≡ some y → x .lastSent ≡ y .command) → commandsIn (x .answered) ≡ answeredSteps (h .member .steps) →
-    doneOnes (x .answered) ≡ doneSteps (h .member .steps) → Tells (put a i x) h
+    doneOnes (x .answered) ≡ doneSteps (h .member .steps) → AccountTells (put a i x) h
 own-tells a i x h same r l s n d = record {
   runs = ap (λ (y : Account). y .running) is ∙ r;
   left-is = ap (λ (y : Account). y .left) is ∙ l;
@@ -106,10 +106,10 @@ no-sent c h e y q = absurd (Option·none-ne-some y (sym e ∙ q))
 -- the first command that is left, c, is answered: g becomes h
 answered-tells : (a : ℕ → Account) (g h : Group) (c : Command) (o : Outcome) → h .member .id ≡ g .member .id → h .member .committed ≡ g .member .committed →
     leftSteps (g .member .steps) ≡ c ∷ leftSteps (h .member .steps) → answeredSteps (h .member .steps) ≡ answeredSteps (g .member .steps) ++ (c ∷ []) →
-    flight (h .member .steps) ≡ none → doneSteps (h .member .steps) ≡ doneSteps (g .member .steps) ++ doneOnes (record { command = c; outcome = o } ∷ []) → Tells a g →
-    Tells (put a (g .member .id) (answeredAccount o (a (g .member .id) .left) (a (g .member .id)))) h
+    flight (h .member .steps) ≡ none → doneSteps (h .member .steps) ≡ doneSteps (g .member .steps) ++ doneOnes (record { command = c; outcome = o } ∷ []) → AccountTells a g →
+    AccountTells (put a (g .member .id) (answeredAccount o (a (g .member .id) .left) (a (g .member .id)))) h
 answered-tells a g h c o same same-committed left more grounded done-more t =
-    subst (λ q. Tells (put a i (answeredAccount o q (a i))) h) (sym (t .left-is ∙ left))
+    subst (λ q. AccountTells (put a i (answeredAccount o q (a i))) h) (sym (t .left-is ∙ left))
     (own-tells a i (answeredAccount o (c ∷ leftSteps (h .member .steps)) (a i)) h same (t .runs ∙ ap not (sym same-committed)) refl
     (no-sent (a i .lastSent) h grounded)
     (in-snoc (a i .answered) (record { command = c; outcome = o }) ∙ ap (λ l. l ++ (c ∷ [])) (t .answered-is) ∙ sym more)
@@ -123,19 +123,19 @@ answered-tells a g h c o same same-committed left more grounded done-more t =
 pub note-++ : (c : Call) (l k : List Answer) (a : ℕ → Account) → noteAnswers c (l ++ k) a ≡ noteAnswers c k (noteAnswers c l a)
 note-++ c = fold-++ (noteAnswers c) (λ a. refl) (λ x l a. refl)
 
-gone-tells : (s t : State) (c : Call) (d : ℕ) (a : ℕ → Account) (l : List Group) {r : Result} {lead : List Event} {k : List Group} → HubOk s l → Each (Tells a) l → Gone t d l r lead k →
-    Each (Tells (noteAnswers c (r .answers) a)) k
+gone-tells : (s t : State) (c : Call) (d : ℕ) (a : ℕ → Account) (l : List Group) {r : Result} {lead : List Event} {k : List Group} → HubOk s l → Each (AccountTells a) l → Gone t d l r lead k →
+    Each (AccountTells (noteAnswers c (r .answers) a)) k
 unfolding abort
 gone-tells s t c d a l h w (nobody q) = w
 gone-tells s t c d a l h w (somebody ga g gb e q) =
-    leave-tells s a (endedAccount (a (g .member .id))) ga g gb (subst (HubOk s) e h) (subst (Each (Tells a)) e w)
+    leave-tells s a (endedAccount (a (g .member .id))) ga g gb (subst (HubOk s) e h) (subst (Each (AccountTells a)) e w)
 
 pub accounts-moves : (s : State) (a : ℕ → Account) (l : List Group) {c : Call} {r : Result} {lead : List Event} {k : List Group} →
-    HubOk s l → Each (Tells a) l → Moves s l c r lead k → Each (Tells (noteAnswers c (r .answers) a)) k
+    HubOk s l → Each (AccountTells a) l → Moves s l c r lead k → Each (AccountTells (noteAnswers c (r .answers) a)) k
 unfolding newcomer commit commitTurn sendTurn skipTurn doneReport skipReport abort
 accounts-moves s a l h t (places cs ga gb q e u p n) =
     same-tells (put a i x) (same-placed ga (alone new) gb)
-    (each-insert (Tells (put a i x)) ga (alone new) gb (others a i x (ga ++ gb) fresh (subst (Each (Tells a)) e t))
+    (each-insert (AccountTells (put a i x)) ga (alone new) gb (others a i x (ga ++ gb) fresh (subst (Each (AccountTells a)) e t))
     (own-tells a i x (alone new) refl refl (sym (f .left-is)) (no-sent zeroCommand (alone new) (f .flight-is)) (sym (f .answered-is)) (sym (f .done-is))))
   where
     i : ℕ
@@ -154,45 +154,45 @@ accounts-moves s a l h t (places cs ga gb q e u p n) =
     fresh = ids-fresh i (ids (ga ++ gb)) (subst (HubOk s) e h .ids-ok)
 accounts-moves s a l h t (commits i ga g gb e n r f q) =
     let w = subst (HubOk s) e h in
-    let v = subst (Each (Tells a)) e t in
-    let o = each-mid (Tells a) ga g gb v in
+    let v = subst (Each (AccountTells a)) e t in
+    let o = each-mid (AccountTells a) ga g gb v in
     around s a (endedAccount (a (g .member .id))) ga g gb w v (with g (commit (g .member)))
     (own-tells a (g .member .id) _ (with g (commit (g .member))) refl refl (o .left-is) (o .sent-is) (o .answered-is) (o .done-is))
 accounts-moves s a l h t (sends i ga g gb c e n r f q w u) =
     let w = subst (HubOk s) e h in
-    let v = subst (Each (Tells a)) e t in
-    let o = each-mid (Tells a) ga g gb v in
+    let v = subst (Each (AccountTells a)) e t in
+    let o = each-mid (AccountTells a) ga g gb v in
     let k = send-step (g .member) (in-turn s ga g gb w) c (due s (c .device)) q f in
     around s a (sentAccount c (a (g .member .id))) ga g gb w v (with g (sentMember s g c))
     (own-tells a (g .member .id) _ (with g (sentMember s g c)) refl (o .runs) (o .left-is ∙ sym (k .same-left))
     (λ y z. let p = sym (k .flight-is) ∙ z in cc) (o .answered-is ∙ sym (k .same-answered)) (o .done-is ∙ sym (k .same-done)))
 accounts-moves s a l h t (skips i ga g gb c e n r f q w u) =
     let w = subst (HubOk s) e h in
-    let v = subst (Each (Tells a)) e t in
+    let v = subst (Each (AccountTells a)) e t in
     let k = skip-step (g .member) (in-turn s ga g gb w) c q f in
     around s a _ ga g gb w v (with g (skippedMember g))
     (answered-tells a g (with g (skippedMember g)) c not-sent refl refl (k .left-is) (k .more-answered) (k .flight-is)
-    (k .same-done ∙ sym (append-nil (doneSteps (g .member .steps)))) (each-mid (Tells a) ga g gb v))
+    (k .same-done ∙ sym (append-nil (doneSteps (g .member .steps)))) (each-mid (AccountTells a) ga g gb v))
 accounts-moves s a l h t (dones i code ga g gb x e n r f q) =
     let w = subst (HubOk s) e h in
-    let v = subst (Each (Tells a)) e t in
+    let v = subst (Each (AccountTells a)) e t in
     let k = done-step (g .member) (in-turn s ga g gb w) x f in
     around s a _ ga g gb w v (with g (doneMember g))
     (answered-tells a g (with g (doneMember g)) (x .command) reported-done refl refl (k .left-is) (k .more-answered) (k .flight-is)
-    (done-gains (g .member) (in-turn s ga g gb w) x f) (each-mid (Tells a) ga g gb v))
+    (done-gains (g .member) (in-turn s ga g gb w) x f) (each-mid (AccountTells a) ga g gb v))
 accounts-moves s a l h t (misses i code ga g gb x e n r f q) =
     let w = subst (HubOk s) e h in
-    let v = subst (Each (Tells a)) e t in
+    let v = subst (Each (AccountTells a)) e t in
     let k = fail-step (g .member) (in-turn s ga g gb w) x f in
     around s a _ ga g gb w v (with g (failedMember g))
     (answered-tells a g (with g (failedMember g)) (x .command) reported-failed refl refl (k .left-is) (k .more-answered) (k .flight-is)
-    (fail-done (g .member) (in-turn s ga g gb w) x f ∙ sym (append-nil (doneSteps (g .member .steps)))) (each-mid (Tells a) ga g gb v))
-accounts-moves s a l h t (aborts c ga g gb e r k) = leave-tells s a (endedAccount (a (g .member .id))) ga g gb (subst (HubOk s) e h) (subst (Each (Tells a)) e t)
+    (fail-done (g .member) (in-turn s ga g gb w) x f ∙ sym (append-nil (doneSteps (g .member .steps)))) (each-mid (AccountTells a) ga g gb v))
+accounts-moves s a l h t (aborts c ga g gb e r k) = leave-tells s a (endedAccount (a (g .member .id))) ga g gb (subst (HubOk s) e h) (subst (Each (AccountTells a)) e t)
 accounts-moves s a l h t (fails d r lead k n u w) =
-    subst (λ b. Each (Tells b) (attachEvent (r .state .mark d) (failure-of d) k)) (sym (note-++ (failure d) (r .answers) (down d (r .state .mark d) ∷ []) a))
+    subst (λ b. Each (AccountTells b) (attachEvent (r .state .mark d) (failure-of d) k)) (sym (note-++ (failure d) (r .answers) (down d (r .state .mark d) ∷ []) a))
     (same-tells _ (same-attached (r .state .mark d) (failure-of d) k) (gone-tells s _ (failure d) d a l h t w))
 accounts-moves s a l h t (restarts d v r lead k n u w) =
-    subst (λ b. Each (Tells b) (attachEvent (r .state .mark d) (restart-of d v) k)) (sym (note-++ (restart d v) (r .answers) (up d (r .state .mark d) ∷ []) a))
+    subst (λ b. Each (AccountTells b) (attachEvent (r .state .mark d) (restart-of d v) k)) (sym (note-++ (restart d v) (r .answers) (up d (r .state .mark d) ∷ []) a))
     (same-tells _ (same-attached (r .state .mark d) (restart-of d v) k) (gone-tells s _ (restart d v) d a l h t w))
 
 -- ---- for an id that is not given yet nothing was sent

@@ -24,15 +24,15 @@ use Rattle.rules.proofs.Lists.{byIf, t≠f, this-or-other, same-setting
 use Rattle.rules.proofs.Groups.{Group, members, ids, foundAt, leaving, attachEvent, other-ids}
 use Rattle.rules.proofs.Same.{Pairwise, Same, same-leaving, same-attached}
 use Rattle.rules.proofs.Steps.{flight-on}
-use Rattle.rules.proofs.Invariant.{Quiet, HubOk, Calm, EventsOk, Old, OldMessage, backTo, Comes, has, goes-back, Still, OneFlies, DeviceAt, dead, free, busy, DeviceOk, Honest}
+use Rattle.rules.proofs.Invariant.{NotBegun, HubOk, NotHalfway, EventsOk, CountedSend, CountedMessage, backTo, ReachesSetting, has, goes-back, NoFlightOn, OneFlightOn, DeviceAt, is-down, none-on-it, one-on-it, DeviceOk, PremiseOnCall}
 use Rattle.rules.proofs.View.{Aborts, by-turn, by-report, by-cancel, Gone, nobody, somebody}
-use Rattle.rules.proofs.Runs.{restart-later, one-here, one-other, quiet-members, events-leaving}
+use Rattle.rules.proofs.Runs.{restart-later, one-here, one-other, not-begun-members, events-leaving}
 use Rattle.rules.proofs.Fields.{Fixed, gone-fixed, attach-fixed}
 use Rattle.rules.proofs.Marks.{in-turn, MarkPlace, at-zero, at-group, mark-place}
 use Rattle.rules.proofs.Moved.{hub-leaves, hub-gone, hub-up}
-use Rattle.rules.proofs.Kept.{all-still}
+use Rattle.rules.proofs.Kept.{all-no-flight-on}
 use Rattle.rules.proofs.Accounts.{note-++}
-use Rattle.rules.proofs.Messages.{ok-state, stills-same, one-same, ok-same, stills-any, one-any, one-this, one-drop, Alike, endedAt, alike-ended, alike-drops, one-alike, AfterCall}
+use Rattle.rules.proofs.Messages.{ok-state, no-flights-on-same, one-same, ok-same, no-flights-on-any, one-any, one-this, one-drop, SameForOthers, endedAt, alike-ended, alike-drops, one-alike, AfterCall}
 
 -- ---- what is put back
 
@@ -69,7 +69,7 @@ backs-keep f r d (b ∷ l) ds = backs-keep f r d l (putBack b ds) ∙ put-keeps 
 -- ---- a routine leaves
 
 -- w before, u after the report; b: the accounts after the call
-leave-at : (d : ℕ) (s : State) (a b : ℕ → Account) (x : List Group) (g : Group) (y : List Group) (w u : Device) → HubOk s (x ++ (g ∷ y)) → Alike (g .member .id) a b w u →
+leave-at : (d : ℕ) (s : State) (a b : ℕ → Account) (x : List Group) (g : Group) (y : List Group) (w u : Device) → HubOk s (x ++ (g ∷ y)) → SameForOthers (g .member .id) a b w u →
     DeviceAt d (s .up d) (due s d) a (x ++ (g ∷ y)) w →
     let t = leave s (foundAt x g y) in
     DeviceAt d (t .up d) (due t d) b (leaving x g y) (if isPutBack s (g .member) t d then receives (backTo (due t d)) u else u)
@@ -85,8 +85,8 @@ leave-at d s a b x g y w u h q at = go at
     hub : HubOk t k
     hub = hub-leaves s x g y h
 
-    stills : Each (Still d) (x ++ y) → Each (Still d) k
-    stills = stills-same d (same-leaving x g y)
+    no-flights-on : Each (NoFlightOn d) (x ++ y) → Each (NoFlightOn d) k
+    no-flights-on = no-flights-on-same d (same-leaving x g y)
 
     -- the due setting changed, or the routine had a command in flight on d
     touched : Bool
@@ -99,45 +99,45 @@ leave-at d s a b x g y w u h q at = go at
     Goal r = DeviceAt d (t .up d) (due t d) b k (if r then receives (backTo (due t d)) u else u)
 
     -- nobody is in flight on d any more
-    ends : s .up d ≡ true → Each (Still d) (x ++ y) → (r : Bool) → touched ≡ r → Goal r → Goal (isPutBack s (g .member) t d)
-    ends p l r n at = subst Goal (sym (back-is false p (stills-any d k (stills l)) ∙ n)) at
+    ends : s .up d ≡ true → Each (NoFlightOn d) (x ++ y) → (r : Bool) → touched ≡ r → Goal r → Goal (isPutBack s (g .member) t d)
+    ends p l r n at = subst Goal (sym (back-is false p (no-flights-on-any d k (no-flights-on l)) ∙ n)) at
 
-    nobody-flies : s .up d ≡ true → Each (Still d) (x ++ y) → inFlightOn d (g .member) ≡ false → Comes (w .setting) (due s d) (w .sent) → (r : Bool) → sameSetting (due s d) (due t d) ≡ r →
+    nobody-flies : s .up d ≡ true → Each (NoFlightOn d) (x ++ y) → inFlightOn d (g .member) ≡ false → ReachesSetting (w .setting) (due s d) (w .sent) → (r : Bool) → sameSetting (due s d) (due t d) ≡ r →
         Goal (isPutBack s (g .member) t d)
     nobody-flies p l f c true n =
         ends p l false (rw (n, f) refl)
-        (free p (stills l) (subst (λ v. Comes (u .setting) v (u .sent)) (same-setting (due s d) (due t d) n) (q .same-comes (due s d) c)))
-    nobody-flies p l f c false n = ends p l true (rw n refl) (free p (stills l) (goes-back (u .sent) refl))
+        (none-on-it p (no-flights-on l) (subst (λ v. ReachesSetting (u .setting) v (u .sent)) (same-setting (due s d) (due t d) n) (q .same-reaches (due s d) c)))
+    nobody-flies p l f c false n = ends p l true (rw n refl) (none-on-it p (no-flights-on l) (goes-back (u .sent) refl))
 
     -- it is g, or another
-    somebody-flies : s .up d ≡ true → OneFlies d a w (x ++ (g ∷ y)) → (f : Bool) → inFlightOn d (g .member) ≡ f → Goal (isPutBack s (g .member) t d)
+    somebody-flies : s .up d ≡ true → OneFlightOn d a w (x ++ (g ∷ y)) → (f : Bool) → inFlightOn d (g .member) ≡ f → Goal (isPutBack s (g .member) t d)
     somebody-flies p o true f =
         let z = flight-on (g .member) (in-turn s x g y h) d f in
         let r = one-this d a w x g y (z .0) (z .1) f o in
-        let l = each-++ (Still d) x y (r .0) (r .2) in
-        ends p l true (rw f (or-true (not (sameSetting (due s d) (due t d))))) (free p (stills l) (goes-back (u .sent) refl))
-    somebody-flies p o false f = subst Goal (sym (back-is true p (one-any d b u k (hub .turns) flies))) (busy p flies)
+        let l = each-++ (NoFlightOn d) x y (r .0) (r .2) in
+        ends p l true (rw f (or-true (not (sameSetting (due s d) (due t d))))) (none-on-it p (no-flights-on l) (goes-back (u .sent) refl))
+    somebody-flies p o false f = subst Goal (sym (back-is true p (one-any d b u k (hub .turns) flies))) (one-on-it p flies)
       where
-        flies : OneFlies d b u k
+        flies : OneFlightOn d b u k
         flies = one-same d b u (same-leaving x g y)
-            (one-alike d (g .member .id) a b (x ++ y) w u q (other-ids (s .nextId) x g y (h .ids-ok)) (one-drop d a w x g y (in-turn s x g y h) (record { still = f }) o))
+            (one-alike d (g .member .id) a b (x ++ y) w u q (other-ids (s .nextId) x g y (h .ids-ok)) (one-drop d a w x g y (in-turn s x g y h) (record { no-flight-on = f }) o))
 
     go : DeviceAt d (s .up d) (due s d) a (x ++ (g ∷ y)) w → Goal (isPutBack s (g .member) t d)
-    go (dead p n) = subst Goal (sym (ap (λ r. r && not (anyOf (inFlightOn d) (t .sequence)) && touched) p)) (dead p (q .same-empty n))
-    go (free p l c) = nobody-flies p (each-drop (Still d) x g y l) (each-mid (Still d) x g y l .still) c (sameSetting (due s d) (due t d)) refl
-    go (busy p o) = somebody-flies p o (inFlightOn d (g .member)) refl
+    go (is-down p n) = subst Goal (sym (ap (λ r. r && not (anyOf (inFlightOn d) (t .sequence)) && touched) p)) (is-down p (q .same-empty n))
+    go (none-on-it p l c) = nobody-flies p (each-drop (NoFlightOn d) x g y l) (each-mid (NoFlightOn d) x g y l .no-flight-on) c (sameSetting (due s d) (due t d)) refl
+    go (one-on-it p o) = somebody-flies p o (inFlightOn d (g .member)) refl
 
 -- ---- an abort
 
 abort-device : (d : ℕ) (s : State) (a : ℕ → Account) (ds : ℕ → Device) (v : ℤ) (c : Call) (x : List Group) (g : Group) (y : List Group) → d < s .devices → HubOk s (x ++ (g ∷ y)) →
-    (let b = endedAt (g .member .id) a in Alike (g .member .id) a b (ds d) (dropReported c b ds d)) →
+    (let b = endedAt (g .member .id) a in SameForOthers (g .member .id) a b (ds d) (dropReported c b ds d)) →
     DeviceOk d s a (x ++ (g ∷ y)) (ds d) → AfterCall d a ds v c (abort s (foundAt x g y)) (leaving x g y)
 unfolding abort
 abort-device d s a ds v c x g y n h q o =
     subst (λ w. DeviceOk d t b (leaving x g y) w) (sym (backs-at s (g .member) t d (s .devices) 0 (dropReported c b ds) (omega arith) (omega arith))) (record {
-      old-sent = byIf (λ (w : Device). Each (OldMessage b) (w .sent)) (isPutBack s (g .member) t d)
-          (λ _. each-++ (OldMessage b) (u .sent) (backTo (due t d) ∷ []) (q .same-sent (o .old-sent)) (tt, tt)) (λ _. q .same-sent (o .old-sent));
-      old-took = byIf (λ (w : Device). Each (Old b) (w .took)) (isPutBack s (g .member) t d) (λ _. q .same-took (o .old-took)) (λ _. q .same-took (o .old-took));
+      old-sent = byIf (λ (w : Device). Each (CountedMessage b) (w .sent)) (isPutBack s (g .member) t d)
+          (λ _. each-++ (CountedMessage b) (u .sent) (backTo (due t d) ∷ []) (q .same-sent (o .old-sent)) (tt, tt)) (λ _. q .same-sent (o .old-sent));
+      old-took = byIf (λ (w : Device). Each (CountedSend b) (w .took)) (isPutBack s (g .member) t d) (λ _. q .same-took (o .old-took)) (λ _. q .same-took (o .old-took));
       device-at = leave-at d s a b x g y (ds d) u h q (o .device-at);
     })
   where
@@ -161,10 +161,10 @@ device-aborts d s a ds v c x g y n h o q = abort-device d s a ds v c x g y n h (
     b = endedAt i a
 
     -- a report drops what was sent for its own routine
-    drops-own : (c : Call) → Aborts g c → Alike i a b (ds d) (dropReported c b ds d)
+    drops-own : (c : Call) → Aborts g c → SameForOthers i a b (ds d) (dropReported c b ds d)
     drops-own c (by-turn j p f) = alike-ended i a (ds d)
     drops-own c (by-report j code z p f m) =
-        subst (λ k. Alike i a b (ds d) (drops (sent-for k (b k .sends)) (ds d))) p (alike-drops i (b i .sends) a b (ds d) (ds d) (alike-ended i a (ds d)))
+        subst (λ k. SameForOthers i a b (ds d) (drops (sent-for k (b k .sends)) (ds d))) p (alike-drops i (b i .sends) a b (ds d) (ds d) (alike-ended i a (ds d)))
     drops-own c (by-cancel j p) = alike-ended i a (ds d)
 
 -- ---- the abort ahead of an event of e
@@ -174,8 +174,8 @@ abbrev Plain : Call → Type 0
 Plain c = (b : ℕ → Account) (ds : ℕ → Device) → dropReported c b ds ≡ ds
 
 module _ (s : State) (e : ℕ) (l : List Group) where
-  gone-old : (a : ℕ → Account) (c : Call) (w : Device) → Each (Old a) (w .took) → {r : Result} {lead : List Event} {k : List Group} → Gone s e l r lead k →
-      Each (Old (noteAnswers c (r .answers) a)) (w .took)
+  gone-old : (a : ℕ → Account) (c : Call) (w : Device) → Each (CountedSend a) (w .took) → {r : Result} {lead : List Event} {k : List Group} → Gone s e l r lead k →
+      Each (CountedSend (noteAnswers c (r .answers) a)) (w .took)
   unfolding abort
   gone-old a c w o (nobody n) = o
   gone-old a c w o (somebody x g y p n) = alike-ended (g .member .id) a w .same-took o
@@ -195,7 +195,7 @@ module _ (s : State) (e : ℕ) (l : List Group) where
   gone-device d a ds v c q n h o (nobody m) = o
   gone-device d a ds v c q n h o (somebody x g y p m) =
       let b = endedAt (g .member .id) a in
-      abort-device d s a ds v c x g y n (subst (HubOk s) p h) (subst (λ f. Alike (g .member .id) a b (ds d) (f d)) (sym (q b ds)) (alike-ended (g .member .id) a (ds d)))
+      abort-device d s a ds v c x g y n (subst (HubOk s) p h) (subst (λ f. SameForOthers (g .member .id) a b (ds d) (f d)) (sym (q b ds)) (alike-ended (g .member .id) a (ds d)))
       (subst (λ k. DeviceOk d s a k (ds d)) p o)
 
 -- ---- an event
@@ -231,9 +231,9 @@ device-fails d s a l ds v n h o e r lead k gone =
     this : eqb d e ≡ true → DeviceOk d (r .state) b j (record { setting = v; sent = []; took = fs e .took })
     this i = record {
       old-sent = tt;
-      old-took = subst (λ l. Each (Old b) l) (sym (gone-keeps t e l (λ (w : Device). w .took) (λ m w. refl) d b ds v (failure e) (λ b ds. refl) gone) ∙ ap (λ j. fs j .took) (eqb-true d e i))
+      old-took = subst (λ l. Each (CountedSend b) l) (sym (gone-keeps t e l (λ (w : Device). w .took) (λ m w. refl) d b ds v (failure e) (λ b ds. refl) gone) ∙ ap (λ j. fs j .took) (eqb-true d e i))
           (gone-old t e l a (failure e) (ds d) (o .old-took) gone);
-      device-at = dead (ap (λ (x : Fixed). x .up d) (gone-fixed t e l gone) ∙ rw i refl) refl;
+      device-at = is-down (ap (λ (x : Fixed). x .up d) (gone-fixed t e l gone) ∙ rw i refl) refl;
     }
 
     other : eqb d e ≡ false → DeviceOk d (r .state) b j (fs d)
@@ -263,11 +263,11 @@ due-other d i f s n = go (eqb i 0)
     go false = at-other d i f n (s .sequence) (s .settled d)
 
 -- a restart of e at a routine behind which everyone is quiet
-at-this : (e i : ℕ) (f : ℕ → Option ℤ) (w : ℤ) → f e ≡ some w → (x : List Group) (g : Group) (y : List Group) → NotIn i (ids x) → g .member .id ≡ i → Each EventsOk y → Each (Quiet e) y →
+at-this : (e i : ℕ) (f : ℕ → Option ℤ) (w : ℤ) → f e ≡ some w → (x : List Group) (g : Group) (y : List Group) → NotIn i (ids x) → g .member .id ≡ i → Each EventsOk y → Each (NotBegun e) y →
     (v : ℤ) → afterMembers e (attachAt i f (members (x ++ (g ∷ y)))) v ≡ w
 at-this e i f w p [] g y n j k q v =
     rw (eq-eqb (g .member .id) i j)
-    (ap (λ u. afterMembers e (members y) u) (attached-after e f (g .member) v ∙ ap (λ o. afterRestart o (afterMember e (g .member) v)) p) ∙ quiet-members e y w k q)
+    (ap (λ u. afterMembers e (members y) u) (attached-after e f (g .member) v ∙ ap (λ o. afterRestart o (afterMember e (g .member) v)) p) ∙ not-begun-members e y w k q)
 at-this e i f w p (h ∷ x) g y n j k q v = rw (ne-eqb (h .member .id) i (n .0)) (at-this e i f w p x g y (n .1) j k q (afterMember e (h .member) v))
 
 due-this : (e : ℕ) (w : ℤ) (s : State) (l : List Group) → HubOk s l → Each EventsOk l → due (attach (s .mark e) (oneRestart e w) s) e ≡ w
@@ -281,17 +281,17 @@ due-this e w s l h k = go (mark-place s l h e)
     f = oneRestart e w
 
     go : MarkPlace e i l → due (attach i f s) e ≡ w
-    go (at-zero z n q) = rw (eq-eqb i 0 z, h .sequence-is, one-here e w) (quiet-members e l w k q)
+    go (at-zero z n q) = rw (eq-eqb i 0 z, h .sequence-is, one-here e w) (not-begun-members e l w k q)
     go (at-group x g y p j z n q) =
         rw (ne-eqb i 0 z, h .sequence-is, p) (at-this e i f w (one-here e w) x g y n j (each-right EventsOk x (g ∷ y) (subst (Each EventsOk) p k) .1) q (s .settled e))
 
 dead-empty : (d : ℕ) (t : Bool) (v : ℤ) (a : ℕ → Account) (l : List Group) (w : Device) → t ≡ false → DeviceAt d t v a l w → w .sent ≡ []
-dead-empty d t v a l w e (dead p n) = n
-dead-empty d t v a l w e (free p s c) = t≠f (sym p ∙ e)
-dead-empty d t v a l w e (busy p o) = t≠f (sym p ∙ e)
+dead-empty d t v a l w e (is-down p n) = n
+dead-empty d t v a l w e (none-on-it p s c) = t≠f (sym p ∙ e)
+dead-empty d t v a l w e (one-on-it p o) = t≠f (sym p ∙ e)
 
 pub device-restarts : (d : ℕ) (s : State) (a : ℕ → Account) (l : List Group) (ds : ℕ → Device) (v : ℤ) → d < s .devices → HubOk s l → Each EventsOk l → DeviceOk d s a l (ds d) →
-    (e : ℕ) (w : ℤ) → Honest a ds (restart e w) → (r : Result) (lead : List Event) (k : List Group) → s .up e ≡ false → Gone s e l r lead k →
+    (e : ℕ) (w : ℤ) → PremiseOnCall a ds (restart e w) → (r : Result) (lead : List Event) (k : List Group) → s .up e ≡ false → Gone s e l r lead k →
     let t = attach (r .state .mark e) (oneRestart e w) (r .state) in
     AfterCall d a ds v (restart e w) (record { state = withUp t (put (t .up) e true); answers = r .answers ++ (up e (r .state .mark e) ∷ []) }) (attachEvent (r .state .mark e) (restart-of e w) k)
 device-restarts d s a l ds v n h p o e w z r lead k q gone =
@@ -312,7 +312,7 @@ device-restarts d s a l ds v n h p o e w z r lead k q gone =
     gone-ok : DeviceOk d (r .state) b k (fs d)
     gone-ok = gone-device s e l d a ds v (restart e w) (λ b ds. refl) n h o gone
 
-    gone-hub : HubOk (r .state) k × Each (Calm e) k
+    gone-hub : HubOk (r .state) k × Each (NotHalfway e) k
     gone-hub = hub-gone s e l h gone
 
     as-before : Pairwise Same k j
@@ -322,7 +322,7 @@ device-restarts d s a l ds v n h p o e w z r lead k q gone =
     go true i = record {
       old-sent = gone-ok .old-sent;
       old-took = gone-ok .old-took;
-      device-at = free (rw i refl) (stills-same d as-before (subst (λ f. Each (Still f) k) (sym this) (all-still e k (gone-hub .0 .turns) (gone-hub .0 .shuts) (gone-hub .1))))
+      device-at = none-on-it (rw i refl) (no-flights-on-same d as-before (subst (λ f. Each (NoFlightOn f) k) (sym this) (all-no-flight-on e k (gone-hub .0 .turns) (gone-hub .0 .nothing-left-all) (gone-hub .1))))
           (has (dead-empty d (r .state .up d) (due (r .state) d) b k (fs d) (ap (λ (x : Fixed). x .up d) (gone-fixed s e l gone) ∙ ap (s .up) this ∙ q) (gone-ok .device-at))
           (gone-keeps s e l (λ (w : Device). w .setting) (λ m w. refl) d b ds v (restart e w) (λ b ds. refl) gone ∙ ap (λ f. ds f .setting) this ∙ sym z ∙ sym due-is));
     }

@@ -27,32 +27,32 @@ use Rattle.rules.proofs.Steps.{InTurn, leftSteps, answeredSteps}
 -- ---- marks
 
 -- d has not been begun, and no event of it is attached
-pub record Quiet (d : ℕ) (g : Group) : Type 0 where
+pub record NotBegun (d : ℕ) (g : Group) : Type 0 where
   pub idle : begun d (g .member) ≡ false
   pub bare : anyOf (isOf d) (g .events) ≡ false
 
-pub record Fin (d : ℕ) (g : Group) : Type 0 where
-  pub fin : finished d (g .member) ≡ true
+pub record HasFinished (d : ℕ) (g : Group) : Type 0 where
+  pub finished-it : finished d (g .member) ≡ true
 
 -- the routine at the mark: it has finished d, or it has begun it and no event of d is attached
 pub data AtMark (d : ℕ) (g : Group) : Type 0 where
-  whole : Fin d g → AtMark d g
+  whole : HasFinished d g → AtMark d g
   part : begun d (g .member) ≡ true → anyOf (isOf d) (g .events) ≡ false → AtMark d g
 
 -- the mark is i: those ahead of it have finished d, those behind it are quiet
-pub data Upto (d i : ℕ) : List Group → Type 0 where
-  here : {g : Group} {l : List Group} → g .member .id ≡ i → AtMark d g → Each (Quiet d) l → Upto d i (g ∷ l)
-  there : {g : Group} {l : List Group} → Fin d g → Upto d i l → Upto d i (g ∷ l)
+pub data MarkedAt (d i : ℕ) : List Group → Type 0 where
+  here : {g : Group} {l : List Group} → g .member .id ≡ i → AtMark d g → Each (NotBegun d) l → MarkedAt d i (g ∷ l)
+  there : {g : Group} {l : List Group} → HasFinished d g → MarkedAt d i l → MarkedAt d i (g ∷ l)
 
 pub data MarkOk (d i : ℕ) (l : List Group) : Type 0 where
-  unmarked : i ≡ 0 → Each (Quiet d) l → MarkOk d i l
-  marked : Upto d i l → MarkOk d i l
+  unmarked : i ≡ 0 → Each (NotBegun d) l → MarkOk d i l
+  marked : MarkedAt d i l → MarkOk d i l
 
 -- what is committed has nothing left
-pub record Shut (g : Group) : Type 0 where
-  pub shut : g .member .committed ≡ true → leftSteps (g .member .steps) ≡ []
+pub record CommittedHasNothingLeft (g : Group) : Type 0 where
+  pub nothing-left : g .member .committed ≡ true → leftSteps (g .member .steps) ≡ []
 
-pub record Turns (g : Group) : Type 0 where
+pub record CommandsInTurn (g : Group) : Type 0 where
   pub turns : InTurn (g .member .steps)
 
 -- ---- the hub
@@ -61,17 +61,17 @@ pub record HubOk (s : State) (l : List Group) : Type 0 where
   pub sequence-is : s .sequence ≡ members l
   pub ids-ok : IdsOk (s .nextId) (ids l)
   pub marks : (d : ℕ) → MarkOk d (s .mark d) l
-  pub shuts : Each Shut l
-  pub turns : Each Turns l
+  pub nothing-left-all : Each CommittedHasNothingLeft l
+  pub turns : Each CommandsInTurn l
   pub some-id : 0 < s .nextId
 
 -- a device with a command in flight on it is up
-pub record FliesUp (s : State) (g : Group) : Type 0 where
+pub record InFlightIsUp (s : State) (g : Group) : Type 0 where
   pub flies-up : (d : ℕ) → inFlightOn d (g .member) ≡ true → s .up d ≡ true
 
 -- a routine that is not running, begun and unfinished with d
-pub record Calm (d : ℕ) (g : Group) : Type 0 where
-  pub calm : isHalfway d (g .member) ≡ false
+pub record NotHalfway (d : ℕ) (g : Group) : Type 0 where
+  pub not-halfway : isHalfway d (g .member) ≡ false
 
 -- the first runs
 abbrev pub FirstRuns : List Group → Type 0
@@ -125,7 +125,7 @@ abbrev pub commandsIn : List Answered → List Command
 commandsIn [] = []
 commandsIn (x ∷ l) = x .command ∷ commandsIn l
 
-pub record Tells (a : ℕ → Account) (g : Group) : Type 0 where
+pub record AccountTells (a : ℕ → Account) (g : Group) : Type 0 where
   pub runs : a (g .member .id) .running ≡ not (g .member .committed)
   pub left-is : a (g .member .id) .left ≡ leftSteps (g .member .steps)
   pub sent-is : (x : Flight) → flight (g .member .steps) ≡ some x → a (g .member .id) .lastSent ≡ x .command
@@ -135,20 +135,20 @@ pub record Tells (a : ℕ → Account) (g : Group) : Type 0 where
 -- ---- devices
 
 -- what was sent for an id is one of those that its account counts
-abbrev pub Old : (ℕ → Account) → Origin → Type 0
-Old a put-back = Unit {0}
-Old a (sent-for i n) = n ≤ a i .sends
+abbrev pub CountedSend : (ℕ → Account) → Origin → Type 0
+CountedSend a put-back = Unit {0}
+CountedSend a (sent-for i n) = n ≤ a i .sends
 
-abbrev pub OldMessage : (ℕ → Account) → Message → Type 0
-OldMessage a m = Old a (m .origin)
+abbrev pub CountedMessage : (ℕ → Account) → Message → Type 0
+CountedMessage a m = CountedSend a (m .origin)
 
 abbrev pub backTo : ℤ → Message
 backTo v = record { setting = v; origin = put-back }
 
 -- these were sent to a device with setting u: it comes to v for good, for nothing was sent, or the last of them puts it back to v
-pub data Comes (u : ℤ) (v : ℤ) (l : List Message) : Type 0 where
-  has : l ≡ [] → u ≡ v → Comes u v l
-  goes-back : (k : List Message) → l ≡ k ++ (backTo v ∷ []) → Comes u v l
+pub data ReachesSetting (u : ℤ) (v : ℤ) (l : List Message) : Type 0 where
+  has : l ≡ [] → u ≡ v → ReachesSetting u v l
+  goes-back : (k : List Message) → l ≡ k ++ (backTo v ∷ []) → ReachesSetting u v l
 
 abbrev pub flightOrigin : (ℕ → Account) → ℕ → Origin
 flightOrigin a i = sent-for i (a i .sends)
@@ -157,34 +157,34 @@ pub record NotOrigin (o : Origin) (m : Message) : Type 0 where
   pub other : sameOrigin (m .origin) o ≡ false
 
 -- the command in flight of routine i: taken, or the last on its way
-pub data Flying (a : ℕ → Account) (i : ℕ) (x : Flight) (w : Device) : Type 0 where
-  arrived : w .sent ≡ [] → w .setting ≡ x .command .setting → anyOf (sameOrigin (flightOrigin a i)) (w .took) ≡ true → Flying a i x w
+pub data OnItsWay (a : ℕ → Account) (i : ℕ) (x : Flight) (w : Device) : Type 0 where
+  arrived : w .sent ≡ [] → w .setting ≡ x .command .setting → anyOf (sameOrigin (flightOrigin a i)) (w .took) ≡ true → OnItsWay a i x w
   going : (k : List Message) → w .sent ≡ k ++ (record { setting = x .command .setting; origin = flightOrigin a i } ∷ []) → Each (NotOrigin (flightOrigin a i)) k →
-      anyOf (sameOrigin (flightOrigin a i)) (w .took) ≡ false → Comes (w .setting) (x .dueThen) k → Flying a i x w
+      anyOf (sameOrigin (flightOrigin a i)) (w .took) ≡ false → ReachesSetting (w .setting) (x .dueThen) k → OnItsWay a i x w
 
-pub record Still (d : ℕ) (g : Group) : Type 0 where
-  pub still : inFlightOn d (g .member) ≡ false
+pub record NoFlightOn (d : ℕ) (g : Group) : Type 0 where
+  pub no-flight-on : inFlightOn d (g .member) ≡ false
 
 -- one routine of the list has a command in flight on d, and it flies so
-pub data OneFlies (d : ℕ) (a : ℕ → Account) (w : Device) : List Group → Type 0 where
-  first-flies : {g : Group} {l : List Group} (x : Flight) → flight (g .member .steps) ≡ some x → x .command .device ≡ d → Flying a (g .member .id) x w → Each (Still d) l → OneFlies d a w (g ∷ l)
-  later-flies : {g : Group} {l : List Group} → Still d g → OneFlies d a w l → OneFlies d a w (g ∷ l)
+pub data OneFlightOn (d : ℕ) (a : ℕ → Account) (w : Device) : List Group → Type 0 where
+  first-has-it : {g : Group} {l : List Group} (x : Flight) → flight (g .member .steps) ≡ some x → x .command .device ≡ d → OnItsWay a (g .member .id) x w → Each (NoFlightOn d) l → OneFlightOn d a w (g ∷ l)
+  later-has-it : {g : Group} {l : List Group} → NoFlightOn d g → OneFlightOn d a w l → OneFlightOn d a w (g ∷ l)
 
 pub data DeviceAt (d : ℕ) (isUp : Bool) (v : ℤ) (a : ℕ → Account) (l : List Group) (w : Device) : Type 0 where
-  dead : isUp ≡ false → w .sent ≡ [] → DeviceAt d isUp v a l w
-  free : isUp ≡ true → Each (Still d) l → Comes (w .setting) v (w .sent) → DeviceAt d isUp v a l w
-  busy : isUp ≡ true → OneFlies d a w l → DeviceAt d isUp v a l w
+  is-down : isUp ≡ false → w .sent ≡ [] → DeviceAt d isUp v a l w
+  none-on-it : isUp ≡ true → Each (NoFlightOn d) l → ReachesSetting (w .setting) v (w .sent) → DeviceAt d isUp v a l w
+  one-on-it : isUp ≡ true → OneFlightOn d a w l → DeviceAt d isUp v a l w
 
 pub record DeviceOk (d : ℕ) (s : State) (a : ℕ → Account) (l : List Group) (w : Device) : Type 0 where
-  pub old-sent : Each (OldMessage a) (w .sent)
-  pub old-took : Each (Old a) (w .took)
+  pub old-sent : Each (CountedMessage a) (w .sent)
+  pub old-took : Each (CountedSend a) (w .took)
   pub device-at : DeviceAt d (s .up d) (due s d) a l w
 
 -- the premise on a call, with the accounts and devices before it
-abbrev pub Honest : (ℕ → Account) → (ℕ → Device) → Call → Type 0
-Honest a ds (submit cs) = Unit {0}
-Honest a ds (turn i) = Unit {0}
-Honest a ds (report i code) = anyOf (sameOrigin (sent-for i (a i .sends))) (ds (a i .lastSent .device) .took) ≡ eqb code codeDone
-Honest a ds (failure d) = Unit {0}
-Honest a ds (restart d v) = v ≡ ds d .setting
-Honest a ds (cancel i) = Unit {0}
+abbrev pub PremiseOnCall : (ℕ → Account) → (ℕ → Device) → Call → Type 0
+PremiseOnCall a ds (submit cs) = Unit {0}
+PremiseOnCall a ds (turn i) = Unit {0}
+PremiseOnCall a ds (report i code) = anyOf (sameOrigin (sent-for i (a i .sends))) (ds (a i .lastSent .device) .took) ≡ eqb code codeDone
+PremiseOnCall a ds (failure d) = Unit {0}
+PremiseOnCall a ds (restart d v) = v ≡ ds d .setting
+PremiseOnCall a ds (cancel i) = Unit {0}

@@ -24,16 +24,16 @@ use Rattle.rules.proofs.Lists.{byIf, t≠f, put-other, each-mid, each-d
 use Rattle.rules.proofs.Groups.{Group, alone, with, passAll, foundAt, leaving, attachEvent, stillHeld, each-held}
 use Rattle.rules.proofs.Same.{Same, same-placed, same-leaving, same-attached, same-each}
 use Rattle.rules.proofs.Steps.{send-step, skip-step, done-step, fail-step, flight-on, grounded, fresh-newcomer}
-use Rattle.rules.proofs.Invariant.{Shut, Turns, HubOk, FliesUp, Calm, Still}
+use Rattle.rules.proofs.Invariant.{CommittedHasNothingLeft, CommandsInTurn, HubOk, InFlightIsUp, NotHalfway, NoFlightOn}
 use Rattle.rules.proofs.View.{sentMember, skippedMember, doneMember, failedMember, Gone, nobody, somebody, Moves, places, commits, sends, skips, dones, misses, aborts, fails, restarts}
 use Rattle.rules.proofs.Fields.{Fixed, gone-fixed, attach-fixed, settle-fixed}
 use Rattle.rules.proofs.Marks.{flight-runs, in-turn, hub-commits, hub-sends, hub-skips, hub-dones, hub-misses}
 use Rattle.rules.proofs.Moved.{hub-places, hub-leaves, hub-gone, hub-fails, hub-restarts, hub-up}
 
 -- a routine that is not halfway with d has no command in flight on it
-calm-still : (d : ℕ) (g : Group) → Turns g → Shut g → Calm d g → Still d g
+not-halfway-no-flight-on : (d : ℕ) (g : Group) → CommandsInTurn g → CommittedHasNothingLeft g → NotHalfway d g → NoFlightOn d g
 unfolding isHalfway isRunning
-calm-still d g t s c = record { still = go (inFlightOn d m) refl }
+not-halfway-no-flight-on d g t s c = record { no-flight-on = go (inFlightOn d m) refl }
   where
     m : Member
     m = g .member
@@ -44,12 +44,12 @@ calm-still d g t s c = record { still = go (inFlightOn d m) refl }
         let x = done-step m (t .turns) (f .0) (f .1) in
         let y = ap (λ j. begun j m) (sym (f .2)) ∙ x .had-begun in
         let n = ap (λ j. finished j m) (sym (f .2)) ∙ x .unfinished in
-        t≠f (sym (rw (y, n, flight-runs g (f .0) s (f .1)) refl) ∙ c .calm)
+        t≠f (sym (rw (y, n, flight-runs g (f .0) s (f .1)) refl) ∙ c .not-halfway)
     go false e = refl
 
-pub all-still : (d : ℕ) (l : List Group) → Each Turns l → Each Shut l → Each (Calm d) l → Each (Still d) l
-all-still d [] t s c = tt
-all-still d (g ∷ l) t s c = (calm-still d g (t .0) (s .0) (c .0), all-still d l (t .1) (s .1) (c .1))
+pub all-no-flight-on : (d : ℕ) (l : List Group) → Each CommandsInTurn l → Each CommittedHasNothingLeft l → Each (NotHalfway d) l → Each (NoFlightOn d) l
+all-no-flight-on d [] t s c = tt
+all-no-flight-on d (g ∷ l) t s c = (not-halfway-no-flight-on d g (t .0) (s .0) (c .0), all-no-flight-on d l (t .1) (s .1) (c .1))
 
 -- ---- the hub's invariant
 
@@ -69,80 +69,80 @@ hub-moves s l h (restarts d v r lead k _ _ g) = let j = hub-gone s d l h g in hu
 -- ---- commands in flight
 
 -- a change of the state that leaves up what was up
-still-up : (s t : State) → ((d : ℕ) → s .up d ≡ true → t .up d ≡ true) → (l : List Group) → Each (FliesUp s) l → Each (FliesUp t) l
-still-up s t u l f = each-map (FliesUp s) (FliesUp t) (λ g q. record { flies-up = λ d e. u d (q .flies-up d e) }) l f
+no-flight-on-up : (s t : State) → ((d : ℕ) → s .up d ≡ true → t .up d ≡ true) → (l : List Group) → Each (InFlightIsUp s) l → Each (InFlightIsUp t) l
+no-flight-on-up s t u l f = each-map (InFlightIsUp s) (InFlightIsUp t) (λ g q. record { flies-up = λ d e. u d (q .flies-up d e) }) l f
 
 -- it looks at the commands alone
-same-flies : (s : State) (g h : Group) → Same g h → FliesUp s g → FliesUp s h
+same-flies : (s : State) (g h : Group) → Same g h → InFlightIsUp s g → InFlightIsUp s h
 unfolding inFlightOn
 same-flies s g h e f = record { flies-up = λ d y. f .flies-up d (rw (e .same-steps) at y) }
 
-flies-leaving : (s : State) (a : List Group) (g : Group) (b : List Group) → Each (FliesUp s) (a ++ (g ∷ b)) → Each (FliesUp s) (leaving a g b)
-flies-leaving s a g b f = same-each (FliesUp s) (same-flies s) (same-leaving a g b) (each-drop (FliesUp s) a g b f)
+flies-leaving : (s : State) (a : List Group) (g : Group) (b : List Group) → Each (InFlightIsUp s) (a ++ (g ∷ b)) → Each (InFlightIsUp s) (leaving a g b)
+flies-leaving s a g b f = same-each (InFlightIsUp s) (same-flies s) (same-leaving a g b) (each-drop (InFlightIsUp s) a g b f)
 
-flies-event : (s : State) (j : ℕ) (x : Event) (l : List Group) → Each (FliesUp s) l → Each (FliesUp s) (attachEvent j x l)
-flies-event s j x l = same-each (FliesUp s) (same-flies s) (same-attached j x l)
+flies-event : (s : State) (j : ℕ) (x : Event) (l : List Group) → Each (InFlightIsUp s) l → Each (InFlightIsUp s) (attachEvent j x l)
+flies-event s j x l = same-each (InFlightIsUp s) (same-flies s) (same-attached j x l)
 
 -- the abort ahead of an event
-flies-gone : (s t : State) (d : ℕ) (l : List Group) {r : Result} {lead : List Event} {k : List Group} → Each (FliesUp s) l → Gone t d l r lead k → Each (FliesUp s) k
+flies-gone : (s t : State) (d : ℕ) (l : List Group) {r : Result} {lead : List Event} {k : List Group} → Each (InFlightIsUp s) l → Gone t d l r lead k → Each (InFlightIsUp s) k
 flies-gone s t d l f (nobody _) = f
-flies-gone s t d l f (somebody a g b e _) = flies-leaving s a g b (subst (Each (FliesUp s)) e f)
+flies-gone s t d l f (somebody a g b e _) = flies-leaving s a g b (subst (Each (InFlightIsUp s)) e f)
 
 -- where nobody flies on d, d may go down
-flies-down : (s t : State) (d : ℕ) → ((e : ℕ) → t .up e ≡ put (s .up) d false e) → (l : List Group) → Each (FliesUp s) l → Each (Still d) l → Each (FliesUp t) l
+flies-down : (s t : State) (d : ℕ) → ((e : ℕ) → t .up e ≡ put (s .up) d false e) → (l : List Group) → Each (InFlightIsUp s) l → Each (NoFlightOn d) l → Each (InFlightIsUp t) l
 flies-down s t d u [] f c = tt
 flies-down s t d u (g ∷ l) f c = (record { flies-up = λ e y. u e ∙ put-other (s .up) d false e (other e y) ∙ f .0 .flies-up e y }, flies-down s t d u l (f .1) (c .1))
   where
     other : (e : ℕ) → inFlightOn e (g .member) ≡ true → e ≢ d
-    other e y q = t≠f (sym y ∙ ap (λ x. inFlightOn x (g .member)) q ∙ c .0 .still)
+    other e y q = t≠f (sym y ∙ ap (λ x. inFlightOn x (g .member)) q ∙ c .0 .no-flight-on)
 
-module _ (s : State) (a : List Group) (g : Group) (b : List Group) (f : Each (FliesUp s) (a ++ (g ∷ b))) where
+module _ (s : State) (a : List Group) (g : Group) (b : List Group) (f : Each (InFlightIsUp s) (a ++ (g ∷ b))) where
   -- g becomes n
-  flies-changes : (t : State) → t .up ≡ s .up → (n : Member) → ((d : ℕ) → inFlightOn d n ≡ true → s .up d ≡ true) → Each (FliesUp t) (a ++ (with g n ∷ b))
+  flies-changes : (t : State) → t .up ≡ s .up → (n : Member) → ((d : ℕ) → inFlightOn d n ≡ true → s .up d ≡ true) → Each (InFlightIsUp t) (a ++ (with g n ∷ b))
   flies-changes t u n y =
-      still-up s t (λ d e. ap (λ p. p d) u ∙ e) (a ++ (with g n ∷ b)) (each-swap (FliesUp s) a g (with g n) b f (record { flies-up = y }))
+      no-flight-on-up s t (λ d e. ap (λ p. p d) u ∙ e) (a ++ (with g n ∷ b)) (each-swap (InFlightIsUp s) a g (with g n) b f (record { flies-up = y }))
 
   -- and has no command in flight
-  lands : (t : State) → t .up ≡ s .up → (n : Member) → ((d : ℕ) → inFlightOn d n ≡ false) → Each (FliesUp t) (a ++ (with g n ∷ b))
+  lands : (t : State) → t .up ≡ s .up → (n : Member) → ((d : ℕ) → inFlightOn d n ≡ false) → Each (InFlightIsUp t) (a ++ (with g n ∷ b))
   lands t u n q = flies-changes t u n (λ d y. t≠f (sym y ∙ q d))
 
-pub flies-moves : (s : State) (l : List Group) {c : Call} {r : Result} {lead : List Event} {k : List Group} → HubOk s l → Each (FliesUp s) l → Moves s l c r lead k →
-    Each (FliesUp (r .state)) k
+pub flies-moves : (s : State) (l : List Group) {c : Call} {r : Result} {lead : List Event} {k : List Group} → HubOk s l → Each (InFlightIsUp s) l → Moves s l c r lead k →
+    Each (InFlightIsUp (r .state)) k
 unfolding place commitTurn commit sendTurn skipTurn doneReport skipReport skippedState abort leave attach inFlightOn
 flies-moves s l h f (places cs a b _ e _ _ _) =
-    let w = subst (Each (FliesUp s)) e f in
+    let w = subst (Each (InFlightIsUp s)) e f in
     let n = newcomer (s .nextId) cs in
-    let x : FliesUp s (alone n) = record { flies-up = λ d y. t≠f (sym y ∙ grounded n d (fresh-newcomer (s .nextId) cs .flight-is)) } in
-    still-up s (place s cs) (λ d y. y) (a ++ (alone n ∷ passAll b)) (same-each (FliesUp s) (same-flies s) (same-placed a (alone n) b) (each-insert (FliesUp s) a (alone n) b w x))
+    let x : InFlightIsUp s (alone n) = record { flies-up = λ d y. t≠f (sym y ∙ grounded n d (fresh-newcomer (s .nextId) cs .flight-is)) } in
+    no-flight-on-up s (place s cs) (λ d y. y) (a ++ (alone n ∷ passAll b)) (same-each (InFlightIsUp s) (same-flies s) (same-placed a (alone n) b) (each-insert (InFlightIsUp s) a (alone n) b w x))
 flies-moves s l h f (commits i a g b e _ _ _ _) =
-    let w = subst (Each (FliesUp s)) e f in
-    flies-changes s a g b w (commitTurn s (foundAt a g b) .state) refl (commit (g .member)) (each-mid (FliesUp s) a g b w .flies-up)
+    let w = subst (Each (InFlightIsUp s)) e f in
+    flies-changes s a g b w (commitTurn s (foundAt a g b) .state) refl (commit (g .member)) (each-mid (InFlightIsUp s) a g b w .flies-up)
 flies-moves s l h f (sends i a g b c e _ _ n x _ u) =
     let y = send-step (g .member) (in-turn s a g b (subst (HubOk s) e h)) c (due s (c .device)) x n in
-    flies-changes s a g b (subst (Each (FliesUp s)) e f) (sendTurn s (foundAt a g b) c .state) refl (sentMember s g c)
+    flies-changes s a g b (subst (Each (InFlightIsUp s)) e f) (sendTurn s (foundAt a g b) c .state) refl (sentMember s g c)
     (λ d q. ap (s .up) (sym (eqb-true (c .device) d (sym (y .flies d) ∙ q))) ∙ u)
 flies-moves s l h f (skips i a g b c e _ _ n x _ _) =
-    lands s a g b (subst (Each (FliesUp s)) e f) (skipTurn s (foundAt a g b) c .state) refl (skippedMember g)
+    lands s a g b (subst (Each (InFlightIsUp s)) e f) (skipTurn s (foundAt a g b) c .state) refl (skippedMember g)
     (skip-step (g .member) (in-turn s a g b (subst (HubOk s) e h)) c x n .flies)
 flies-moves s l h f (dones i code a g b x e _ _ q _) =
-    lands s a g b (subst (Each (FliesUp s)) e f) (doneReport s (foundAt a g b) .state) refl (doneMember g)
+    lands s a g b (subst (Each (InFlightIsUp s)) e f) (doneReport s (foundAt a g b) .state) refl (doneMember g)
     (done-step (g .member) (in-turn s a g b (subst (HubOk s) e h)) x q .flies)
 flies-moves s l h f (misses i code a g b x e _ _ q _) =
-    lands s a g b (subst (Each (FliesUp s)) e f) (skipReport s (foundAt a g b) x .state) refl (failedMember g)
+    lands s a g b (subst (Each (InFlightIsUp s)) e f) (skipReport s (foundAt a g b) x .state) refl (failedMember g)
     (fail-step (g .member) (in-turn s a g b (subst (HubOk s) e h)) x q .flies)
 flies-moves s l h f (aborts c a g b e _ _) =
-    still-up s (abort s (foundAt a g b) .state) (λ d y. y) (leaving a g b) (flies-leaving s a g b (subst (Each (FliesUp s)) e f))
+    no-flight-on-up s (abort s (foundAt a g b) .state) (λ d y. y) (leaving a g b) (flies-leaving s a g b (subst (Each (InFlightIsUp s)) e f))
 flies-moves s l h f (fails d r lead k _ _ g) =
     let t = withUp s (put (s .up) d false) in
     let j = hub-gone t d l (hub-up s (put (s .up) d false) l h) g in
     flies-event (r .state) (r .state .mark d) (failure-of d) k
-    (flies-down s (r .state) d (λ e. ap (λ (x : Fixed). x .up e) (gone-fixed t d l g)) k (flies-gone s t d l f g) (all-still d k (j .0 .turns) (j .0 .shuts) (j .1)))
+    (flies-down s (r .state) d (λ e. ap (λ (x : Fixed). x .up e) (gone-fixed t d l g)) k (flies-gone s t d l f g) (all-no-flight-on d k (j .0 .turns) (j .0 .nothing-left-all) (j .1)))
 flies-moves s l h f (restarts d v r lead k _ _ g) =
     let i = r .state .mark d in
     let t = attach i (oneRestart d v) (r .state) in
-    still-up s (withUp t (put (t .up) d true))
+    no-flight-on-up s (withUp t (put (t .up) d true))
     (λ e y. byIf (λ p. p ≡ true) (eqb e d) (λ _. refl) (λ _. ap (λ (x : Fixed). x .up e) (attach-fixed i (oneRestart d v) (r .state) ∙ gone-fixed s d l g) ∙ y))
     (attachEvent i (restart-of d v) k) (flies-event s i (restart-of d v) k (flies-gone s s d l f g))
 
-pub flies-settles : (s : State) (l : List Group) → Each (FliesUp s) l → Each (FliesUp (settle s)) (stillHeld l)
-flies-settles s l f = still-up s (settle s) (λ d e. ap (λ (x : Fixed). x .up d) (settle-fixed s) ∙ e) (stillHeld l) (each-held (FliesUp s) l f)
+pub flies-settles : (s : State) (l : List Group) → Each (InFlightIsUp s) l → Each (InFlightIsUp (settle s)) (stillHeld l)
+flies-settles s l f = no-flight-on-up s (settle s) (λ d e. ap (λ (x : Fixed). x .up d) (settle-fixed s) ∙ e) (stillHeld l) (each-held (InFlightIsUp s) l f)

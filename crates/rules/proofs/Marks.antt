@@ -21,140 +21,140 @@ use Rattle.rules.specs.Events.{isHalfway}
 use Rattle.rules.proofs.Lists.{byIf, t≠f, and-left, and-right, this-or-other, put-same, put-other, each-++, each-left, each-right, each-mid, each-swap, IsNot, NotIn, In, IdsOk, ids-other, ids-not-zero}
 use Rattle.rules.proofs.Groups.{Group, members, ids, isOf, with, foundAt, members-++, ids-++, ids-swap}
 use Rattle.rules.proofs.Steps.{InTurn, AnsweredOne, send-step, skip-step, done-step, fail-step, none-left, left-finished, left-grounded}
-use Rattle.rules.proofs.Invariant.{Quiet, Fin, AtMark, whole, part, Upto, here, there, MarkOk, unmarked, marked, Shut, Turns, HubOk}
+use Rattle.rules.proofs.Invariant.{NotBegun, HasFinished, AtMark, whole, part, MarkedAt, here, there, MarkOk, unmarked, marked, CommittedHasNothingLeft, CommandsInTurn, HubOk}
 use Rattle.rules.proofs.View.{sentMember, skippedMember, doneMember, failedMember}
 
 -- ---- the mark, seen from a routine of the sequence
 
-pub data Near (d i : ℕ) (a : List Group) (g : Group) (b : List Group) : Type 0 where
-  mark-ahead : Upto d i a → Quiet d g → Each (Quiet d) b → Near d i a g b
-  mark-here : Each (Fin d) a → g .member .id ≡ i → AtMark d g → Each (Quiet d) b → Near d i a g b
-  mark-behind : Each (Fin d) a → Fin d g → Upto d i b → Near d i a g b
+pub data NearMark (d i : ℕ) (a : List Group) (g : Group) (b : List Group) : Type 0 where
+  mark-ahead : MarkedAt d i a → NotBegun d g → Each (NotBegun d) b → NearMark d i a g b
+  mark-here : Each (HasFinished d) a → g .member .id ≡ i → AtMark d g → Each (NotBegun d) b → NearMark d i a g b
+  mark-behind : Each (HasFinished d) a → HasFinished d g → MarkedAt d i b → NearMark d i a g b
 
 pub data MarkSeen (d i : ℕ) (a : List Group) (g : Group) (b : List Group) : Type 0 where
-  nowhere : i ≡ 0 → Each (Quiet d) a → Quiet d g → Each (Quiet d) b → MarkSeen d i a g b
-  near : Near d i a g b → MarkSeen d i a g b
+  nowhere : i ≡ 0 → Each (NotBegun d) a → NotBegun d g → Each (NotBegun d) b → MarkSeen d i a g b
+  near : NearMark d i a g b → MarkSeen d i a g b
 
-nearer : (d i : ℕ) (x : Group) (a : List Group) (g : Group) (b : List Group) → Fin d x → Near d i a g b → Near d i (x ∷ a) g b
+nearer : (d i : ℕ) (x : Group) (a : List Group) (g : Group) (b : List Group) → HasFinished d x → NearMark d i a g b → NearMark d i (x ∷ a) g b
 nearer d i x a g b f (mark-ahead u q s) = mark-ahead (there f u) q s
 nearer d i x a g b f (mark-here fs e h s) = mark-here (f, fs) e h s
 nearer d i x a g b f (mark-behind fs k u) = mark-behind (f, fs) k u
 
-see-upto : (d i : ℕ) (a : List Group) (g : Group) (b : List Group) → Upto d i (a ++ (g ∷ b)) → Near d i a g b
+see-upto : (d i : ℕ) (a : List Group) (g : Group) (b : List Group) → MarkedAt d i (a ++ (g ∷ b)) → NearMark d i a g b
 see-upto d i [] g b (here e h q) = mark-here tt e h q
 see-upto d i [] g b (there f u) = mark-behind tt f u
 see-upto d i (x ∷ a) g b (here e h q) =
-    let r = each-right (Quiet d) a (g ∷ b) q in
-    mark-ahead (here e h (each-left (Quiet d) a (g ∷ b) q)) (r .0) (r .1)
+    let r = each-right (NotBegun d) a (g ∷ b) q in
+    mark-ahead (here e h (each-left (NotBegun d) a (g ∷ b) q)) (r .0) (r .1)
 see-upto d i (x ∷ a) g b (there f u) = nearer d i x a g b f (see-upto d i a g b u)
 
 pub see-mark : (d i : ℕ) (a : List Group) (g : Group) (b : List Group) → MarkOk d i (a ++ (g ∷ b)) → MarkSeen d i a g b
-see-mark d i a g b (unmarked z q) = let r = each-right (Quiet d) a (g ∷ b) q in nowhere z (each-left (Quiet d) a (g ∷ b) q) (r .0) (r .1)
+see-mark d i a g b (unmarked z q) = let r = each-right (NotBegun d) a (g ∷ b) q in nowhere z (each-left (NotBegun d) a (g ∷ b) q) (r .0) (r .1)
 see-mark d i a g b (marked u) = near (see-upto d i a g b u)
 
-pub upto-right : (d i : ℕ) (a b : List Group) → Upto d i a → Each (Quiet d) b → Upto d i (a ++ b)
-upto-right d i (x ∷ a) b (here e h s) q = here e h (each-++ (Quiet d) a b s q)
+pub upto-right : (d i : ℕ) (a b : List Group) → MarkedAt d i a → Each (NotBegun d) b → MarkedAt d i (a ++ b)
+upto-right d i (x ∷ a) b (here e h s) q = here e h (each-++ (NotBegun d) a b s q)
 upto-right d i (x ∷ a) b (there f u) q = there f (upto-right d i a b u q)
 
-pub upto-left : (d i : ℕ) (a b : List Group) → Each (Fin d) a → Upto d i b → Upto d i (a ++ b)
+pub upto-left : (d i : ℕ) (a b : List Group) → Each (HasFinished d) a → MarkedAt d i b → MarkedAt d i (a ++ b)
 upto-left d i [] b f u = u
 upto-left d i (x ∷ a) b f u = there (f .0) (upto-left d i a b (f .1) u)
 
 -- and back
 seen-back : (d i : ℕ) (a : List Group) (g : Group) (b : List Group) → MarkSeen d i a g b → MarkOk d i (a ++ (g ∷ b))
-seen-back d i a g b (nowhere z p q s) = unmarked z (each-++ (Quiet d) a (g ∷ b) p (q, s))
+seen-back d i a g b (nowhere z p q s) = unmarked z (each-++ (NotBegun d) a (g ∷ b) p (q, s))
 seen-back d i a g b (near (mark-ahead u q s)) = marked (upto-right d i a (g ∷ b) u (q, s))
 seen-back d i a g b (near (mark-here f e h s)) = marked (upto-left d i a (g ∷ b) f (here e h s))
 seen-back d i a g b (near (mark-behind f k u)) = marked (upto-left d i a (g ∷ b) f (there k u))
 
 -- the mark's id is one of the sequence
-pub upto-in : (d i : ℕ) (l : List Group) → Upto d i l → In i (ids l)
+pub upto-in : (d i : ℕ) (l : List Group) → MarkedAt d i l → In i (ids l)
 upto-in d i (g ∷ l) (here e h q) = inl e
 upto-in d i (g ∷ l) (there f u) = inr (upto-in d i l u)
 
 -- ---- where d stands for a routine
 
 -- d, at a routine g: everyone ahead has finished it, no event of it is attached to g, everyone behind is quiet
-pub record Clear (d : ℕ) (a : List Group) (g : Group) (b : List Group) : Type 0 where
-  pub ahead-fin : Each (Fin d) a
+pub record ClearOfDevice (d : ℕ) (a : List Group) (g : Group) (b : List Group) : Type 0 where
+  pub ahead-finished-it : Each (HasFinished d) a
   pub no-event : anyOf (isOf d) (g .events) ≡ false
-  pub behind-quiet : Each (Quiet d) b
+  pub behind-not-begun : Each (NotBegun d) b
 
 -- a routine that has begun d and not finished it is at the mark
 at-mark : (d i : ℕ) (a : List Group) (g : Group) (b : List Group) → begun d (g .member) ≡ true → finished d (g .member) ≡ false → MarkOk d i (a ++ (g ∷ b)) →
-    Clear d a g b × (g .member .id ≡ i)
+    ClearOfDevice d a g b × (g .member .id ≡ i)
 at-mark d i a g b y n k = go (see-mark d i a g b k)
   where
-    go : MarkSeen d i a g b → Clear d a g b × (g .member .id ≡ i)
+    go : MarkSeen d i a g b → ClearOfDevice d a g b × (g .member .id ≡ i)
     go (nowhere z p q s) = t≠f (sym y ∙ q .idle)
     go (near (mark-ahead u q s)) = t≠f (sym y ∙ q .idle)
-    go (near (mark-here f e (whole w) s)) = t≠f (sym (w .fin) ∙ n)
-    go (near (mark-here f e (part x z) s)) = (record { ahead-fin = f; no-event = z; behind-quiet = s }, e)
-    go (near (mark-behind f w u)) = t≠f (sym (w .fin) ∙ n)
+    go (near (mark-here f e (whole w) s)) = t≠f (sym (w .finished-it) ∙ n)
+    go (near (mark-here f e (part x z) s)) = (record { ahead-finished-it = f; no-event = z; behind-not-begun = s }, e)
+    go (near (mark-behind f w u)) = t≠f (sym (w .finished-it) ∙ n)
 
 -- if everyone ahead has finished d and g has not, d's mark is not behind g
-not-behind : (d i : ℕ) (a : List Group) (g : Group) (b : List Group) → Each (Fin d) a → finished d (g .member) ≡ false → MarkOk d i (a ++ (g ∷ b)) → Clear d a g b
+not-behind : (d i : ℕ) (a : List Group) (g : Group) (b : List Group) → Each (HasFinished d) a → finished d (g .member) ≡ false → MarkOk d i (a ++ (g ∷ b)) → ClearOfDevice d a g b
 not-behind d i a g b f n k = go (see-mark d i a g b k)
   where
-    go : MarkSeen d i a g b → Clear d a g b
-    go (nowhere z p q s) = record { ahead-fin = f; no-event = q .bare; behind-quiet = s }
-    go (near (mark-ahead u q s)) = record { ahead-fin = f; no-event = q .bare; behind-quiet = s }
-    go (near (mark-here p e (whole w) s)) = t≠f (sym (w .fin) ∙ n)
-    go (near (mark-here p e (part x z) s)) = record { ahead-fin = f; no-event = z; behind-quiet = s }
-    go (near (mark-behind p w u)) = t≠f (sym (w .fin) ∙ n)
+    go : MarkSeen d i a g b → ClearOfDevice d a g b
+    go (nowhere z p q s) = record { ahead-finished-it = f; no-event = q .bare; behind-not-begun = s }
+    go (near (mark-ahead u q s)) = record { ahead-finished-it = f; no-event = q .bare; behind-not-begun = s }
+    go (near (mark-here p e (whole w) s)) = t≠f (sym (w .finished-it) ∙ n)
+    go (near (mark-here p e (part x z) s)) = record { ahead-finished-it = f; no-event = z; behind-not-begun = s }
+    go (near (mark-behind p w u)) = t≠f (sym (w .finished-it) ∙ n)
 
 -- what is committed has finished every device, and has no command in flight
-pub shut-fin : (d : ℕ) (g : Group) → Shut g → (g .member .committed ≡ false → finished d (g .member) ≡ true) → Fin d g
-shut-fin d g s f = record { fin = go (g .member .committed) refl }
+pub nothing-left-finished-it : (d : ℕ) (g : Group) → CommittedHasNothingLeft g → (g .member .committed ≡ false → finished d (g .member) ≡ true) → HasFinished d g
+nothing-left-finished-it d g s f = record { finished-it = go (g .member .committed) refl }
   where
     go : (t : Bool) → g .member .committed ≡ t → finished d (g .member) ≡ true
-    go true e = left-finished (g .member) d (s .shut e)
+    go true e = left-finished (g .member) d (s .nothing-left e)
     go false e = f e
 
-pub flight-runs : (g : Group) (x : Flight) → Shut g → flight (g .member .steps) ≡ some x → g .member .committed ≡ false
+pub flight-runs : (g : Group) (x : Flight) → CommittedHasNothingLeft g → flight (g .member .steps) ≡ some x → g .member .committed ≡ false
 flight-runs g x s f = go (g .member .committed) refl
   where
     go : (t : Bool) → g .member .committed ≡ t → t ≡ false
-    go true e = absurd (Option·none-ne-some x (sym (left-grounded (g .member) (s .shut e)) ∙ f))
+    go true e = absurd (Option·none-ne-some x (sym (left-grounded (g .member) (s .nothing-left e)) ∙ f))
     go false e = refl
 
 -- who does not hold d has finished it
-unheld : (d : ℕ) (g : Group) → Shut g → holds d (g .member) ≡ false → Fin d g
+unheld : (d : ℕ) (g : Group) → CommittedHasNothingLeft g → holds d (g .member) ≡ false → HasFinished d g
 unfolding holds isRunning finished
-unheld d g s h = shut-fin d g s (λ e. not-false (finished d (g .member)) (rw e at h))
+unheld d g s h = nothing-left-finished-it d g s (λ e. not-false (finished d (g .member)) (rw e at h))
 
 -- the wait search finds nobody
-none-holds : (d : ℕ) (a : List Group) → Each Shut a → firstHolding d (members a) ≡ none → Each (Fin d) a
+none-holds : (d : ℕ) (a : List Group) → Each CommittedHasNothingLeft a → firstHolding d (members a) ≡ none → Each (HasFinished d) a
 none-holds d [] s e = tt
 none-holds d (g ∷ a) s e = go (none-holds d a (s .1)) (holds d (g .member)) refl e
   where
-    go : (firstHolding d (members a) ≡ none → Each (Fin d) a) → (t : Bool) → holds d (g .member) ≡ t →
-        (if t then some (g .member .id) else firstHolding d (members a)) ≡ none → Fin d g × Each (Fin d) a
+    go : (firstHolding d (members a) ≡ none → Each (HasFinished d) a) → (t : Bool) → holds d (g .member) ≡ t →
+        (if t then some (g .member .id) else firstHolding d (members a)) ≡ none → HasFinished d g × Each (HasFinished d) a
     go ih true q e = let z : _≡_ {A = ℕ} 0 1 = cc in absurd (omega arith)
     go ih false q e = (unheld d g (s .0) q, ih e)
 
 pub in-turn : (s : State) (a : List Group) (g : Group) (b : List Group) → HubOk s (a ++ (g ∷ b)) → InTurn (g .member .steps)
-in-turn s a g b h = each-mid Turns a g b (h .turns) .turns
+in-turn s a g b h = each-mid CommandsInTurn a g b (h .turns) .turns
 
 pub ids-at : (s : State) (a : List Group) (g : Group) (b : List Group) → HubOk s (a ++ (g ∷ b)) → IdsOk (s .nextId) (ids a ++ (g .member .id ∷ ids b))
 ids-at s a g b h = subst (IdsOk (s .nextId)) (ids-++ a (g ∷ b)) (h .ids-ok)
 
 -- the device of the next command, when nobody ahead holds it
 pub turn-clear : (s : State) (a : List Group) (g : Group) (b : List Group) (c : Command) → HubOk s (a ++ (g ∷ b)) →
-    next (g .member .steps) ≡ some c → flight (g .member .steps) ≡ none → firstHolding (c .device) (members a) ≡ none → Clear (c .device) a g b
+    next (g .member .steps) ≡ some c → flight (g .member .steps) ≡ none → firstHolding (c .device) (members a) ≡ none → ClearOfDevice (c .device) a g b
 turn-clear s a g b c h e f n =
-    not-behind (c .device) (s .mark (c .device)) a g b (none-holds (c .device) a (each-left Shut a (g ∷ b) (h .shuts)) n)
+    not-behind (c .device) (s .mark (c .device)) a g b (none-holds (c .device) a (each-left CommittedHasNothingLeft a (g ∷ b) (h .nothing-left-all)) n)
     (skip-step (g .member) (in-turn s a g b h) c e f .unfinished) (h .marks (c .device))
 
 -- the device of the command in flight
 pub flight-clear : (s : State) (a : List Group) (g : Group) (b : List Group) (x : Flight) → HubOk s (a ++ (g ∷ b)) →
-    flight (g .member .steps) ≡ some x → Clear (x .command .device) a g b
+    flight (g .member .steps) ≡ some x → ClearOfDevice (x .command .device) a g b
 flight-clear s a g b x h e =
     let y = done-step (g .member) (in-turn s a g b h) x e in
     at-mark (x .command .device) (s .mark (x .command .device)) a g b (y .had-begun) (y .unfinished) (h .marks (x .command .device)) .0
 
 -- a device that a routine has begun and not finished
-pub halfway-clear : (s : State) (d : ℕ) (a : List Group) (g : Group) (b : List Group) → HubOk s (a ++ (g ∷ b)) → isHalfway d (g .member) ≡ true → Clear d a g b
+pub halfway-clear : (s : State) (d : ℕ) (a : List Group) (g : Group) (b : List Group) → HubOk s (a ++ (g ∷ b)) → isHalfway d (g .member) ≡ true → ClearOfDevice d a g b
 unfolding isHalfway
 halfway-clear s d a g b h e =
     let m = g .member in
@@ -163,11 +163,11 @@ halfway-clear s d a g b h e =
 
 -- the mark in the list
 pub data MarkPlace (d i : ℕ) (l : List Group) : Type 0 where
-  at-zero : i ≡ 0 → NotIn i (ids l) → Each (Quiet d) l → MarkPlace d i l
-  at-group : (a : List Group) (g : Group) (b : List Group) → l ≡ a ++ (g ∷ b) → g .member .id ≡ i → i ≢ 0 → NotIn i (ids a) → Each (Quiet d) b → MarkPlace d i l
+  at-zero : i ≡ 0 → NotIn i (ids l) → Each (NotBegun d) l → MarkPlace d i l
+  at-group : (a : List Group) (g : Group) (b : List Group) → l ≡ a ++ (g ∷ b) → g .member .id ≡ i → i ≢ 0 → NotIn i (ids a) → Each (NotBegun d) b → MarkPlace d i l
 
-upto-place : (d i : ℕ) (l : List Group) → Upto d i l →
-    (a : List Group) × (g : Group) × (b : List Group) × (l ≡ a ++ (g ∷ b)) × (g .member .id ≡ i) × Each (Quiet d) b
+upto-place : (d i : ℕ) (l : List Group) → MarkedAt d i l →
+    (a : List Group) × (g : Group) × (b : List Group) × (l ≡ a ++ (g ∷ b)) × (g .member .id ≡ i) × Each (NotBegun d) b
 upto-place d i (g ∷ l) (here e h q) = ([], g, l, refl, e, q)
 upto-place d i (x ∷ l) (there f u) = let r = upto-place d i l u in (x ∷ r .0, r .1, r .2, ap (λ k. x ∷ k) (r .3), r .4, r .5)
 
@@ -191,41 +191,41 @@ swap-mark : (d i : ℕ) (a : List Group) (g : Group) (b : List Group) (n : Membe
     (finished d (g .member) ≡ true → finished d n ≡ true) → MarkOk d i (a ++ (g ∷ b)) → MarkOk d i (a ++ (with g n ∷ b))
 swap-mark d i a g b n e y f k = seen-back d i a (with g n) b (go (see-mark d i a g b k))
   where
-    quiet : Quiet d g → Quiet d (with g n)
-    quiet q = record { idle = y ∙ q .idle; bare = q .bare }
+    not-begun : NotBegun d g → NotBegun d (with g n)
+    not-begun q = record { idle = y ∙ q .idle; bare = q .bare }
 
-    done : Fin d g → Fin d (with g n)
-    done q = record { fin = f (q .fin) }
+    done : HasFinished d g → HasFinished d (with g n)
+    done q = record { finished-it = f (q .finished-it) }
 
     mark : AtMark d g → AtMark d (with g n)
     mark (whole q) = whole (done q)
     mark (part q z) = part (y ∙ q) z
 
     go : MarkSeen d i a g b → MarkSeen d i a (with g n) b
-    go (nowhere z p q s) = nowhere z p (quiet q) s
-    go (near (mark-ahead u q s)) = near (mark-ahead u (quiet q) s)
+    go (nowhere z p q s) = nowhere z p (not-begun q) s
+    go (near (mark-ahead u q s)) = near (mark-ahead u (not-begun q) s)
     go (near (mark-here p q w s)) = near (mark-here p (e ∙ q) (mark w) s)
     go (near (mark-behind p w u)) = near (mark-behind p (done w) u)
 
 -- nothing is asked of a routine that runs
-running : (g : Group) (n : Member) → n .committed ≡ false → Shut (with g n)
-running g n r = record { shut = λ t. t≠f (sym t ∙ r) }
+running : (g : Group) (n : Member) → n .committed ≡ false → CommittedHasNothingLeft (with g n)
+running g n r = record { nothing-left = λ t. t≠f (sym t ∙ r) }
 
 module _ (s : State) (a : List Group) (g : Group) (b : List Group) (h : HubOk s (a ++ (g ∷ b))) where
   -- g becomes n, with these marks
-  hub-changes : (n : Member) (mark : ℕ → ℕ) → n .id ≡ g .member .id → Shut (with g n) → InTurn (n .steps) → ((d : ℕ) → MarkOk d (mark d) (a ++ (with g n ∷ b))) →
+  hub-changes : (n : Member) (mark : ℕ → ℕ) → n .id ≡ g .member .id → CommittedHasNothingLeft (with g n) → InTurn (n .steps) → ((d : ℕ) → MarkOk d (mark d) (a ++ (with g n ∷ b))) →
       HubOk (withMark (change s (foundAt a g b) n) mark) (a ++ (with g n ∷ b))
   hub-changes n mark e c t k = record {
     sequence-is = sym (members-++ a (with g n ∷ b));
     ids-ok = rw (ids-swap a g (with g n) b e) (h .ids-ok);
     marks = k;
-    shuts = each-swap Shut a g (with g n) b (h .shuts) c;
-    turns = each-swap Turns a g (with g n) b (h .turns) (record { turns = t });
+    nothing-left-all = each-swap CommittedHasNothingLeft a g (with g n) b (h .nothing-left-all) c;
+    turns = each-swap CommandsInTurn a g (with g n) b (h .turns) (record { turns = t });
     some-id = h .some-id;
   }
 
   -- a command on e begins: e's mark becomes g, if it is not g already
-  begin-marks : (e : ℕ) (n : Member) → n .id ≡ g .member .id → Clear e a g b → finished e (g .member) ≡ false → begun e n ≡ true →
+  begin-marks : (e : ℕ) (n : Member) → n .id ≡ g .member .id → ClearOfDevice e a g b → finished e (g .member) ≡ false → begun e n ≡ true →
       ((d : ℕ) → e ≢ d → begun d n ≡ begun d (g .member)) → ((d : ℕ) → finished d (g .member) ≡ true → finished d n ≡ true) →
       (d : ℕ) → MarkOk d (markBegun (g .member) e (s .mark) d) (a ++ (with g n ∷ b))
   unfolding markBegun
@@ -238,7 +238,7 @@ module _ (s : State) (a : List Group) (g : Group) (b : List Group) (h : HubOk s 
       Ok x mark = MarkOk x (mark x) (a ++ (with g n ∷ b))
 
       mine : MarkOk e (g .member .id) (a ++ (with g n ∷ b))
-      mine = seen-back e (g .member .id) a (with g n) b (near (mark-here (c .ahead-fin) i (part y (c .no-event)) (c .behind-quiet)))
+      mine = seen-back e (g .member .id) a (with g n) b (near (mark-here (c .ahead-finished-it) i (part y (c .no-event)) (c .behind-not-begun)))
 
       other : e ≢ d → MarkOk d (s .mark d) (a ++ (with g n ∷ b))
       other q = swap-mark d (s .mark d) a g b n i (o d q) (f d) (h .marks d)
@@ -248,7 +248,7 @@ pub hub-commits : (s : State) (a : List Group) (g : Group) (b : List Group) → 
     HubOk (commitTurn s (foundAt a g b) .state) (a ++ (with g (commit (g .member)) ∷ b))
 unfolding commitTurn commit begun finished
 hub-commits s a g b h f e =
-    hub-changes s a g b h (commit (g .member)) (s .mark) refl (record { shut = λ _. none-left (g .member) e f }) (in-turn s a g b h)
+    hub-changes s a g b h (commit (g .member)) (s .mark) refl (record { nothing-left = λ _. none-left (g .member) e f }) (in-turn s a g b h)
     (λ d. swap-mark d (s .mark d) a g b (commit (g .member)) refl refl (λ q. q) (h .marks d))
 
 pub hub-sends : (s : State) (a : List Group) (g : Group) (b : List Group) (c : Command) → HubOk s (a ++ (g ∷ b)) → g .member .committed ≡ false →

@@ -26,9 +26,9 @@ use Rattle.rules.proofs.Lists.{eqb-sym, fold-++, each-left, each-right,
 use Rattle.rules.proofs.Groups.{Group, members, ids, flat, entryIds, deviceOf, lastRestart, alone, with, changed, passAll, foundAt, leaving, leadOf, addEvent, attachEvent, leadWith, ids-++, flat-++, ids-swap, flat-pass, events-++, flat-leaving, flat-cut, flat-added, attach-miss, attach-hit, last-not-zero}
 use Rattle.rules.proofs.Same.{same-placed, same-leaving, same-attached, same-ids}
 use Rattle.rules.proofs.Steps.{send-step, skip-step, done-gains, fail-done, fresh-newcomer}
-use Rattle.rules.proofs.Invariant.{Quiet, HubOk, setAfter, upAfter, EventsOk, OrderOk, Tells}
+use Rattle.rules.proofs.Invariant.{NotBegun, HubOk, setAfter, upAfter, EventsOk, OrderOk, AccountTells}
 use Rattle.rules.proofs.View.{Gone, nobody, somebody, Moves, places, commits, sends, skips, dones, misses, aborts, fails, restarts}
-use Rattle.rules.proofs.Runs.{set-++, up-++, set-events, bringsUp, up-event, up-flat-quiet, settled-alone, events-placed, events-leaving, events-attached}
+use Rattle.rules.proofs.Runs.{set-++, up-++, set-events, bringsUp, up-event, up-flat-not-begun, settled-alone, events-placed, events-leaving, events-attached}
 use Rattle.rules.proofs.Fields.{Fixed, gone-fixed}
 use Rattle.rules.proofs.Marks.{in-turn, MarkPlace, at-zero, at-group, mark-place}
 use Rattle.rules.proofs.Moved.{hub-gone, hub-up}
@@ -273,7 +273,7 @@ pub record Cut (x : Event) (j : ℕ) (lead : List Event) (l : List Group) : Type
   pub was : map event lead ++ flat l ≡ before ++ flat behind
   pub becomes : map event (leadWith j x lead) ++ flat (attachEvent j x l) ≡ before ++ (event x ∷ flat behind)
   pub attached : attachEvent j x l ≡ ahead ++ behind
-  pub quiet : Each (Quiet (deviceOf x)) behind
+  pub not-begun : Each (NotBegun (deviceOf x)) behind
 
 module _ (x : Event) (j : ℕ) (lead : List Event) where
   becoming : (l k : List Group) (t : Bool) → eqb j 0 ≡ t → attachEvent j x l ≡ k →
@@ -288,7 +288,7 @@ module _ (x : Event) (j : ℕ) (lead : List Event) where
     was = refl;
     becomes = becoming l l true (eq-eqb j 0 z) (attach-miss j x l n) ∙ events-++ lead (x ∷ []) (flat l);
     attached = attach-miss j x l n;
-    quiet = q;
+    not-begun = q;
   }
   cut-at l (at-group a g b e i z n q) = record {
     before = map event lead ++ flat (a ++ (g ∷ []));
@@ -298,20 +298,20 @@ module _ (x : Event) (j : ℕ) (lead : List Event) where
     becomes = becoming l (a ++ (addEvent x g ∷ b)) false (ne-eqb j 0 z) hit ∙ ap (λ m. map event lead ++ m) (flat-added x a g b)
         ∙ sym (append-assoc (map event lead) (flat (a ++ (g ∷ []))) (event x ∷ flat b));
     attached = hit ∙ sym (append-assoc a (addEvent x g ∷ []) b);
-    quiet = q;
+    not-begun = q;
   }
     where
       hit : attachEvent j x l ≡ a ++ (addEvent x g ∷ b)
       hit = ap (attachEvent j x) e ∙ attach-hit j x a g b n i
 
 -- nothing behind an event speaks of its device
-up-behind : (d : ℕ) (x : Event) (b : List Group) → Each (Quiet (deviceOf x)) b → (u : Bool) →
+up-behind : (d : ℕ) (x : Event) (b : List Group) → Each (NotBegun (deviceOf x)) b → (u : Bool) →
     upAfter d (event x ∷ flat b) u ≡ (if eqb d (deviceOf x) then bringsUp x else upAfter d (flat b) u)
 up-behind d x b q u =
     ap (λ w. upAfter d (flat b) w) (up-event d x u ∙ ap (λ t. if t then bringsUp x else u) (eqb-sym (deviceOf x) d)) ∙ go (eqb d (deviceOf x)) refl
   where
     go : (t : Bool) → eqb d (deviceOf x) ≡ t → upAfter d (flat b) (if t then bringsUp x else u) ≡ (if t then bringsUp x else upAfter d (flat b) u)
-    go true t = up-flat-quiet d b (bringsUp x) (subst (λ i. Each (Quiet i) b) (sym (eqb-true d (deviceOf x) t)) q)
+    go true t = up-flat-not-begun d b (bringsUp x) (subst (λ i. Each (NotBegun i) b) (sym (eqb-true d (deviceOf x) t)) q)
     go false t = refl
 
 -- what an event, attached to 0 or to a routine, makes of the state
@@ -347,7 +347,7 @@ module _ (x : Event) (s t : State) (o : Order) (lead : List Event) where
         settled-is = λ d. settled-attached l k d (eqb j 0) ∙ sym (f .settled-is d);
         up-is = λ d.
             up-end d (λ u. if eqb d (deviceOf x) then bringsUp x else u) o (c .before) (event x ∷ flat (c .behind)) (flat (c .behind)) (k .unsettled-is ∙ c .was)
-            (up-behind d x (c .behind) (c .quiet)) ∙ ap (λ u. if eqb d (deviceOf x) then bringsUp x else u) (k .up-is d) ∙ sym (f .up-is d);
+            (up-behind d x (c .behind) (c .not-begun)) ∙ ap (λ u. if eqb d (deviceOf x) then bringsUp x else u) (k .up-is d) ∙ sym (f .up-is d);
         events-ok = events-attached j x l (k .events-ok);
         ids-ok = rw (f .next-is, same-ids (same-attached j x l)) (k .ids-ok);
         barred = k .barred;
@@ -396,7 +396,7 @@ attached-restart d j v s u e = record { next-is = refl; settled-is = go (eqb j 0
 
 -- `a`: the accounts before the call
 pub order-moves : (s : State) (o : Order) (a : ℕ → Account) (l : List Group) {c : Call} {r : Result} {lead : List Event} {k : List Group} →
-    HubOk s l → OrderOk s o [] l → Each (Tells a) l → Moves s l c r lead k →
+    HubOk s l → OrderOk s o [] l → Each (AccountTells a) l → Moves s l c r lead k →
     OrderOk (r .state) (orderAfterAll c a (r .answers) o) lead k × (orderAfterAll c a (r .answers) o .settled ≡ o .settled)
 unfolding commitTurn sendTurn skipTurn doneReport skippedState skipReport abort
 order-moves s o n l h k t (places cs a b _ e u _ _) =
@@ -410,7 +410,7 @@ order-moves s o n l h k t (skips i a g b c e _ _ f x _ _) =
 order-moves s o n l h k t (dones i code a g b x e _ _ f _) =
     order-dones s o a g b (subst (λ m. OrderOk s o [] m) e k) (n (g .member .id) .lastSent) _ _
     (done-gains (g .member) (in-turn s a g b (subst (HubOk s) e h)) x f
-    ∙ ap (λ c. doneSteps (g .member .steps) ++ (c ∷ [])) (sym (each-mid (Tells n) a g b (subst (λ m. Each (Tells n) m) e t) .sent-is x f)))
+    ∙ ap (λ c. doneSteps (g .member .steps) ++ (c ∷ [])) (sym (each-mid (AccountTells n) a g b (subst (λ m. Each (AccountTells n) m) e t) .sent-is x f)))
 order-moves s o n l h k t (misses i code a g b x e _ _ f _) =
     order-untouched s o a g b (subst (λ m. OrderOk s o [] m) e k) _ _ _ (fail-done (g .member) (in-turn s a g b (subst (HubOk s) e h)) x f)
 order-moves s o n l h k t (aborts c a g b e _ _) = order-leaves s o a g b (subst (λ m. OrderOk s o [] m) e k)

@@ -20,7 +20,7 @@ use Rattle.rules.proofs.Lists.{or-left, or-right, eqb-sym, fold-++, eac
 use Rattle.rules.proofs.Groups.{Group, members, flat, isOf, lastRestart, passAll, addEvents, leaving, addEvent, attachEvent, added-is}
 use Rattle.rules.proofs.Same.{Pairwise, pairs-each, pairs-placed, pairs-last, pairs-attached}
 use Rattle.rules.proofs.Steps.{unbegun-after}
-use Rattle.rules.proofs.Invariant.{Quiet, setEvent, setCommands, setAfter, upEvent, upAfter, EventsOk, OrderOk}
+use Rattle.rules.proofs.Invariant.{NotBegun, setEvent, setCommands, setAfter, upEvent, upAfter, EventsOk, OrderOk}
 
 -- ---- parts of lists
 
@@ -80,12 +80,12 @@ pub one-other : (d e : ℕ) (w : ℤ) → eqb d e ≡ false → oneRestart e w d
 unfolding oneRestart
 one-other d e w n = ap (λ t. if t then some w else none) n
 
-pub lastRestart-quiet : (d : ℕ) (l : List Event) → anyOf (isOf d) l ≡ false → lastRestart d l ≡ none
-lastRestart-quiet d [] n = refl
-lastRestart-quiet d (failure-of e ∷ l) n = lastRestart-quiet d l (or-right (eqb e d) (anyOf (isOf d) l) n)
-lastRestart-quiet d (restart-of e w ∷ l) n =
+pub lastRestart-not-begun : (d : ℕ) (l : List Event) → anyOf (isOf d) l ≡ false → lastRestart d l ≡ none
+lastRestart-not-begun d [] n = refl
+lastRestart-not-begun d (failure-of e ∷ l) n = lastRestart-not-begun d l (or-right (eqb e d) (anyOf (isOf d) l) n)
+lastRestart-not-begun d (restart-of e w ∷ l) n =
     ap (λ x. later x (lastRestart d l)) (one-other d e w (eqb-sym d e ∙ or-left (eqb e d) (anyOf (isOf d) l) n)) ∙ later-none (lastRestart d l)
-    ∙ lastRestart-quiet d l (or-right (eqb e d) (anyOf (isOf d) l) n)
+    ∙ lastRestart-not-begun d l (or-right (eqb e d) (anyOf (isOf d) l) n)
 
 abbrev pub bringsUp : Event → Bool
 bringsUp (failure-of d) = false
@@ -95,16 +95,16 @@ pub up-event : (d : ℕ) (x : Event) (u : Bool) → upEvent d x u ≡ (if isOf d
 up-event d (failure-of e) u = refl
 up-event d (restart-of e v) u = refl
 
-pub up-quiet : (d : ℕ) (l : List Event) (u : Bool) → anyOf (isOf d) l ≡ false → upAfter d (map event l) u ≡ u
-up-quiet d [] u n = refl
-up-quiet d (e ∷ l) u n =
-    ap (upAfter d (map event l)) (up-event d e u ∙ ap (λ t. if t then bringsUp e else u) (or-left (isOf d e) (anyOf (isOf d) l) n)) ∙ up-quiet d l u (or-right (isOf d e) (anyOf (isOf d) l) n)
+pub up-not-begun : (d : ℕ) (l : List Event) (u : Bool) → anyOf (isOf d) l ≡ false → upAfter d (map event l) u ≡ u
+up-not-begun d [] u n = refl
+up-not-begun d (e ∷ l) u n =
+    ap (upAfter d (map event l)) (up-event d e u ∙ ap (λ t. if t then bringsUp e else u) (or-left (isOf d e) (anyOf (isOf d) l) n)) ∙ up-not-begun d l u (or-right (isOf d e) (anyOf (isOf d) l) n)
 
 -- ---- groups
 
-pub up-flat-quiet : (d : ℕ) (l : List Group) (u : Bool) → Each (Quiet d) l → upAfter d (flat l) u ≡ u
-up-flat-quiet d [] u q = refl
-up-flat-quiet d (g ∷ l) u q = up-++ d (map event (g .events)) (flat l) u ∙ ap (λ x. upAfter d (flat l) x) (up-quiet d (g .events) u (q .0 .bare)) ∙ up-flat-quiet d l u (q .1)
+pub up-flat-not-begun : (d : ℕ) (l : List Group) (u : Bool) → Each (NotBegun d) l → upAfter d (flat l) u ≡ u
+up-flat-not-begun d [] u q = refl
+up-flat-not-begun d (g ∷ l) u q = up-++ d (map event (g .events)) (flat l) u ∙ ap (λ x. upAfter d (flat l) x) (up-not-begun d (g .events) u (q .0 .bare)) ∙ up-flat-not-begun d l u (q .1)
 
 set-done : (d : ℕ) (l : List Step) (v : ℤ) → setCommands d (doneSteps l) v ≡ afterSteps d l v
 set-done d [] v = refl
@@ -131,13 +131,13 @@ pub settled-alone : (s : State) (o : Order) (l : List Group) → OrderOk s o [] 
 settled-alone s o l k d = ap (λ q. setAfter d q (pos 0)) (sym (append-nil (o .settled))) ∙ k .settled-is d
 
 -- a quiet routine leaves d as it was
-quiet-after : (d : ℕ) (g : Group) (v : ℤ) → EventsOk g → Quiet d g → afterMember d (g .member) v ≡ v
+not-begun-after : (d : ℕ) (g : Group) (v : ℤ) → EventsOk g → NotBegun d g → afterMember d (g .member) v ≡ v
 unfolding afterMember
-quiet-after d g v h q = ap (λ x. afterRestart x (afterSteps d (g .member .steps) v)) (h .events-ok d ∙ lastRestart-quiet d (g .events) (q .bare)) ∙ unbegun-after (g .member) d v (q .idle)
+not-begun-after d g v h q = ap (λ x. afterRestart x (afterSteps d (g .member .steps) v)) (h .events-ok d ∙ lastRestart-not-begun d (g .events) (q .bare)) ∙ unbegun-after (g .member) d v (q .idle)
 
-pub quiet-members : (d : ℕ) (l : List Group) (v : ℤ) → Each EventsOk l → Each (Quiet d) l → afterMembers d (members l) v ≡ v
-quiet-members d [] v h q = refl
-quiet-members d (g ∷ l) v h q = ap (λ x. afterMembers d (members l) x) (quiet-after d g v (h .0) (q .0)) ∙ quiet-members d l v (h .1) (q .1)
+pub not-begun-members : (d : ℕ) (l : List Group) (v : ℤ) → Each EventsOk l → Each (NotBegun d) l → afterMembers d (members l) v ≡ v
+not-begun-members d [] v h q = refl
+not-begun-members d (g ∷ l) v h q = ap (λ x. afterMembers d (members l) x) (not-begun-after d g v (h .0) (q .0)) ∙ not-begun-members d l v (h .1) (q .1)
 
 -- ---- the restarts that routines keep stay the last ones among their events
 

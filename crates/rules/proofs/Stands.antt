@@ -24,10 +24,10 @@ use Rattle.rules.specs.HubOrder.{doneSteps}
 use Rattle.rules.proofs.Lists.{or-left, or-right, put-same, put-other, put-keeps, each-++, each-left, each-right, each-mid, IsNot, NotIn, IdsOk, ids-fresh, ids-other}
 use Rattle.rules.proofs.Groups.{Group, ids, flat, entryIds, deviceOf, alone, changed, passAll, leaving, leadOf, attachEvent, leadWith, flat-++, entryIds-++, entryIds-flat, flat-pass, flat-leaving}
 use Rattle.rules.proofs.Steps.{leftSteps, skip-step, done-step, fail-step, unbegun-answered}
-use Rattle.rules.proofs.Invariant.{Quiet, HubOk, FliesUp, upEvent, upAfter, OrderOk, commandsIn, Tells}
+use Rattle.rules.proofs.Invariant.{NotBegun, HubOk, InFlightIsUp, upEvent, upAfter, OrderOk, commandsIn, AccountTells}
 use Rattle.rules.proofs.View.{sentMember, skippedMember, doneMember, failedMember, Gone, nobody, somebody, Moves, places, commits, sends, skips, dones, misses, aborts, fails, restarts}
-use Rattle.rules.proofs.Runs.{up-++, bringsUp, up-event, up-quiet, up-flat-quiet}
-use Rattle.rules.proofs.Marks.{Clear, in-turn, turn-clear, flight-clear, mark-place}
+use Rattle.rules.proofs.Runs.{up-++, bringsUp, up-event, up-not-begun, up-flat-not-begun}
+use Rattle.rules.proofs.Marks.{ClearOfDevice, in-turn, turn-clear, flight-clear, mark-place}
 use Rattle.rules.proofs.Moved.{hub-gone, hub-up}
 use Rattle.rules.proofs.Serial.{serial-up}
 use Rattle.rules.proofs.Accounts.{accounts-moves}
@@ -132,13 +132,13 @@ stand-spared d q (event x ∷ l) u w e n h = stand-spared d q l (λ y. upEvent y
 event-other : (e : Event) (u : ℕ → Bool) → SameBut (deviceOf e) u (λ x. upEvent x e (u x))
 event-other e u x n = sym (up-event x e (u x) ∙ ap (λ b. if b then bringsUp e else u x) (ne-eqb (deviceOf e) x (λ z. n (sym z))))
 
-spared-groups : (d : ℕ) (a : ℕ → Account) (l : List Group) → Each (Quiet d) l → Each (Tells a) l → Each (Spared d (answeredIn a)) (ids l)
+spared-groups : (d : ℕ) (a : ℕ → Account) (l : List Group) → Each (NotBegun d) l → Each (AccountTells a) l → Each (Spared d (answeredIn a)) (ids l)
 spared-groups d a [] q t = tt
 spared-groups d a (g ∷ l) q t =
     (ap (anyOf (onDevice d)) (t .0 .answered-is) ∙ unbegun-answered (g .member) d (q .0 .idle), spared-groups d a l (q .1) (t .1))
 
 -- those that are quiet with its device do not see an event
-stand-event : (e : Event) (a : ℕ → Account) (l : List Group) → Each (Quiet (deviceOf e)) l → Each (Tells a) l → (u : ℕ → Bool) →
+stand-event : (e : Event) (a : ℕ → Account) (l : List Group) → Each (NotBegun (deviceOf e)) l → Each (AccountTells a) l → (u : ℕ → Bool) →
     Stand (answeredIn a) (flat l) u → Stand (answeredIn a) (event e ∷ flat l) u
 stand-event e a l q k u h =
     stand-spared (deviceOf e) (answeredIn a) (flat l) u (λ x. upEvent x e (u x)) (event-other e u) (rw (entryIds-flat l) (spared-groups (deviceOf e) a l q k)) h
@@ -167,9 +167,9 @@ ended-answered a i = fun-ext (put-keeps (λ (z : Account). z .answered) a i (end
 -- what holds before a call
 record Before (s : State) (o : Order) (a : ℕ → Account) (l : List Group) : Type 0 where
   hub : HubOk s l
-  flies : Each (FliesUp s) l
+  flies : Each (InFlightIsUp s) l
   order : OrderOk s o [] l
-  tells : Each (Tells a) l
+  tells : Each (AccountTells a) l
   stand : Standing a (o .settled ++ flat l)
 
 flat-at : (p : List Entry) (a b : List Group) → p ++ flat (a ++ b) ≡ (p ++ flat a) ++ flat b
@@ -189,16 +189,16 @@ stand-at a p x y w = stand-split (answeredIn a) (p ++ flat x) (flat y) (λ d. tr
 stand-put : (a : ℕ → Account) (p : List Entry) (x : List Group) (g : Group) (y : List Group) (z : Account) →
     NotIn (g .member .id) (entryIds (p ++ flat x)) → NotIn (g .member .id) (entryIds (map event (g .events) ++ flat y)) →
     Standing a (p ++ flat x) → Stand (answeredIn a) (map event (g .events) ++ flat y) (upPast p x) →
-    Each (Tells (put a (g .member .id) z)) (x ++ (g ∷ y)) → Each (Fits (upPast p x)) (z .answered) → Standing (put a (g .member .id) z) (p ++ flat (x ++ (g ∷ y)))
+    Each (AccountTells (put a (g .member .id) z)) (x ++ (g ∷ y)) → Each (Fits (upPast p x)) (z .answered) → Standing (put a (g .member .id) z) (p ++ flat (x ++ (g ∷ y)))
 stand-put a p x g y z m n h k t f =
     let i = g .member .id in
-    let e : doneSteps (g .member .steps) ≡ doneOnes (z .answered) = sym (each-mid (Tells (put a i z)) x g y t .done-is) ∙ ap (λ (c : Account). doneOnes (c .answered)) (put-same a i z) in
+    let e : doneSteps (g .member .steps) ≡ doneOnes (z .answered) = sym (each-mid (AccountTells (put a i z)) x g y t .done-is) ∙ ap (λ (c : Account). doneOnes (c .answered)) (put-same a i z) in
     subst (λ l. Standing (put a i z) l) (sym (flat-at p x (g ∷ y)))
     (subst (λ q. Stand q ((p ++ flat x) ++ flat (g ∷ y)) (λ d. true)) (sym (put-answered a i z))
     (stand-with (answeredIn a) i (z .answered) (p ++ flat x) (doneSteps (g .member .steps)) (g .member .committed) (map event (g .events) ++ flat y) (λ d. true) m n h k e f))
 
 stand-places : (s : State) (o : Order) (a : ℕ → Account) (cs : List Command) (x y : List Group) → Before s o a (x ++ y) →
-    Each (Tells (put a (s .nextId) (placedAccount cs))) (x ++ (alone (newcomer (s .nextId) cs) ∷ passAll y)) →
+    Each (AccountTells (put a (s .nextId) (placedAccount cs))) (x ++ (alone (newcomer (s .nextId) cs) ∷ passAll y)) →
     Standing (put a (s .nextId) (placedAccount cs)) (o .settled ++ flat (x ++ (alone (newcomer (s .nextId) cs) ∷ passAll y)))
 unfolding newcomer
 stand-places s o a cs x y f t =
@@ -214,7 +214,7 @@ stand-places s o a cs x y f t =
 module _ (s : State) (o : Order) (a : ℕ → Account) (x : List Group) (g : Group) (y : List Group) (f : Before s o a (x ++ (g ∷ y))) where
   stand-changes : (l : List Step) (b : Bool) (z : Account) →
       (Each (Fits (upPast (o .settled) x)) (a (g .member .id) .answered) → Each (Fits (upPast (o .settled) x)) (z .answered)) →
-      Each (Tells (put a (g .member .id) z)) (x ++ (changed g l b ∷ y)) → Standing (put a (g .member .id) z) (o .settled ++ flat (x ++ (changed g l b ∷ y)))
+      Each (AccountTells (put a (g .member .id) z)) (x ++ (changed g l b ∷ y)) → Standing (put a (g .member .id) z) (o .settled ++ flat (x ++ (changed g l b ∷ y)))
   stand-changes l b z m t =
       let i = g .member .id in
       let p = entryIds (o .settled ++ flat x) in
@@ -226,21 +226,21 @@ module _ (s : State) (o : Order) (a : ℕ → Account) (x : List Group) (g : Gro
   -- its first command that is left, c, is answered
   stand-answers : (l : List Step) (b : Bool) (c : Command) (cs : List Command) (v : Outcome) → leftSteps (g .member .steps) ≡ c ∷ cs →
       Finds (upPast (o .settled) x (c .device)) v → let z = answeredAccount v (a (g .member .id) .left) (a (g .member .id)) in
-      Each (Tells (put a (g .member .id) z)) (x ++ (changed g l b ∷ y)) → Standing (put a (g .member .id) z) (o .settled ++ flat (x ++ (changed g l b ∷ y)))
+      Each (AccountTells (put a (g .member .id) z)) (x ++ (changed g l b ∷ y)) → Standing (put a (g .member .id) z) (o .settled ++ flat (x ++ (changed g l b ∷ y)))
   stand-answers l b c cs v e m =
       let j = a (g .member .id) in
       let u = upPast (o .settled) x in
-      let k : j .left ≡ c ∷ cs = each-mid (Tells a) x g y (f .tells) .left-is ∙ e in
+      let k : j .left ≡ c ∷ cs = each-mid (AccountTells a) x g y (f .tells) .left-is ∙ e in
       stand-changes l b (answeredAccount v (j .left) j)
       (λ h. subst (λ r. Each (Fits u) (answeredAccount v r j .answered)) (sym k) (each-++ (Fits u) (j .answered) (record { command = c; outcome = v } ∷ []) h (m, tt)))
 
   -- a device that nothing behind g touches is up before g as it is now
-  up-before : (d : ℕ) → Clear d x g y → upPast (o .settled) x d ≡ s .up d
+  up-before : (d : ℕ) → ClearOfDevice d x g y → upPast (o .settled) x d ≡ s .up d
   up-before d c =
       let p = o .settled ++ flat x in
       let u = upPast (o .settled) x d in
       let whole : entries o ≡ p ++ flat (g ∷ y) = ap (λ l. o .settled ++ l) (f .order .unsettled-is) ∙ flat-at (o .settled) x (g ∷ y) in
-      let same : upAfter d (flat (g ∷ y)) u ≡ u = up-++ d (map event (g .events)) (flat y) u ∙ up-flat-quiet d y _ (c .behind-quiet) ∙ up-quiet d (g .events) u (c .no-event) in
+      let same : upAfter d (flat (g ∷ y)) u ≡ u = up-++ d (map event (g .events)) (flat y) u ∙ up-flat-not-begun d y _ (c .behind-not-begun) ∙ up-not-begun d (g .events) u (c .no-event) in
       sym (ap (λ l. upAfter d l true) whole ∙ up-++ d p (flat (g ∷ y)) true ∙ same) ∙ f .order .up-is d
 
 -- ---- a routine leaves
@@ -257,14 +257,14 @@ stand-leaves a p x g y w =
 
 stand-attached : (s : State) (e : Event) (a : ℕ → Account) (p : List Entry) (lead : List Event) (l : List Group) → HubOk s l →
     let j = s .mark (deviceOf e) in
-    Each (Tells a) (attachEvent j e l) → Standing a (p ++ openPart lead l) → Standing a (p ++ openPart (leadWith j e lead) (attachEvent j e l))
+    Each (AccountTells a) (attachEvent j e l) → Standing a (p ++ openPart lead l) → Standing a (p ++ openPart (leadWith j e lead) (attachEvent j e l))
 stand-attached s e a p lead l h k w =
     let c = cut-at e (s .mark (deviceOf e)) lead l (mark-place s l h (deviceOf e)) in
     let old = flat (c .behind) in
-    let told = each-right (Tells a) (c .ahead) (c .behind) (subst (Each (Tells a)) (c .attached) k) in
+    let told = each-right (AccountTells a) (c .ahead) (c .behind) (subst (Each (AccountTells a)) (c .attached) k) in
     subst (λ r. Standing a (p ++ r)) (sym (c .becomes))
     (stand-behind (answeredIn a) p (c .before ++ old) (c .before ++ (event e ∷ old))
-    (stand-behind (answeredIn a) (c .before) old (event e ∷ old) (stand-event e a (c .behind) (c .quiet) told)) (λ d. true) (subst (λ r. Standing a (p ++ r)) (c .was) w))
+    (stand-behind (answeredIn a) (c .before) old (event e ∷ old) (stand-event e a (c .behind) (c .not-begun) told)) (λ d. true) (subst (λ r. Standing a (p ++ r)) (c .was) w))
 
 -- the abort ahead of the event
 stand-gone : (s : State) (d : ℕ) (l : List Group) {r : Result} {lead : List Event} {k : List Group} → Gone s d l r lead k → (a : ℕ → Account) (p : List Entry) →
@@ -283,7 +283,7 @@ stand-happens : (s : State) (e : Event) (a : ℕ → Account) (p : List Entry) (
     HubOk s l → Gone s (deviceOf e) l r lead k → (c : Call) (v : Answer) → ((b : ℕ → Account) → noteAnswer c v b ≡ b) → Standing a (p ++ flat l) →
     let j = r .state .mark (deviceOf e) in
     let b = noteAnswers c (r .answers ++ (v ∷ [])) a in
-    Each (Tells b) (attachEvent j e k) → Standing b (p ++ openPart (leadWith j e lead) (attachEvent j e k))
+    Each (AccountTells b) (attachEvent j e k) → Standing b (p ++ openPart (leadWith j e lead) (attachEvent j e k))
 stand-happens s e a p l r lead k h g c v same w n =
     let d = deviceOf e in
     let b = noteAnswers c (r .answers ++ (v ∷ [])) a in
@@ -293,7 +293,7 @@ stand-happens s e a p l r lead k h g c v same w n =
 -- ---- every call
 
 stand-moves : (s : State) (o : Order) (a : ℕ → Account) (l : List Group) {c : Call} {r : Result} {lead : List Event} {k : List Group} → Before s o a l → Moves s l c r lead k →
-    Each (Tells (noteAnswers c (r .answers) a)) k → Standing (noteAnswers c (r .answers) a) (o .settled ++ openPart lead k)
+    Each (AccountTells (noteAnswers c (r .answers) a)) k → Standing (noteAnswers c (r .answers) a) (o .settled ++ openPart lead k)
 unfolding abort commit commitTurn sendTurn skipTurn doneReport skipReport
 stand-moves s o a l f (places cs x y v e m n b) = stand-places s o a cs x y (subst (λ l. Before s o a l) e f)
 stand-moves s o a l f (commits i x g y e j r n b) =
@@ -310,7 +310,7 @@ stand-moves s o a l f (dones i code x g y v e j r n b) =
     let k = done-step (g .member) (in-turn s x g y (w .hub)) v n in
     let d = v .command .device in
     stand-answers s o a x g y w (doneMember g .steps) (g .member .committed) (v .command) (leftSteps (doneMember g .steps)) reported-done (k .left-is)
-    (up-before s o a x g y w d (flight-clear s x g y v (w .hub) n) ∙ each-mid (FliesUp s) x g y (w .flies) .flies-up d (k .flew d ∙ eq-eqb d d refl))
+    (up-before s o a x g y w d (flight-clear s x g y v (w .hub) n) ∙ each-mid (InFlightIsUp s) x g y (w .flies) .flies-up d (k .flew d ∙ eq-eqb d d refl))
 stand-moves s o a l f (misses i code x g y v e j r n b) =
     let w = subst (λ l. Before s o a l) e f in
     let k = fail-step (g .member) (in-turn s x g y (w .hub)) v n in
@@ -325,7 +325,7 @@ stand-moves s o a l f (restarts d v r lead b n u g) =
     stand-happens s (restart-of d v) a (o .settled) l r lead b (f .hub) g (restart d v) (up d (r .state .mark d)) (λ b. refl) (f .stand)
 
 pub stands-moves : (s : State) (o : Order) (a : ℕ → Account) (l : List Group) {c : Call} {r : Result} {lead : List Event} {k : List Group} →
-    HubOk s l → Each (FliesUp s) l → OrderOk s o [] l → Each (Tells a) l → CommandsStand a (entries o) allUp → Moves s l c r lead k →
+    HubOk s l → Each (InFlightIsUp s) l → OrderOk s o [] l → Each (AccountTells a) l → CommandsStand a (entries o) allUp → Moves s l c r lead k →
     CommandsStand (noteAnswers c (r .answers) a) (entries (orderAfterAll c a (r .answers) o)) allUp
 stands-moves s o a l {c = c} {r = r} h f k t w m =
     let b = noteAnswers c (r .answers) a in

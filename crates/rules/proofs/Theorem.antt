@@ -33,7 +33,7 @@ use Rattle.rules.specs.HubOrder.{entryOf, routinesIn, OrderIsHubs}
 use Rattle.rules.specs.Attach.{oneRestart, attach}
 use Rattle.rules.proofs.Lists.{byIf, t≠f, fold-++, anyOf-++}
 use Rattle.rules.proofs.Groups.{Group, members, alone, flat, stillHeld, each-held}
-use Rattle.rules.proofs.Invariant.{unmarked, HubOk, FliesUp, FirstRuns, OrderOk, Tells, backTo, Comes, has, goes-back, OneFlies, DeviceAt, dead, free, busy, DeviceOk, Honest}
+use Rattle.rules.proofs.Invariant.{unmarked, HubOk, InFlightIsUp, FirstRuns, OrderOk, AccountTells, backTo, ReachesSetting, has, goes-back, OneFlightOn, DeviceAt, is-down, none-on-it, one-on-it, DeviceOk, PremiseOnCall}
 use Rattle.rules.proofs.View.{Gone, nobody, somebody, Moves, places, commits, sends, skips, dones, misses, aborts, fails, restarts, Seen, is-refused, waits, moves, see}
 use Rattle.rules.proofs.Fields.{Fixed, gone-fixed, attach-fixed, settle-fixed}
 use Rattle.rules.proofs.Moved.{hub-settles}
@@ -48,10 +48,10 @@ use Rattle.rules.proofs.DeviceKept.{device-moves}
 -- what holds between calls of the state, the order, the accounts, which devices work, and the groups
 record Known (s : State) (o : Order) (a : ℕ → Account) (k : ℕ → Bool) (l : List Group) : Type 0 where
   hub : HubOk s l
-  flies : Each (FliesUp s) l
+  flies : Each (InFlightIsUp s) l
   order : OrderOk s o [] l
   first : FirstRuns l
-  tells : Each (Tells a) l
+  tells : Each (AccountTells a) l
   unsent : Unsent s a
   works : (d : ℕ) → k d ≡ s .up d
   stands : CommandsStand a (entries o) allUp
@@ -72,14 +72,14 @@ begins-trans a b c p q = (p .0 ++ q .0, q .1 ∙ ap (λ l. l ++ q .0) (p .1) ∙
 
 -- ---- a call
 
-honest : (w : World) (c : Call) → Truthful w c → Honest (accounts w) (w .devices) c
+premise-told : (w : World) (c : Call) → Truthful w c → PremiseOnCall (accounts w) (w .devices) c
 unfolding taken
-honest w (submit cs) t = t
-honest w (turn i) t = t
-honest w (report i code) t = t
-honest w (failure d) t = t
-honest w (restart d v) t = t
-honest w (cancel i) t = t
+premise-told w (submit cs) t = t
+premise-told w (turn i) t = t
+premise-told w (report i code) t = t
+premise-told w (failure d) t = t
+premise-told w (restart d v) t = t
+premise-told w (cancel i) t = t
 
 gone-accepted : (s : State) (d : ℕ) (l : List Group) (x : Answer) {r : Result} {lead : List Event} {k : List Group} → isAccepted (x ∷ []) ≡ true →
     Gone s d l r lead k → isAccepted (r .answers ++ (x ∷ [])) ≡ true
@@ -150,7 +150,7 @@ told P w c v h {r = r} {lead = lead} {k = k} m = record {
       flies = flies-settles (r .state) k (flies-moves s l (j .hub) (j .flies) m);
       order = settled .0;
       first = first-runs k;
-      tells = each-held (Tells (noteAnswers c (r .answers) a)) k (accounts-moves s a l (j .hub) (j .tells) m);
+      tells = each-held (AccountTells (noteAnswers c (r .answers) a)) k (accounts-moves s a l (j .hub) (j .tells) m);
       unsent = λ i e. unsent-moves s a l (j .hub) (j .unsent) m i (subst (λ (q : Fixed). q .nextId ≤ i) (settle-fixed (r .state)) e);
       works = λ d. working-moves s (workingOf (w .history)) l (j .works) m d ∙ ap (λ (q : Fixed). q .up d) (sym (settle-fixed (r .state)));
       stands = subst (λ q. CommandsStand (noteAnswers c (r .answers) a) q allUp) (sym (bar-entries (orderAfterAll c a (r .answers) (orderIn w))))
@@ -158,7 +158,7 @@ told P w c v h {r = r} {lead = lead} {k = k} m = record {
     };
     devices = λ p d n. device-settles d (r .state) _ k _ hub
         (device-moves d s a l (w .devices) v (subst (λ q. d < q) same n) (j .hub) (j .order .events-ok) (j .tells)
-        (h .devices (p .0) d (subst (λ q. d < q) same n)) (j .unsent (s .nextId) (omega arith)) (j .flies) (honest w c (p .1 (moves-same s l m .0))) m);
+        (h .devices (p .0) d (subst (λ q. d < q) same n)) (j .unsent (s .nextId) (omega arith)) (j .flies) (premise-told w c (p .1 (moves-same s l m .0))) m);
   };
   grows = subst (λ q. Begins q (moveBar (orderAfterAll c a (r .answers) (orderIn w)) .settled)) (moved .1) (settled .1);
   same-devices = same;
@@ -249,7 +249,7 @@ unfolding newHub due
 new-holds n k first p = record {
   groups = [];
   known = record {
-    hub = record { sequence-is = refl; ids-ok = tt; marks = λ d. unmarked refl tt; shuts = tt; turns = tt; some-id = p };
+    hub = record { sequence-is = refl; ids-ok = tt; marks = λ d. unmarked refl tt; nothing-left-all = tt; turns = tt; some-id = p };
     flies = tt;
     order = record { unsettled-is = refl; settled-is = λ d. refl; up-is = λ d. refl; events-ok = tt; ids-ok = tt; barred = refl };
     first = tt;
@@ -258,27 +258,27 @@ new-holds n k first p = record {
     works = λ d. refl;
     stands = tt;
   };
-  devices = λ q d m. record { old-sent = tt; old-took = tt; device-at = free refl tt (has refl refl) };
+  devices = λ q d m. record { old-sent = tt; old-took = tt; device-at = none-on-it refl tt (has refl refl) };
 }
 
 -- ---- the three parts
 
 -- the first of the sequence runs, so that if none does there is none
-nobody-left : (w : World) (l : List Group) → NoneRuns w → FirstRuns l → Each (Tells (accounts w)) l → l ≡ []
+nobody-left : (w : World) (l : List Group) → NoneRuns w → FirstRuns l → Each (AccountTells (accounts w)) l → l ≡ []
 nobody-left w [] n f t = refl
 nobody-left w (g ∷ l) n f t = t≠f (sym (t .0 .runs ∙ ap not f) ∙ n (g .member .id))
 
 -- what puts a device back is the last of what was sent to it, and none is left
-comes-to : (u v : ℤ) (l : List Message) → anyOf isBack l ≡ false → Comes u v l → u ≡ v
-comes-to u v l n (has e f) = f
-comes-to u v l n (goes-back k e) = t≠f (sym (ap (anyOf isBack) e ∙ anyOf-++ isBack k (backTo v ∷ []) ∙ or-true (anyOf isBack k)) ∙ n)
+reaches-to : (u v : ℤ) (l : List Message) → anyOf isBack l ≡ false → ReachesSetting u v l → u ≡ v
+reaches-to u v l n (has e f) = f
+reaches-to u v l n (goes-back k e) = t≠f (sym (ap (anyOf isBack) e ∙ anyOf-++ isBack k (backTo v ∷ []) ∙ or-true (anyOf isBack k)) ∙ n)
 
 settles-at : (d : ℕ) (s : State) (a : ℕ → Account) (w : Device) → s .up d ≡ true → anyOf isBack (w .sent) ≡ false → DeviceAt d (s .up d) (due s d) a [] w → due s d ≡ w .setting
-settles-at d s a w u n (dead e f) = t≠f (sym u ∙ e)
-settles-at d s a w u n (free e f k) = sym (comes-to (w .setting) (due s d) (w .sent) n k)
-settles-at d s a w u n (busy e f) = absurd (nobody-flies f)
+settles-at d s a w u n (is-down e f) = t≠f (sym u ∙ e)
+settles-at d s a w u n (none-on-it e f k) = sym (reaches-to (w .setting) (due s d) (w .sent) n k)
+settles-at d s a w u n (one-on-it e f) = absurd (nobody-flies f)
   where
-    nobody-flies : OneFlies d a w [] → ⊥
+    nobody-flies : OneFlightOn d a w [] → ⊥
     nobody-flies = elim [ ]
 
 -- the serial run gives what the hub has of d

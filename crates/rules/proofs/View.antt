@@ -31,7 +31,7 @@ use Rattle.rules.specs.Order.{Event, failure-of, restart-of}
 use Rattle.rules.specs.Attach.{attach, oneRestart}
 use Rattle.rules.proofs.Lists.{byIf, and-left, and-right, each-map}
 use Rattle.rules.proofs.Groups.{Group, members, alone, with, passAll, foundAt, leaving, leadOf, attachEvent, leadWith}
-use Rattle.rules.proofs.Invariant.{Calm}
+use Rattle.rules.proofs.Invariant.{NotHalfway}
 
 -- the changed routine of a turn or a report, from the result's text
 abbrev pub sentMember : State → Group → Command → Member
@@ -54,7 +54,7 @@ pub data Aborts (g : Group) : Call → Type 0 where
 
 -- the abort ahead of an event of d
 pub data Gone (s : State) (d : ℕ) (l : List Group) : Result → List Event → List Group → Type 0 where
-  nobody : Each (Calm d) l → Gone s d l (record { state = s; answers = [] }) [] l
+  nobody : Each (NotHalfway d) l → Gone s d l (record { state = s; answers = [] }) [] l
   somebody : (a : List Group) (g : Group) (b : List Group) → l ≡ a ++ (g ∷ b) → isHalfway d (g .member) ≡ true → Gone s d l (abort s (foundAt a g b)) (leadOf a g) (leaving a g b)
 
 -- a call that changes something, before it settles: the result, the events attached to 0, the groups
@@ -156,7 +156,7 @@ unfolding abortHalfway
 gone d s l e = go (find-group (isHalfway d) s l e)
   where
     go : {o : Option Found} → Finding (isHalfway d) l o → (lead : List Event) × (k : List Group) × Gone s d l (abortIfAny s o) lead k
-    go (missing n) = ([], l, nobody (each-map _ _ (λ g t. record { calm = t }) l n))
+    go (missing n) = ([], l, nobody (each-map _ _ (λ g t. record { not-halfway = t }) l n))
     go (located a g b w t) = (leadOf a g, leaving a g b, somebody a g b w t)
 
 -- ---- the calls
