@@ -154,7 +154,7 @@ unfolding hubIn
 hub-some h e = ap (λ (t : Bool). if t then none else some (view h)) (ne-eqb (view h .devices) 0 e)
 
 -- a hub with devices is not none
-not-none : {h : Hub} {s : State} {P : Type 0} → hubIn h ≡ some s → hubIn h ≡ none → P
+not-none : {h : Option State} {s : State} {P : Type 0} → h ≡ some s → h ≡ none → P
 not-none there z = let w : _≡_ {A = ℕ} 0 1 = cc in absurd (omega arith)
 
 -- an accepted opening has devices
