@@ -32,7 +32,7 @@ use Rattle.line_rules.proofs.Laws.{reach-within, lines-first, lines-none}
 use Rattle.line_printer.specs.Put.{maxText, Put, PutShort}
 use Rattle.line_printer.proofs.Laws.{put-none, put-then}
 use Rattle.line.specs.View.{hubIn}
-use Rattle.line.specs.Contract.{maxEnd, Wrote, Finishes, RunsLines, Measures}
+use Rattle.line.specs.Contract.{maxEnd, Wrote, Ample, RunsLines, Measures}
 use Rattle.line.specs.declared.running.Lines.{Lines}
 use Rattle.line.proofs.Laws.{Does}
 
@@ -273,42 +273,29 @@ wrote-all p h next buffer buffer′ at small v e fits put unopened = record {
   unopened = unopened;
 }
 
-pub finishes-none : (h : Hub) (buffer : List ℕ) → length buffer < length (endText (hubIn h)) → Finishes h buffer buffer (negsuc 20)
-finishes-none h buffer short = record {
-  answers = sym (length-short (endText (hubIn h)) (length buffer) short);
-  leaves = sym (buffer-short (endText (hubIn h)) buffer short);
-}
-
-pub finishes-all : (h : Hub) (buffer buffer′ : List ℕ) (at : ℕ) → length buffer < 2 ^ 63 → length (endText (hubIn h)) ≤ length buffer →
-    Put buffer buffer′ 0 at (endText (hubIn h)) → Finishes h buffer buffer′ (toZ w64 at)
-finishes-all h buffer buffer′ at small fits put = record {
-  answers = answers-all (endText (hubIn h)) buffer buffer′ at small fits put;
-  leaves = put .is ∙ sym (buffer-fits (endText (hubIn h)) buffer fits);
-}
-
 -- ---- texts measured
 
-pub measured-past : {text : List ℕ} {room long : ℕ} → Measures text room long → room < long → room < length text
-measured-past {text} {room} m h =
+pub measured-past : {text input : List ℕ} {room long : ℕ} → Measures text input room long → room < long → room < length text
+measured-past {text} {room = room} m h =
     byTest (λ (_ : Bool). room < length text) (ltb room (length text))
     (λ e. ltb-true room (length text) e)
     (λ e. let k = ltb-false room (length text) e in absurd (omega (arith, m .fits k)))
 
-pub measured-fits : {text : List ℕ} {room long : ℕ} → Measures text room long → long ≤ room → length text ≤ room
-measured-fits {text} {room} m h =
+pub measured-fits : {text input : List ℕ} {room long : ℕ} → Measures text input room long → long ≤ room → length text ≤ room
+measured-fits {text} {room = room} m h =
     byTest (λ (_ : Bool). length text ≤ room) (ltb room (length text))
     (λ e. absurd (omega (arith, m .past (ltb-true room (length text) e))))
     (λ e. ltb-false room (length text) e)
 
+-- there is room for all lines
+lines-fit : {h : Hub} {input buffer buffer′ : List ℕ} {room : ℕ} {s : Lines} → RunsLines h input room buffer buffer′ s → Ample input room →
+    length (steps (hubIn h) (linesOf input) .text) ≤ room
+lines-fit r k = omega (arith, r .ample (omega arith))
+
 -- the place behind the lines measures them
 pub lines-measured : {h : Hub} {input buffer buffer′ : List ℕ} {room : ℕ} {s : Lines} → RunsLines h input room buffer buffer′ s →
-    Measures (steps (hubIn h) (linesOf input) .text) room (s .at)
-lines-measured r = record { fits = λ k. r .fits k .1 .ends ∙ zero-add _; past = r .past }
-
--- there is room for all lines
-pub lines-fit : {h : Hub} {input buffer buffer′ : List ℕ} {room : ℕ} {s : Lines} → RunsLines h input room buffer buffer′ s →
-    maxText * suc (length (linesOf input)) ≤ room → length (steps (hubIn h) (linesOf input) .text) ≤ room
-lines-fit r k = omega (arith, r .ample (omega arith))
+    Measures (steps (hubIn h) (linesOf input) .text) input room (s .at)
+lines-measured r = record { fits = λ k. r .fits k .1 .ends ∙ zero-add _; past = r .past; enough = lines-fit r }
 
 -- ---- the whole text: that of the lines, and then the device lines
 
@@ -321,10 +308,11 @@ module _ (h : Hub) (input : List ℕ) (room : ℕ) (buffer out : List ℕ) (s : 
   whole-long = length-append (lines .text) (endText (lines .hub))
 
   -- the lines alone go past the room
-  pub whole-past : room < s .at → Measures (runFrom (hubIn h) input .text) room (s .at)
+  pub whole-past : room < s .at → Measures (runFrom (hubIn h) input .text) input room (s .at)
   whole-past past = record {
     fits = λ k. let e = measured-past (lines-measured r) past in absurd (omega (arith, whole-long));
     past = λ _. past;
+    enough = λ k. let e = measured-past (lines-measured r) past in absurd (omega (arith, lines-fit r k));
   }
 
   module _ (buffer′ : List ℕ) (end : ℕ) (p : PutShort maxEnd out buffer′ (s .at) end (endText (hubIn (s .hub)))) where
@@ -333,17 +321,17 @@ module _ (h : Hub) (input : List ℕ) (room : ℕ) (buffer out : List ℕ) (s : 
     unfolding runFrom
     whole-put fits = let f = r .fits fits in put-then (f .1) (subst (λ (o : Option State). Put out buffer′ (s .at) end (endText o)) (f .0) (p .put))
 
-    pub whole-measured : s .at ≤ room → Measures (runFrom (hubIn h) input .text) room end
-    whole-measured here =
-        let e : end ≡ length (runFrom (hubIn h) input .text) = whole-put (measured-fits (lines-measured r) here) .ends ∙ zero-add _ in
-        record { fits = λ _. e; past = λ k. omega arith }
-
     -- there is room for all lines and the device lines
-    pub whole-fits : maxText * suc (length (linesOf input)) ≤ room → length (runFrom (hubIn h) input .text) ≤ room
+    pub whole-fits : Ample input room → length (runFrom (hubIn h) input .text) ≤ room
     whole-fits k =
         let f = r .fits (lines-fit r k) in
         let e = ap (λ (o : Option State). length (endText o)) (f .0) in
         omega (arith, r .ample (omega arith), p .short, whole-long)
+
+    pub whole-measured : s .at ≤ room → Measures (runFrom (hubIn h) input .text) input room end
+    whole-measured here =
+        let e : end ≡ length (runFrom (hubIn h) input .text) = whole-put (measured-fits (lines-measured r) here) .ends ∙ zero-add _ in
+        record { fits = λ _. e; past = λ k. omega arith; enough = whole-fits }
 
     module _ (same : length buffer ≡ room) (small : room < 2 ^ 63) (fits : length (runFrom (hubIn h) input .text) ≤ room) where
       here : length (lines .text) ≤ room

@@ -2,12 +2,12 @@
 use mathlib.Core.Path.{_≡_}
 use mathlib.Core.List.{List}
 use mathlib.Core.Option.{none}
-use Prim.Native.Nat.{ℕ, _+_, _*_, _<_, _≤_}
+use Prim.Native.Nat.{ℕ, suc, _+_, _*_, _<_, _≤_}
 use lib.IntN.{ℤ}
 use lib.ListN.{length}
 use Rattle.routine.specs.Routine.{maxDevices}
 use Rattle.line_rules.specs.Pieces.{linesOf}
-use Rattle.line_rules.specs.Program.{Printed, steps, endText, lengthOr21, bufferWith, hubWith}
+use Rattle.line_rules.specs.Program.{Printed, steps, lengthOr21, bufferWith, hubWith}
 use Rattle.line_printer.specs.Put.{maxText, maxDeviceLine, Put}
 use Rattle.hub.specs.Valid.{Valid}
 use Rattle.hub.specs.declared.Hub.{Hub}
@@ -27,10 +27,14 @@ pub record Wrote (p : Printed) (before after : Hub) (buffer buffer′ : List ℕ
   pub kept : length buffer < length (p .text) → after ≡ before
   pub unopened : hubIn after ≡ none → after ≡ before
 
--- The device lines.
-pub record Finishes (h : Hub) (buffer buffer′ : List ℕ) (result : ℤ) : Type 0 where
-  pub answers : result ≡ lengthOr21 (endText (hubIn h)) (length buffer)
-  pub leaves : buffer′ ≡ bufferWith (endText (hubIn h)) buffer
+-- Room for any text of the lines of an input, and as much again for the device lines.
+abbrev pub Ample : List ℕ → ℕ → Type 0
+Ample input room = maxText * suc (length (linesOf input)) ≤ room
+
+-- What an input prints is written, and ample room is enough for it.
+pub record Runs (p : Printed) (input : List ℕ) (before after : Hub) (buffer buffer′ : List ℕ) (result : ℤ) : Type 0 where
+  pub wrote : Wrote p before after buffer buffer′ result
+  pub enough : Ample input (length buffer) → length (p .text) ≤ length buffer
 
 -- ---- below them
 
@@ -50,7 +54,8 @@ pub record RunsLines (h : Hub) (input : List ℕ) (room : ℕ) (buffer buffer′
   pub unopened : hubIn (s .hub) ≡ none → s .hub ≡ h
   pub ample : maxText * length (linesOf input) ≤ room → length (steps (hubIn h) (linesOf input) .text) ≤ maxText * length (linesOf input)
 
--- How long a text is, if there is room for it; else a number past the room.
-pub record Measures (text : List ℕ) (room long : ℕ) : Type 0 where
+-- How long the text of an input is, if there is room for it; else a number past the room. Ample room is room for it.
+pub record Measures (text input : List ℕ) (room long : ℕ) : Type 0 where
   pub fits : length text ≤ room → long ≡ length text
   pub past : room < length text → room < long
+  pub enough : Ample input room → length text ≤ room

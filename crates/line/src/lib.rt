@@ -12,7 +12,7 @@ ghost use Rattle.rules.specs.Open.{closedHub};
 ghost use Rattle.hub.specs.View.{view};
 ghost use Rattle.hub.specs.Valid.{Valid};
 ghost use Rattle.line.specs.View.{hubIn};
-ghost use Rattle.line.specs.Contract.{Wrote, Finishes};
+ghost use Rattle.line.specs.Contract.{Wrote, Runs};
 
 // "−21 .. if it is too short"
 pub const TOO_SHORT: i64 = -21;
@@ -33,22 +33,19 @@ pub fn no_hub() -> Hub
 // The lines of a part of an input, which ends with a line; without the device lines.
 pub fn run_part(hub: Hub, input: &[u8], out: &mut [u8]) -> Written
     requires { ⌜ Valid hub ⌝ }
-    ensures { λ r. ⌜ Wrote (steps (hubIn hub) (linesOf (now (input .entry)))) hub (r .hub) (now (out .entry)) (now (out .exit)) (r .result) ⌝ }
+    ensures { λ r. ⌜ Runs (steps (hubIn hub) (linesOf (now (input .entry)))) (now (input .entry)) hub (r .hub)
+        (now (out .entry)) (now (out .exit)) (r .result) ⌝ }
 {
     running::run_part(hub, input, out)
 }
 
-// The device lines at the end.
-pub fn finish(hub: Hub, out: &mut [u8]) -> i64
+// The last part of an input, and then the device lines.
+pub fn run_last(hub: Hub, input: &[u8], out: &mut [u8]) -> Written
     requires { ⌜ Valid hub ⌝ }
-    ensures { λ r. ⌜ Finishes hub (now (out .entry)) (now (out .exit)) r ⌝ }
+    ensures { λ r. ⌜ Runs (runFrom (hubIn hub) (now (input .entry))) (now (input .entry)) hub (r .hub)
+        (now (out .entry)) (now (out .exit)) (r .result) ⌝ }
 {
-    let length = running::devices_length(hub);
-    if out.len() < length {
-        return TOO_SHORT;
-    }
-    let end = lines::put_devices(hub, out, 0);
-    end as i64
+    running::run_whole(hub, input, out)
 }
 
 // The whole program on a hub that is lent and changed there: "It steps on a hub lent to it and changed there, all below it by value."

@@ -10,14 +10,12 @@ use line_rules::LINE_END;
 use routine::Verdict;
 ghost use mathlib.Core.Path.{_≡_};
 ghost use mathlib.Core.Bool.{true};
-ghost use Prim.Native.Nat.{suc, _*_, _<_, _≤_, _^_};
-ghost use lib.ListN.{length};
+ghost use Prim.Native.Nat.{_<_, _^_};
 ghost use Rattle.line_rules.specs.Pieces.{linesOf};
-ghost use Rattle.line_rules.specs.Program.{steps, endText, runFrom};
-ghost use Rattle.line_printer.specs.Put.{maxText};
+ghost use Rattle.line_rules.specs.Program.{steps, runFrom};
 ghost use Rattle.hub.specs.Valid.{Valid};
 ghost use Rattle.line.specs.View.{hubIn};
-ghost use Rattle.line.specs.Contract.{Wrote, RunsLines, Measures};
+ghost use Rattle.line.specs.Contract.{Ample, Runs, RunsLines, Measures};
 
 // The hub after some lines, and the place behind what they print.
 pub struct Lines {
@@ -77,7 +75,7 @@ pub fn run_lines(hub: Hub, input: &[u8], out: &mut [u8], room: usize) -> Lines
 
 // Is there room for any text of so many lines, and as much again for the device lines?
 fn is_ample(input: &[u8], room: usize) -> bool
-    ensures { λ r. ⌜ (r ≡ true → maxText * suc (length (linesOf (now (input .entry)))) ≤ room) ⌝ }
+    ensures { λ r. ⌜ (r ≡ true → Ample (now (input .entry)) room) ⌝ }
 {
     let most = room / MAX_TEXT;
     let mut count = 1;
@@ -91,19 +89,10 @@ fn is_ample(input: &[u8], room: usize) -> bool
     count < most
 }
 
-// How long the device lines are.
-pub fn devices_length(hub: Hub) -> usize
-    requires { ⌜ Valid hub ⌝ }
-    ensures { λ r. ⌜ r ≡ length (endText (hubIn hub)) ⌝ }
-{
-    let mut nowhere = [0u8; 1];
-    lines::put_devices(hub, &mut nowhere, 0)
-}
-
 // How long the text of the lines is; or a number past the room, if it is longer than that.
 fn lines_length(hub: Hub, input: &[u8], room: usize) -> usize
     requires { ⌜ (Valid hub) × (room < 2 ^ 63) ⌝ }
-    ensures { λ r. ⌜ Measures (steps (hubIn hub) (linesOf (now (input .entry))) .text) room r ⌝ }
+    ensures { λ r. ⌜ Measures (steps (hubIn hub) (linesOf (now (input .entry))) .text) (now (input .entry)) room r ⌝ }
 {
     let mut nowhere = [0u8; 1];
     let ran = run_lines(hub, input, &mut nowhere, room);
@@ -113,7 +102,7 @@ fn lines_length(hub: Hub, input: &[u8], room: usize) -> usize
 // The same of the whole text.
 fn whole_length(hub: Hub, input: &[u8], room: usize) -> usize
     requires { ⌜ (Valid hub) × (room < 2 ^ 63) ⌝ }
-    ensures { λ r. ⌜ Measures (runFrom (hubIn hub) (now (input .entry)) .text) room r ⌝ }
+    ensures { λ r. ⌜ Measures (runFrom (hubIn hub) (now (input .entry)) .text) (now (input .entry)) room r ⌝ }
 {
     let mut nowhere = [0u8; 1];
     let ran = run_lines(hub, input, &mut nowhere, room);
@@ -127,7 +116,8 @@ fn whole_length(hub: Hub, input: &[u8], room: usize) -> usize
 // The lines of an input.
 pub fn run_part(hub: Hub, input: &[u8], out: &mut [u8]) -> Written
     requires { ⌜ Valid hub ⌝ }
-    ensures { λ r. ⌜ Wrote (steps (hubIn hub) (linesOf (now (input .entry)))) hub (r .hub) (now (out .entry)) (now (out .exit)) (r .result) ⌝ }
+    ensures { λ r. ⌜ Runs (steps (hubIn hub) (linesOf (now (input .entry)))) (now (input .entry)) hub (r .hub)
+        (now (out .entry)) (now (out .exit)) (r .result) ⌝ }
 {
     let room = out.len();
     if !is_ample(input, room) {
@@ -150,7 +140,8 @@ pub fn run_part(hub: Hub, input: &[u8], out: &mut [u8]) -> Written
 // The lines of an input, and then the device lines.
 pub fn run_whole(hub: Hub, input: &[u8], out: &mut [u8]) -> Written
     requires { ⌜ Valid hub ⌝ }
-    ensures { λ r. ⌜ Wrote (runFrom (hubIn hub) (now (input .entry))) hub (r .hub) (now (out .entry)) (now (out .exit)) (r .result) ⌝ }
+    ensures { λ r. ⌜ Runs (runFrom (hubIn hub) (now (input .entry))) (now (input .entry)) hub (r .hub)
+        (now (out .entry)) (now (out .exit)) (r .result) ⌝ }
 {
     let room = out.len();
     if !is_ample(input, room) {

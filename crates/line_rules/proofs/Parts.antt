@@ -97,13 +97,13 @@ pub cut-line : CutLine
 cut-line line long = long-unread (cut line) (let n = length-cut line long in omega arith) ∙ sym (long-unread line long)
 
 -- no such byte in a list is none in what follows its first
-none-behind : (byte b : ℕ) (bs : List ℕ) → reach byte (b ∷ bs) ≡ suc (length bs) → (eqb b byte ≡ false) × (reach byte bs ≡ length bs)
+pub none-behind : (byte b : ℕ) (bs : List ℕ) → reach byte (b ∷ bs) ≡ suc (length bs) → (eqb b byte ≡ false) × (reach byte bs ≡ length bs)
 unfolding reach
 none-behind byte b bs =
     byTest (λ (t : Bool). (if t then 0 else suc (reach byte bs)) ≡ suc (length bs) → (t ≡ false) × (reach byte bs ≡ length bs)) (eqb b byte)
     (λ _ e. absurd (omega arith)) (λ _ e. (refl, omega arith))
 
-reach-append : (byte : ℕ) (l m : List ℕ) → reach byte l ≡ length l → reach byte (l ++ m) ≡ length l + reach byte m
+pub reach-append : (byte : ℕ) (l m : List ℕ) → reach byte l ≡ length l → reach byte (l ++ m) ≡ length l + reach byte m
 unfolding reach
 reach-append byte [] m e = omega arith
 reach-append byte (b ∷ bs) m e =
@@ -111,7 +111,7 @@ reach-append byte (b ∷ bs) m e =
     let more = reach-append byte bs m (n .1) in
     rw (n .0) (omega arith)
 
-reach-take : (byte n : ℕ) (l : List ℕ) → reach byte l ≡ length l → reach byte (take n l) ≡ length (take n l)
+pub reach-take : (byte n : ℕ) (l : List ℕ) → reach byte l ≡ length l → reach byte (take n l) ≡ length (take n l)
 unfolding reach
 reach-take byte zero l e = refl
 reach-take byte (suc n) [] e = refl

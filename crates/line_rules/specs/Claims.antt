@@ -35,7 +35,7 @@ InParts =
     (h : Option State) (part behind : List ℕ) → WholeLines part →
     steps h (linesOf (part ++ behind)) ≡ before (steps h (linesOf part) .text) (steps (steps h (linesOf part) .hub) (linesOf behind))
 
--- So with the device lines: parts one after the other, by `run_part`, and then `finish`, print what the whole prints.
+-- So with the device lines: parts one after the other, by `run_part`, and the last by `run_last`, print what the whole prints.
 abbrev pub WholeInParts : Type 0
 WholeInParts =
     (h : Option State) (part behind : List ℕ) → WholeLines part →

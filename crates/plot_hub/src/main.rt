@@ -1,13 +1,12 @@
-// The line program from standard input to standard output: document 01, "The line program". It reads in pieces, so that an input may have any length;
-// the lines go through `line::run_part`, and the device lines are those of `line::finish`. crates/line_rules/specs/Claims.antt says why pieces do.
-mod pieces;
+// The line program from standard input to standard output: document 01, "The line program". The input may have any length: a piece is read, crate `line_parts` takes it,
+// and what it prints is written before the next is read.
 mod streams;
 
 use hub::Hub;
-ghost use Prim.Native.Nat.{suc, _+_, _≤_};
+ghost use Prim.Native.Nat.{suc, _<_, _≤_};
 ghost use lib.ListN.{length};
 ghost use Rattle.line_rules.specs.Reading.{maxLine};
-ghost use Rattle.hub.specs.Valid.{Valid};
+ghost use Rattle.line_parts.specs.Contract.{roomFor, Reached};
 
 // How far the reading came: the hub, how many bytes are held of a line whose end has not come, and whether all went well.
 struct Read {
@@ -16,26 +15,10 @@ struct Read {
     good: bool,
 }
 
-// One piece behind the held bytes: its whole lines are run, and the rest is held.
-fn take_piece(hub: Hub, held: usize, got: usize, input: &mut [u8], out: &mut [u8]) -> Read
-    requires { ⌜ (Valid hub) × (held + got ≤ length (now input)) ⌝ }
-    ensures { λ r. ⌜ (Valid (r .hub)) × (r .held ≤ suc maxLine) ⌝ }
-{
-    let filled = held + got;
-    let ran = pieces::run_lines(hub, &input[..filled], out);
-    let next = ran.hub;
-    let kept = pieces::keep(input, ran.from, filled);
-    Read {
-        hub: next,
-        held: kept,
-        good: ran.good,
-    }
-}
-
 // Piece by piece to the end of the input. Nothing says that an input ends, so the loop counts its turns down.
 fn read_all(input: &mut [u8], out: &mut [u8]) -> Read
-    requires { ⌜ 65536 ≤ length (now input) ⌝ }
-    ensures { λ r. ⌜ (Valid (r .hub)) × (r .held ≤ suc maxLine) ⌝ }
+    requires { ⌜ (suc maxLine < length (now input)) × (roomFor (length (now input)) ≤ length (now out)) ⌝ }
+    ensures { λ r. ⌜ Reached (r .hub) (r .held) (now (input .exit)) ⌝ }
 {
     let mut hub = line::no_hub();
     let mut held = 0usize;
@@ -49,12 +32,17 @@ fn read_all(input: &mut [u8], out: &mut [u8]) -> Read
                 good: got.good,
             };
         }
-        let read = take_piece(hub, held, got.count, input, out);
-        if !read.good {
-            return read;
+        let step = line_parts::take_piece(hub, held, got.count, input, out);
+        hub = step.hub;
+        held = step.held;
+        let length = step.length;
+        if !streams::write_out(&out[..length]) {
+            return Read {
+                hub,
+                held,
+                good: false,
+            };
         }
-        hub = read.hub;
-        held = read.held;
         turns -= 1;
     }
     Read {
@@ -65,12 +53,12 @@ fn read_all(input: &mut [u8], out: &mut [u8]) -> Read
 }
 
 fn main() {
-    let mut input = io::large_buffer();
-    let mut out = io::large_buffer();
+    let mut input = line_parts::input_buffer();
+    let mut out = line_parts::out_buffer();
     let read = read_all(&mut input, &mut out);
     if read.good {
         let hub = read.hub;
-        let held = read.held;
-        pieces::finish(hub, &input[..held], &mut out);
+        let length = line_parts::take_end(hub, read.held, &input, &mut out);
+        streams::write_out(&out[..length]);
     }
 }

@@ -3,7 +3,8 @@ use libc::STDERR_FILENO;
 use libc::STDIN_FILENO;
 use libc::STDOUT_FILENO;
 ghost use Prim.Native.Nat.{_+_, _≤_};
-ghost use lib.ListN.{length};
+ghost use mathlib.Core.Path.{_≡_};
+ghost use lib.ListN.{length, take};
 
 fn say(message: &[u8]) {
     io::write_all(STDERR_FILENO, b"plot_hub: ");
@@ -17,10 +18,10 @@ pub struct Got {
     pub good: bool,
 }
 
-// Reads into the input behind the held bytes.
+// Reads into the input behind the held bytes, which stay.
 pub fn read_behind(input: &mut [u8], held: usize) -> Got
     requires { ⌜ held ≤ length (now input) ⌝ }
-    ensures { λ r. ⌜ held + r .count ≤ length (now (input .entry)) ⌝ }
+    ensures { λ r. ⌜ (held + r .count ≤ length (now (input .entry))) × (take held (now (input .exit)) ≡ take held (now (input .entry))) ⌝ }
 {
     let answer = libc::read(STDIN_FILENO, &mut input[held..]);
     let count = io::count(answer, &input[held..]);
@@ -33,14 +34,9 @@ pub fn read_behind(input: &mut [u8], held: usize) -> Got
     }
 }
 
-// Writes the text whose length the line program answered; whether all of it could be written.
-pub fn write_out(out: &[u8], result: i64) -> bool {
-    if result < 0 {
-        say(b"a text is longer than the buffer");
-        return false;
-    }
-    let count = io::count(result as isize, out);
-    let good = io::write_all(STDOUT_FILENO, &out[..count]);
+// Whether all of a text could be written.
+pub fn write_out(text: &[u8]) -> bool {
+    let good = io::write_all(STDOUT_FILENO, text);
     if !good {
         say(b"standard output cannot be written");
     }

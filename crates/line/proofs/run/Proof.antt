@@ -49,7 +49,7 @@ use Rattle.hub.specs.declared.Hub.{Hub}
 use Rattle.hub.proofs.Hub as T
 use Rattle.hub.proofs.Hub.Laws as T′
 use Rattle.line.specs.View.{hubIn}
-use Rattle.line.specs.Contract.{Wrote}
+use Rattle.line.specs.Contract.{Runs}
 use Rattle.line.specs.declared.Written.{Written}
 use Rattle.line.proofs.Written as O
 use Rattle.line.proofs.Written.Laws as O′
@@ -94,7 +94,7 @@ module _ {M : Type 1} (𝓤 : URA M) (H : Heap 𝓤) (A : Atoms 𝓤) (W : Given
 
   -- what `run_whole` says
   abbrev Says : Written → List ℕ → Type 0
-  Says r zs = Wrote (runFrom (hubIn h) (s .now)) h (r .hub) (t .now) zs (r .result)
+  Says r zs = Runs (runFrom (hubIn h) (s .now)) (s .now) h (r .hub) (t .now) zs (r .result)
 
   abbrev to : RunWhole 𝓤 H A at-mem run .Ghost
   to = (((κ₁, (κ₂, tt)), (q₁, (q₂, tt)), tt, (h, (s, (t, tt))), (vals h, (sval s ∷ [], (sval t ∷ [], tt)))), tt)
@@ -126,7 +126,7 @@ module _ {M : Type 1} (𝓤 : URA M) (H : Heap 𝓤) (A : Atoms 𝓤) (W : Given
       qed W (Left r zs) ∵
       suffices ! _ (ends-at 𝓤 H A f.ended stayed (f.clauses 𝓤 H A at-mem run) W (((κ₀, (κ₁, (κ₂, tt))), (q₀, (q₁, (q₂, tt))), tt, x, at), tt)
       (res r) (r .result) (r .hub, (tt, (zs, tt))) (tt, (tt, (l, tt)))) $
-      says ! e $ move ! (2 ∷ 3 ∷ []) $ join ! $ frame ! $
+      says ! (e .wrote) $ move ! (2 ∷ 3 ∷ []) $ join ! $ frame ! $
       feqI ! (List Val) (vptr b o ∷ []) (vptr b o ∷ []) refl $ fjoin3 ! $ nothing ! $ move ! (2 ∷ 0 ∷ []) $ fjoin ! $ nothing ! $ fjoin ! $
       move ! (1 ∷ 0 ∷ []) $ fjoin ! $
       owned ! i64 (Is i64) (sint-makes 𝓤 H A W w64) (r .result) _ is $ move ! (1 ∷ 0 ∷ []) $ done !

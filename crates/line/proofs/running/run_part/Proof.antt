@@ -6,7 +6,7 @@ use lib.ListN.{length}
 use Rattle.line_rules.specs.Pieces.{linesOf}
 use Rattle.line_rules.specs.Program.{steps}
 use Rattle.line.specs.View.{hubIn}
-use Rattle.line.proofs.Loops.{measured-past, measured-fits, lines-fit, cast-fits, wrote-none, wrote-all}
+use Rattle.line.proofs.Loops.{measured-past, measured-fits, lines-measured, cast-fits, wrote-none, wrote-all}
 use borrow.Author.Needs.{needs}
 use Rattle.line.proofs.running.run_part.Statement.{statement}
 use Rattle.line.proofs.running.run_part.Tie as tie
@@ -22,7 +22,7 @@ fits c =
     let a = c .before .before .before in
     ⊎-elim
     (λ w. measured-fits (w .1 .ensures) (w .2 .left))
-    (λ w. lines-fit (c .run-lines .ensures) (a .is-ample .ensures (not-false _ (w .left))))
+    (λ w. lines-measured (c .run-lines .ensures) .enough (a .is-ample .ensures (not-false _ (w .left))))
     (c .before .before .if1 .came)
 
 is-ample-requires : tie.Need-is-ample-requires
@@ -32,7 +32,12 @@ lines-length-requires : tie.Need-lines-length-requires
 lines-length-requires c κs = search needs
 
 returns : tie.Need-returns
-returns c = wrote-none _ _ _ (c .before .before .before .before .before .before .pre) (measured-past (c .before .lines-length .ensures) (c .if2 .taken))
+returns c =
+    let m = c .before .lines-length .ensures in
+    record {
+      wrote = wrote-none _ _ _ (c .before .before .before .before .before .before .pre) (measured-past m (c .if2 .taken));
+      enough = m .enough;
+    }
 
 run-lines-requires : tie.Need-run-lines-requires
 run-lines-requires c κs = search needs
@@ -51,7 +56,10 @@ returns-2 c =
     let l = c .before .before .before .before in
     let r = l .run-lines .ensures in
     let f = r .fits (fits l) in
-    wrote-all _ _ _ _ _ _ (small (l .before .before .before .before)) (r .valid) (f .0) (fits l) (f .1) (r .unopened)
+    record {
+      wrote = wrote-all _ _ _ _ _ _ (small (l .before .before .before .before)) (r .valid) (f .0) (fits l) (f .1) (r .unopened);
+      enough = λ _. fits l;
+    }
 
 pub run-part-spec : {M : Type 1} → statement M
 run-part-spec =

@@ -38,7 +38,12 @@ whole-length-requires : tie.Need-whole-length-requires
 whole-length-requires c κs = search needs
 
 returns : tie.Need-returns
-returns c = wrote-none _ _ _ (c .before .before .before .before .before .before .pre) (measured-past (c .before .whole-length .ensures) (c .if2 .taken))
+returns c =
+    let m = c .before .whole-length .ensures in
+    record {
+      wrote = wrote-none _ _ _ (c .before .before .before .before .before .before .pre) (measured-past m (c .if2 .taken));
+      enough = m .enough;
+    }
 
 run-lines-requires : tie.Need-run-lines-requires
 run-lines-requires c κs = search needs
@@ -62,7 +67,10 @@ returns-2 c =
     let d = c .before .before in
     let l = d .before .before .before .before .before in
     let o = l .before .before .before .before in
-    whole-wrote _ _ _ _ _ _ (l .run-lines .ensures) _ _ (d .put-devices .ensures) refl (small o) (fits d)
+    record {
+      wrote = whole-wrote _ _ _ _ _ _ (l .run-lines .ensures) _ _ (d .put-devices .ensures) refl (small o) (fits d);
+      enough = λ _. fits d;
+    }
 
 pub run-whole-spec : {M : Type 1} → statement M
 run-whole-spec =

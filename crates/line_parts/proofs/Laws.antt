@@ -1,0 +1,314 @@
+-- Bytes parted at their last byte 10, and what more bytes behind them change. Assumes nothing.
+use mathlib.Core.Path.{_≡_, refl, sym, ap, ap₂, subst, _∙_}
+use mathlib.Core.Bool.{Bool, true, false}
+use mathlib.Core.Logic.{_≢_, _⊎_, inl, inr, ⊎-elim}
+use mathlib.Core.List.{List, [], _∷_, _++_, append-nil, append-assoc}
+use mathlib.Core.Option.{Option, none}
+use Prim.Native.Nat.{ℕ, zero, suc, _+_, _-_, _<_, _≤_, min}
+use native.Mathlib.Numerals.{add-one}
+use native.Mathlib.Omega.{arith}
+use borrow.Author.Tests.{eqb-true, ne-eqb, ltb-true, ltb-false}
+use lib.Dec.{eqb, ltb}
+use lib.ListN.{length, take, drop, getD, set, length-append, length-take, length-drop, take-append-drop}
+use lib.Seq.{length-take-le, take-all, take-nil, drop-length, take-suc, drop-cons, append-snoc, take-append-seam, drop-append-seam}
+use lib.Seq.{drop-set-lt, take-suc-set, getD-drop, take-take, drop-drop}
+use Rattle.routine.specs.Choice.{if_then_else_}
+use Rattle.routine.proofs.Laws.{byTest}
+use Rattle.rules.specs.State.{State}
+use Rattle.line_rules.specs.Text.{lineEnd}
+use Rattle.line_rules.specs.Pieces.{reach, piecesFrom, pieces, linesOf}
+use Rattle.line_rules.specs.Reading.{maxLine}
+use Rattle.line_rules.specs.Program.{Printed, before, steps, endText, runFrom, programText}
+use Rattle.line_rules.specs.Claims.{WholeLines, cut}
+use Rattle.line_rules.proofs.Parts.{none-behind, reach-append, reach-take, in-parts, whole-in-parts, cut-before-its-end}
+use Rattle.line.proofs.Loops.{lines-counted}
+use Rattle.line_parts.specs.Parts.{unendedFrom, unended, wholeLines, after, hubAfter, printedAfter, heldAfter}
+use Rattle.line_parts.specs.Claims.{PartedAtTheLastEnd}
+
+-- ---- the last byte 10
+
+-- no byte 10 among these
+abbrev pub NoEnd : List ℕ → Type 0
+NoEnd bs = reach lineEnd bs ≡ length bs
+
+-- the bytes before the last byte 10 and those behind it
+pub record LastEnd (bs : List ℕ) : Type 0 where
+  pub front : List ℕ
+  pub back : List ℕ
+  pub is : bs ≡ front ++ lineEnd ∷ back
+  pub behind : NoEnd back
+
+parted : (bs : List ℕ) → NoEnd bs ⊎ LastEnd bs
+unfolding reach
+parted [] = inl refl
+parted (b ∷ bs) = go (parted bs)
+  where
+    go : NoEnd bs ⊎ LastEnd bs → NoEnd (b ∷ bs) ⊎ LastEnd (b ∷ bs)
+    go (inr p) = inr (record { front = b ∷ p .front; back = p .back; is = ap (λ (l : List ℕ). b ∷ l) (p .is); behind = p .behind })
+    go (inl e) =
+        byTest (λ (t : Bool). ((if t then 0 else suc (reach lineEnd bs)) ≡ suc (length bs)) ⊎ LastEnd (b ∷ bs)) (eqb b lineEnd)
+        (λ is. inr (record { front = []; back = bs; is = ap (λ (k : ℕ). k ∷ bs) (eqb-true b lineEnd is); behind = e })) (λ _. inl (ap suc e))
+
+from-none : (held bs : List ℕ) → NoEnd bs → unendedFrom held bs ≡ held ++ bs
+unfolding unendedFrom
+from-none held [] e = sym (append-nil held)
+from-none held (b ∷ bs) e =
+    let n = none-behind lineEnd b bs e in
+    rw (n .0) (from-none (held ++ (b ∷ [])) bs (n .1) ∙ append-snoc held b bs)
+
+from-last : (held front back : List ℕ) → NoEnd back → unendedFrom held (front ++ lineEnd ∷ back) ≡ back
+unfolding unendedFrom
+from-last held [] back e = from-none [] back e
+from-last held (b ∷ front) back e =
+    byTest
+    (λ (t : Bool). (if t then unendedFrom [] (front ++ lineEnd ∷ back) else unendedFrom (held ++ (b ∷ [])) (front ++ lineEnd ∷ back)) ≡ back)
+    (eqb b lineEnd) (λ _. from-last [] front back e) (λ _. from-last (held ++ (b ∷ [])) front back e)
+
+unended-none : (bs : List ℕ) → NoEnd bs → unended bs ≡ bs
+unfolding unended
+unended-none bs e = from-none [] bs e
+
+unended-last : (front back : List ℕ) → NoEnd back → unended (front ++ lineEnd ∷ back) ≡ back
+unfolding unended
+unended-last front back e = from-last [] front back e
+
+whole-none : (bs : List ℕ) → NoEnd bs → wholeLines bs ≡ []
+unfolding wholeLines
+whole-none bs e =
+    let n : length bs - length (unended bs) ≡ 0 = let k = ap length (unended-none bs e) in omega arith in
+    ap (λ (n : ℕ). take n bs) n
+
+whole-last : (front back : List ℕ) → NoEnd back → wholeLines (front ++ lineEnd ∷ back) ≡ front ++ lineEnd ∷ []
+unfolding wholeLines
+whole-last front back e =
+    let all = front ++ lineEnd ∷ back in
+    let some = front ++ lineEnd ∷ [] in
+    let n : length all - length (unended all) ≡ length some =
+    omega (arith, ap length (unended-last front back e), length-append front (lineEnd ∷ back), length-append front (lineEnd ∷ [])) in
+    ap (λ (n : ℕ). take n all) n ∙ ap (take (length some)) (sym (append-snoc front lineEnd back)) ∙ take-append-seam some back
+
+pub parted-at-the-last-end : PartedAtTheLastEnd
+parted-at-the-last-end bs = ⊎-elim
+    (λ e. (
+      rw (whole-none bs e, unended-none bs e),
+      inl (whole-none bs e),
+      rw (unended-none bs e) e,
+    ))
+    (λ p. rw (p .is) (
+      rw (whole-last (p .front) (p .back) (p .behind), unended-last (p .front) (p .back) (p .behind)) (append-snoc (p .front) lineEnd (p .back)),
+      inr (p .front, whole-last (p .front) (p .back) (p .behind)),
+      rw (unended-last (p .front) (p .back) (p .behind)) (p .behind),
+    ))
+    (parted bs)
+
+-- whole lines, and then bytes without a byte 10: so bytes are parted
+pub parted-so : (whole line : List ℕ) → WholeLines whole → NoEnd line → (wholeLines (whole ++ line) ≡ whole) × (unended (whole ++ line) ≡ line)
+parted-so whole line (inl w) e = rw w (whole-none line e, unended-none line e)
+parted-so whole line (inr (front, w)) e = rw (w, append-snoc front lineEnd line) (whole-last front line e, unended-last front line e)
+
+-- the whole lines are the first bytes, and the line whose end has not come is the others
+pub whole-first : (bs : List ℕ) → take (length (wholeLines bs)) bs ≡ wholeLines bs
+whole-first bs =
+    let p = parted-at-the-last-end bs in
+    ap (take (length (wholeLines bs))) (sym (p .0)) ∙ take-append-seam (wholeLines bs) (unended bs)
+
+pub unended-others : (bs : List ℕ) → drop (length (wholeLines bs)) bs ≡ unended bs
+unended-others bs =
+    let p = parted-at-the-last-end bs in
+    ap (drop (length (wholeLines bs))) (sym (p .0)) ∙ drop-append-seam (wholeLines bs) (unended bs)
+
+pub whole-within : (bs : List ℕ) → length (wholeLines bs) ≤ length bs
+whole-within bs =
+    let p = parted-at-the-last-end bs in
+    omega (arith, ap length (p .0), length-append (wholeLines bs) (unended bs))
+
+-- ---- more bytes
+
+whole-then : (a b : List ℕ) → WholeLines a → WholeLines b → WholeLines (a ++ b)
+whole-then a b w (inl e) = rw (e, append-nil a) w
+whole-then a b w (inr (front, e)) = inr (a ++ front, ap (λ (l : List ℕ). a ++ l) e ∙ sym (append-assoc a front (lineEnd ∷ [])))
+
+module _ (read piece : List ℕ) where
+  abbrev line : List ℕ
+  line = unended read ++ piece
+
+  parted-more : (wholeLines (read ++ piece) ≡ wholeLines read ++ wholeLines line) × (unended (read ++ piece) ≡ unended line)
+  parted-more =
+      let p = parted-at-the-last-end read in
+      let q = parted-at-the-last-end line in
+      let all : (wholeLines read ++ wholeLines line) ++ unended line ≡ read ++ piece =
+      append-assoc (wholeLines read) (wholeLines line) (unended line) ∙ ap (λ (l : List ℕ). wholeLines read ++ l) (q .0)
+      ∙ sym (append-assoc (wholeLines read) (unended read) piece) ∙ ap (λ (l : List ℕ). l ++ piece) (p .0) in
+      subst (λ (l : List ℕ). (wholeLines l ≡ wholeLines read ++ wholeLines line) × (unended l ≡ unended line)) all
+      (parted-so (wholeLines read ++ wholeLines line) (unended line) (whole-then (wholeLines read) (wholeLines line) (p .1) (q .1)) (q .2))
+
+-- ---- a line that is cut before its end
+
+-- a line that is not too long is not cut
+cut-short : (line : List ℕ) → length line ≤ maxLine → cut line ≡ line
+cut-short line h = take-all (suc maxLine) line (omega arith)
+
+take-again : (n : ℕ) (l m : List ℕ) → take n (take n l ++ m) ≡ take n (l ++ m)
+take-again zero l m = refl
+take-again (suc n) [] m = refl
+take-again (suc n) (b ∷ l) m = ap (λ (k : List ℕ). b ∷ k) (take-again n l m)
+
+module _ (line : List ℕ) (no-end : NoEnd line) where
+  -- what lines print of it and of all behind it stays the same, and so does the hub
+  steps-cut : (h : Option State) (behind : List ℕ) → steps h (linesOf (cut line ++ behind)) ≡ steps h (linesOf (line ++ behind))
+  steps-cut h behind =
+      byTest (λ (_ : Bool). steps h (linesOf (cut line ++ behind)) ≡ steps h (linesOf (line ++ behind))) (ltb maxLine (length line))
+      (λ e. cut-before-its-end h line behind no-end (ltb-true maxLine (length line) e))
+      (λ e. rw (cut-short line (ltb-false maxLine (length line) e)))
+
+  cut-no-end : NoEnd (cut line)
+  cut-no-end = reach-take lineEnd (suc maxLine) line no-end
+
+  more-no-end : (l piece : List ℕ) → NoEnd l → NoEnd piece → NoEnd (l ++ piece)
+  more-no-end l piece e f = reach-append lineEnd l piece e ∙ ap (λ (n : ℕ). length l + n) f ∙ sym (length-append l piece)
+
+  module _ (piece : List ℕ) where
+    -- the whole lines print the same
+    whole-cut : (h : Option State) → steps h (linesOf (wholeLines (cut line ++ piece))) ≡ steps h (linesOf (wholeLines (line ++ piece)))
+    whole-cut h = ⊎-elim
+        (λ e. rw (whole-none (cut line ++ piece) (more-no-end (cut line) piece cut-no-end e), whole-none (line ++ piece) (more-no-end line piece no-end e)))
+        (λ p.
+        let end = p .front ++ lineEnd ∷ [] in
+        let so : (l : List ℕ) → wholeLines (l ++ piece) ≡ l ++ end =
+        λ l. ap wholeLines (ap (λ (k : List ℕ). l ++ k) (p .is) ∙ sym (append-assoc l (p .front) (lineEnd ∷ p .back)))
+        ∙ whole-last (l ++ p .front) (p .back) (p .behind) ∙ append-assoc l (p .front) (lineEnd ∷ []) in
+        ap (λ (l : List ℕ). steps h (linesOf l)) (so (cut line)) ∙ steps-cut h end ∙ sym (ap (λ (l : List ℕ). steps h (linesOf l)) (so line)))
+        (parted piece)
+
+    -- and the same is held
+    held-cut : cut (unended (cut line ++ piece)) ≡ cut (unended (line ++ piece))
+    held-cut = ⊎-elim
+        (λ e.
+        ap cut (unended-none (cut line ++ piece) (more-no-end (cut line) piece cut-no-end e))
+        ∙ take-again (suc maxLine) line piece ∙ sym (ap cut (unended-none (line ++ piece) (more-no-end line piece no-end e))))
+        (λ p.
+        let so : (l : List ℕ) → unended (l ++ piece) ≡ p .back =
+        λ l. ap unended (ap (λ (k : List ℕ). l ++ k) (p .is) ∙ sym (append-assoc l (p .front) (lineEnd ∷ p .back)))
+        ∙ unended-last (l ++ p .front) (p .back) (p .behind) in
+        ap cut (so (cut line) ∙ sym (so line)))
+        (parted piece)
+
+-- ---- a piece behind all bytes read so far, and the end of the input
+
+module _ (read : List ℕ) where
+  none-held : NoEnd (unended read)
+  none-held = parted-at-the-last-end read .2
+
+  pub after-more : (piece : List ℕ) →
+      after (read ++ piece) ≡ before (printedAfter read) (steps (hubAfter read) (linesOf (wholeLines (heldAfter read ++ piece))))
+  unfolding after
+  after-more piece =
+      ap (λ (l : List ℕ). steps none (linesOf l)) (parted-more read piece .0)
+      ∙ in-parts none (wholeLines read) (wholeLines (unended read ++ piece)) (parted-at-the-last-end read .1)
+      ∙ ap (before (printedAfter read)) (sym (whole-cut (unended read) none-held piece (hubAfter read)))
+
+  pub held-more : (piece : List ℕ) → heldAfter (read ++ piece) ≡ cut (unended (heldAfter read ++ piece))
+  held-more piece = ap cut (parted-more read piece .1) ∙ sym (held-cut (unended read) none-held piece)
+
+  run-cut : (h : Option State) → runFrom h (cut (unended read)) ≡ runFrom h (unended read)
+  unfolding runFrom
+  run-cut h =
+      let e = steps-cut (unended read) none-held h [] in
+      let f : steps h (linesOf (cut (unended read))) ≡ steps h (linesOf (unended read)) =
+      ap (λ (l : List ℕ). steps h (linesOf l)) (sym (append-nil (cut (unended read)))) ∙ e ∙ ap (λ (l : List ℕ). steps h (linesOf l)) (append-nil (unended read)) in
+      ap (λ (p : Printed). record { hub = p .hub; text = p .text ++ endText (p .hub) }) f
+
+  pub whole-text : programText read ≡ printedAfter read ++ runFrom (hubAfter read) (heldAfter read) .text
+  unfolding programText after
+  whole-text =
+      let p = parted-at-the-last-end read in
+      let w : runFrom none read ≡ before (printedAfter read) (runFrom (hubAfter read) (unended read)) =
+      ap (runFrom none) (sym (p .0)) ∙ whole-in-parts none (wholeLines read) (unended read) (p .1) in
+      ap (λ (q : Printed). q .text) w ∙ ap (λ (q : Printed). printedAfter read ++ q .text) (sym (run-cut (hubAfter read)))
+
+-- ---- how many lines there are
+
+pieces-few : (byte : ℕ) (held bs : List ℕ) → length (piecesFrom byte held bs) ≤ suc (length bs)
+unfolding piecesFrom
+pieces-few byte held [] = omega arith
+pieces-few byte held (b ∷ bs) =
+    byTest (λ (t : Bool). length (if t then held ∷ piecesFrom byte [] bs else piecesFrom byte (held ++ (b ∷ [])) bs) ≤ suc (suc (length bs))) (eqb b byte)
+    (λ _. let k = pieces-few byte [] bs in omega arith) (λ _. let k = pieces-few byte (held ++ (b ∷ [])) bs in omega arith)
+
+pub lines-few : (bs : List ℕ) → length (linesOf bs) ≤ suc (length bs)
+unfolding pieces
+lines-few bs = omega (arith, lines-counted bs, pieces-few lineEnd [] bs)
+
+-- ---- for the code
+
+-- the search for the last byte 10: none behind a place
+pub none-at-end : (bs : List ℕ) → NoEnd (drop (length bs) bs)
+unfolding reach
+none-at-end bs = rw (drop-length bs)
+
+-- it is none
+pub none-before : (bs : List ℕ) (at : ℕ) → 0 < at → at ≤ length bs → getD bs (at - 1) 0 ≢ lineEnd → NoEnd (drop at bs) → NoEnd (drop (at - 1) bs)
+unfolding reach
+none-before bs zero some h e clear = absurd (omega arith)
+none-before bs (suc at) some h e clear =
+    let n : suc at - 1 ≡ at = omega arith in
+    let other = ne-eqb (getD bs at 0) lineEnd (λ (is : getD bs at 0 ≡ lineEnd). e (ap (λ (k : ℕ). getD bs k 0) n ∙ is)) in
+    rw (n, drop-cons bs at 0 (omega arith), other) (ap suc clear)
+
+-- it is the last
+pub last-here : (bs : List ℕ) (at : ℕ) → 0 < at → at ≤ length bs → getD bs (at - 1) 0 ≡ lineEnd → NoEnd (drop at bs) → at ≡ length (wholeLines bs)
+last-here bs zero some h e clear = absurd (omega arith)
+last-here bs (suc at) some h e clear =
+    let n : at ≡ suc at - 1 = omega arith in
+    let whole : take (suc at) bs ≡ take at bs ++ lineEnd ∷ [] =
+    take-suc bs at 0 (omega arith) ∙ ap (λ (b : ℕ). take at bs ++ b ∷ []) (ap (λ (k : ℕ). getD bs k 0) n ∙ e) in
+    let p = parted-so (take (suc at) bs) (drop (suc at) bs) (inr (take at bs, whole)) clear in
+    let is : wholeLines bs ≡ take (suc at) bs = ap wholeLines (sym (take-append-drop (suc at) bs)) ∙ p .0 in
+    sym (ap length is ∙ length-take-le (suc at) bs h)
+
+-- there is none
+pub none-here : (bs : List ℕ) (at : ℕ) → at ≤ 0 → NoEnd (drop at bs) → 0 ≡ length (wholeLines bs)
+none-here bs zero h clear = sym (ap length (whole-none bs clear))
+none-here bs (suc at) h clear = absurd (omega arith)
+
+-- bytes moved to the front, one more
+module _ (now first : List ℕ) (from i : ℕ) (long : length now ≡ length first) (inside : from + i < length first)
+    (moved : take i now ≡ take i (drop from first)) (still : drop i now ≡ drop i first) where
+  abbrev next : List ℕ
+  next = set now i (getD now (from + i) 0)
+
+  byte-is : getD now (from + i) 0 ≡ getD (drop from first) i 0
+  byte-is =
+      let e : from + i ≡ i + from = omega arith in
+      ap (λ (k : ℕ). getD now k 0) e ∙ sym (getD-drop i now from 0) ∙ ap (λ (l : List ℕ). getD l from 0) still ∙ getD-drop i first from 0
+      ∙ sym (ap (λ (k : ℕ). getD first k 0) e) ∙ sym (getD-drop from first i 0)
+
+  pub one-moved : take (i + 1) next ≡ take (i + 1) (drop from first)
+  one-moved =
+      let left : i < length (drop from first) = omega (arith, length-drop from first) in
+      ap (λ (k : ℕ). take k next) (add-one i) ∙ take-suc-set now i (getD now (from + i) 0) (omega arith)
+      ∙ ap₂ (λ (l : List ℕ) (b : ℕ). l ++ b ∷ []) moved byte-is
+      ∙ sym (ap (λ (k : ℕ). take k (drop from first)) (add-one i) ∙ take-suc (drop from first) i 0 left)
+
+  pub others-still : drop (i + 1) next ≡ drop (i + 1) first
+  others-still =
+      drop-set-lt (i + 1) now i (getD now (from + i) 0) (omega arith) ∙ sym (drop-drop 1 i now) ∙ ap (drop 1) still ∙ drop-drop 1 i first
+
+drop-taken : (n m : ℕ) (l : List ℕ) → drop n (take m l) ≡ take (m - n) (drop n l)
+drop-taken zero m l = let e : m - 0 ≡ m = omega arith in rw e
+drop-taken (suc n) zero l = let e : 0 - suc n ≡ 0 = omega arith in rw e
+drop-taken (suc n) (suc m) [] = sym (take-nil (suc m - suc n))
+drop-taken (suc n) (suc m) (b ∷ l) = let e : suc m - suc n ≡ m - n = omega arith in rw e (drop-taken n m l)
+
+take-least : (a b : ℕ) (l : List ℕ) → take a (take b l) ≡ take (min b a) l
+take-least a b l =
+    byTest (λ (_ : Bool). take a (take b l) ≡ take (min b a) l) (ltb b a)
+    (λ e. let h = ltb-true b a e in let m : min b a ≡ b = omega arith in take-all a (take b l) (omega (arith, length-take b l)) ∙ sym (ap (λ (k : ℕ). take k l) m))
+    (λ e. let h = ltb-false b a e in let m : min b a ≡ a = omega arith in take-take a b l h ∙ sym (ap (λ (k : ℕ). take k l) m))
+
+-- all that are held
+pub all-moved : (now first : List ℕ) (from filled kept i : ℕ) → kept ≡ min (filled - from) (suc maxLine) → i ≡ kept → take i now ≡ take i (drop from first) →
+    take kept now ≡ cut (drop from (take filled first))
+all-moved now first from filled kept i least all moved =
+    ap (λ (k : ℕ). take k now) (sym all) ∙ moved ∙ ap (λ (k : ℕ). take k (drop from first)) (all ∙ least)
+    ∙ sym (ap cut (drop-taken from filled first) ∙ take-least (suc maxLine) (filled - from) (drop from first))

@@ -1,0 +1,4 @@
+pub mod Parts
+pub mod Contract
+pub mod Claims
+pub mod Examples

@@ -1,0 +1,66 @@
+// The line program over an input that comes in pieces, as a program reads it: document 01, "The line program". The steps are code on byte slices: nothing here reads
+// or writes. specs/Claims.antt says what the steps in turn print.
+mod pieces;
+
+use hub::Hub;
+use line_printer::MAX_TEXT;
+use line_reader::MAX_LINE;
+ghost use mathlib.Core.Path.{_≡_};
+ghost use Prim.Native.Nat.{_+_, _≤_};
+ghost use lib.ListN.{length};
+ghost use Rattle.hub.specs.Valid.{Valid};
+ghost use Rattle.line_parts.specs.Contract.{inputRoom, roomFor, TakesPiece, TakesEnd};
+
+// At most so many bytes are read at a time. What they print is handed out at once, so the buffer for it has room for the most that they can print.
+pub const MAX_PIECE: usize = 2048;
+
+// The held bytes, and a piece behind them.
+pub const INPUT_ROOM: usize = MAX_LINE + 1 + MAX_PIECE;
+
+pub const OUT_ROOM: usize = MAX_TEXT * (INPUT_ROOM + 2);
+
+pub fn input_buffer() -> [u8; INPUT_ROOM]
+    ensures { λ r. ⌜ inputRoom ≡ length r ⌝ }
+{
+    [0; INPUT_ROOM]
+}
+
+pub fn out_buffer() -> [u8; OUT_ROOM]
+    ensures { λ r. ⌜ roomFor inputRoom ≡ length r ⌝ }
+{
+    [0; OUT_ROOM]
+}
+
+// The hub after a piece, how many bytes are held of a line whose end has not come, and how long the text is that the piece prints.
+pub struct Step {
+    pub hub: Hub,
+    pub held: usize,
+    pub length: usize,
+}
+
+// A piece that was read behind the held bytes: its whole lines are run, and the rest is held.
+pub fn take_piece(hub: Hub, held: usize, got: usize, input: &mut [u8], out: &mut [u8]) -> Step
+    requires { ⌜ (Valid hub) × (held + got ≤ length (now input)) × (roomFor (length (now input)) ≤ length (now out)) ⌝ }
+    ensures { λ r. ⌜ TakesPiece hub held got (now (input .entry)) (now (input .exit)) (now (out .exit)) r ⌝ }
+{
+    let filled = held + got;
+    let whole = pieces::whole_length(&input[..filled]);
+    let written = line::run_part(hub, &input[..whole], out);
+    let next = written.hub;
+    let length = written.result as usize;
+    let kept = pieces::keep(input, whole, filled);
+    Step {
+        hub: next,
+        held: kept,
+        length,
+    }
+}
+
+// The end of the input: the held line, if there is one, and the device lines. How long their text is.
+pub fn take_end(hub: Hub, held: usize, input: &[u8], out: &mut [u8]) -> usize
+    requires { ⌜ (Valid hub) × (held ≤ length (now input)) × (roomFor (length (now input)) ≤ length (now out)) ⌝ }
+    ensures { λ r. ⌜ TakesEnd hub held (now (input .entry)) (now (out .exit)) r ⌝ }
+{
+    let written = line::run_last(hub, &input[..held], out);
+    written.result as usize
+}
