@@ -8,6 +8,7 @@ use lib.ListN.{length}
 use Rattle.routine.specs.Choice.{if_then_else_}
 use Rattle.routine.specs.Refusals.{book-cut-short, book-misplaced, book-length, refuse_when_, _andThen_}
 use Rattle.routine.specs.Routine.{maxCommands, routineOf, noRoutine, commandsCheck}
+use Rattle.routine.specs.declared.Refusal.{Refusal}
 use Rattle.routine.specs.declared.Verdict.{Verdict}
 use Rattle.routine.specs.declared.Verdict.the-variants.{Accepted, Refused}
 use Rattle.layout.specs.Numbers.{fourAt}
@@ -46,20 +47,24 @@ bookCheck b = headCheck b andThen placedChecks b 0 (countOf b) (pairsEnd (countO
 abbrev pub endAt : ℕ → Next
 endAt at = record { item = End; routine = noRoutine; position = at }
 
--- A position is the place of a pair. If it is one of the book's, its routine is handed out, and the position moves to the next; else this is the
--- end. (Where the whole book was accepted, the last two tests hold of each of its pairs.)
+-- In an accepted book: if one of its pairs begins at the position, its routine is handed out, and the position moves to the next pair; else this
+-- is the end.
 unfoldable pub pairNext : List ℕ → ℕ → Next
 pairNext b at =
     let from = fourAt b at in
     let size = fourAt b (at + offsetSize) in
-    if ltb at (pairsEnd (countOf b)) && eqb (at % pairSize) countSize && lengthFits size && leb (from + size) (length b)
+    if ltb at (pairsEnd (countOf b)) && eqb (at % pairSize) countSize
     then record { item = Handed; routine = routineOf (commandsAt b from (size / commandSize)); position = at + pairSize }
     else endAt at
 
-abbrev pub startWith : Verdict → List ℕ → Next
-startWith Accepted b = pairNext b countSize
-startWith (Refused r) b = record { item = RefusedBook r; routine = noRoutine; position = 0 }
+-- A book that is turned down: its refusal, no routine, and position 0.
+abbrev pub turnsDown : Refusal → Next
+turnsDown r = record { item = RefusedBook r; routine = noRoutine; position = 0 }
 
--- A step of reading, from position 0 on: there the whole book is checked first; a book that is turned down stays at 0.
+abbrev pub nextWith : Verdict → List ℕ → ℕ → Next
+nextWith Accepted b at = if eqb at 0 then pairNext b countSize else pairNext b at
+nextWith (Refused r) b at = turnsDown r
+
+-- A step of reading. At every position "the whole book having been checked first"; position 0 is that of its first pair.
 unfoldable pub nextOf : List ℕ → ℕ → Next
-nextOf b at = if eqb at 0 then startWith (bookCheck b) b else pairNext b at
+nextOf b at = nextWith (bookCheck b) b at
