@@ -33,13 +33,16 @@ pub fn print_refusal(refusal: Refusal) -> bool {
     }
     match refusal {
         Refusal::Number(number) => print_number(number as u64),
-        Refusal::Indexed(number, index) => print_number(number as u64) && print_number(index as u64),
+        Refusal::Indexed(number, index) => print_number(number as u64)
+            && print_number(index as u64),
     }
 }
 
 fn print_command(command: Command) -> bool {
     let setting = command.setting;
-    print_number(command.device as u64) && print_number(command.tag as u64) && print_setting(setting)
+    print_number(command.device as u64)
+        && print_number(command.tag as u64)
+        && print_setting(setting)
 }
 
 fn print_commands(routine: Routine) -> bool {
@@ -56,7 +59,9 @@ fn print_commands(routine: Routine) -> bool {
 }
 
 fn print_routine(routine: Routine) -> bool {
-    io::write_all(STDOUT_FILENO, b"routine") && print_commands(routine) && io::write_all(STDOUT_FILENO, b"\n")
+    io::write_all(STDOUT_FILENO, b"routine")
+        && print_commands(routine)
+        && io::write_all(STDOUT_FILENO, b"\n")
 }
 
 fn print_item(item: Item, routine: Routine) -> bool {
