@@ -1,5 +1,5 @@
-// Standard input and output of the programs for people, and what a program says on standard error where they fail: its name and what it could
-// not do.
+// Standard input and output of the programs for people, and what a program says on standard error where they fail: its name and what
+// it could not do.
 use libc::STDERR_FILENO;
 use libc::STDIN_FILENO;
 use libc::STDOUT_FILENO;
