@@ -1,14 +1,15 @@
 -- `read_vectors::again::read_all` is safe and ends. Assumes nothing.
 use borrow.Author.Needs.{needs}
 use Prim.Native.Nat.{_-_, _≤_}
+use Rattle.layout.specs.Layout.{maxRoutines}
 use Rattle.read_vectors.proofs.again.read_all.Statement.{statement}
 use Rattle.read_vectors.proofs.again.read_all.Tie as tie
 
 abbrev Inv-loop : tie.InvT-loop
-Inv-loop book rows₀ position₀ counter₀ rows position counter = counter ≤ 64
+Inv-loop book rows₀ position₀ counter₀ rows position counter = counter ≤ maxRoutines
 
 abbrev μ-loop : tie.MeasureT-loop
-μ-loop book rows₀ position₀ counter₀ rows position counter = 64 - counter
+μ-loop book rows₀ position₀ counter₀ rows position counter = maxRoutines - counter
 
 empty-requires : tie.Need-empty-requires Inv-loop μ-loop
 empty-requires c κs = search needs

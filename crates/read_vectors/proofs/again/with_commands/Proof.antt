@@ -1,14 +1,15 @@
 -- `read_vectors::again::with_commands` is safe and ends. Assumes nothing.
 use borrow.Author.Needs.{needs}
 use Prim.Native.Nat.{_-_, _≤_}
+use Rattle.routine.specs.Routine.{maxCommands}
 use Rattle.read_vectors.proofs.again.with_commands.Statement.{statement}
 use Rattle.read_vectors.proofs.again.with_commands.Tie as tie
 
 abbrev Inv-loop : tie.InvT-loop
-Inv-loop routine longer₀ i₀ longer i = i ≤ 8
+Inv-loop routine longer₀ i₀ longer i = i ≤ maxCommands
 
 abbrev μ-loop : tie.MeasureT-loop
-μ-loop routine longer₀ i₀ longer i = 8 - i
+μ-loop routine longer₀ i₀ longer i = maxCommands - i
 
 loop-holds : tie.Need-loop-holds Inv-loop μ-loop
 loop-holds c = search needs

@@ -3,6 +3,7 @@ use mathlib.Core.Path.{_≡_}
 use native.Mathlib.Omega.{arith}
 use lib.ListN.{length, length-take}
 use Rattle.routine.proofs.Laws.{length-mapped}
+use Rattle.layout.specs.Layout.{maxRoutines}
 use borrow.Author.Needs.{needs}
 use Rattle.read_vectors.proofs.again.written_same.Statement.{statement}
 use Rattle.read_vectors.proofs.again.written_same.Tie as tie
@@ -14,10 +15,14 @@ buffer-requires : tie.Need-buffer-requires
 buffer-requires c κs = search needs
 
 array-share-prefix-counts : tie.Need-array-share-prefix-counts
-array-share-prefix-counts c = let x : length (c .before .before .before .before .before .before .before .args .rows .counts) ≡ 64 = search (needs, length-mapped) in omega arith
+array-share-prefix-counts c = let a = c .before .before .before .before .before .before .before .args in
+    let x : length (a .rows .counts) ≡ maxRoutines = search (needs, length-mapped) in
+    omega arith
 
 slice-aggregate-written-is : tie.Need-slice-aggregate-written-is
-slice-aggregate-written-is c = let x : length (c .before .before .before .before .before .before .before .before .args .rows .counts) ≡ 64 = search (needs, length-mapped) in simp length-take (omega arith)
+slice-aggregate-written-is c = let a = c .before .before .before .before .before .before .before .before .args in
+    let x : length (a .rows .counts) ≡ maxRoutines = search (needs, length-mapped) in
+    simp length-take (omega arith)
 
 slice-aggregate-written-is-2 : tie.Need-slice-aggregate-written-is-2
 slice-aggregate-written-is-2 c = search needs
