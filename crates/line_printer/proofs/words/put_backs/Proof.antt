@@ -5,6 +5,7 @@ use Prim.Native.Nat.{ℕ, _-_, _*_, _≤_, _<_}
 use native.Mathlib.Omega.{arith}
 use borrow.Author.Needs.{needs}
 use lib.ListN.{length, take}
+use Rattle.routine.specs.Routine.{maxDevices}
 use Rattle.routine.proofs.Laws.{length-mapped}
 use Rattle.answers.specs.View.{backOf}
 use Rattle.line_rules.specs.Text.{bytes, decimal}
@@ -22,7 +23,7 @@ Inv-loop out₀ at backs count to₀ i₀ out to i =
 abbrev μ-loop : tie.MeasureT-loop
 μ-loop out₀ at backs count to₀ i₀ out to i = count - i
 
-long : (s : tie.Start Inv-loop μ-loop) → length (s .args .t3 .items) ≡ 32
+long : (s : tie.Start Inv-loop μ-loop) → length (s .args .t3 .items) ≡ maxDevices
 long s = search (needs, length-mapped)
 
 -- the word and the count, of two digits at most

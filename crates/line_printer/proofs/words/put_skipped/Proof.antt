@@ -4,6 +4,7 @@ use mathlib.Core.List.{List, _++_, append-nil}
 use Prim.Native.Nat.{ℕ, _≤_, _<_}
 use native.Mathlib.Omega.{arith}
 use lib.ListN.{length}
+use Rattle.routine.specs.Routine.{maxDevices}
 use Rattle.routine.proofs.Laws.{length-mapped}
 use Rattle.answers.specs.View.{backsOf}
 use Rattle.line_rules.specs.Text.{bytes, decimal}
@@ -15,7 +16,7 @@ use Rattle.line_printer.proofs.words.put_skipped.Tie as tie
 
 -- those that are counted are there
 fit : (s : tie.Start) → s .args .backs .count ≤ length (s .args .backs .items)
-fit s = let e : length (s .args .backs .items) ≡ 32 = search (needs, length-mapped) in omega (arith, s .pre .1)
+fit s = let e : length (s .args .backs .items) ≡ maxDevices = search (needs, length-mapped) in omega (arith, s .pre .1)
 
 slice-aggregate-put-one : tie.Need-slice-aggregate-put-one
 slice-aggregate-put-one c = search needs
