@@ -18,5 +18,6 @@ pub mod Devices
 pub mod DeviceAborts
 pub mod DeviceKept
 pub mod Theorem
+pub mod Exact
 pub mod Worlds
 pub mod Controls
