@@ -19,6 +19,7 @@ use Rattle.rules.specs.Answers.{Call, submit, turn, report, failure, res
 use Rattle.rules.specs.Open.{opened, not-opened, newHub, openOf}
 use Rattle.rules.specs.Report.{codeFailed}
 use Rattle.rules.specs.Calls.{resultOf}
+use Rattle.rules.specs.World.{Act, worldAfterAll, newWorld}
 
 -- ---- the words of the table
 
@@ -34,7 +35,8 @@ NoneRunsUnder s i = NoneOf (RunsUnder i) (s .sequence)
 abbrev pub InFlight : Step → Type 0
 InFlight x = (due : ℤ) × (x .status ≡ in-flight due)
 
--- The running routine with this id has a command in flight, and has none. "The": the first, in whatever state; `OneRuns` says that there is no second.
+-- The running routine with this id has a command in flight, and has none. It is the first, in any state at all; in a state that calls reach there is no
+-- second (`IdsDiffer`).
 abbrev pub OneInFlight : State → ℕ → Type 0
 OneInFlight s i = (m : Member) × FirstIn (RunsUnder i) (s .sequence) m × (x : Step) × FirstIn InFlight (m .steps) x
 
@@ -130,3 +132,12 @@ ExactFailure = (s : State) (d : ℕ) → ExactCall s (failure d)
 
 abbrev pub ExactRestart : Type 0
 ExactRestart = (s : State) (d : ℕ) (v : ℤ) → ExactCall s (restart d v)
+
+-- ---- "the routine with this id"
+
+-- After any list of calls from an accepted opening no two routines of the sequence have the same id.
+abbrev pub IdsDiffer : Type 0
+IdsDiffer =
+    (n k first : ℕ) (s : State) → openOf n k first ≡ opened s → (acts : List Act) →
+    (ahead : List Member) (m : Member) (behind : List Member) → worldAfterAll (newWorld s) acts .state .sequence ≡ ahead ++ (m ∷ behind) →
+    NoneOf (λ other. other .id ≡ m .id) (ahead ++ behind)
