@@ -10,12 +10,16 @@ use borrow.Author.Tests.{ltb-true, ltb-false, leb-true, leb-false, not-true, not
 use lib.Dec.{leb, ltb, eqb}
 use lib.ListN.{length}
 use Rattle.routine.specs.Range.{inRange}
+use Rattle.routine.specs.Refusals.{refuse_when_, _andThen_}
 use Rattle.routine.specs.Routine.{maxCommands, highestTag, commandCheck, commandsCheck}
+use Rattle.routine.specs.declared.Verdict.{Verdict}
 use Rattle.routine.specs.declared.Verdict.the-variants.{Accepted}
 use Rattle.routine.proofs.Laws.{byTest, not-refused, in-range-pos, in-range-negsuc}
-use Rattle.routine.proofs.Exact.{Decides, less, at-most, same, otherwise, either, agree, Outcome, none, passed, one, join, accepted-passes, exactly}
+use Rattle.routine.proofs.Exact.{Decides, less, at-most, same, otherwise, either, agree, Outcome, none, passed, one, join}
+use Rattle.routine.proofs.Exact.{accepted-passes, exactly}
 use Rattle.layout.specs.Numbers.{byteAt, twoAt, settingOf}
-use Rattle.layout.specs.Layout.{countSize, commandSize, maxRoutines, bookDevices, pairsEnd, countOf, offsetAt, lengthAt, commandAt, commandsAt}
+use Rattle.layout.specs.Layout.{countSize, commandSize, maxRoutines, bookDevices, pairsEnd, countOf, offsetAt, lengthAt, commandAt}
+use Rattle.layout.specs.Layout.{commandsAt}
 use Rattle.layout.specs.Reading.{headCheck, lengthFits, placedCheck, placedChecks, bookCheck}
 use Rattle.layout.specs.Claims.{Bytes, Breaks, ExactRefusals, commandTests, routineTests, tests, causeOf, place}
 use Rattle.layout.specs.Claims.{Test, head, routine-length, routine-place, command-device, command-setting, command-tag, left-over}
@@ -53,8 +57,18 @@ out-of-range n h =
 -- ---- the tests of a book
 
 module _ (b : List ℕ) (bytes : Bytes b) where
+  abbrev ComesTo : List Test → Verdict → Type 0
+  ComesTo = Outcome (Breaks b) causeOf
+
+  -- one test; and tests behind others
+  made : (t : Test) (test : Bool) → Decides test (Breaks b t) → ComesTo (t ∷ []) (refuse causeOf t when test)
+  made t test d = one (Breaks b) causeOf t test d
+
+  and-then : {ts us : List Test} {v w : Verdict} → ComesTo ts v → (v ≡ Accepted → ComesTo us w) → ComesTo (ts ++ us) (v andThen w)
+  and-then o p = join (Breaks b) causeOf o p
+
   -- commands that are not there break no test
-  commands-past : (i k j : ℕ) → (i < countOf b → lengthAt b i ≤ commandSize * j) → Outcome (Breaks b) causeOf (commandTests i j k) Accepted
+  commands-past : (i k j : ℕ) → (i < countOf b → lengthAt b i ≤ commandSize * j) → ComesTo (commandTests i j k) Accepted
   unfolding commandTests
   commands-past i zero j past = none
   commands-past i (suc k) j past =
@@ -65,13 +79,13 @@ module _ (b : List ℕ) (bytes : Bytes b) where
       (commands-past i k (suc j) (λ h. let p = past h in omega arith))))
 
   -- nor do routines that are not there
-  routines-past : (n i : ℕ) → countOf b ≤ i → Outcome (Breaks b) causeOf (routineTests i n) Accepted
+  routines-past : (n i : ℕ) → countOf b ≤ i → ComesTo (routineTests i n) Accepted
   unfolding routineTests
   routines-past zero i h = none
   routines-past (suc n) i h =
       passed {t = routine-length i} (λ x. let y = x .0 in omega arith)
       (passed {t = routine-place i} (λ x. let y = x .0 in omega arith)
-      (join (Breaks b) causeOf (commands-past i maxCommands 0 (λ l. absurd (omega arith))) (λ _. routines-past n (suc i) (omega arith))))
+      (and-then (commands-past i maxCommands 0 (λ l. absurd (omega arith))) (λ _. routines-past n (suc i) (omega arith))))
 
   -- two bytes are below 65,536
   two-bytes : (at : ℕ) → twoAt b at < 65536
@@ -80,7 +94,7 @@ module _ (b : List ℕ) (bytes : Bytes b) where
 
   -- the n commands from the j-th on, which end routine i
   commands-outcome : (i k n j : ℕ) → i < countOf b → lengthAt b i ≡ commandSize * (j + n) → n ≤ k →
-      Outcome (Breaks b) causeOf (commandTests i j k) (commandsCheck bookDevices j (commandsAt b (place b i + commandSize * j) n))
+      ComesTo (commandTests i j k) (commandsCheck bookDevices j (commandsAt b (place b i + commandSize * j) n))
   unfolding commandTests commandsCheck commandCheck commandAt
   commands-outcome i k zero j hi e l = commands-past i k j (λ h. omega arith)
   commands-outcome i zero (suc n) j hi e l = absurd (omega arith)
@@ -88,56 +102,57 @@ module _ (b : List ℕ) (bytes : Bytes b) where
       let at = place b i + commandSize * j in
       let there : commandSize * j < lengthAt b i = omega arith in
       let next : place b i + commandSize * suc j ≡ at + commandSize = omega arith in
-      let device = one (Breaks b) causeOf (command-device i j) _ (agree (at-most bookDevices (byteAt b at)) (λ x. (hi, there, x)) (λ y. y .2)) in
+      let device = made (command-device i j) _ (agree (at-most bookDevices (byteAt b at)) (λ x. (hi, there, x)) (λ y. y .2)) in
       let bits = out-of-range (twoAt b (at + 2)) (two-bytes (at + 2)) in
-      let setting = one (Breaks b) causeOf (command-setting i j) _ (agree bits (λ x. (hi, there, x .0, x .1)) (λ y. (y .2, y .3))) in
-      let tag = one (Breaks b) causeOf (command-tag i j) _ (agree (less highestTag (byteAt b (at + 1))) (λ x. (hi, there, x)) (λ y. y .2)) in
+      let setting = made (command-setting i j) _ (agree bits (λ x. (hi, there, x .0, x .1)) (λ y. (y .2, y .3))) in
+      let tag = made (command-tag i j) _ (agree (less highestTag (byteAt b (at + 1))) (λ x. (hi, there, x)) (λ y. y .2)) in
       let others = commands-outcome i k n (suc j) hi (omega arith) (omega arith) in
-      join (Breaks b) causeOf (join (Breaks b) causeOf device (λ _. join (Breaks b) causeOf setting (λ _. tag)))
-      (λ _. subst (λ (p : ℕ). Outcome (Breaks b) causeOf (commandTests i (suc j) k) (commandsCheck bookDevices (suc j) (commandsAt b p n))) next others)
+      and-then (and-then device (λ _. and-then setting (λ _. tag)))
+      (λ _. subst (λ (p : ℕ). ComesTo (commandTests i (suc j) k) (commandsCheck bookDevices (suc j) (commandsAt b p n))) next others)
 
   -- routine i, at its place
   routine-outcome : (i : ℕ) → i < countOf b →
-      Outcome (Breaks b) causeOf (routine-length i ∷ routine-place i ∷ commandTests i 0 maxCommands) (placedCheck b i (place b i))
+      ComesTo (routine-length i ∷ routine-place i ∷ commandTests i 0 maxCommands) (placedCheck b i (place b i))
   unfolding placedCheck
   routine-outcome i h =
       let n = lengthAt b i / commandSize in
       let first : place b i + commandSize * 0 ≡ place b i = omega arith in
-      let size = one (Breaks b) causeOf (routine-length i) _ (agree (unfit (lengthAt b i)) (λ x. (h, x)) (λ y. y .1)) in
+      let size = made (routine-length i) _ (agree (unfit (lengthAt b i)) (λ x. (h, x)) (λ y. y .1)) in
       let misplaced = either _ _ (other (offsetAt b i) (place b i)) (less (length b) (place b i + lengthAt b i)) in
-      let spot = one (Breaks b) causeOf (routine-place i) _ (agree misplaced (λ x. (h, x)) (λ y. y .1)) in
-      join (Breaks b) causeOf size (λ fits. join (Breaks b) causeOf spot (λ _.
+      let spot = made (routine-place i) _ (agree misplaced (λ x. (h, x)) (λ y. y .1)) in
+      and-then size (λ fits. and-then spot (λ _.
       let f = fits-in-fours (lengthAt b i) (not-false _ (not-refused _ _ fits)) in
-      subst (λ (p : ℕ). Outcome (Breaks b) causeOf (commandTests i 0 maxCommands) (commandsCheck bookDevices 0 (commandsAt b p n))) first
+      subst (λ (p : ℕ). ComesTo (commandTests i 0 maxCommands) (commandsCheck bookDevices 0 (commandsAt b p n))) first
       (commands-outcome i maxCommands n 0 h (omega arith) (omega arith))))
 
   -- the n routines from the i-th on, which end the book, and then bytes left over
   routines-outcome : (m n i : ℕ) → i + n ≡ countOf b → n ≤ m →
-      Outcome (Breaks b) causeOf (routineTests i m ++ (left-over ∷ [])) (placedChecks b i n (place b i))
+      ComesTo (routineTests i m ++ (left-over ∷ [])) (placedChecks b i n (place b i))
   unfolding routineTests placedChecks place
   routines-outcome m zero i e l =
       let ended : countOf b ≡ i = omega arith in
       let over = less (place b (countOf b)) (length b) in
-      join (Breaks b) causeOf (routines-past m i (omega arith))
-      (λ _. one (Breaks b) causeOf left-over _ (subst (λ (k : ℕ). Decides (ltb (place b k) (length b)) (Breaks b left-over)) ended over))
+      and-then (routines-past m i (omega arith))
+      (λ _. made left-over _ (subst (λ (k : ℕ). Decides (ltb (place b k) (length b)) (Breaks b left-over)) ended over))
   routines-outcome zero (suc n) i e l = absurd (omega arith)
   routines-outcome (suc m) (suc n) i e l =
       rw (append-assoc (commandTests i 0 maxCommands) (routineTests (suc i) m) (left-over ∷ []))
-      (join (Breaks b) causeOf (routine-outcome i (omega arith)) (λ _. routines-outcome m n (suc i) (omega arith) (omega arith)))
+      (and-then (routine-outcome i (omega arith)) (λ _. routines-outcome m n (suc i) (omega arith) (omega arith)))
 
   -- the head of the book
-  head-outcome : Outcome (Breaks b) causeOf (head ∷ []) (headCheck b)
+  head-outcome : ComesTo (head ∷ []) (headCheck b)
   unfolding headCheck
   head-outcome =
-      let short = either _ _ (either _ _ (less (length b) countSize) (less maxRoutines (countOf b))) (less (length b) (pairsEnd (countOf b))) in
-      one (Breaks b) causeOf head _ (agree short (elim [ inl (inl x) ↦ inl x | inl (inr x) ↦ inr (inl x) | inr x ↦ inr (inr x) ])
+      let few = either _ _ (less (length b) countSize) (less maxRoutines (countOf b)) in
+      let short = either _ _ few (less (length b) (pairsEnd (countOf b))) in
+      made head _ (agree short (elim [ inl (inl x) ↦ inl x | inl (inr x) ↦ inr (inl x) | inr x ↦ inr (inr x) ])
       (elim [ inl x ↦ inl (inl x) | inr (inl x) ↦ inl (inr x) | inr (inr x) ↦ inr x ]))
 
   -- the whole book
-  book-outcome : Outcome (Breaks b) causeOf tests (bookCheck b)
+  book-outcome : ComesTo tests (bookCheck b)
   unfolding tests bookCheck place
   book-outcome =
-      join (Breaks b) causeOf head-outcome (λ fine.
+      and-then head-outcome (λ fine.
       let few : ¬ (maxRoutines < countOf b) = λ h. accepted-passes (Breaks b) causeOf head-outcome fine .0 (inr (inl h)) in
       routines-outcome maxRoutines (countOf b) 0 (omega arith) (omega arith))
 

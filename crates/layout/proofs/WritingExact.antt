@@ -13,7 +13,8 @@ use Rattle.routine.specs.declared.Verdict.the-variants.{Accepted, Refused}
 use Rattle.routine.proofs.Exact.{less, either, Outcome, none, one, join, exactly, renamed, routine-outcome}
 use Rattle.layout.specs.Layout.{maxRoutines, bookDevices, bookBytes}
 use Rattle.layout.specs.Writing.{routinesCheck, writeCheck, writtenWith, writtenOf, bufferWith, bufferAfter}
-use Rattle.layout.specs.WritingCauses.{WriteTest, of-routine, of-room, writeCauseOf, routineNo, WritingCause, routinesTests, writeTests}
+use Rattle.layout.specs.WritingCauses.{WriteTest, of-routine, of-room, writeCauseOf, routineNo, WritingCause, routinesTests}
+use Rattle.layout.specs.WritingCauses.{writeTests}
 use Rattle.layout.specs.WritingCauses.{ExactWrite, ExactWriting}
 use Rattle.layout.specs.declared.Written.{Written}
 use Rattle.layout.specs.declared.Written.the-variants.{Length, Refused as NotWritten}

@@ -1,5 +1,5 @@
--- Document 01, "When a call is turned down": the causes for which writing is turned down, each said by itself in the table's words over the routines
--- and the buffer; the order in which they are tested; and what `exact-writing` (proofs/WritingExact.antt) says: each number under its cause alone.
+-- Document 01, "When a call is turned down": the causes of writing, each said by itself in the table's words over the routines and the
+-- buffer; the order in which they are tested; and what `exact-writing` (proofs/Theorems.antt) says: each number under its cause alone.
 -- Causes 4 to 7, and what "each under its cause alone" means, stand in `specs/Causes.antt` of crate `routine`. Assumes nothing.
 use mathlib.Core.Path.{_≡_}
 use mathlib.Core.Logic.{_⊎_}
@@ -28,7 +28,7 @@ writeCauseOf of-room = no-room
 abbrev pub routineNo : ℕ → List (List Command) → List Command
 routineNo j rs = getD rs j []
 
--- The cause of a test is there, of these routines and a buffer of so many bytes. 21: "over 64 routines to write, or buffer too short".
+-- The cause of a test holds of these routines and a buffer of so many bytes. 21: "over 64 routines to write, or buffer too short".
 abbrev pub WritingCause : List (List Command) → ℕ → WriteTest → Type 0
 WritingCause rs room (of-routine j cause) = (j < length rs) × RoutineCause bookDevices (routineNo j rs) cause
 WritingCause rs room of-room = (maxRoutines < length rs) ⊎ (room < length (bookBytes rs))
@@ -42,11 +42,12 @@ routinesTests j (suc n) = map (of-routine j) routineCauses ++ routinesTests (suc
 abbrev pub writeTests : List (List Command) → List WriteTest
 writeTests rs = routinesTests 0 (length rs) ++ (of-room ∷ [])
 
--- Writing these routines is answered with the refusal r exactly if the first cause that is there has r, and with the book's length exactly if none is
--- there. After a refusal the buffer is as it was.
+-- Writing these routines is answered with the refusal r exactly if the first cause that holds has r, and with the book's length exactly
+-- if none holds. After a refusal the buffer is as it was.
 pub record ExactWrite (rs : List (List Command)) (before after : List ℕ) (answer : Written) : Type 0 where
   pub exact :
-      Exactly (WritingCause rs (length before)) writeCauseOf (writeTests rs) (λ r. answer ≡ NotWritten r) (answer ≡ Length (length (bookBytes rs)))
+      Exactly (WritingCause rs (length before)) writeCauseOf (writeTests rs)
+      (λ r. answer ≡ NotWritten r) (answer ≡ Length (length (bookBytes rs)))
   pub left-as-it-was : (r : Refusal) → answer ≡ NotWritten r → after ≡ before
 
 -- So for every answer and every buffer that the contract of `book_writer::write` gives.

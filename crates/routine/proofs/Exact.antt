@@ -1,4 +1,5 @@
--- Tests in turn, and what comes of them: how `Exactly` (specs/Causes.antt) is proved of a call, and of the check of a routine. Assumes nothing.
+-- Tests in turn, and what comes of them: how `Exactly` (specs/Causes.antt) is proved of a call; and `exact-routine`, `numbers-differ`.
+-- Assumes nothing.
 use Prim.Native.Nat.{ℕ, zero, suc, _+_, _≤_, _<_}
 use mathlib.Core.Path.{_≡_, refl, sym, ap, subst, _∙_}
 use mathlib.Core.Bool.{Bool, true, false, not, _&&_, _||_}
@@ -11,12 +12,19 @@ use lib.IntN.{ℤ, pos, negsuc}
 use lib.Signed.{_<ℤ_, leZ, ltZ}
 use lib.ListN.{length, getD}
 use Rattle.routine.specs.Range.{lowestSetting, highestSetting, inRange}
-use Rattle.routine.specs.Refusals.{Cause, command-count, device-not-below, setting-out-of-range, tag-out-of-range, refusalOf, refuse_when_, _andThen_}
+use Rattle.routine.specs.Choice.{if_then_else_}
+use Rattle.routine.specs.Refusals.{Cause, devices-out-of-range, pass-limit-out-of-range, first-id-0, command-count, device-not-below}
+use Rattle.routine.specs.Refusals.{setting-out-of-range, tag-out-of-range, sequence-full, ids-used-up, not-running, turn-in-flight}
+use Rattle.routine.specs.Refusals.{none-in-flight, report-code-out-of-range, event-device, failure-of-down, restart-of-up}
+use Rattle.routine.specs.Refusals.{restart-setting}
+use Rattle.routine.specs.Refusals.{book-cut-short, book-misplaced, book-length, no-room, refusalOf, refuse_when_, _andThen_}
 use Rattle.routine.specs.Routine.{maxCommands, highestTag, commandCheck, commandsCheck, routineCheck}
-use Rattle.routine.specs.Causes.{NoneOf, FirstIn, Exactly, itself, OutOfRange, commandNo, commandCauses, routineCauses, ExactRoutine}
+use Rattle.routine.specs.Causes.{NoneOf, FirstIn, Exactly, itself, NumbersDiffer, OutOfRange, commandNo, commandCauses, routineCauses}
+use Rattle.routine.specs.Causes.{ExactRoutine}
 use Rattle.routine.specs.Causes.{RoutineCause, count-is-out, device-is-out, setting-is-out, tag-is-out}
 use Rattle.routine.specs.declared.Command.{Command}
 use Rattle.routine.specs.declared.Refusal.{Refusal}
+use Rattle.routine.specs.declared.Refusal.the-variants.{Number, Indexed}
 use Rattle.routine.specs.declared.Verdict.{Verdict}
 use Rattle.routine.specs.declared.Verdict.the-variants.{Accepted, Refused}
 
@@ -82,7 +90,8 @@ not-both false t = refl
 pub out-of-range : (z : ℤ) → Decides (not (inRange z)) (OutOfRange z)
 unfolding inRange
 out-of-range z =
-    subst (λ (t : Bool). Decides t (OutOfRange z)) (sym (not-both (leZ lowestSetting z) (leZ z highestSetting))) (either _ _ (below z) (above z))
+    subst (λ (t : Bool). Decides t (OutOfRange z)) (sym (not-both (leZ lowestSetting z) (leZ z highestSetting)))
+    (either _ _ (below z) (above z))
 
 -- ---- tests in turn, and what comes of them
 
@@ -134,8 +143,8 @@ module _ {T : Type 0} (Holds : T → Type 0) (causeOf : T → Cause) where
       )
   refused-first r (broken {t = t} {ts = ts} x) e = (t, record { before = []; after = ts; order = refl; holds = x; earlier = tt }, cc)
 
-  first-refused : (t : T) (after before : List T) (v : Verdict) → Outcome Holds causeOf (before ++ (t ∷ after)) v → NoneOf Holds before → Holds t →
-      v ≡ Refused (refusalOf (causeOf t))
+  first-refused : (t : T) (after before : List T) (v : Verdict) →
+      Outcome Holds causeOf (before ++ (t ∷ after)) v → NoneOf Holds before → Holds t → v ≡ Refused (refusalOf (causeOf t))
   first-refused t after [] v (passed p q) h x = absurd (p x)
   first-refused t after [] v (broken y) h x = refl
   first-refused t after (u ∷ before) v (passed p q) h x = first-refused t after before v q (h .1) x
@@ -150,12 +159,21 @@ module _ {T : Type 0} (Holds : T → Type 0) (causeOf : T → Cause) where
       record {
         refused-exactly = λ r. (
           λ x. refused-first r o (from r x),
-          λ f. to r
-              (first-refused (f .0) (f .1 .after) (f .1 .before) v (subst (λ (l : List T). Outcome Holds causeOf l v) (f .1 .order) o) (f .1 .earlier) (f .1 .holds)
-              ∙ ap Refused (f .2)),
+          λ f. let g = f .1 in
+              let split = subst (λ (l : List T). Outcome Holds causeOf l v) (g .order) o in
+              to r (first-refused (f .0) (g .after) (g .before) v split (g .earlier) (g .holds) ∙ ap Refused (f .2)),
         );
         accepted-exactly = (λ x. accepted-passes o (from-accepted x), λ n. to-accepted (passes-accepted o n));
       }
+
+-- The same said in other words.
+pub reworded : {T : Type 0} {Holds : T → Type 0} {causeOf : T → Cause} {ts : List T} {R S : Refusal → Type 0} {A B : Type 0} →
+    Exactly Holds causeOf ts R A → ((r : Refusal) → R r → S r) → ((r : Refusal) → S r → R r) → (A → B) → (B → A) →
+    Exactly Holds causeOf ts S B
+reworded x to from to-accepted from-accepted = record {
+  refused-exactly = λ r. (λ s. x .refused-exactly r .0 (from r s), λ f. to r (x .refused-exactly r .1 f));
+  accepted-exactly = (λ b. x .accepted-exactly .0 (from-accepted b), λ n. to-accepted (x .accepted-exactly .1 n));
+}
 
 -- ---- the same tests among those of another call
 
@@ -171,8 +189,8 @@ widened Holds More causeOf up c (passed p q) = passed (λ x. p (c .0 x)) (widene
 widened Holds More causeOf up c (broken x) = broken (up _ x)
 
 -- causes as tests of another kind
-pub renamed : {T : Type 0} (Holds : Cause → Type 0) (More : T → Type 0) (causeOf : T → Cause) (f : Cause → T) → ((c : Cause) → causeOf (f c) ≡ c) →
-    ((c : Cause) → Holds c → More (f c)) → ((c : Cause) → More (f c) → Holds c) →
+pub renamed : {T : Type 0} (Holds : Cause → Type 0) (More : T → Type 0) (causeOf : T → Cause) (f : Cause → T) →
+    ((c : Cause) → causeOf (f c) ≡ c) → ((c : Cause) → Holds c → More (f c)) → ((c : Cause) → More (f c) → Holds c) →
     {ts : List Cause} {v : Verdict} → Outcome Holds itself ts v → Outcome More causeOf (map f ts) v
 renamed Holds More causeOf f e up down none = none
 renamed Holds More causeOf f e up down (passed {t = t} p q) = passed (λ x. p (down t x)) (renamed Holds More causeOf f e up down q)
@@ -230,17 +248,17 @@ module _ (limit : ℕ) (cs : List Command) where
       let there : i < length cs = let e = r .counted in omega arith in
       let at = first-rest r in
       let device = one H itself (device-not-below i) (leb limit (c .device))
-              (agree (at-most limit (c .device))
-              (λ x. device-is-out there (subst (λ (k : Command). limit ≤ k .device) (sym at) x))
-              (λ y. subst (λ (k : Command). limit ≤ k .device) at (device-said y .1))) in
+      (agree (at-most limit (c .device))
+      (λ x. device-is-out there (subst (λ (k : Command). limit ≤ k .device) (sym at) x))
+      (λ y. subst (λ (k : Command). limit ≤ k .device) at (device-said y .1))) in
       let setting = one H itself (setting-out-of-range i) (not (inRange (c .setting)))
-              (agree (out-of-range (c .setting))
-              (λ x. setting-is-out there (subst (λ (k : Command). OutOfRange (k .setting)) (sym at) x))
-              (λ y. subst (λ (k : Command). OutOfRange (k .setting)) at (setting-said y .1))) in
+      (agree (out-of-range (c .setting))
+      (λ x. setting-is-out there (subst (λ (k : Command). OutOfRange (k .setting)) (sym at) x))
+      (λ y. subst (λ (k : Command). OutOfRange (k .setting)) at (setting-said y .1))) in
       let tag = one H itself (tag-out-of-range i) (ltb highestTag (c .tag))
-              (agree (less highestTag (c .tag))
-              (λ x. tag-is-out there (subst (λ (k : Command). highestTag < k .tag) (sym at) x))
-              (λ y. subst (λ (k : Command). highestTag < k .tag) at (tag-said y .1))) in
+      (agree (less highestTag (c .tag))
+      (λ x. tag-is-out there (subst (λ (k : Command). highestTag < k .tag) (sym at) x))
+      (λ y. subst (λ (k : Command). highestTag < k .tag) at (tag-said y .1))) in
       join H itself (join H itself device (λ _. join H itself setting (λ _. tag)))
       (λ _. commands-outcome n (suc i) rest (next-rest r) (omega arith))
 
@@ -256,9 +274,71 @@ module _ (limit : ℕ) (cs : List Command) where
       join H itself (one H itself command-count _ (agree bad count-is-out count-said))
       (λ fine.
       let few : ¬ (maxCommands < length cs) = λ h.
-              accepted-passes H itself (one H itself command-count _ (agree bad count-is-out count-said)) fine .0 (count-is-out (inr h)) in
+      accepted-passes H itself (one H itself command-count _ (agree bad count-is-out count-said)) fine .0 (count-is-out (inr h)) in
       commands-outcome maxCommands 0 cs whole (omega arith))
 
 -- the check of a routine is exact
 pub exact-routine : ExactRoutine
-exact-routine limit cs = exactly (RoutineCause limit cs) itself routineCauses (routineCheck limit cs) (routine-outcome limit cs) (λ r e. e) (λ r e. e) (λ e. e) (λ e. e)
+exact-routine limit cs =
+    exactly (RoutineCause limit cs) itself routineCauses (routineCheck limit cs) (routine-outcome limit cs)
+    (λ r e. e) (λ r e. e) (λ e. e) (λ e. e)
+
+-- ---- a refusal tells its cause
+
+abbrev numbered : ℕ → Cause
+numbered n =
+    if eqb n 1 then devices-out-of-range
+    else if eqb n 2 then pass-limit-out-of-range
+    else if eqb n 3 then first-id-0
+    else if eqb n 4 then command-count
+    else if eqb n 8 then sequence-full
+    else if eqb n 9 then ids-used-up
+    else if eqb n 10 then not-running
+    else if eqb n 11 then turn-in-flight
+    else if eqb n 12 then none-in-flight
+    else if eqb n 13 then report-code-out-of-range
+    else if eqb n 14 then event-device
+    else if eqb n 15 then failure-of-down
+    else if eqb n 16 then restart-of-up
+    else if eqb n 17 then restart-setting
+    else if eqb n 18 then book-cut-short
+    else if eqb n 19 then book-misplaced
+    else no-room
+
+abbrev indexed : ℕ → ℕ → Cause
+indexed n i =
+    if eqb n 5 then device-not-below i
+    else if eqb n 6 then setting-out-of-range i
+    else if eqb n 7 then tag-out-of-range i
+    else book-length i
+
+abbrev told : Refusal → Cause
+told (Number n) = numbered n
+told (Indexed n i) = indexed n i
+
+told-is : (c : Cause) → told (refusalOf c) ≡ c
+unfolding refusalOf
+told-is devices-out-of-range = refl
+told-is pass-limit-out-of-range = refl
+told-is first-id-0 = refl
+told-is command-count = refl
+told-is (device-not-below i) = refl
+told-is (setting-out-of-range i) = refl
+told-is (tag-out-of-range i) = refl
+told-is sequence-full = refl
+told-is ids-used-up = refl
+told-is not-running = refl
+told-is turn-in-flight = refl
+told-is none-in-flight = refl
+told-is report-code-out-of-range = refl
+told-is event-device = refl
+told-is failure-of-down = refl
+told-is restart-of-up = refl
+told-is restart-setting = refl
+told-is book-cut-short = refl
+told-is book-misplaced = refl
+told-is (book-length i) = refl
+told-is no-room = refl
+
+pub numbers-differ : NumbersDiffer
+numbers-differ c d e = sym (told-is c) ∙ ap told e ∙ told-is d

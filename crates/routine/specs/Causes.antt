@@ -1,6 +1,7 @@
--- Document 01, "When a call is turned down": "each number under its cause alone". What that means of any call; and the causes of a routine, 4 to
--- 7, each said by itself in the table's words. The causes of the hub's calls stand in `specs/Causes.antt` of crate `rules`, those of writing a book in
--- `specs/WritingCauses.antt` of crate `layout`, those of reading one in `specs/Claims.antt` there. Assumes nothing.
+-- Document 01, "When a call is turned down": "each number under its cause alone". What that means of any call; and the causes of a
+-- routine, 4 to 7, each said by itself in the table's words. The causes of the hub's calls stand in `specs/Causes.antt` of crate `rules`,
+-- those of writing a book in `specs/WritingCauses.antt` of crate `layout`, those of reading one in `specs/Claims.antt` there. Assumes
+-- nothing.
 use mathlib.Core.Path.{_≡_}
 use mathlib.Core.Logic.{_⊎_, _↔_}
 use mathlib.Core.List.{List, [], _∷_, _++_}
@@ -30,15 +31,21 @@ pub record FirstIn {A : Type 0} (P : A → Type 0) (l : List A) (x : A) : Type 0
   pub holds : P x
   pub earlier : NoneOf P before
 
--- Tests, each for a cause, are listed in the order in which document 01 makes them; `Holds` says when the cause of a test is there. A call is refused with r
--- exactly if the first of them whose cause is there has the number (and index) r in the table; and it is accepted exactly if none is there.
-pub record Exactly {T : Type 0} (Holds : T → Type 0) (causeOf : T → Cause) (tests : List T) (RefusedWith : Refusal → Type 0) (IsAccepted : Type 0) : Type 0 where
+-- A call is tested for causes, in the order that document 01 gives: `tests` is that list, `causeOf` the cause of each test, and `Holds`
+-- says when a cause holds of the call. The call is refused with r exactly if r is the table's number (and index) of the first cause that
+-- holds: that cause holds and none that is tested before it does. It is accepted exactly if no cause holds.
+pub record Exactly {T : Type 0} (Holds : T → Type 0) (causeOf : T → Cause) (tests : List T)
+    (RefusedWith : Refusal → Type 0) (IsAccepted : Type 0) : Type 0 where
   pub refused-exactly : (r : Refusal) → RefusedWith r ↔ ((t : T) × FirstIn Holds tests t × (refusalOf (causeOf t) ≡ r))
   pub accepted-exactly : IsAccepted ↔ NoneOf Holds tests
 
--- The causes of a call in the order of their tests, where each is tested once.
+-- The cause of a test, where the tests are the causes themselves.
 abbrev pub itself : Cause → Cause
 itself cause = cause
+
+-- No two causes have the same number and index, so that a refusal tells its cause. The theorem is `numbers-differ` (proofs/Exact.antt).
+abbrev pub NumbersDiffer : Type 0
+NumbersDiffer = (c d : Cause) → refusalOf c ≡ refusalOf d → c ≡ d
 
 -- ---- the causes of a routine
 
@@ -50,7 +57,7 @@ OutOfRange z = (z <ℤ lowestSetting) ⊎ (highestSetting <ℤ z)
 abbrev pub commandNo : ℕ → List Command → Command
 commandNo i cs = getD cs i zeroCommand
 
--- A routine of these commands is turned down for this cause, against a device limit: N in the hub, 32 in a book.
+-- This cause holds of a routine of these commands, against a device limit: N in the hub, 32 in a book.
 pub data RoutineCause (limit : ℕ) (cs : List Command) : Cause → Type 0 where
   -- 4: "routine of 0 or over 8 commands"
   count-is-out : (length cs ≡ 0) ⊎ (maxCommands < length cs) → RoutineCause limit cs command-count

@@ -10,8 +10,10 @@ use lib.Dec.{leb, ltb, eqb}
 use lib.IntN.{ℤ}
 use lib.ListN.{length}
 use Rattle.routine.specs.Range.{inRange}
-use Rattle.routine.specs.Refusals.{Cause, devices-out-of-range, pass-limit-out-of-range, first-id-0, command-count, device-not-below, setting-out-of-range}
-use Rattle.routine.specs.Refusals.{tag-out-of-range, sequence-full, ids-used-up, not-running, turn-in-flight, none-in-flight, report-code-out-of-range}
+use Rattle.routine.specs.Refusals.{Cause, devices-out-of-range, pass-limit-out-of-range, first-id-0, command-count, device-not-below}
+use Rattle.routine.specs.Refusals.{setting-out-of-range}
+use Rattle.routine.specs.Refusals.{tag-out-of-range, sequence-full, ids-used-up, not-running, turn-in-flight, none-in-flight}
+use Rattle.routine.specs.Refusals.{report-code-out-of-range}
 use Rattle.routine.specs.Refusals.{event-device, failure-of-down, restart-of-up, restart-setting, refusalOf, refuse_when_, _andThen_}
 use Rattle.routine.specs.Routine.{maxCommands, maxDevices, routineCheck}
 use Rattle.routine.specs.Causes.{NoneOf, FirstIn, Exactly, itself, OutOfRange, RoutineCause, commandCauses, routineCauses}
@@ -19,12 +21,15 @@ use Rattle.routine.specs.declared.Command.{Command}
 use Rattle.routine.specs.declared.Refusal.{Refusal}
 use Rattle.routine.specs.declared.Verdict.{Verdict}
 use Rattle.routine.specs.declared.Verdict.the-variants.{Accepted, Refused}
-use Rattle.routine.proofs.Exact.{Decides, less, at-most, same, flag, either, both, agree, out-of-range, Outcome, passed, broken, one, join, exactly}
+use Rattle.routine.proofs.Exact.{Decides, less, at-most, same, flag, either, both, agree, out-of-range, Outcome, passed, broken, one}
+use Rattle.routine.proofs.Exact.{join, exactly}
 use Rattle.routine.proofs.Exact.{Covers, widened, routine-outcome}
 use Rattle.routine.proofs.Exact as Made
 use Rattle.rules.specs.Tables.{put}
-use Rattle.rules.specs.State.{highestPassLimit, maxHeld, highestId, Status, to-do, in-flight, was-done, was-skipped, Step, Member, State}
-use Rattle.rules.specs.Answers.{Call, submit, turn, report, failure, restart, cancel, Answer, refused, placed, wait, send, done, skipped, committed}
+use Rattle.rules.specs.State.{highestPassLimit, maxHeld, highestId, Status, to-do, in-flight, was-done, was-skipped, Step, Member}
+use Rattle.rules.specs.State.{State}
+use Rattle.rules.specs.Answers.{Call, submit, turn, report, failure, restart, cancel, Answer, refused, placed, wait, send, done}
+use Rattle.rules.specs.Answers.{skipped, committed}
 use Rattle.rules.specs.Answers.{aborted, down, up, Result, turnedDown, unlessRefused}
 use Rattle.rules.specs.Progress.{isMust, next, Flight, flightOr, flight}
 use Rattle.rules.specs.Sequence.{Found, onto, find, isRunning, runs, withUp}
@@ -39,9 +44,11 @@ use Rattle.rules.specs.Cancel.{cancelFound, cancelOf}
 use Rattle.rules.specs.Calls.{resultOf}
 use Rattle.rules.specs.Causes.{RunsUnder, NoneRunsUnder, InFlight, OneInFlight, NoneInFlight, IsRefusal, openingCauses, callCauses}
 use Rattle.rules.specs.Causes.{OpeningCause, devices-are-out, limit-is-out, id-is-0}
-use Rattle.rules.specs.Causes.{CallCause, routine-is-out, is-full, ids-are-used-up, turn-of-none, cancel-of-none, report-on-none, one-flies}
-use Rattle.rules.specs.Causes.{none-flies, code-is-out, failure-is-out, restart-is-out, is-down, is-up, setting-is-out}
-use Rattle.rules.specs.Causes.{ExactOpening, ExactCall, ExactSubmission, ExactTurn, ExactReport, ExactCancel, ExactFailure, ExactRestart}
+use Rattle.rules.specs.Causes.{CallCause, routine-is-out, is-full, ids-are-used-up, turn-of-none, cancel-of-none, report-on-none}
+use Rattle.rules.specs.Causes.{one-flies}
+use Rattle.rules.specs.Causes.{none-flies, code-is-out, failure-is-out, restart-is-out, is-down, is-up, restart-setting-is-out}
+use Rattle.rules.specs.Causes.{ExactOpening, ExactCall, ExactSubmission, ExactTurn, ExactReport, ExactCancel, ExactFailure}
+use Rattle.rules.specs.Causes.{ExactRestart}
 use Rattle.rules.proofs.Lists.{byIf, t≠f}
 
 -- ---- the first of a list
@@ -54,7 +61,8 @@ first-not-none P x (y ∷ before) after h n = first-not-none P x before after h 
 pub some-not-none : {A : Type 0} (P : A → Type 0) (l : List A) (x : A) → FirstIn P l x → NoneOf P l → ⊥
 some-not-none P l x f n = first-not-none P x (f .before) (f .after) (f .holds) (subst (NoneOf P) (f .order) n)
 
-same-split : {A : Type 0} (P : A → Type 0) (x y : A) (a b c d : List A) → a ++ (x ∷ b) ≡ c ++ (y ∷ d) → P x → P y → NoneOf P a → NoneOf P c → x ≡ y
+same-split : {A : Type 0} (P : A → Type 0) (x y : A) (a b c d : List A) →
+    a ++ (x ∷ b) ≡ c ++ (y ∷ d) → P x → P y → NoneOf P a → NoneOf P c → x ≡ y
 same-split P x y [] b [] d e p q n m = cc
 same-split P x y [] b (z ∷ c) d e p q n m = let f : x ≡ z = cc in absurd (m .0 (subst P f p))
 same-split P x y (z ∷ a) b [] d e p q n m = let f : y ≡ z = cc in absurd (n .0 (subst P f q))
@@ -63,7 +71,8 @@ same-split P x y (z ∷ a) b (w ∷ c) d e p q n m = let f : a ++ (x ∷ b) ≡ 
 -- there is one first
 pub one-first : {A : Type 0} (P : A → Type 0) (l : List A) (x y : A) → FirstIn P l x → FirstIn P l y → x ≡ y
 one-first P l x y f g =
-    same-split P x y (f .before) (f .after) (g .before) (g .after) (sym (f .order) ∙ g .order) (f .holds) (g .holds) (f .earlier) (g .earlier)
+    same-split P x y (f .before) (f .after) (g .before) (g .after) (sym (f .order) ∙ g .order)
+    (f .holds) (g .holds) (f .earlier) (g .earlier)
 
 -- the first behind one that is no such
 first-behind : {A : Type 0} (P : A → Type 0) (y : A) (l : List A) (x : A) → ¬ (P y) → FirstIn P l x → FirstIn P (y ∷ l) x
@@ -156,6 +165,12 @@ abbrev Judged : Verdict → State → Result → Type 0
 Judged Accepted s result = NoneOf IsRefusal (result .answers)
 Judged (Refused r) s result = result ≡ turnedDown r s
 
+-- the verdict on a call, as its tests make it, and the result under it
+record Verdicted (s : State) (c : Call) (result : Result) : Type 0 where
+  verdict : Verdict
+  made : Outcome (CallCause s c) itself (callCauses c) verdict
+  judged : Judged verdict s result
+
 judged-unless : (v : Verdict) (s : State) (result : Result) → NoneOf IsRefusal (result .answers) → Judged v s (unlessRefused v s result)
 judged-unless Accepted s result n = n
 judged-unless (Refused r) s result n = refl
@@ -163,7 +178,8 @@ judged-unless (Refused r) s result n = refl
 refusal-told : (r x : Refusal) (l : List Answer) → l ≡ refused x ∷ [] → l ≡ refused r ∷ [] → x ≡ r
 refusal-told r x l e f = let g : refused x ∷ [] ≡ refused r ∷ [] = sym e ∙ f in cc
 
-exact-call : (s : State) (c : Call) (v : Verdict) → Outcome (CallCause s c) itself (callCauses c) v → Judged v s (resultOf s c) → ExactCall s c
+exact-call : (s : State) (c : Call) (v : Verdict) →
+    Outcome (CallCause s c) itself (callCauses c) v → Judged v s (resultOf s c) → ExactCall s c
 exact-call s c Accepted o j = record {
   exact = exactly (CallCause s c) itself (callCauses c) Accepted o
       (λ r e. absurd (none r e)) (λ r e. let z : _≡_ {A = ℕ} 0 1 = cc in absurd (omega arith)) (λ _. refl) (λ _. j);
@@ -202,13 +218,20 @@ module _ (n k first : ℕ) where
       (λ _. one H itself first-id-0 _ (agree (same first 0) id-is-0 id-said)))
 
 -- what the opening gives says the same as its verdict
-refused-opening : (v : Verdict) (s : State) (r : Refusal) → openIf v s ≡ not-opened r → v ≡ Refused r
+pub refused-opening : (v : Verdict) (s : State) (r : Refusal) → openIf v s ≡ not-opened r → v ≡ Refused r
 refused-opening Accepted s r e = let z : _≡_ {A = ℕ} 0 1 = cc in absurd (omega arith)
 refused-opening (Refused x) s r e = let f : x ≡ r = cc in ap Refused f
 
-accepted-opening : (v : Verdict) (s : State) → openIf v s ≡ opened s → v ≡ Accepted
-accepted-opening Accepted s e = refl
-accepted-opening (Refused x) s e = let z : _≡_ {A = ℕ} 0 1 = cc in absurd (omega arith)
+pub accepted-opening : (v : Verdict) (s t : State) → openIf v s ≡ opened t → v ≡ Accepted
+accepted-opening Accepted s t e = refl
+accepted-opening (Refused x) s t e = let z : _≡_ {A = ℕ} 0 1 = cc in absurd (omega arith)
+
+-- the hub that an opening gives is the new one
+pub opened-new : (n k first : ℕ) (s : State) → openOf n k first ≡ opened s → openOf n k first ≡ opened (newHub n k first)
+unfolding openOf
+opened-new n k first s e =
+    let new = newHub n k first in
+    ap (λ (v : Verdict). openIf v new) (accepted-opening (openCheck n k first) new s e)
 
 pub exact-opening : ExactOpening
 unfolding openOf
@@ -216,7 +239,7 @@ exact-opening n k first =
     let v = openCheck n k first in
     let s = newHub n k first in
     exactly (OpeningCause n k first) itself openingCauses v (opening-outcome n k first)
-    (refused-opening v s) (λ r e. ap (λ (x : Verdict). openIf x s) e) (accepted-opening v s) (λ e. ap (λ (x : Verdict). openIf x s) e)
+    (refused-opening v s) (λ r e. ap (λ (x : Verdict). openIf x s) e) (accepted-opening v s s) (λ e. ap (λ (x : Verdict). openIf x s) e)
 
 -- ---- submission
 
@@ -260,22 +283,16 @@ module _ (s : State) (cs : List Command) where
   unfolding submitCheck
   submit-outcome =
       let H = CallCause s (submit cs) in
-      join H itself (widened (RoutineCause (s .devices) cs) H itself (λ c h. routine-is-out h) routine-said (routine-outcome (s .devices) cs))
+      let R = RoutineCause (s .devices) cs in
+      join H itself (widened R H itself (λ c h. routine-is-out h) routine-said (routine-outcome (s .devices) cs))
       (λ _. join H itself (one H itself sequence-full _ (agree (at-most maxHeld (length (s .sequence))) is-full full-said))
       (λ _. one H itself ids-used-up _ (agree (less highestId (s .nextId)) ids-are-used-up ids-said)))
 
-pub exact-submission : ExactSubmission
+submit-judged : (s : State) (cs : List Command) → Judged (submitCheck s cs) s (submitOf s cs)
 unfolding submitOf
-exact-submission s cs =
-    exact-call s (submit cs) (submitCheck s cs) (submit-outcome s cs) (judged-unless (submitCheck s cs) s _ (no-refusal _ refl, tt))
+submit-judged s cs = judged-unless (submitCheck s cs) s _ (no-refusal _ refl, tt)
 
 -- ---- turn, report and cancel
-
--- the verdict on a call, as its tests make it, and the result under it
-record Verdicted (s : State) (c : Call) (result : Result) : Type 0 where
-  verdict : Verdict
-  made : Outcome (CallCause s c) itself (callCauses c) verdict
-  judged : Judged verdict s result
 
 module _ (s : State) (i : ℕ) where
   -- the result of a turn that is made
@@ -350,7 +367,8 @@ module _ (s : State) (i : ℕ) where
     unfolding doneReport skipReport
     reported-fine f x =
         byIf (λ (r : Result). NoneOf IsRefusal (r .answers)) (eqb code codeDone) (λ _. (no-refusal _ refl, tt))
-        (λ _. byIf (λ (r : Result). NoneOf IsRefusal (r .answers)) (isMust (x .command)) (λ _. abort-fine s f) (λ _. (no-refusal _ refl, tt)))
+        (λ _. byIf (λ (r : Result). NoneOf IsRefusal (r .answers)) (isMust (x .command)) (λ _. abort-fine s f)
+        (λ _. (no-refusal _ refl, tt)))
 
     report-flown : (f : Found) → FirstIn (RunsUnder i) (s .sequence) (f .it) → {o : Option Flight} → Flown (f .it .steps) o →
         Verdicted s (report i code) (reportFlight s f code o)
@@ -380,20 +398,17 @@ module _ (s : State) (i : ℕ) where
 name : (s : State) (i : ℕ) → Located (RunsUnder i) (s .sequence) (find (runs i) (s .sequence))
 name s i = locate (runs i) (RunsUnder i) (runs-said i) (s .sequence)
 
-verdicted : (s : State) (c : Call) → Verdicted s c (resultOf s c) → ExactCall s c
-verdicted s c v = exact-call s c (v .verdict) (v .made) (v .judged)
-
-pub exact-turn : ExactTurn
+turn-verdicted : (s : State) (i : ℕ) → Verdicted s (turn i) (turnOf s i)
 unfolding turnOf
-exact-turn s i = verdicted s (turn i) (turn-located s i (name s i))
+turn-verdicted s i = turn-located s i (name s i)
 
-pub exact-report : ExactReport
+report-verdicted : (s : State) (i code : ℕ) → Verdicted s (report i code) (reportOf s i code)
 unfolding reportOf
-exact-report s i code = verdicted s (report i code) (report-located s i code (name s i))
+report-verdicted s i code = report-located s i code (name s i)
 
-pub exact-cancel : ExactCancel
+cancel-verdicted : (s : State) (i : ℕ) → Verdicted s (cancel i) (cancelOf s i)
 unfolding cancelOf
-exact-cancel s i = verdicted s (cancel i) (cancel-located s i (name s i))
+cancel-verdicted s i = cancel-located s i (name s i)
 
 -- ---- failure and restart
 
@@ -412,7 +427,9 @@ failureVerdict s d = refuse event-device when leb (s .devices) d andThen refuse 
 
 abbrev restartVerdict : State → ℕ → ℤ → Verdict
 restartVerdict s d v =
-    refuse event-device when leb (s .devices) d andThen refuse restart-of-up when s .up d andThen refuse restart-setting when not (inRange v)
+    refuse event-device when leb (s .devices) d
+    andThen refuse restart-of-up when s .up d
+    andThen refuse restart-setting when not (inRange v)
 
 module _ (s : State) (d : ℕ) where
   failure-device-said : CallCause s (failure d) event-device → s .devices ≤ d
@@ -442,7 +459,7 @@ module _ (s : State) (d : ℕ) where
     up-said (is-up h) = h
 
     restart-setting-said : CallCause s (restart d v) restart-setting → OutOfRange v
-    restart-setting-said (setting-is-out h) = h
+    restart-setting-said (restart-setting-is-out h) = h
 
     restart-fine : NoneOf IsRefusal (restartResult s d v .answers)
     unfolding restartResult
@@ -455,25 +472,60 @@ module _ (s : State) (d : ℕ) where
         let H = CallCause s (restart d v) in
         join H itself (one H itself event-device _ (agree (at-most (s .devices) d) restart-is-out restart-device-said))
         (λ _. join H itself (one H itself restart-of-up _ (agree (flag (s .up d)) is-up up-said))
-        (λ _. one H itself restart-setting _ (agree (out-of-range v) setting-is-out restart-setting-said)))
+        (λ _. one H itself restart-setting _ (agree (out-of-range v) restart-setting-is-out restart-setting-said)))
+
+failure-judged : (s : State) (d : ℕ) → Judged (failureVerdict s d) s (failureOf s d)
+unfolding failureOf
+failure-judged s d = judged-unless (failureVerdict s d) s (settling (failureResult s d)) (failure-fine s d)
+
+restart-judged : (s : State) (d : ℕ) (v : ℤ) → Judged (restartVerdict s d v) s (restartOf s d v)
+unfolding restartOf
+restart-judged s d v = judged-unless (restartVerdict s d v) s (settling (restartResult s d v)) (restart-fine s d v)
+
+-- ---- the theorems
+
+-- every call has its verdict
+judge : (s : State) (c : Call) → Verdicted s c (resultOf s c)
+judge s (submit cs) = record { verdict = submitCheck s cs; made = submit-outcome s cs; judged = submit-judged s cs }
+judge s (turn i) = turn-verdicted s i
+judge s (report i code) = report-verdicted s i code
+judge s (failure d) = record { verdict = failureVerdict s d; made = failure-outcome s d; judged = failure-judged s d }
+judge s (restart d v) = record { verdict = restartVerdict s d v; made = restart-outcome s d v; judged = restart-judged s d v }
+judge s (cancel i) = cancel-verdicted s i
+
+pub exact-calls : (s : State) (c : Call) → ExactCall s c
+exact-calls s c = let j = judge s c in exact-call s c (j .verdict) (j .made) (j .judged)
+
+pub exact-submission : ExactSubmission
+exact-submission s cs = exact-calls s (submit cs)
+
+pub exact-turn : ExactTurn
+exact-turn s i = exact-calls s (turn i)
+
+pub exact-report : ExactReport
+exact-report s i code = exact-calls s (report i code)
+
+pub exact-cancel : ExactCancel
+exact-cancel s i = exact-calls s (cancel i)
 
 pub exact-failure : ExactFailure
-unfolding failureOf
-exact-failure s d =
-    let v = failureVerdict s d in
-    exact-call s (failure d) v (failure-outcome s d) (judged-unless v s (settling (failureResult s d)) (failure-fine s d))
+exact-failure s d = exact-calls s (failure d)
 
 pub exact-restart : ExactRestart
-unfolding restartOf
-exact-restart s d v =
-    let w = restartVerdict s d v in
-    exact-call s (restart d v) w (restart-outcome s d v) (judged-unless w s (settling (restartResult s d v)) (restart-fine s d v))
+exact-restart s d v = exact-calls s (restart d v)
 
--- every call
-pub exact-calls : (s : State) (c : Call) → ExactCall s c
-exact-calls s (submit cs) = exact-submission s cs
-exact-calls s (turn i) = exact-turn s i
-exact-calls s (report i code) = exact-report s i code
-exact-calls s (failure d) = exact-failure s d
-exact-calls s (restart d v) = exact-restart s d v
-exact-calls s (cancel i) = exact-cancel s i
+-- ---- one refusal, or none
+
+-- The answers of a call are one refusal, or hold none.
+abbrev pub RefusedOrNot : List Answer → Type 0
+RefusedOrNot l = ((r : Refusal) × (l ≡ refused r ∷ [])) ⊎ NoneOf IsRefusal l
+
+pub refused-or-not : (s : State) (c : Call) → RefusedOrNot (resultOf s c .answers)
+refused-or-not s c = go (judge s c)
+  where
+    either-way : (v : Verdict) → Judged v s (resultOf s c) → RefusedOrNot (resultOf s c .answers)
+    either-way Accepted j = inr j
+    either-way (Refused r) j = inl (r, ap (λ (k : Result). k .answers) j)
+
+    go : Verdicted s c (resultOf s c) → RefusedOrNot (resultOf s c .answers)
+    go v = either-way (v .verdict) (v .judged)
