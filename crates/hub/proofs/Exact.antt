@@ -1,18 +1,16 @@
 -- Each number under its cause alone, of the running hub: the theorems of the rules, carried over by the contracts. Assumes nothing.
-use mathlib.Core.Path.{_≡_, refl, sym, ap, subst, _∙_}
+use mathlib.Core.Path.{_≡_, sym, ap, subst, _∙_}
 use mathlib.Core.Logic.{inl, inr}
 use mathlib.Core.List.{List, [], _∷_, _++_}
 use Prim.Native.Nat.{ℕ}
 use native.Mathlib.Omega.{arith}
-use Rattle.routine.specs.Causes.{NoneOf, Exactly, itself}
+use Rattle.routine.specs.Causes.{NoneOf}
 use Rattle.routine.specs.declared.Refusal.{Refusal}
 use Rattle.routine.specs.declared.Verdict.{Verdict}
-use Rattle.routine.specs.declared.Verdict.the-variants.{Accepted, Refused as TurnedDown}
-use Rattle.rules.specs.State.{State}
-use Rattle.rules.specs.Answers.{Back, Answer as Told, refused, Result}
-use Rattle.rules.specs.Open.{opened, not-opened, newHub, openIf, openOf}
+use Rattle.rules.specs.Answers.{Back, refused, Result}
+use Rattle.rules.specs.Open.{newHub, openIf}
 use Rattle.rules.specs.Calls.{resultOf}
-use Rattle.rules.specs.Causes.{OpeningCause, CallCause, openingCauses, callCauses, IsRefusal}
+use Rattle.rules.specs.Causes.{IsRefusal}
 use Rattle.routine.proofs.Exact.{reworded}
 use Rattle.rules.proofs.Exact.{exact-opening, exact-calls, refused-opening, accepted-opening, opened-new, RefusedOrNot, refused-or-not}
 use Rattle.state.specs.View.{backsOf, answerOf, firstOf}
@@ -21,12 +19,10 @@ use Rattle.state.specs.declared.Answer.{Answer}
 use Rattle.state.specs.declared.Answer.the-variants.{Refused, Placed, Wait, Sent, Done, Skipped, Committed, Aborted, Down, Up}
 use Rattle.state.specs.declared.First.{First}
 use Rattle.state.specs.declared.First.the-variants.{NoAbort, Abort}
-use Rattle.hub.specs.View.{view, answersIn, resultIn}
-use Rattle.hub.specs.Contract.{Opens, Gives}
+use Rattle.hub.specs.View.{view, answersIn}
 use Rattle.hub.specs.Demand3.{HubCall, callOf, Meets}
-use Rattle.hub.specs.Exact.{HubOpeningExact, NotRefused, HubCallExact, HubCallsExact}
+use Rattle.hub.specs.Exact.{HubOpeningExact, NotRefused, HubCallsExact}
 use Rattle.hub.specs.declared.Hub.{Hub}
-use Rattle.hub.specs.declared.Opened.{Opened}
 use Rattle.hub.specs.declared.Outcome.{Outcome}
 use Rattle.hub.proofs.Theorem.{met}
 

@@ -1,10 +1,9 @@
 -- Each refusal of writing is given exactly under its cause: `exact-writing` of specs/WritingCauses.antt. Assumes nothing.
 use mathlib.Core.Path.{_≡_, refl, sym, ap, subst, _∙_}
-use mathlib.Core.List.{List, [], _∷_, _++_, map}
+use mathlib.Core.List.{List, [], _∷_}
 use Prim.Native.Nat.{ℕ, suc, _+_, _<_}
 use native.Mathlib.Omega.{arith}
 use lib.ListN.{length}
-use Rattle.routine.specs.Refusals.{Cause, no-room, refuse_when_, _andThen_}
 use Rattle.routine.specs.Causes.{RoutineCause}
 use Rattle.routine.specs.declared.Command.{Command}
 use Rattle.routine.specs.declared.Refusal.{Refusal}
@@ -13,10 +12,9 @@ use Rattle.routine.specs.declared.Verdict.the-variants.{Accepted, Refused}
 use Rattle.routine.proofs.Exact.{less, either, Outcome, none, one, join, exactly, renamed, routine-outcome}
 use Rattle.layout.specs.Layout.{maxRoutines, bookDevices, bookBytes}
 use Rattle.layout.specs.Writing.{routinesCheck, writeCheck, writtenWith, writtenOf, bufferWith, bufferAfter}
-use Rattle.layout.specs.WritingCauses.{WriteTest, of-routine, of-room, writeCauseOf, routineNo, WritingCause, routinesTests}
+use Rattle.layout.specs.WritingCauses.{of-routine, of-room, writeCauseOf, routineNo, WritingCause, routinesTests}
 use Rattle.layout.specs.WritingCauses.{writeTests}
-use Rattle.layout.specs.WritingCauses.{ExactWrite, ExactWriting}
-use Rattle.layout.specs.declared.Written.{Written}
+use Rattle.layout.specs.WritingCauses.{ExactWriting}
 use Rattle.layout.specs.declared.Written.the-variants.{Length, Refused as NotWritten}
 
 module _ (rs : List (List Command)) (room : ℕ) where

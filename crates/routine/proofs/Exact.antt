@@ -3,14 +3,14 @@
 use Prim.Native.Nat.{ℕ, zero, suc, _+_, _≤_, _<_}
 use mathlib.Core.Path.{_≡_, refl, sym, ap, subst, _∙_}
 use mathlib.Core.Bool.{Bool, true, false, not, _&&_, _||_}
-use mathlib.Core.Logic.{_⊎_, inl, inr, _≢_}
+use mathlib.Core.Logic.{_⊎_, inl, inr, _↔_}
 use mathlib.Core.List.{List, [], _∷_, _++_, map}
 use native.Mathlib.Omega.{arith}
-use borrow.Author.Tests.{ltb-true, ltb-false, leb-true, leb-false, eqb-true, eqb-false, not-true, not-false, lt-ltb, le-leb}
+use borrow.Author.Tests.{ltb-true, ltb-false, leb-true, leb-false, eqb-true, eqb-false, not-true, not-false}
 use lib.Dec.{T, leb, ltb, eqb, lt→ltb, ltb→lt}
 use lib.IntN.{ℤ, pos, negsuc}
-use lib.Signed.{_<ℤ_, leZ, ltZ}
-use lib.ListN.{length, getD}
+use lib.Signed.{_<ℤ_, leZ}
+use lib.ListN.{length}
 use Rattle.routine.specs.Range.{lowestSetting, highestSetting, inRange}
 use Rattle.routine.specs.Choice.{if_then_else_}
 use Rattle.routine.specs.Refusals.{Cause, devices-out-of-range, pass-limit-out-of-range, first-id-0, command-count, device-not-below}
@@ -66,23 +66,23 @@ both false t d f = record { met = λ e. let z : _≡_ {A = ℕ} 0 1 = cc in absu
 pub agree : {P Q : Type 0} {t : Bool} → Decides t P → (P → Q) → (Q → P) → Decides t Q
 agree d to from = record { met = λ e. to (d .met e); unmet = λ e q. d .unmet e (from q) }
 
--- a setting is out of range: below −1,000 or above 1,000
-below : (z : ℤ) → Decides (not (leZ lowestSetting z)) (z <ℤ lowestSetting)
-below (pos n) = record { met = λ e. let z : _≡_ {A = ℕ} 0 1 = cc in absurd (omega arith); unmet = λ e h. h .lt }
-below (negsuc n) =
-    record {
-      met = λ e. record { lt = lt→ltb 999 n (leb-false n 999 (not-true _ e)) };
-      unmet = λ e h. let l = leb-true n 999 (not-false _ e) in let k = ltb→lt 999 n (h .lt) in omega arith;
-    }
+-- the test of order on settings
+not-at-most : (x y : ℤ) → Decides (not (leZ x y)) (y <ℤ x)
+not-at-most (pos m) (pos n) = record {
+  met = λ e. record { lt = lt→ltb n m (leb-false m n (not-true _ e)) };
+  unmet = λ e h. let l = leb-true m n (not-false _ e) in let k = ltb→lt n m (h .lt) in omega arith;
+}
+not-at-most (pos m) (negsuc n) = record {
+  met = λ e. record { lt = tt };
+  unmet = λ e. let z : _≡_ {A = ℕ} 0 1 = cc in absurd (omega arith);
+}
+not-at-most (negsuc m) (pos n) = record { met = λ e. let z : _≡_ {A = ℕ} 0 1 = cc in absurd (omega arith); unmet = λ e h. h .lt }
+not-at-most (negsuc m) (negsuc n) = record {
+  met = λ e. record { lt = lt→ltb m n (leb-false n m (not-true _ e)) };
+  unmet = λ e h. let l = leb-true n m (not-false _ e) in let k = ltb→lt m n (h .lt) in omega arith;
+}
 
-above : (z : ℤ) → Decides (not (leZ z highestSetting)) (highestSetting <ℤ z)
-above (pos n) =
-    record {
-      met = λ e. record { lt = lt→ltb 1000 n (leb-false n 1000 (not-true _ e)) };
-      unmet = λ e h. let l = leb-true n 1000 (not-false _ e) in let k = ltb→lt 1000 n (h .lt) in omega arith;
-    }
-above (negsuc n) = record { met = λ e. let z : _≡_ {A = ℕ} 0 1 = cc in absurd (omega arith); unmet = λ e h. h .lt }
-
+-- a setting is out of range: below the lowest or above the highest
 not-both : (s t : Bool) → not (s && t) ≡ not s || not t
 not-both true t = refl
 not-both false t = refl
@@ -91,7 +91,7 @@ pub out-of-range : (z : ℤ) → Decides (not (inRange z)) (OutOfRange z)
 unfolding inRange
 out-of-range z =
     subst (λ (t : Bool). Decides t (OutOfRange z)) (sym (not-both (leZ lowestSetting z) (leZ z highestSetting)))
-    (either _ _ (below z) (above z))
+    (either _ _ (not-at-most lowestSetting z) (not-at-most z highestSetting))
 
 -- ---- tests in turn, and what comes of them
 
@@ -342,3 +342,12 @@ told-is no-room = refl
 
 pub numbers-differ : NumbersDiffer
 numbers-differ c d e = sym (told-is c) ∙ ap told e ∙ told-is d
+
+-- So, where the tests are the causes themselves: a call is refused with a cause's number and index exactly if that cause is the first
+-- that holds.
+pub under-its-cause : {Holds : Cause → Type 0} {causes : List Cause} {RefusedWith : Refusal → Type 0} {IsAccepted : Type 0} →
+    Exactly Holds itself causes RefusedWith IsAccepted → (cause : Cause) → RefusedWith (refusalOf cause) ↔ FirstIn Holds causes cause
+under-its-cause {Holds = Holds} {causes = causes} x cause = (
+  λ r. let f = x .refused-exactly (refusalOf cause) .0 r in subst (FirstIn Holds causes) (numbers-differ (f .0) cause (f .2)) (f .1),
+  λ f. x .refused-exactly (refusalOf cause) .1 (cause, f, refl),
+)

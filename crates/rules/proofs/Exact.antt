@@ -1,6 +1,6 @@
 -- Each number under its cause alone, for the opening and every call of the hub: the theorems of specs/Causes.antt. Assumes nothing.
 use mathlib.Core.Path.{_≡_, refl, sym, ap, subst, _∙_}
-use mathlib.Core.Bool.{Bool, true, false, not, _&&_, _||_}
+use mathlib.Core.Bool.{Bool, true, false, not}
 use mathlib.Core.Logic.{_⊎_, inl, inr}
 use mathlib.Core.List.{List, [], _∷_, _++_}
 use mathlib.Core.Option.{Option, none, some}
@@ -10,13 +10,13 @@ use lib.Dec.{leb, ltb, eqb}
 use lib.IntN.{ℤ}
 use lib.ListN.{length}
 use Rattle.routine.specs.Range.{inRange}
-use Rattle.routine.specs.Refusals.{Cause, devices-out-of-range, pass-limit-out-of-range, first-id-0, command-count, device-not-below}
+use Rattle.routine.specs.Refusals.{devices-out-of-range, pass-limit-out-of-range, first-id-0, command-count, device-not-below}
 use Rattle.routine.specs.Refusals.{setting-out-of-range}
 use Rattle.routine.specs.Refusals.{tag-out-of-range, sequence-full, ids-used-up, not-running, turn-in-flight, none-in-flight}
 use Rattle.routine.specs.Refusals.{report-code-out-of-range}
 use Rattle.routine.specs.Refusals.{event-device, failure-of-down, restart-of-up, restart-setting, refusalOf, refuse_when_, _andThen_}
-use Rattle.routine.specs.Routine.{maxCommands, maxDevices, routineCheck}
-use Rattle.routine.specs.Causes.{NoneOf, FirstIn, Exactly, itself, OutOfRange, RoutineCause, commandCauses, routineCauses}
+use Rattle.routine.specs.Routine.{maxCommands, maxDevices}
+use Rattle.routine.specs.Causes.{NoneOf, FirstIn, itself, OutOfRange, RoutineCause, commandCauses, routineCauses}
 use Rattle.routine.specs.declared.Command.{Command}
 use Rattle.routine.specs.declared.Refusal.{Refusal}
 use Rattle.routine.specs.declared.Verdict.{Verdict}
