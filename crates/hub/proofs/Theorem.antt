@@ -28,7 +28,7 @@ actOf (called c o v) = calls (callOf c) v
 actOf (device-takes d k) = takes-one d k
 
 -- an outcome that meets the contract is what the rules give
-met : (h : Hub) (c : HubCall) (o : Outcome) → Meets h c o → Gives h o (resultOf (view h) (callOf c))
+pub met : (h : Hub) (c : HubCall) (o : Outcome) → Meets h c o → Gives h o (resultOf (view h) (callOf c))
 met h (submits r) o m = m
 met h (turns i) o m = m
 met h (reports i code) o m = m

@@ -2,3 +2,4 @@ pub mod View
 pub mod Valid
 pub mod Contract
 pub mod Demand3
+pub mod Exact

@@ -1,7 +1,9 @@
--- The theorems of the routine book, by name. What each says stands in specs/Claims.antt. Assumes nothing.
+-- The theorems of the routine book, by name. What each says stands in specs/Claims.antt and WritingCauses.antt. Assumes nothing.
 use Rattle.layout.specs.Claims.{WriteThenRead, ReadThenWrite, ExactRefusals, JudgedByFirstBytes}
+use Rattle.layout.specs.WritingCauses.{ExactWriting}
 use Rattle.layout.proofs.RoundTrip as RoundTrip
 use Rattle.layout.proofs.Exact as Exact
+use Rattle.layout.proofs.WritingExact as WritingExact
 use Rattle.layout.proofs.FirstBytes as FirstBytes
 
 -- (a) What is written is read as the same routines.
@@ -15,6 +17,10 @@ read-then-write = RoundTrip.read-then-write
 -- (c) Each refusal is given exactly under its cause.
 pub exact-refusals : ExactRefusals
 exact-refusals = Exact.exact-refusals
+
+-- And so is each refusal of writing.
+pub exact-writing : ExactWriting
+exact-writing = WritingExact.exact-writing
 
 -- (d) A book is judged by its first bytes.
 pub judged-by-first-bytes : JudgedByFirstBytes

@@ -1,14 +1,15 @@
 -- What is claimed of the definitions, beside the contracts of crates `book` and `book_writer`. The theorems stand in proofs/Theorems.antt.
 -- Assumes nothing.
 use mathlib.Core.Path.{_≡_}
-use mathlib.Core.Logic.{_⊎_, _↔_, _≢_}
+use mathlib.Core.Logic.{_⊎_, _≢_}
 use mathlib.Core.List.{List, [], _∷_, _++_}
 use Prim.Native.Nat.{ℕ, zero, suc, _+_, _*_, _<_, _≤_}
 use lib.ListN.{length, take}
-use Rattle.routine.specs.Refusals.{Cause, device-not-below, setting-out-of-range, tag-out-of-range, book-cut-short, book-misplaced, book-length, refusalOf}
+use Rattle.routine.specs.Refusals.{Cause, device-not-below, setting-out-of-range, tag-out-of-range, book-cut-short, book-misplaced}
+use Rattle.routine.specs.Refusals.{book-length}
+use Rattle.routine.specs.Causes.{Exactly}
 use Rattle.routine.specs.Routine.{maxCommands, highestTag, commandsOf}
 use Rattle.routine.specs.declared.Command.{Command}
-use Rattle.routine.specs.declared.Refusal.{Refusal}
 use Rattle.routine.specs.declared.Verdict.the-variants.{Accepted, Refused}
 use Rattle.layout.specs.Numbers.{byteAt, twoAt}
 use Rattle.layout.specs.Layout.{countSize, commandSize, maxRoutines, bookDevices, pairsEnd, countOf, offsetAt, lengthAt}
@@ -35,7 +36,8 @@ WriteThenRead =
     (rs : List (List Command)) (buffer : List ℕ) (n : ℕ) → writtenOf rs (length buffer) ≡ Length n →
     Hands (take n (bufferAfter rs buffer)) 0 rs
 
--- (b) An accepted book is read to its end; and whatever was read of a book, written into any buffer that has the room, gives the same bytes.
+-- (b) An accepted book is read to its end; and whatever was read of a book, written into any buffer that has the room, gives the same
+-- bytes.
 abbrev pub ReadThenWrite : Type 0
 ReadThenWrite =
     (b : List ℕ) → Bytes b →
@@ -97,26 +99,11 @@ Breaks b (command-setting i j) =
 Breaks b (command-tag i j) = (i < countOf b) × (commandSize * j < lengthAt b i) × (highestTag < byteAt b (place b i + commandSize * j + 1))
 Breaks b left-over = place b (countOf b) < length b
 
--- None of these tests is broken.
-abbrev pub Passes : List ℕ → List Test → Type 0
-Passes b [] = Unit {0}
-Passes b (t ∷ ts) = ¬ (Breaks b t) × Passes b ts
-
--- Book b breaks t and no test before it.
-pub record First (b : List ℕ) (t : Test) : Type 0 where
-  pub before : List Test
-  pub after : List Test
-  pub order : tests ≡ before ++ (t ∷ after)
-  pub breaks : Breaks b t
-  pub earlier : Passes b before
-
--- (c) Each refusal is given exactly under its cause: the answer is a refusal r exactly if the first test that the book breaks turns down with
--- r; and a book is accepted exactly if it breaks none.
+-- (c) Each refusal is given exactly under its cause: the answer is a refusal r exactly if the first test that the book breaks turns down
+-- with r; and a book is accepted exactly if it breaks none.
 abbrev pub ExactRefusals : Type 0
 ExactRefusals =
-    (b : List ℕ) → Bytes b →
-    ((r : Refusal) → (bookCheck b ≡ Refused r) ↔ ((t : Test) × First b t × (refusalOf (causeOf t) ≡ r)))
-    × ((bookCheck b ≡ Accepted) ↔ Passes b tests)
+    (b : List ℕ) → Bytes b → Exactly (Breaks b) causeOf tests (λ r. bookCheck b ≡ Refused r) (bookCheck b ≡ Accepted)
 
 -- ---- how much of a book has to be read
 

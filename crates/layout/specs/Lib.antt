@@ -3,4 +3,5 @@ pub mod Layout
 pub mod Reading
 pub mod Writing
 pub mod Claims
+pub mod WritingCauses
 pub mod Examples

@@ -44,6 +44,11 @@ use Rattle.rules.proofs.Accounts.{accounts-moves, Unsent, unsent-moves,
 use Rattle.rules.proofs.Stands.{stands-moves}
 use Rattle.rules.proofs.Messages.{device-takes, device-settles}
 use Rattle.rules.proofs.DeviceKept.{device-moves}
+use mathlib.Core.List.{map-append}
+use Rattle.routine.specs.Causes.{NoneOf}
+use Rattle.rules.specs.Causes.{IdsDiffer}
+use Rattle.rules.proofs.Lists.{NotIn, IdsOk, ids-other}
+use Rattle.rules.proofs.Groups.{ids}
 
 -- what holds between calls of the state, the order, the accounts, which devices work, and the groups
 record Known (s : State) (o : Order) (a : ℕ → Account) (k : ℕ → Bool) (l : List Group) : Type 0 where
@@ -377,3 +382,21 @@ pub working-up : (n k first : ℕ) (s : State) → openOf n k first ≡ opened s
     let w = worldAfterAll (newWorld s) acts in
     workingOf (w .history) d ≡ w .state .up d
 working-up n k first s e acts d = acts-hold (Unit {0}) (newWorld s) acts (started n k first s e) .next .known .works d
+
+-- the ids of the sequence are those of the groups
+ids-members : (l : List Group) → ids l ≡ map (λ (m : Member). m .id) (members l)
+ids-members [] = refl
+ids-members (g ∷ l) = ap (λ k. g .member .id ∷ k) (ids-members l)
+
+-- an id that is not among those of some routines is none of theirs
+none-has : (i : ℕ) (l : List Member) → NotIn i (map (λ (m : Member). m .id) l) → NoneOf (λ m. m .id ≡ i) l
+none-has i [] h = tt
+none-has i (m ∷ l) h = (h .0, none-has i l (h .1))
+
+pub ids-differ : IdsDiffer
+ids-differ n k first s e acts a m b w =
+    let h = acts-hold (Unit {0}) (newWorld s) acts (started n k first s e) .next in
+    let id : Member → ℕ = λ x. x .id in
+    let same = ids-members (h .groups) ∙ ap (map id) (sym (h .known .hub .sequence-is) ∙ w) ∙ map-append id a (m ∷ b) in
+    none-has (m .id) (a ++ b)
+    (subst (NotIn (m .id)) (sym (map-append id a b)) (ids-other _ (map id a) (m .id) (map id b) (subst (IdsOk _) same (h .known .hub .ids-ok))))

@@ -14,6 +14,7 @@ pub mod Report
 pub mod Events
 pub mod Cancel
 pub mod Calls
+pub mod Causes
 pub mod History
 pub mod Order
 pub mod Serial
