@@ -14,12 +14,12 @@ book_model() {
 # Each file that the command writes into a folder (put behind its words) stands in crates/, with the same bytes.
 stored() { # COMMAND...
     local file count=0
-    "$@" "$scratch/crates" || return 1
+    "$@" "$scratch/crates" >"$scratch/made" || { cat "$scratch/made" && return 1; }
     for file in "$scratch"/crates/*/*; do
         cmp "$file" "${file#"$scratch"/}" || return 1
         count=$((count + 1))
     done
-    echo "$count files, as stored"
+    echo "$count files are as stored"
 }
 
 stored_sittings() {
@@ -63,8 +63,8 @@ needs_nothing() {
 # Memory that is read before it was written is seen by valgrind only.
 under_valgrind() {
     local input=$scratch/input
-    if ! command -v valgrind >/dev/null; then
-        echo "there is no valgrind (Debian's package valgrind)"
+    if ! valgrind -q true; then
+        echo "there is no valgrind that runs; on Debian: apt-get install valgrind"
         return 77
     fi
     PLOT_HUB_CALLER=$out/caller_plain PLOT_HUB_UNDER='valgrind -q --error-exitcode=9' "$bin/compare" caller 12 "$seed" &&
