@@ -81,16 +81,16 @@ tree() { # FOLDER
         ln -s "$program" "$1/target/bin/plot_hub" && ln -s "$show_book" "$1/target/bin/show_book"
 }
 
-# Runs a program, and notes how it ended and what it said on standard error.
+# Runs a program, with SIGPIPE as a shell has it, and notes how it ended and what it said on standard error.
 noting() { # PROGRAM
     local status=0
-    "$1" 2>"$scratch/said" || status=$?
+    env --default-signal=PIPE "$1" 2>"$scratch/said" || status=$?
     echo $status >"$scratch/status"
 }
 
-# The program that was run last ended by itself, and said this line.
+# The program that was run last ended by itself, and said this line and no more.
 has_said() { # LINE
-    [ "$(cat "$scratch/status")" -lt 126 ] && grep -qx "$1" "$scratch/said" && return 0
+    [ "$(cat "$scratch/status")" -lt 126 ] && [ "$(cat "$scratch/said")" = "$1" ] && return 0
     echo "expected: $1; it ended with status $(cat "$scratch/status") and said:" && cat "$scratch/said"
     return 1
 }
