@@ -1,12 +1,13 @@
 #!/usr/bin/env python3
 """Writes the test vectors of crate `hub_vectors`: its `stdin`, and in `stdout` what it must print.
 
-    tests/hub/make_vectors.py [COUNT] [SEED]    # the examples of examples.txt, and COUNT random histories
+    tests/hub/make_vectors.py crates [COUNT] [SEED]    # the examples of examples.txt, and COUNT random histories
 
-A record (two bytes of length before it) is kind, N, K, the first id in four bytes, and then the calls, each 40 bytes long: a letter (`S` submission, `N` turn,
-`P` report, `C` cancel, `F` failure, `R` restart), a byte (the number of commands, the code, or the device), and then four bytes of id, two of setting, or four
-for each command; all low byte first. Or kind 1 and a book. What is printed for it are the lines of document 01's line program; of a book, a line for
-each routine and then `end`, or the refusal. The output of the examples is that of document 01; the model must give it too. That of the histories is the model's.
+A record (two bytes of length before it) is kind, N, K, the first id in four bytes, and then the calls, each 40 bytes long: a letter
+(`S` submission, `N` turn, `P` report, `C` cancel, `F` failure, `R` restart), a byte (the number of commands, the code, or the device),
+and then four bytes of id, two of setting, or four for each command; all low byte first. Or kind 1 and a book. What is printed for it are
+the lines of document 01's line program; of a book, a line for each routine and then `end`, or the refusal. The output of the examples is
+that of document 01; the model must give it too. That of the histories is the model's.
 """
 import os
 import random
@@ -141,10 +142,14 @@ def vectors(count, seed):
 
 
 def main():
-    count = int(sys.argv[1]) if len(sys.argv) > 1 else 60
-    seed = int(sys.argv[2]) if len(sys.argv) > 2 else 4
+    if len(sys.argv) < 2:
+        print("usage: tests/hub/make_vectors.py crates [COUNT] [SEED]")
+        return 2
+    count = int(sys.argv[2]) if len(sys.argv) > 2 else 60
+    seed = int(sys.argv[3]) if len(sys.argv) > 3 else 4
     given, expected = vectors(count, seed)
-    crate = os.path.join(ROOT, "crates", "hub_vectors")
+    crate = os.path.join(sys.argv[1], "hub_vectors")
+    os.makedirs(crate, exist_ok=True)
     for name, content in (("stdin", given), ("stdout", expected)):
         with open(os.path.join(crate, name), "wb") as f:
             f.write(content)

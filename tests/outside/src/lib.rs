@@ -75,19 +75,20 @@ pub fn number(word: Option<&String>, what: &str) -> u64 {
     }
 }
 
-/// Something that takes longer than this does not end.
-const LONGEST: Duration = Duration::from_secs(100);
+/// Something that takes longer than this does not end. (The longest takes a second or two on a quiet machine.)
+pub const LONGEST: Duration = Duration::from_secs(100);
 
 /// Sees that nothing takes for ever: what each thread is at, and since when.
 pub struct Watch {
     program: &'static str,
     variables: &'static [&'static str],
+    longest: Duration,
     at: Mutex<HashMap<thread::ThreadId, (Instant, String)>>,
 }
 
 impl Watch {
-    pub fn start(program: &'static str, variables: &'static [&'static str]) -> &'static Watch {
-        let watch: &'static Watch = Box::leak(Box::new(Watch { program, variables, at: Mutex::default() }));
+    pub fn start(program: &'static str, variables: &'static [&'static str], longest: Duration) -> &'static Watch {
+        let watch: &'static Watch = Box::leak(Box::new(Watch { program, variables, longest, at: Mutex::default() }));
         thread::spawn(move || loop {
             thread::sleep(Duration::from_secs(1));
             watch.look();
@@ -106,8 +107,8 @@ impl Watch {
 
     fn look(&self) {
         for (begun, words) in self.at.lock().unwrap().values() {
-            if begun.elapsed() > LONGEST {
-                println!("{}: FAILED: {words} did not end within {LONGEST:?}", self.program);
+            if begun.elapsed() > self.longest {
+                println!("{}: FAILED: {words} did not end within {:?}", self.program, self.longest);
                 println!("{}: to see it: {}", self.program, again(self.variables, &format!("one {words}")));
                 std::process::exit(1);
             }

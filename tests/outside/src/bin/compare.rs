@@ -7,7 +7,7 @@
 //! From the root. PLOT_HUB_CALLER and PLOT_HUB_PROGRAM name other programs than the built ones; the words of PLOT_HUB_UNDER
 //! are put before the caller's name (valgrind with its options).
 
-use outside::{again, number, readable, setting, Random, Watch};
+use outside::{again, number, readable, setting, Random, Watch, LONGEST};
 use reference::examples;
 use std::fmt;
 use std::io::{Read, Write};
@@ -444,7 +444,8 @@ fn made(names: &[(Kind, u64)], seed: u64) -> Vec<Item> {
 fn compare(count: u64, seed: u64, programs: bool) {
     println!("compare: {count} random and {count} damaged inputs, seed {seed}");
     let counts = Counts::default();
-    let watch = Watch::start("compare", &VARIABLES);
+    // valgrind is some 50 times slower.
+    let watch = Watch::start("compare", &VARIABLES, if under().is_empty() { LONGEST } else { 10 * LONGEST });
     let mut caller = Caller::start().unwrap_or_else(|how| {
         println!("compare: FAILED: {how}");
         std::process::exit(1)
@@ -460,10 +461,14 @@ fn compare(count: u64, seed: u64, programs: bool) {
                 names.extend((0..).take_while(|&index| cut(index).is_some()).map(|index| (Kind::Cut, index as u64)));
             }
         }
-        names.push((Kind::Joined, 2 * (start / BATCH)));
-        names.push((Kind::Joined, 2 * (start / BATCH) + 1));
+        let joined = [0, 1].map(|more| (Kind::Joined, 2 * (start / BATCH) + more));
+        // Before the rest, since several threads run the inputs before one that they are to run: then long ones, too.
+        // valgrind has one thread run at a time, so there it would only take long.
+        let (before, behind) = if under().is_empty() { (&joined[..], &[][..]) } else { (&[][..], &joined[..]) };
+        names.extend(before);
         names.extend((start..end).map(|index| (Kind::Random, index)));
         names.extend((start..end).map(|index| (Kind::Damaged, index)));
+        names.extend(behind);
         let items = made(&names, seed);
         assert_eq!(items.len(), names.len());
         counts.inputs.fetch_add(items.len() as u64, Ordering::Relaxed);

@@ -13,7 +13,7 @@
 //!   - if no routine runs: whatever the working devices still take of what was sent to them, once every setting put back
 //!     is carried out they have the settings of the serial run.
 
-use outside::{again, number, Random, Watch};
+use outside::{again, number, Random, Watch, LONGEST};
 use std::collections::{BTreeMap, HashSet};
 use std::process::ExitCode;
 use std::sync::atomic::{AtomicU64, Ordering};
@@ -889,7 +889,7 @@ fn main() -> ExitCode {
     }
     let (count, seed) = (number(words.first(), "COUNT"), number(words.get(1), "SEED"));
     println!("world: {count} histories, seed {seed}");
-    let watch = Watch::start("world", &[]);
+    let watch = Watch::start("world", &[], LONGEST);
     let next = AtomicU64::new(0);
     let total = Mutex::new([0; SEEN.len()]);
     thread::scope(|scope| {
