@@ -1,5 +1,5 @@
 -- Laws of the definitions that callers cite, so that no caller opens them. Assumes nothing.
-use Prim.Native.Nat.{ℕ, suc, _+_, _-_, _≤_, _<_, _^_}
+use Prim.Native.Nat.{ℕ, zero, suc, _+_, _-_, _≤_, _<_, _^_}
 use mathlib.Core.Path.{_≡_, refl, sym, ap, _∙_}
 use mathlib.Core.Bool.{Bool, true, false, _&&_, _||_}
 use mathlib.Core.List.{List, [], _∷_, _++_, map, append-assoc}
@@ -65,6 +65,12 @@ in-range-negsuc n = byTest (λ (t : Bool). t && true ≡ t) (leb n 999) (λ _. r
 -- an array that a struct holds stands in what is known of it at `map` of the identity
 pub length-mapped : (X Y : Type 0) (f : X → Y) (l : List X) (n : ℕ) → length (map f l) ≡ n → length l ≡ n
 length-mapped X Y f l n p = sym (length-map l f) ∙ p
+
+-- what stands past the end does not matter inside
+pub any-default : {A : Type 0} (l : List A) (i : ℕ) (x y : A) → i < length l → getD l i x ≡ getD l i y
+any-default [] i x y h = absurd (omega arith)
+any-default (a ∷ l) zero x y h = refl
+any-default (a ∷ l) (suc i) x y h = any-default l i x y (omega arith)
 
 -- values stored from a place on, then others behind them
 pub sets-append : (vs ws l : List ℕ) (i : ℕ) → sets l i (vs ++ ws) ≡ sets (sets l i vs) (i + length vs) ws
