@@ -4,6 +4,7 @@ use mathlib.Core.Path.{_≡_}
 use mathlib.Core.Logic.{_⊎_, _↔_, _≢_}
 use mathlib.Core.List.{List, [], _∷_, _++_}
 use Prim.Native.Nat.{ℕ, zero, suc, _+_, _*_, _<_, _≤_}
+use lib.IntN.{ℤ}
 use lib.ListN.{length, take}
 use Rattle.routine.specs.Refusals.{Cause, device-not-below, setting-out-of-range, tag-out-of-range, book-cut-short, book-misplaced, book-length, refusalOf}
 use Rattle.routine.specs.Routine.{maxCommands, highestTag, commandsOf}
@@ -13,7 +14,7 @@ use Rattle.routine.specs.declared.Verdict.the-variants.{Accepted, Refused}
 use Rattle.layout.specs.Numbers.{byteAt, twoAt}
 use Rattle.layout.specs.Layout.{countSize, commandSize, maxRoutines, bookDevices, pairsEnd, countOf, offsetAt, lengthAt}
 use Rattle.layout.specs.Reading.{bookCheck, nextOf}
-use Rattle.layout.specs.Writing.{writtenOf, bufferAfter}
+use Rattle.layout.specs.Writing.{routinesLent, countsOf, devicesOf, tagsOf, settingsOf, writtenOf, bufferAfter}
 use Rattle.layout.specs.declared.Item.the-variants.{Handed, End}
 use Rattle.layout.specs.declared.Written.the-variants.{Length}
 
@@ -42,6 +43,14 @@ ReadThenWrite =
     (bookCheck b ≡ Accepted → (rs : List (List Command)) × Hands b 0 rs)
     × ((rs : List (List Command)) → Hands b 0 rs → (buffer : List ℕ) → length b ≤ length buffer →
     (writtenOf rs (length buffer) ≡ Length (length b)) × (take (length b) (bufferAfter rs buffer) ≡ b))
+
+-- ---- how routines are lent
+
+-- What is lent of routines is those routines again, whatever is lent behind them.
+abbrev pub LentAgain : Type 0
+LentAgain =
+    (rs : List (List Command)) (x y : List ℕ) (z : List ℤ) →
+    routinesLent (countsOf rs) (devicesOf rs ++ x) (tagsOf rs ++ y) (settingsOf rs ++ z) ≡ rs
 
 -- ---- when a book is turned down
 
