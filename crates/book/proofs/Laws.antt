@@ -4,11 +4,11 @@ use mathlib.Core.Path.{_≡_, ap, _∙_}
 use mathlib.Core.List.{List, [], _∷_, _++_}
 use native.Mathlib.Omega.{arith}
 use Rattle.routine.specs.declared.Command.{Command}
-use Rattle.layout.specs.Layout.{commandAt, commandsAt}
+use Rattle.layout.specs.Layout.{commandSize, commandAt, commandsAt}
 
 -- commands in a row, one more behind
-pub commandsAt-more : (b : List ℕ) (at n : ℕ) → commandsAt b at (suc n) ≡ commandsAt b at n ++ (commandAt b (at + 4 * n) ∷ [])
+pub commandsAt-more : (b : List ℕ) (at n : ℕ) → commandsAt b at (suc n) ≡ commandsAt b at n ++ (commandAt b (at + commandSize * n) ∷ [])
 commandsAt-more b at zero = ap (λ (k : ℕ). commandAt b k ∷ []) (omega arith)
 commandsAt-more b at (suc n) =
     ap (λ (l : List Command). commandAt b at ∷ l)
-    (commandsAt-more b (at + 4) n ∙ ap (λ (k : ℕ). commandsAt b (at + 4) n ++ (commandAt b k ∷ [])) (omega arith))
+    (commandsAt-more b (at + commandSize) n ∙ ap (λ (k : ℕ). commandsAt b (at + commandSize) n ++ (commandAt b k ∷ [])) (omega arith))

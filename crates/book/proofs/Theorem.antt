@@ -4,7 +4,7 @@ use mathlib.Core.Bool.{Bool, true, false, _&&_}
 use mathlib.Core.List.{List, [], _∷_}
 use native.Mathlib.Omega.{arith}
 use Prim.Native.Nat.{ℕ, zero, suc, _+_, _%_, _<_, _≤_}
-use lib.Dec.{leb, ltb, eqb}
+use lib.Dec.{ltb, eqb}
 use lib.ListN.{length, getD}
 use denote.Ref.{RefT, now}
 use Rattle.routine.specs.Choice.{if_then_else_}
@@ -14,14 +14,13 @@ use Rattle.routine.specs.declared.Refusal.{Refusal}
 use Rattle.routine.specs.declared.Verdict.{Verdict}
 use Rattle.routine.specs.declared.Verdict.the-variants.{Accepted, Refused}
 use Rattle.layout.specs.Claims.{Hands, ends, hands}
-use Rattle.layout.specs.Layout.{countSize, pairSize, offsetSize, pairsEnd, countOf}
-use Rattle.layout.specs.Numbers.{fourAt}
-use Rattle.layout.specs.Reading.{bookCheck, lengthFits, endAt, pairNext, nextOf}
+use Rattle.layout.specs.Layout.{countSize, pairSize, pairsEnd, countOf}
+use Rattle.layout.specs.Reading.{bookCheck, endAt, pairNext, turnsDown, nextOf}
 use Rattle.layout.specs.declared.Item.{Item}
 use Rattle.layout.specs.declared.Item.the-variants.{Handed, End}
 use Rattle.layout.specs.declared.Next.{Next}
 use Rattle.layout.proofs.Laws.{next-first, next-later, next-refused}
-use Rattle.book.specs.Reader.{Started, Advanced, turnsDown, RoutineByRoutine}
+use Rattle.book.specs.Reader.{Started, Advanced, RoutineByRoutine}
 use Rattle.book.specs.declared.reader.BookReader.{BookReader}
 
 abbrev item : Next → Item
@@ -36,24 +35,23 @@ if-ends false x y h e = refl
 pair-ends : (b : List ℕ) (at : ℕ) → pairNext b at .item ≡ End → pairNext b at ≡ endAt at
 unfolding pairNext
 pair-ends b at e =
-    let from = fourAt b at in
-    let size = fourAt b (at + offsetSize) in
-    if-ends (ltb at (pairsEnd (countOf b)) && eqb (at % pairSize) countSize && lengthFits size && leb (from + size) (length b)) _ _ refl e
+    if-ends (ltb at (pairsEnd (countOf b)) && eqb (at % pairSize) countSize) _ _ refl e
 
-later-ends : (b : List ℕ) (at : ℕ) → (at ≡ 0 → ⊥) → nextOf b at .item ≡ End → nextOf b (nextOf b at .position) .item ≡ End
-later-ends b at n e =
-    let f = next-later b at n in
+later-ends : (b : List ℕ) → bookCheck b ≡ Accepted → (at : ℕ) → (at ≡ 0 → ⊥) → nextOf b at .item ≡ End →
+    nextOf b (nextOf b at .position) .item ≡ End
+later-ends b c at n e =
+    let f = next-later b c at n in
     ap (λ (p : ℕ). nextOf b p .item) (ap (λ (s : Next). s .position) (f ∙ pair-ends b at (sym (ap item f) ∙ e))) ∙ e
 
-first-ends : (b : List ℕ) (v : Verdict) → bookCheck b ≡ v → nextOf b 0 .item ≡ End → nextOf b (nextOf b 0 .position) .item ≡ End
-first-ends b Accepted c e =
-    let f : nextOf b 0 ≡ nextOf b countSize = next-first b c ∙ sym (next-later b countSize (λ z. omega arith)) in
-    subst (λ (s : Next). nextOf b (s .position) .item ≡ End) (sym f) (later-ends b countSize (λ z. omega arith) (sym (ap item f) ∙ e))
-first-ends b (Refused r) c e = let f = ap item (next-refused b r c) in let z : _≡_ {A = ℕ} 0 1 = cc in absurd (omega arith)
+ends-by : (b : List ℕ) (v : Verdict) → bookCheck b ≡ v → (at : ℕ) → nextOf b at .item ≡ End → nextOf b (nextOf b at .position) .item ≡ End
+ends-by b Accepted c zero e =
+    let f : nextOf b 0 ≡ nextOf b countSize = next-first b c ∙ sym (next-later b c countSize (λ z. omega arith)) in
+    subst (λ (s : Next). nextOf b (s .position) .item ≡ End) (sym f) (later-ends b c countSize (λ z. omega arith) (sym (ap item f) ∙ e))
+ends-by b Accepted c (suc at) e = later-ends b c (suc at) (λ z. omega arith) e
+ends-by b (Refused r) c at e = let f = ap item (next-refused b r c at) in let z : _≡_ {A = ℕ} 0 1 = cc in absurd (omega arith)
 
 ends-again : (b : List ℕ) (at : ℕ) → nextOf b at .item ≡ End → nextOf b (nextOf b at .position) .item ≡ End
-ends-again b zero e = first-ends b (bookCheck b) refl e
-ends-again b (suc at) e = later-ends b (suc at) (λ z. omega arith) e
+ends-again b at e = ends-by b (bookCheck b) refl at e
 
 -- ---- the steps of a reader
 
@@ -62,20 +60,12 @@ module _ (book : RefT (List ℕ)) where
   step-is : (before after : BookReader) (s : Next) → before .book ≡ book → Advanced before after s → s ≡ nextOf (now book) (before .position)
   step-is before after s e a = a .read ∙ ap (λ (c : RefT (List ℕ)). nextOf (now c) (before .position)) e
 
-  first-refused : (r : Refusal) → bookCheck (now book) ≡ Refused r → (before after : BookReader) (s : Next) → Started book before →
-      Advanced before after s → s ≡ turnsDown r
-  first-refused r e before after s b a =
-      step-is before after s (b .holds) a ∙ ap (nextOf (now book)) (b .beginning) ∙ next-refused (now book) r e
-
-  -- A refused book is turned down at each step: the reader stays at the beginning.
-  stays : (r : Refusal) → bookCheck (now book) ≡ Refused r → (k : ℕ) (reader : ℕ → BookReader) (step : ℕ → Next) → Started book (reader 0) →
+  -- A refused book is turned down at each step.
+  turned-down : (r : Refusal) → bookCheck (now book) ≡ Refused r → (k : ℕ) (reader : ℕ → BookReader) (step : ℕ → Next) → reader 0 .book ≡ book →
       ((i : ℕ) → i ≤ k → Advanced (reader i) (reader (suc i)) (step i)) → step k ≡ turnsDown r
-  stays r e zero reader step s c = first-refused r e (reader 0) (reader 1) (step 0) s (c 0 (omega arith))
-  stays r e (suc k) reader step s c =
-      let a = c 0 (omega arith) in
-      let p = a .moved-on ∙ ap (λ (x : Next). x .position) (first-refused r e (reader 0) (reader 1) (step 0) s a) in
-      stays r e k (λ i. reader (suc i)) (λ i. step (suc i)) (record { holds = a .same-book ∙ s .holds; beginning = p })
-      (λ i l. c (suc i) (omega arith))
+  turned-down r e zero reader step h c = step-is _ _ _ h (c 0 (omega arith)) ∙ next-refused (now book) r e (reader 0 .position)
+  turned-down r e (suc k) reader step h c =
+      turned-down r e k (λ i. reader (suc i)) (λ i. step (suc i)) (c 0 (omega arith) .same-book ∙ h) (λ i l. c (suc i) (omega arith))
 
   -- From a position these routines are handed out: so they are by the steps of a reader there.
   hands-out : (k : ℕ) (rs : List (List Command)) (reader : ℕ → BookReader) (step : ℕ → Next) → reader 0 .book ≡ book →
@@ -100,7 +90,7 @@ module _ (book : RefT (List ℕ)) where
 
 pub routine-by-routine : RoutineByRoutine
 routine-by-routine book n reader step c = record {
-  refused = λ r e k l. stays book r e k reader step (c .started) (λ i h. c .advanced i (omega arith));
+  refused = λ r e k l. turned-down book r e k reader step (c .started .holds) (λ i h. c .advanced i (omega arith));
   accepted = λ rs e h k l.
       hands-out book k rs reader step (c .started .holds) (λ i m. c .advanced i (omega arith))
       (subst (λ (q : ℕ). Hands (now book) q rs) (sym (c .started .beginning)) h);

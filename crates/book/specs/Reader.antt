@@ -6,13 +6,13 @@ use mathlib.Core.List.{List, []}
 use Prim.Native.Nat.{ℕ, suc, _<_, _≤_}
 use lib.ListN.{length, getD}
 use denote.Ref.{RefT, now}
-use Rattle.routine.specs.Routine.{commandsOf, noRoutine}
+use Rattle.routine.specs.Routine.{commandsOf}
 use Rattle.routine.specs.declared.Command.{Command}
 use Rattle.routine.specs.declared.Refusal.{Refusal}
 use Rattle.routine.specs.declared.Verdict.the-variants.{Accepted, Refused}
 use Rattle.layout.specs.Claims.{Hands}
-use Rattle.layout.specs.Reading.{bookCheck, nextOf}
-use Rattle.layout.specs.declared.Item.the-variants.{Handed, End, Refused as RefusedBook}
+use Rattle.layout.specs.Reading.{bookCheck, turnsDown, nextOf}
+use Rattle.layout.specs.declared.Item.the-variants.{Handed, End}
 use Rattle.layout.specs.declared.Next.{Next}
 use Rattle.book.specs.declared.reader.BookReader.{BookReader}
 
@@ -36,13 +36,9 @@ pub record Reading (book : RefT (List ℕ)) (n : ℕ) (reader : ℕ → BookRead
   pub started : Started book (reader 0)
   pub advanced : (k : ℕ) → k < n → Advanced (reader k) (reader (suc k)) (step k)
 
--- The step that turns a book down: the refusal, no routine, and the position is still 0.
-abbrev pub turnsDown : Refusal → Next
-turnsDown r = record { item = RefusedBook r; routine = noRoutine; position = 0 }
-
 -- What the steps hand out of book b.
 pub record Reads (b : List ℕ) (n : ℕ) (step : ℕ → Next) : Type 0 where
-  -- The whole book has been checked first: of a refused one no routine is ever handed out, since each step turns it down.
+  -- The whole book is checked first: of a refused one no routine is ever handed out, since each step turns it down.
   pub refused : (r : Refusal) → bookCheck b ≡ Refused r → (k : ℕ) → k < n → step k ≡ turnsDown r
   -- Of an accepted one (which has such routines: `ReadThenWrite`) routine by routine, then the end.
   pub accepted : (rs : List (List Command)) → bookCheck b ≡ Accepted → Hands b 0 rs → (k : ℕ) → k < n →

@@ -31,16 +31,18 @@ pub fn check(book: &[u8]) -> Verdict
     reading::check_all(book, count)
 }
 
-// A step of reading, from position 0 on: there the whole book is checked first. Then routine by routine, then the end.
+// A step of reading, from position 0 on: routine by routine, then the end. At every position the whole book is checked first.
 pub fn next(book: &[u8], position: usize) -> Next
     ensures { λ r. ⌜ r ≡ nextOf (now (book .entry)) position ⌝ }
 {
-    if position != 0 {
-        return reading::next_pair(book, position);
-    }
     let verdict = check(book);
     match verdict {
-        Verdict::Accepted => reading::next_pair(book, COUNT_SIZE),
+        Verdict::Accepted => {
+            if position == 0 {
+                return reading::next_pair(book, COUNT_SIZE);
+            }
+            reading::next_pair(book, position)
+        }
         Verdict::Refused(refusal) => {
             let none = routine::empty();
             Next {

@@ -16,7 +16,7 @@ pub fn start<'a>(book: &'a [u8]) -> BookReader<'a>
     BookReader { book, position: 0 }
 }
 
-// The next step of reading; the reader is moved on. The first step checks the whole book.
+// The next step of reading, the whole book having been checked; the reader is moved on.
 pub fn advance<'s, 'a>(reader: &'s mut BookReader<'a>) -> Next
     ensures { λ r. ⌜ Advanced (now (reader .entry)) (now (reader .exit)) r ⌝ }
 {

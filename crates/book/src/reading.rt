@@ -21,7 +21,8 @@ ghost use Prim.Native.Nat.{_+_, _*_, _<_, _≤_, _^_};
 ghost use lib.ListN.{length};
 ghost use Rattle.routine.specs.Routine.{maxCommands, routineOf};
 ghost use Rattle.layout.specs.Layout.{commandSize, maxRoutines, pairsEnd, commandAt, commandsAt};
-ghost use Rattle.layout.specs.Reading.{lengthFits, placedCheck, placedChecks, endAt, pairNext};
+ghost use Rattle.routine.specs.declared.Verdict.the-variants.{Accepted};
+ghost use Rattle.layout.specs.Reading.{lengthFits, placedCheck, placedChecks, bookCheck, endAt, pairNext};
 
 // The command whose first byte is at a place.
 fn command_at(book: &[u8], at: usize) -> Command
@@ -116,8 +117,9 @@ fn ended(position: usize) -> Next
     }
 }
 
-// The routine of the pair at a position, or the end.
+// The routine of the pair of an accepted book that begins at a position, or the end.
 pub fn next_pair(book: &[u8], position: usize) -> Next
+    requires { ⌜ bookCheck (now book) ≡ Accepted ⌝ }
     ensures { λ r. ⌜ r ≡ pairNext (now (book .entry)) position ⌝ }
 {
     let pairs_end = COUNT_SIZE + PAIR_SIZE * two_at(book, 0);
@@ -129,15 +131,6 @@ pub fn next_pair(book: &[u8], position: usize) -> Next
     }
     let from = four_at(book, position);
     let size = four_at(book, position + OFFSET_SIZE);
-    if !length_fits(size) {
-        return ended(position);
-    }
-    if book.len() < from {
-        return ended(position);
-    }
-    if book.len() - from < size {
-        return ended(position);
-    }
     let routine = routine_at(book, from, size / COMMAND_SIZE);
     Next {
         item: Item::Handed,

@@ -6,6 +6,7 @@ use routine::MAX_COMMANDS;
 use routine::Refusal;
 use routine::Routine;
 ghost use Prim.Native.Nat.{_≤_};
+ghost use Rattle.routine.specs.Routine.{maxCommands};
 
 // A space and a number.
 pub fn print_number(n: u64) {
@@ -36,7 +37,7 @@ pub fn print_refusal(refusal: Refusal) {
 }
 
 fn held(count: usize) -> usize
-    ensures { λ r. ⌜ r ≤ 8 ⌝ }
+    ensures { λ r. ⌜ r ≤ maxCommands ⌝ }
 {
     if count < MAX_COMMANDS {
         count

@@ -1,6 +1,6 @@
 -- Laws of the layout's definitions that the theorems and the code's proofs cite. Assumes nothing.
 use Prim.Native.Nat.{ℕ, zero, suc, _+_, _-_, _*_, _/_, _%_, _≤_, _<_}
-use mathlib.Core.Path.{_≡_, refl, sym, ap}
+use mathlib.Core.Path.{_≡_, refl, sym, ap, subst}
 use mathlib.Core.Bool.{true, false, _&&_}
 use mathlib.Core.List.{List, [], _∷_, _++_}
 use native.Mathlib.Nat.{zero-add}
@@ -18,8 +18,9 @@ use Rattle.routine.specs.declared.Refusal.{Refusal}
 use Rattle.routine.specs.declared.Verdict.the-variants.{Accepted, Refused}
 use Rattle.routine.proofs.Laws.{and-true, both-accept, not-refused, or-false}
 use Rattle.layout.specs.Numbers.{twoBytes, fourBytes, fourAt, bitsOf, settingOf}
-use Rattle.layout.specs.Layout.{countSize, pairSize, commandSize, maxRoutines, bookDevices, pairsEnd, commandBytes, commandsBytes, lengthIn, pairsBytes, countOf, offsetAt, lengthAt, commandsAt}
-use Rattle.layout.specs.Reading.{headCheck, lengthFits, placedCheck, placedChecks, bookCheck, endAt, pairNext, nextOf}
+use Rattle.layout.specs.Layout.{countSize, pairSize, offsetSize, commandSize, maxRoutines, bookDevices, pairsEnd, lengthIn}
+use Rattle.layout.specs.Layout.{commandBytes, commandsBytes, pairsBytes, countOf, offsetAt, lengthAt, commandsAt}
+use Rattle.layout.specs.Reading.{headCheck, lengthFits, placedCheck, placedChecks, bookCheck, endAt, pairNext, turnsDown, nextOf}
 use Rattle.layout.specs.declared.Item.the-variants.{Handed, Refused as RefusedBook}
 
 -- ---- lengths that fit: 4 to 32 in fours
@@ -179,6 +180,16 @@ pub checks-end : (b : List ℕ) (i at : ℕ) → length b ≤ at → placedCheck
 unfolding placedChecks
 checks-end b i at h = simp (le-ltb at (length b) h)
 
+-- where all are accepted, the length of each fits: routine j, the k-th from the i-th on
+checks-fit : (b : List ℕ) (i n at j k : ℕ) → placedChecks b i n at ≡ Accepted → i + k ≡ j → k < n → lengthFits (lengthAt b j) ≡ true
+unfolding placedChecks
+checks-fit b i zero at j k e p h = absurd (omega arith)
+checks-fit b i (suc n) at j zero e p h =
+    let s : i ≡ j = omega arith in
+    subst (λ (q : ℕ). lengthFits (lengthAt b q) ≡ true) s (placed b i at (both-accept (placedCheck b i at) _ e .0) .fits)
+checks-fit b i (suc n) at j (suc k) e p h =
+    checks-fit b (suc i) n (at + lengthAt b i) j k (both-accept (placedCheck b i at) _ e .1) (omega arith) (omega arith)
+
 -- ---- the head of a book, by its tests
 
 module _ (b : List ℕ) where
@@ -206,21 +217,23 @@ module _ (b : List ℕ) where
   unfolding bookCheck
   book-placed e = rw e
 
+  -- the length of each routine of an accepted book fits
+  pub book-fits : (i : ℕ) → bookCheck b ≡ Accepted → i < countOf b → lengthFits (lengthAt b i) ≡ true
+  unfolding bookCheck
+  book-fits i e h = checks-fit b 0 (countOf b) (pairsEnd (countOf b)) i i (both-accept (headCheck b) _ e .1) (omega arith) h
+
 -- ---- a step of reading, by its tests
 
--- the four tests of the pair at a position
-pub record PairFits (b : List ℕ) (at : ℕ) : Type 0 where
-  pub before : at < pairsEnd (countOf b)
-  pub whole : at % pairSize ≡ countSize
-  pub fits : lengthFits (fourAt b (at + 4)) ≡ true
-  pub inside : fourAt b at + fourAt b (at + 4) ≤ length b
-
 module _ (b : List ℕ) (at : ℕ) where
-  pub pair-handed : PairFits b at →
-      pairNext b at ≡ record { item = Handed; routine = routineOf (commandsAt b (fourAt b at) (fourAt b (at + 4) / commandSize)); position = at + pairSize }
+  pub pair-handed : at < pairsEnd (countOf b) → at % pairSize ≡ countSize →
+      pairNext b at
+      ≡ record {
+        item = Handed;
+        routine = routineOf (commandsAt b (fourAt b at) (fourAt b (at + offsetSize) / commandSize));
+        position = at + pairSize;
+      }
   unfolding pairNext
-  pair-handed h =
-      simp (lt-ltb at (pairsEnd (countOf b)) (h .before), eq-eqb (at % pairSize) countSize (h .whole), h .fits, le-leb (fourAt b at + fourAt b (at + 4)) (length b) (h .inside))
+  pair-handed h k = simp (lt-ltb at (pairsEnd (countOf b)) h, eq-eqb (at % pairSize) countSize k)
 
   -- the tests in turn: the first that fails ends the book
   pub pair-past : pairsEnd (countOf b) ≤ at → pairNext b at ≡ endAt at
@@ -231,26 +244,15 @@ module _ (b : List ℕ) (at : ℕ) where
   unfolding pairNext
   pair-between h k = simp (lt-ltb at (pairsEnd (countOf b)) h, ne-eqb (at % pairSize) countSize k)
 
-  pub pair-length : at < pairsEnd (countOf b) → at % pairSize ≡ countSize → lengthFits (fourAt b (at + 4)) ≡ false →
-      pairNext b at ≡ endAt at
-  unfolding pairNext
-  pair-length h k e = simp (lt-ltb at (pairsEnd (countOf b)) h, eq-eqb (at % pairSize) countSize k, e)
-
-  pub pair-outside : at < pairsEnd (countOf b) → at % pairSize ≡ countSize → lengthFits (fourAt b (at + 4)) ≡ true →
-      length b < fourAt b at + fourAt b (at + 4) → pairNext b at ≡ endAt at
-  unfolding pairNext
-  pair-outside h k e l =
-      simp (lt-ltb at (pairsEnd (countOf b)) h, eq-eqb (at % pairSize) countSize k, e, lt-leb (fourAt b at + fourAt b (at + 4)) (length b) l)
-
 module _ (b : List ℕ) where
-  pub next-later : (at : ℕ) → (at ≡ 0 → ⊥) → nextOf b at ≡ pairNext b at
-  unfolding nextOf
-  next-later at h = simp (ne-eqb at 0 h)
-
   pub next-first : bookCheck b ≡ Accepted → nextOf b 0 ≡ pairNext b countSize
   unfolding nextOf
   next-first e = rw e
 
-  pub next-refused : (r : Refusal) → bookCheck b ≡ Refused r → nextOf b 0 ≡ record { item = RefusedBook r; routine = noRoutine; position = 0 }
+  pub next-later : bookCheck b ≡ Accepted → (at : ℕ) → (at ≡ 0 → ⊥) → nextOf b at ≡ pairNext b at
   unfolding nextOf
-  next-refused r e = rw e
+  next-later e at h = simp (e, ne-eqb at 0 h)
+
+  pub next-refused : (r : Refusal) → bookCheck b ≡ Refused r → (at : ℕ) → nextOf b at ≡ turnsDown r
+  unfolding nextOf
+  next-refused r e at = rw e

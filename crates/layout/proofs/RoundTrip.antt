@@ -19,7 +19,7 @@ use Rattle.routine.proofs.Laws.{both-accept, accept-both, not-refused, or-false
 use Rattle.layout.specs.Numbers.{twoBytes, fourBytes}
 use Rattle.layout.specs.Layout.{maxRoutines, bookDevices, pairsEnd, commandsBytes, lengthIn, pairsBytes, bodyBytes, bookBytes}
 use Rattle.layout.specs.Layout.{countOf, pairPlace, offsetAt, lengthAt, commandsAt}
-use Rattle.layout.specs.Reading.{headCheck, lengthFits, placedCheck, placedChecks, bookCheck, pairNext, startWith, nextOf}
+use Rattle.layout.specs.Reading.{headCheck, lengthFits, placedCheck, placedChecks, bookCheck, pairNext, nextWith, nextOf}
 use Rattle.layout.specs.Writing.{routinesCheck, writeCheck, writtenWith, writtenOf, bufferAfter}
 use Rattle.layout.specs.Claims.{Hands, ends, hands, Bytes, WriteThenRead, ReadThenWrite}
 use Rattle.layout.specs.declared.Item.the-variants.{Handed, End, Refused as RefusedBook}
@@ -62,13 +62,13 @@ stands b x y z i at r h offset size body =
       fine = a .1;
     }
 
--- At the place of a pair a step of reading looks at the pair;
-pair-next : (b : List ℕ) (i : ℕ) → nextOf b (pairPlace i) ≡ pairNext b (pairPlace i)
-pair-next b i = next-later b (pairPlace i) (λ e. omega arith)
+-- At the place of a pair of an accepted book a step of reading looks at the pair;
+pair-next : (b : List ℕ) → bookCheck b ≡ Accepted → (i : ℕ) → nextOf b (pairPlace i) ≡ pairNext b (pairPlace i)
+pair-next b a i = next-later b a (pairPlace i) (λ e. omega arith)
 
 -- behind the pairs it is at the end;
-pairs-over : (b : List ℕ) (i : ℕ) → countOf b ≤ i → nextOf b (pairPlace i) .item ≡ End
-pairs-over b i h = ap (λ (t : Next). t .item) (pair-next b i ∙ pair-past b (pairPlace i) (omega arith))
+pairs-over : (b : List ℕ) → bookCheck b ≡ Accepted → (i : ℕ) → countOf b ≤ i → nextOf b (pairPlace i) .item ≡ End
+pairs-over b a i h = ap (λ (t : Next). t .item) (pair-next b a i ∙ pair-past b (pairPlace i) (omega arith))
 
 -- and this is the step that hands out r, the i-th routine.
 abbrev handed : ℕ → List Command → Next
@@ -91,15 +91,15 @@ module _ (b : List ℕ) (i at : ℕ) (r : List Command) (s : Stands b i at r) wh
       let e = s .size in let l = s .inside in
       placed-commands b i at size-fits (s .offset) (omega arith) ∙ ap (commandsCheck bookDevices 0) commands-same ∙ s .fine
 
-  -- and it is handed out.
-  stands-handed : i < countOf b → nextOf b (pairPlace i) ≡ handed i r
+  -- and it is handed out, the whole book being accepted.
+  stands-handed : bookCheck b ≡ Accepted → i < countOf b → nextOf b (pairPlace i) ≡ handed i r
   unfolding offsetAt lengthAt
-  stands-handed h =
-      let o = s .offset in let e = s .size in let l = s .inside in
+  stands-handed a h =
+      let o = s .offset in
       let c = ap (λ (p : ℕ). commandsAt b p (lengthAt b i / 4)) o ∙ commands-same in
       let q : pairPlace i + 8 ≡ pairPlace (suc i) = omega arith in
-      pair-next b i
-      ∙ pair-handed b (pairPlace i) (record { before = omega arith; whole = omega arith; fits = size-fits; inside = omega arith })
+      pair-next b a i
+      ∙ pair-handed b (pairPlace i) (omega arith) (omega arith)
       ∙ (λ j. record { item = Handed; routine = routineOf (c j); position = q j })
 
 -- ---- routines that may be written are read as they are
@@ -111,14 +111,15 @@ hands-by b p t r rs e x y z =
     hands (ap (λ (u : Next). u .item) e ∙ x) (ap (λ (u : Next). commandsOf (u .routine)) e ∙ y)
     (subst (λ (q : ℕ). Hands b q rs) (sym (ap (λ (u : Next). u .position) e)) z)
 
--- Of the routines from the i-th on, of which the first begins at a place, the pairs and the commands are written: they pass and are handed out.
+-- Of the routines from the i-th on, of which the first begins at a place, the pairs and the commands are written: they pass and, the whole book being
+-- accepted, are handed out.
 read-back : (b rest : List ℕ) (i at : ℕ) (rs : List (List Command)) → routinesCheck rs ≡ Accepted → i + length rs ≡ countOf b →
     drop (pairPlace i) b ≡ pairsBytes at rs ++ rest → drop at b ≡ bodyBytes rs →
-    (placedChecks b i (length rs) at ≡ Accepted) × Hands b (pairPlace i) rs
+    (placedChecks b i (length rs) at ≡ Accepted) × (bookCheck b ≡ Accepted → Hands b (pairPlace i) rs)
 unfolding routinesCheck placedChecks
 read-back b rest i at [] h n pairs body =
     let l = ap length body in
-    (simp (le-ltb at (length b) (omega (arith, length-drop at b))), ends (pairs-over b i (omega arith)))
+    (simp (le-ltb at (length b) (omega (arith, length-drop at b))), λ a. ends (pairs-over b a i (omega arith)))
 read-back b rest i at (r ∷ rs) h n pairs body =
     let a = both-accept (routineCheck bookDevices r) _ h in
     let more = pairsBytes (at + lengthIn r) rs ++ rest in
@@ -130,13 +131,14 @@ read-back b rest i at (r ∷ rs) h n pairs body =
     let c = behind b (commandsBytes r) (bodyBytes rs) at (lengthIn r) body (length-commandsBytes r) in
     let f = read-back b rest (suc i) (at + lengthIn r) rs (a .1) (omega arith) next c in (
       accept-both _ _ (stands-accepted b i at r s) (rw (s .size) (f .0)),
-      hands-by b (pairPlace i) (handed i r) r rs (stands-handed b i at r s (omega arith)) refl (routineOf-commands r (s .few)) (f .1),
+      λ w.
+          hands-by b (pairPlace i) (handed i r) r rs (stands-handed b i at r s w (omega arith)) refl (routineOf-commands r (s .few)) (f .1 w),
     )
 
 -- An accepted book is read from position 0 as from its first pair.
 from-start : (b : List ℕ) (rs : List (List Command)) → bookCheck b ≡ Accepted → Hands b 2 rs → Hands b 0 rs
-from-start b [] e (ends x) = let t = next-first b e ∙ sym (pair-next b 0) in ends {at = 0} (ap (λ (u : Next). u .item) t ∙ x)
-from-start b (r ∷ rs) e (hands x y z) = hands-by b 0 (nextOf b 2) r rs (next-first b e ∙ sym (pair-next b 0)) x y z
+from-start b [] e (ends x) = let t = next-first b e ∙ sym (pair-next b e 0) in ends {at = 0} (ap (λ (u : Next). u .item) t ∙ x)
+from-start b (r ∷ rs) e (hands x y z) = hands-by b 0 (nextOf b 2) r rs (next-first b e ∙ sym (pair-next b e 0)) x y z
 
 -- Routines that may be written, and book b is their bytes.
 record Makes (rs : List (List Command)) (b : List ℕ) : Type 0 where
@@ -158,7 +160,8 @@ book-read rs b w =
     let f = read-back b body 0 (pairsEnd (length rs)) rs (w .fine) (omega arith) p q in
     let z = ap length e in
     let l : pairsEnd (countOf b) ≤ length b = omega (arith, length-append pairs body, length-pairsBytes (pairsEnd (length rs)) rs) in
-    from-start b rs (book-placed b (head-fine b (omega arith) (omega arith) l) ∙ rw n (f .0)) (f .1)
+    let a : bookCheck b ≡ Accepted = book-placed b (head-fine b (omega arith) (omega arith) l) ∙ rw n (f .0) in
+    from-start b rs a (f .1 a)
 
 -- ---- an accepted book is the bytes of routines that may be written
 
@@ -257,7 +260,7 @@ hands-same b p (r ∷ rs) [] (hands x y z) (ends x′) = let z : _≡_ {A = ℕ}
 hands-same b p (r ∷ rs) (r′ ∷ rs′) (hands x y z) (hands x′ y′ z′) = ap₂ _∷_ (sym y ∙ y′) (hands-same b _ rs rs′ z z′)
 
 -- Only an accepted book is read.
-not-turned-down : (b : List ℕ) (v : Verdict) → ((r : Refusal) → startWith v b .item ≡ RefusedBook r → ⊥) → v ≡ Accepted
+not-turned-down : (b : List ℕ) (v : Verdict) → ((r : Refusal) → nextWith v b 0 .item ≡ RefusedBook r → ⊥) → v ≡ Accepted
 not-turned-down b Accepted h = refl
 not-turned-down b (Refused r) h = absurd (h r refl)
 

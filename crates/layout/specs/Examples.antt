@@ -13,7 +13,7 @@ use Rattle.routine.specs.declared.Verdict.{Verdict}
 use Rattle.routine.specs.declared.Verdict.the-variants.{Accepted, Refused}
 use Rattle.layout.specs.Numbers.{twoBytes, fourBytes, twoAt, fourAt, bitsOf, settingOf}
 use Rattle.layout.specs.Layout.{commandBytes, bookBytes, countOf, offsetAt, lengthAt, commandAt}
-use Rattle.layout.specs.Reading.{headCheck, lengthFits, placedCheck, placedChecks, bookCheck, pairNext, nextOf}
+use Rattle.layout.specs.Reading.{headCheck, lengthFits, placedCheck, placedChecks, bookCheck, pairNext, turnsDown, nextOf}
 use Rattle.layout.specs.Writing.{routinesLent, routinesCheck, writeCheck, writtenOf, bufferAfter}
 use Rattle.layout.specs.declared.Item.{Item}
 use Rattle.layout.specs.declared.Item.the-variants.{Handed, End, Refused as NotRead}
@@ -74,6 +74,15 @@ pub read : (bookCheck bytes ≡ Accepted) × (nextOf bytes 0 .item ≡ Handed) �
     × (nextOf bytes 10 .routine .commands ≡ routineOf (command 0 0 (pos 70) ∷ []) .commands) × (nextOf bytes 18 .item ≡ End)
 unfolding calc
 read = (refl, refl, refl, refl, refl)
+
+-- One routine with a command of device 255, tag 255, setting −1: the book is turned down at position 0, at the place of its pair, and at every other.
+abbrev wrongDevice : List ℕ
+wrongDevice = 1 ∷ 0 ∷ 10 ∷ 0 ∷ 0 ∷ 0 ∷ 4 ∷ 0 ∷ 0 ∷ 0 ∷ 255 ∷ 255 ∷ 255 ∷ 255 ∷ []
+
+pub not-read : (bookCheck wrongDevice ≡ Refused (Indexed 5 0)) × (nextOf wrongDevice 0 ≡ turnsDown (Indexed 5 0))
+    × (nextOf wrongDevice 2 ≡ turnsDown (Indexed 5 0)) × (nextOf wrongDevice 10 ≡ turnsDown (Indexed 5 0))
+unfolding calc
+not-read = (refl, refl, refl, refl)
 
 -- Cut short, with a byte left over, with a device that no book has, with a setting of 1,001 (its low byte at 20 is 233, its high byte 3).
 pub turned-down : (bookCheck (take 17 bytes) ≡ Refused (Number 18)) × (bookCheck (take 29 bytes) ≡ Refused (Number 19))

@@ -38,8 +38,8 @@ pub enum Item {
     Refused(Refusal),
 }
 
-// The routine stands beside the item, since an enum holds no array. Position 0 is before the whole book has been checked; any other
-// is the place in the book of the next pair.
+// The routine stands beside the item, since an enum holds no array. Position 0 is that of a reading not begun, and of a book that is turned
+// down; any other is the place in the book of the next pair.
 pub struct Next {
     pub item: Item,
     pub routine: Routine,

@@ -84,7 +84,7 @@ returns-4 c = let y = c .before .before in
     let e = size (x .before) in
     let f = fits-in-fours _ (good x) in
     let o = sym (offset (y .before .before)) ∙ y .before .if2 .left in
-    let n : x .before .before .four-at .result / 4 ≡ lengthAt (a .book .now) (a .i) / commandSize = ap (λ (k : ℕ). k / 4) e in
+    let n : x .before .before .four-at .result / commandSize ≡ lengthAt (a .book .now) (a .i) / commandSize = ap (λ (k : ℕ). k / commandSize) e in
     let cs = commandsAt (a .book .now) (a .at) (lengthAt (a .book .now) (a .i) / commandSize) in
     let l = length-commandsAt (a .book .now) (a .at) (lengthAt (a .book .now) (a .i) / commandSize) in
     let r : c .before .routine-at .result ≡ routineOf cs = c .before .routine-at .ensures ∙ ap (λ (k : ℕ). routineOf (commandsAt (a .book .now) (a .at) k)) n in
