@@ -11,13 +11,13 @@ use Rattle.layout.specs.Writing.{rowOf, countsOf, devicesOf, tagsOf, set
 use Rattle.layout.specs.Claims.{LentAgain}
 
 -- What stands at a place of a list, and behind it.
-first-there : {A : Type 0} (l r : List A) (a d : A) (at : ℕ) → drop at l ≡ a ∷ r → getD l at d ≡ a
+pub first-there : {A : Type 0} (l r : List A) (a d : A) (at : ℕ) → drop at l ≡ a ∷ r → getD l at d ≡ a
 first-there [] r a d zero e = let z : _≡_ {A = ℕ} 0 1 = cc in absurd (omega arith)
 first-there [] r a d (suc at) e = let z : _≡_ {A = ℕ} 0 1 = cc in absurd (omega arith)
 first-there (y ∷ l) r a d zero e = cc
 first-there (y ∷ l) r a d (suc at) e = first-there l r a d at e
 
-rest-there : {A : Type 0} (l r : List A) (a : A) (at : ℕ) → drop at l ≡ a ∷ r → drop (suc at) l ≡ r
+pub rest-there : {A : Type 0} (l r : List A) (a : A) (at : ℕ) → drop at l ≡ a ∷ r → drop (suc at) l ≡ r
 rest-there [] r a zero e = let z : _≡_ {A = ℕ} 0 1 = cc in absurd (omega arith)
 rest-there [] r a (suc at) e = let z : _≡_ {A = ℕ} 0 1 = cc in absurd (omega arith)
 rest-there (y ∷ l) r a zero e = cc

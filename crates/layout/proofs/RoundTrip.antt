@@ -141,10 +141,10 @@ from-start b [] e (ends x) = let t = next-first b e ∙ sym (pair-next b e 0) in
 from-start b (r ∷ rs) e (hands x y z) = hands-by b 0 (nextOf b 2) r rs (next-first b e ∙ sym (pair-next b e 0)) x y z
 
 -- Routines that may be written, and book b is their bytes.
-record Makes (rs : List (List Command)) (b : List ℕ) : Type 0 where
-  fine : routinesCheck rs ≡ Accepted
-  few : length rs ≤ maxRoutines
-  book : bookBytes rs ≡ b
+pub record Makes (rs : List (List Command)) (b : List ℕ) : Type 0 where
+  pub fine : routinesCheck rs ≡ Accepted
+  pub few : length rs ≤ maxRoutines
+  pub book : bookBytes rs ≡ b
 
 -- Then it is read as these routines.
 book-read : (rs : List (List Command)) (b : List ℕ) → Makes rs b → Hands b 0 rs
@@ -264,10 +264,16 @@ not-turned-down : (b : List ℕ) (v : Verdict) → ((r : Refusal) → nextWith v
 not-turned-down b Accepted h = refl
 not-turned-down b (Refused r) h = absurd (h r refl)
 
-hands-accepted : (b : List ℕ) (rs : List (List Command)) → Hands b 0 rs → bookCheck b ≡ Accepted
+pub hands-accepted : (b : List ℕ) (rs : List (List Command)) → Hands b 0 rs → bookCheck b ≡ Accepted
 unfolding nextOf
 hands-accepted b [] (ends x) = not-turned-down b (bookCheck b) (λ r e. let z : _≡_ {A = ℕ} 0 1 = cc in omega arith)
 hands-accepted b (r ∷ rs) (hands x y z) = not-turned-down b (bookCheck b) (λ r e. let z : _≡_ {A = ℕ} 0 1 = cc in omega arith)
+
+-- So what was read of a book makes it.
+pub hands-make : (b : List ℕ) → Bytes b → (rs : List (List Command)) → Hands b 0 rs → Makes rs b
+hands-make b bytes rs h =
+    let w = book-written b bytes (hands-accepted b rs h) in
+    subst (λ (qs : List (List Command)). Makes qs b) (hands-same b 0 (w .0) rs (book-read (w .0) b (w .1)) h) (w .1)
 
 -- A length is answered only for a writing that is accepted, and is the book's;
 written-accepted : (v : Verdict) (book : List ℕ) (n : ℕ) → writtenWith v book ≡ Length n → (v ≡ Accepted) × (length book ≡ n)
@@ -313,8 +319,5 @@ write-then-read rs buffer n e =
 pub read-then-write : ReadThenWrite
 read-then-write b bytes = (
   λ e. let w = book-written b bytes e in (w .0, book-read (w .0) b (w .1)),
-  λ rs h buffer l.
-      let w = book-written b bytes (hands-accepted b rs h) in
-      let same = hands-same b 0 (w .0) rs (book-read (w .0) b (w .1)) h in
-      write-again rs b buffer (subst (λ (qs : List (List Command)). Makes qs b) same (w .1)) l,
+  λ rs h buffer l. write-again rs b buffer (hands-make b bytes rs h) l,
 )
