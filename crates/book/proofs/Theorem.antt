@@ -57,12 +57,13 @@ ends-again b at e = ends-by b (bookCheck b) refl at e
 
 module _ (book : RefT (List ℕ)) where
   -- A step of a reader that holds this book.
-  step-is : (before after : BookReader) (s : Next) → before .book ≡ book → Advanced before after s → s ≡ nextOf (now book) (before .position)
+  step-is : (before after : BookReader) (s : Next) → before .book ≡ book → Advanced before after s →
+      s ≡ nextOf (now book) (before .position)
   step-is before after s e a = a .read ∙ ap (λ (c : RefT (List ℕ)). nextOf (now c) (before .position)) e
 
   -- A refused book is turned down at each step.
-  turned-down : (r : Refusal) → bookCheck (now book) ≡ Refused r → (k : ℕ) (reader : ℕ → BookReader) (step : ℕ → Next) → reader 0 .book ≡ book →
-      ((i : ℕ) → i ≤ k → Advanced (reader i) (reader (suc i)) (step i)) → step k ≡ turnsDown r
+  turned-down : (r : Refusal) → bookCheck (now book) ≡ Refused r → (k : ℕ) (reader : ℕ → BookReader) (step : ℕ → Next) →
+      reader 0 .book ≡ book → ((i : ℕ) → i ≤ k → Advanced (reader i) (reader (suc i)) (step i)) → step k ≡ turnsDown r
   turned-down r e zero reader step h c = step-is _ _ _ h (c 0 (omega arith)) ∙ next-refused (now book) r e (reader 0 .position)
   turned-down r e (suc k) reader step h c =
       turned-down r e k (λ i. reader (suc i)) (λ i. step (suc i)) (c 0 (omega arith) .same-book ∙ h) (λ i l. c (suc i) (omega arith))

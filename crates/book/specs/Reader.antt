@@ -1,6 +1,6 @@
--- The reader of a book: what its two functions give, and what a whole reading gives by them. Document 01: "The reader holds the lent book and a position
--- in it and, the whole book having been checked first, hands out routine by routine, then the end." The theorem stands in proofs/Theorem.antt.
--- Assumes nothing.
+-- The reader of a book: what its two functions give, and what a whole reading gives by them. Document 01: "The reader holds the lent book
+-- and a position in it and, the whole book having been checked first, hands out routine by routine, then the end." The theorem stands in
+-- proofs/Theorem.antt. Assumes nothing.
 use mathlib.Core.Path.{_≡_}
 use mathlib.Core.List.{List, []}
 use Prim.Native.Nat.{ℕ, suc, _<_, _≤_}

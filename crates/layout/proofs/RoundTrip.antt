@@ -43,8 +43,8 @@ record Stands (b : List ℕ) (i at : ℕ) (r : List Command) : Type 0 where
   fine : commandsCheck bookDevices 0 r ≡ Accepted
 
 -- It does if its pair and its commands are written there.
-stands : (b x y z : List ℕ) (i at : ℕ) (r : List Command) → routineCheck bookDevices r ≡ Accepted → drop (pairPlace i) b ≡ fourBytes at ++ x →
-    drop (pairPlace i + 4) b ≡ fourBytes (lengthIn r) ++ y → drop at b ≡ commandsBytes r ++ z → Stands b i at r
+stands : (b x y z : List ℕ) (i at : ℕ) (r : List Command) → routineCheck bookDevices r ≡ Accepted →
+    drop (pairPlace i) b ≡ fourBytes at ++ x → drop (pairPlace i + 4) b ≡ fourBytes (lengthIn r) ++ y → drop at b ≡ commandsBytes r ++ z → Stands b i at r
 unfolding routineCheck offsetAt lengthAt
 stands b x y z i at r h offset size body =
     let a = both-accept (refuse command-count when (eqb (length r) 0 || ltb maxCommands (length r))) _ h in
@@ -111,8 +111,8 @@ hands-by b p t r rs e x y z =
     hands (ap (λ (u : Next). u .item) e ∙ x) (ap (λ (u : Next). commandsOf (u .routine)) e ∙ y)
     (subst (λ (q : ℕ). Hands b q rs) (sym (ap (λ (u : Next). u .position) e)) z)
 
--- Of the routines from the i-th on, of which the first begins at a place, the pairs and the commands are written: they pass and, the whole book being
--- accepted, are handed out.
+-- Of the routines from the i-th on, of which the first begins at a place, the pairs and the commands are written: they pass and, the whole
+-- book being accepted, are handed out.
 read-back : (b rest : List ℕ) (i at : ℕ) (rs : List (List Command)) → routinesCheck rs ≡ Accepted → i + length rs ≡ countOf b →
     drop (pairPlace i) b ≡ pairsBytes at rs ++ rest → drop at b ≡ bodyBytes rs →
     (placedChecks b i (length rs) at ≡ Accepted) × (bookCheck b ≡ Accepted → Hands b (pairPlace i) rs)
@@ -127,12 +127,15 @@ read-back b rest i at (r ∷ rs) h n pairs body =
     let size = behind b (fourBytes at) (fourBytes (lengthIn r) ++ more) (pairPlace i) 4 offset (length-fourBytes at) in
     let s = stands b (fourBytes (lengthIn r) ++ more) more (bodyBytes rs) i at r (a .0) offset size body in
     let p : pairPlace (suc i) ≡ pairPlace i + 4 + 4 = omega arith in
-    let next = ap (λ (q : ℕ). drop q b) p ∙ behind b (fourBytes (lengthIn r)) more (pairPlace i + 4) 4 size (length-fourBytes (lengthIn r)) in
+    let next =
+    ap (λ (q : ℕ). drop q b) p
+    ∙ behind b (fourBytes (lengthIn r)) more (pairPlace i + 4) 4 size (length-fourBytes (lengthIn r)) in
     let c = behind b (commandsBytes r) (bodyBytes rs) at (lengthIn r) body (length-commandsBytes r) in
     let f = read-back b rest (suc i) (at + lengthIn r) rs (a .1) (omega arith) next c in (
       accept-both _ _ (stands-accepted b i at r s) (rw (s .size) (f .0)),
       λ w.
-          hands-by b (pairPlace i) (handed i r) r rs (stands-handed b i at r s w (omega arith)) refl (routineOf-commands r (s .few)) (f .1 w),
+          let h = stands-handed b i at r s w (omega arith) in
+          hands-by b (pairPlace i) (handed i r) r rs h refl (routineOf-commands r (s .few)) (f .1 w),
     )
 
 -- An accepted book is read from position 0 as from its first pair.

@@ -75,7 +75,8 @@ pub read : (bookCheck bytes ≡ Accepted) × (nextOf bytes 0 .item ≡ Handed) �
 unfolding calc
 read = (refl, refl, refl, refl, refl)
 
--- One routine with a command of device 255, tag 255, setting −1: the book is turned down at position 0, at the place of its pair, and at every other.
+-- One routine with a command of device 255, tag 255, setting −1: the book is turned down at position 0, at the place of its pair, and
+-- at every other.
 abbrev wrongDevice : List ℕ
 wrongDevice = 1 ∷ 0 ∷ 10 ∷ 0 ∷ 0 ∷ 0 ∷ 4 ∷ 0 ∷ 0 ∷ 0 ∷ 255 ∷ 255 ∷ 255 ∷ 255 ∷ []
 

@@ -42,7 +42,9 @@ fn print_written(written: Written) {
             io::write_all(STDOUT_FILENO, b"length ");
             io::print_decimal(STDOUT_FILENO, size as u64);
         }
-        Written::Refused(refusal) => book_print::print_refusal(refusal),
+        Written::Refused(refusal) => {
+            book_print::print_refusal(refusal);
+        }
     }
 }
 

@@ -34,7 +34,8 @@ add-if3 c = search needs
 
 returns-3 : tie.Need-returns-3
 unfolding refusalOf
-returns-3 c = let e = count (c .before .before) in sym (book-refused _ _ (head-pairs _ (c .before .before .before .if1 .left) (omega arith) (omega arith)))
+returns-3 c = let e = count (c .before .before) in
+    sym (book-refused _ _ (head-pairs _ (c .before .before .before .if1 .left) (omega arith) (omega arith)))
 
 check-all-requires : tie.Need-check-all-requires
 check-all-requires c κs = search needs

@@ -1,5 +1,5 @@
--- `book::reader::advance` meets its contract: a walk of its MIR, by hand. The borrow is opened, the reader behind it is copied to a local and taken
--- apart, `book::next` is called, and the position that it gives is stored through the borrow. Assumes nothing.
+-- `book::reader::advance` meets its contract: a walk of its MIR, by hand. The borrow is opened, the reader behind it is copied to a local
+-- and taken apart, `book::next` is called, and the position that it gives is stored through the borrow. Assumes nothing.
 use mathlib.Core.Path.{_≡_, refl, subst}
 use Prim.Native.Nat.{ℕ, _<_, _^_}
 use mathlib.Core.List.{List, [], _∷_}
@@ -17,7 +17,8 @@ use ghost.Atoms.{Atoms, sem}
 use contract.Lifetimes.{AllOutlive}
 use contract.Monad.{Fun, fact}
 use contract.Running.{givenOf, tables, tablesOf}
-use types.Kit.{Given, Item, ‵, raw, _⊛_, ⋆, given, some, later, _$_, _∵_, !, qed, by, move, keep, drop, use1, use2, split, join, learn, pick}
+use types.Kit.{Given, Item, ‵, raw, _⊛_, ⋆, given, some, later, _$_, _∵_, !, qed, by, move, keep, drop, use1, use2, split, join, learn}
+use types.Kit.{pick}
 use types.Kit.{fsplit, fsplit3, fjoin, fjoin3, feqI, rewrite, suffices, frame, await, done}
 use types.Part.{whole, sub, look-in, store-in}
 use types.Run.{look, look-raw, init, forget, stop, hop, fld, from, load, of-opd, and-then, no-more, assigns, land, returns}
@@ -140,7 +141,8 @@ module _ {M : Type 1} (𝓤 : URA M) (H : Heap 𝓤) (A : Atoms 𝓤) (W : Given
   -- what the book owns is kept, and the position's facts are made anew
   again : (m : ℕ) → m < 2 ^ 64 → ent 𝓤 (sem 𝓤 H A Own) (sem 𝓤 H A (B κ′ .own (h′ m) (T′.lowered (h′ m) ∷ [])))
   again m ok =
-      qed W (‵ Own ∷ []) ∵ owned ! usize (Is usize) (uint-makes 𝓤 H A W w64) m _ (refl, ok) $ move ! (1 ∷ 0 ∷ []) $ by ! (own-put 𝓤 H A W D L 1 vd m mach)
+      qed W (‵ Own ∷ []) ∵ owned ! usize (Is usize) (uint-makes 𝓤 H A W w64) m _ (refl, ok) $ move ! (1 ∷ 0 ∷ []) $
+      by ! (own-put 𝓤 H A W D L 1 vd m mach)
 
   abbrev res : Next → Val
   res r = only (LL.vals S.the-type S′.the-laws r)
@@ -166,10 +168,12 @@ module _ {M : Type 1} (𝓤 : URA M) (H : Heap 𝓤) (A : Atoms 𝓤) (W : Given
         alloc1 ! (λ l₀. alloc1 ! (λ l₁. alloc1 ! (λ l₂. alloc1 ! (λ l₃. alloc1 ! (λ l₄. alloc1 ! (λ l₅. alloc0 ! $
         params1 ! $ pass1 ! (init ! 8 refl (tt, tt)) $ pass0 ! $
         move ! (13 ∷ []) $ fsplit ! $ fsplit3 ! $ drop ! $ move ! (15 ∷ []) $ split ! $ move ! (2 ∷ 3 ∷ 0 ∷ []) $
-        opens ! tt (B κ′) {h = h} b o (λ vs. spelt ! (B κ′) (Is (B κ′)) (shows 𝓤 H A (B κ′)) (LL.vals D L) (LL.tells D L) fullShare h vs b o $
+        opens ! tt (B κ′) {h = h} b o (λ vs.
+        spelt ! (B κ′) (Is (B κ′)) (shows 𝓤 H A (B κ′)) (LL.vals D L) (LL.tells D L) fullShare h vs b o $
         move ! (1 ∷ []) $ peeks ! (B κ′) (Is (B κ′)) (shows 𝓤 H A (B κ′)) h (mach ∷ []) (λ was.
         let wt = LL.lawful (T.the-type (αᵉ κ′)) (T′.the-laws (αᵉ κ′)) 𝓤 H A W .typed h _ was .0 in
-        -- [what the reader owns; the cell; the open borrow; obs; auth; 'a's token; true; _5 at 7; _4 at 9; _3 at 11; _2 at 13; _1 at 15; _0 at 17]
+        -- [what the reader owns; the cell; the open borrow; obs; auth; 'a's token; true; _5 at 7; _4 at 9; _3 at 11; _2 at 13; _1 at 15;
+        -- _0 at 17]
         assigns ! (of-opd ! (load ! (from ! (hop ! (look ! 15 refl) (stop !))) (look-raw ! 1 refl))) (from ! (stop !)) (init ! 13 refl wt) $
         assigns ! (of-opd ! (load ! (from ! (fld ! refl (stop !))) (look-in ! 13 (sub ! 0 refl (whole !))))) (from ! (stop !))
         (init ! 9 refl (tt, wt .1 .0)) $
@@ -180,23 +184,27 @@ module _ {M : Type 1} (𝓤 : URA M) (H : Heap 𝓤) (A : Atoms 𝓤) (W : Given
         -- [what the callee asks; what the reader owns; the cell; the open borrow; obs; auth; true; _5 at 7; and so on]
         calls-at ! fm (NextAt 𝓤 H A at-mem run) known to
         (and-then ! (load ! (from ! (stop !)) (look ! 9 refl)) (and-then ! (load ! (from ! (stop !)) (look ! 7 refl)) (no-more !))) (λ u.
-        use1 W (later (some (λ (r : Next). ((‵ (flft κ′ q′) ⊛ ‵ ftrue) ⊛ ‵ (S.the-row .own r (u ∷ []))) ⊛ raw (Said r)))) (id⊢ 𝓤 _) $ await ! tt $ pick ! (λ r.
+        use1 W (later (some (λ (r : Next). ((‵ (flft κ′ q′) ⊛ ‵ ftrue) ⊛ ‵ (S.the-row .own r (u ∷ []))) ⊛ raw (Said r)))) (id⊢ 𝓤 _) $
+        await ! tt $ pick ! (λ r.
         split ! $ move ! (1 ∷ []) $ use1 W (raw (fact 𝓤 (r ≡ found))) (said r) $ heard ! (r ≡ found) (λ e. split ! $ move ! (1 ∷ []) $
-        -- [the result; 'a's token; what the reader owns; the cell; the open borrow; obs; auth; true; _5 at 8; _4 at 10; _3 at 12; and so on]
+        -- [the result; 'a's token; what the reader owns; the cell; the open borrow; obs; auth; true; _5 at 8; _4 at 10; and so on]
         peeks ! S.the-row (Is S.the-row) (shows 𝓤 H A S.the-row) r (u ∷ []) (λ is.
         let has = LL.owed S.the-type S′.the-laws r (u ∷ []) is in
         let own-is = subst (Is S.the-row r) (LL.tells S.the-type S′.the-laws r (u ∷ []) is) is in
         land ! (from ! (stop !)) (init ! 12 refl (LL.lawful S.the-type S′.the-laws 𝓤 H A W .typed r _ is .0)) $
         rewrite ! 12 (λ (us : List Val). ‵ (fat fullShare S′.mir l₃ 0 (only us))) (LL.tells S.the-type S′.the-laws r (u ∷ []) is) refl $
         assigns ! (of-opd ! (load ! (from ! (fld ! refl (stop !))) (look-in ! 12 (sub ! 2 refl (whole !)))))
-        (from ! (hop ! (look ! 16 refl) (fld ! refl (stop !)))) (store-in ! 3 (sub ! 1 refl (whole !)) (tt, record { fits = has .1 .1 .0 .1 })) $
+        (from ! (hop ! (look ! 16 refl) (fld ! refl (stop !))))
+        (store-in ! 3 (sub ! 1 refl (whole !)) (tt, record { fits = has .1 .1 .0 .1 })) $
         assigns ! (of-opd ! (load ! (from ! (stop !)) (look ! 12 refl))) (from ! (stop !))
         (init ! 18 refl (LL.lawful S.the-type S′.the-laws 𝓤 H A W .typed r _ own-is .0)) $
-        drop ! $ move ! (1 ∷ []) $ use1 W (‵ (B κ′ .own (h′ (r .position)) (T′.lowered (h′ (r .position)) ∷ []))) (again (r .position) (has .1 .1 .0 .1)) $
+        drop ! $ move ! (1 ∷ []) $
+        use1 W (‵ (B κ′ .own (h′ (r .position)) (T′.lowered (h′ (r .position)) ∷ []))) (again (r .position) (has .1 .1 .0 .1)) $
         move ! (2 ∷ 0 ∷ 3 ∷ 4 ∷ 5 ∷ []) $
         closes ! tt (B κ′) (h′ (r .position)) (T′.lowered (h′ (r .position)) ∷ []) b o $
         -- [obs; the borrow; its token; 'a's; true; _5 at 5; _4 at 7; _3 at 9; _2 at 11; _1 at 13; _0 at 15]
-        returns ! (look ! 15 refl) $ forget ! 5 refl $ forget ! 7 refl $ forget ! 9 refl $ forget ! 11 refl $ forget ! 13 refl $ forget ! 15 refl $
+        returns ! (look ! 15 refl) $ forget ! 5 refl $ forget ! 7 refl $ forget ! 9 refl $
+        forget ! 11 refl $ forget ! 13 refl $ forget ! 15 refl $
         move ! (15 ∷ 16 ∷ []) $ free1 ! $ move ! (13 ∷ 14 ∷ []) $ free1 ! $ move ! (11 ∷ 12 ∷ []) $ free1 ! $
         move ! (9 ∷ 10 ∷ []) $ free1 ! $ move ! (7 ∷ 8 ∷ []) $ free1 ! $ move ! (5 ∷ 6 ∷ []) $ free1 ! $ free0 ! $
         keep ! (0 ∷ 1 ∷ 2 ∷ 3 ∷ []) $ by ! (exits r e own-is)))))))))))))
@@ -208,7 +216,8 @@ module _ {M : Type 1} (𝓤 : URA M) (H : Heap 𝓤) (A : Atoms 𝓤) (W : Given
       walked 𝓤 H A f.ended stayed (f.clauses 𝓤 H A mem run) (WpFn 𝓤 H C Λ code.function)
       (λ κs. (ptr-vals, tt)) (λ κs. (mut-tells (named 0) (κs .0) (B (κs .1 .0)), tt))
       (λ κs qs bounds a _ are. via 𝓤 _ (fst∗ 𝓤 _ (emp 𝓤))
-      (walk 𝓤 H A W mem run (κs .0) (κs .1 .0) (qs .0) (qs .1 .0) bounds (a .0 .ptr .0) (a .0 .ptr .1) (a .0 .name) (a .0 .now) C Λ fm known))
+      (walk 𝓤 H A W mem run (κs .0) (κs .1 .0) (qs .0) (qs .1 .0) bounds (a .0 .ptr .0) (a .0 .ptr .1) (a .0 .name) (a .0 .now)
+      C Λ fm known))
 
 advance-meets :
     {M : Type 1} (𝓤 : URA M) (H : Heap 𝓤) (A : Atoms 𝓤) (W : Given 𝓤 H A) (mem : Memory → SProp 𝓤) (run : Routine → Fun 𝓤) (𝓣 : Tables 𝓤 H)

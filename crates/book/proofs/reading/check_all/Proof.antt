@@ -1,5 +1,5 @@
--- `book::reading::check_all` meets its contract. The loop's invariant: the check of the routines from the i-th on, at their place, is the check
--- of all of them; and that place is in the book. Assumes nothing.
+-- `book::reading::check_all` meets its contract. The loop's invariant: the check of the routines from the i-th on, at their place, is
+-- the check of all of them; and that place is in the book. Assumes nothing.
 use borrow.Author.Needs.{needs}
 use Prim.Native.Nat.{ℕ, _+_, _-_, _≤_}
 use mathlib.Core.Path.{_≡_, sym, ap, _∙_}
@@ -13,7 +13,8 @@ use Rattle.book.proofs.reading.check_all.Statement.{statement}
 use Rattle.book.proofs.reading.check_all.Tie as tie
 
 abbrev Inv-loop : tie.InvT-loop
-Inv-loop book count at₀ i₀ at i = (i ≤ count) × (at ≤ length book) × (placedChecks book i (count - i) at ≡ placedChecks book 0 count (pairsEnd count))
+Inv-loop book count at₀ i₀ at i =
+    (i ≤ count) × (at ≤ length book) × (placedChecks book i (count - i) at ≡ placedChecks book 0 count (pairsEnd count))
 
 abbrev μ-loop : tie.MeasureT-loop
 μ-loop book count at₀ i₀ at i = count - i
@@ -40,14 +41,16 @@ size c = c .four-at .ensures .0
 -- all routines are behind the loop
 all : (c : tie.After-loop Inv-loop μ-loop) →
     let a = c .before .before .before .args in
-    placedChecks (a .book .now) (c .before .loop .i) 0 (c .before .loop .at) ≡ placedChecks (a .book .now) 0 (a .count) (pairsEnd (a .count))
+    placedChecks (a .book .now) (c .before .loop .i) 0 (c .before .loop .at)
+    ≡ placedChecks (a .book .now) 0 (a .count) (pairsEnd (a .count))
 all c =
     let a = c .before .before .before .args in
     let n : 0 ≡ a .count - c .before .loop .i = omega arith in
     ap (λ (k : ℕ). placedChecks (a .book .now) (c .before .loop .i) k (c .before .loop .at)) n ∙ c .before .loop .inv .2
 
 loop-holds : tie.Need-loop-holds Inv-loop μ-loop
-loop-holds c = (search needs, c .before .pre .1, ap (λ (k : ℕ). placedChecks (c .before .args .book .now) 0 k (pairsEnd (c .before .args .count))) (omega arith))
+loop-holds c = let a = c .before .args in
+    (search needs, c .before .pre .1, ap (λ (k : ℕ). placedChecks (a .book .now) 0 k (pairsEnd (a .count))) (omega arith))
 
 check-placed-requires : tie.Need-check-placed-requires Inv-loop μ-loop
 check-placed-requires c κs = search needs

@@ -31,19 +31,26 @@ length-fits-requires : tie.Need-length-fits-requires
 length-fits-requires c κs = search needs
 
 -- the length that the pair gives, and whether it fits
-size : (c : tie.After-length-fits) → c .before .four-at .result ≡ lengthAt (c .before .before .before .args .book .now) (c .before .before .before .args .i)
+size : (c : tie.After-length-fits) →
+    let a = c .before .before .before .args in
+    c .before .four-at .result ≡ lengthAt (a .book .now) (a .i)
 unfolding lengthAt
 size c = c .before .four-at .ensures .0
 
-fits : (c : tie.After-length-fits) → lengthFits (lengthAt (c .before .before .before .args .book .now) (c .before .before .before .args .i)) ≡ c .length-fits .result
+fits : (c : tie.After-length-fits) →
+    let a = c .before .before .before .args in
+    lengthFits (lengthAt (a .book .now) (a .i)) ≡ c .length-fits .result
 fits c = ap lengthFits (sym (size c)) ∙ sym (c .length-fits .ensures)
 
-good : (c : tie.Else1) → lengthFits (lengthAt (c .before .before .before .before .args .book .now) (c .before .before .before .before .args .i)) ≡ true
+good : (c : tie.Else1) →
+    let a = c .before .before .before .before .args in
+    lengthFits (lengthAt (a .book .now) (a .i)) ≡ true
 good c = fits (c .before) ∙ not-false _ (c .if1 .left)
 
 -- the offset that the pair gives
 offset : (c : tie.After-four-at2) →
-    c .four-at2 .result ≡ offsetAt (c .before .before .before .before .before .args .book .now) (c .before .before .before .before .before .args .i)
+    let a = c .before .before .before .before .before .args in
+    c .four-at2 .result ≡ offsetAt (a .book .now) (a .i)
 unfolding offsetAt
 offset c = c .four-at2 .ensures .0
 
@@ -84,10 +91,11 @@ returns-4 c = let y = c .before .before in
     let e = size (x .before) in
     let f = fits-in-fours _ (good x) in
     let o = sym (offset (y .before .before)) ∙ y .before .if2 .left in
-    let n : x .before .before .four-at .result / commandSize ≡ lengthAt (a .book .now) (a .i) / commandSize = ap (λ (k : ℕ). k / commandSize) e in
+    let n = ap (λ (k : ℕ). k / commandSize) e in
     let cs = commandsAt (a .book .now) (a .at) (lengthAt (a .book .now) (a .i) / commandSize) in
     let l = length-commandsAt (a .book .now) (a .at) (lengthAt (a .book .now) (a .i) / commandSize) in
-    let r : c .before .routine-at .result ≡ routineOf cs = c .before .routine-at .ensures ∙ ap (λ (k : ℕ). routineOf (commandsAt (a .book .now) (a .at) k)) n in
+    let r : c .before .routine-at .result ≡ routineOf cs =
+    c .before .routine-at .ensures ∙ ap (λ (k : ℕ). routineOf (commandsAt (a .book .now) (a .at) k)) n in
     c .check .ensures
     ∙ ap (λ (q : Routine). routineCheck bookDevices (commandsOf q)) r
     ∙ ap (routineCheck bookDevices) (routineOf-commands cs (omega arith))

@@ -36,8 +36,9 @@ byte-at-requires-4 c κs = search needs
 
 -- the setting's 16 bits
 sixteen : (c : tie.After-byte-at4) →
+    let a = c .before .before .before .before .before .before .args in
     c .before .before .before .before .byte-at .result + 256 * c .before .before .before .byte-at2 .result
-    ≡ twoAt (c .before .before .before .before .before .before .args .book .now) (c .before .before .before .before .before .before .args .at + 2)
+    ≡ twoAt (a .book .now) (a .at + 2)
 unfolding twoAt
 sixteen c =
     let x = c .before .before .before in

@@ -39,7 +39,8 @@ command-at-requires c κs = search needs
 
 with-command-requires : tie.Need-with-command-requires Inv-loop μ-loop
 with-command-requires c κs = let l = c .before .before in
-    let e : l .loop .routine .count ≡ l .loop .i = ap (λ (r : Routine). r .count) (l .loop .inv .1) ∙ routineOf-count _ ∙ length-commandsAt _ _ _ in
+    let e : l .loop .routine .count ≡ l .loop .i =
+    ap (λ (r : Routine). r .count) (l .loop .inv .1) ∙ routineOf-count _ ∙ length-commandsAt _ _ _ in
     omega arith
 
 add-i : tie.Need-add-i Inv-loop μ-loop
