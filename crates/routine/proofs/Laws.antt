@@ -9,10 +9,11 @@ use native.Mathlib.Omega.{arith}
 use borrow.Author.Tests.{lt-ltb, le-ltb, le-leb, lt-leb, eq-eqb, ne-eqb}
 use lib.Dec.{leb, ltb}
 use lib.IntN.{pos, negsuc}
+use lib.Signed.{mag}
 use lib.ListN.{length, take, getD, set, replicate, length-append, length-replicate, length-map}
 use lib.Seq.{sets, set-at, take-append-seam, slice, slice-cons, slice-empty, take-append-le, length-take-le}
 use Rattle.routine.specs.Choice.{if_then_else_}
-use Rattle.routine.specs.Range.{inRange}
+use Rattle.routine.specs.Range.{lowestSetting, highestSetting, inRange}
 use Rattle.routine.specs.Refusals.{Cause, command-count, device-not-below, setting-out-of-range, tag-out-of-range, refusalOf, refuse_when_, _andThen_}
 use Rattle.routine.specs.Routine.{maxCommands, highestTag, zeroCommand, commandsOf, routineOf, withCommand, commandCheck, commandsCheck, routineCheck}
 use Rattle.routine.specs.declared.Command.{Command}
@@ -51,14 +52,14 @@ and-true false t e = let z : _≡_ {A = ℕ} 0 1 = cc in absurd (omega arith)
 
 -- ---- settings
 
--- a setting is in range if it is at most 1,000 away from 0
-pub in-range-pos : (n : ℕ) → inRange (pos n) ≡ leb n 1000
+-- a setting is in range if it is no farther from 0 than the highest, or the lowest (`mag` is n of n and of −(n + 1))
+pub in-range-pos : (n : ℕ) → inRange (pos n) ≡ leb n (mag highestSetting)
 unfolding inRange
 in-range-pos n = refl
 
-pub in-range-negsuc : (n : ℕ) → inRange (negsuc n) ≡ leb n 999
+pub in-range-negsuc : (n : ℕ) → inRange (negsuc n) ≡ leb n (mag lowestSetting)
 unfolding inRange
-in-range-negsuc n = byTest (λ (t : Bool). t && true ≡ t) (leb n 999) (λ _. refl) (λ _. refl)
+in-range-negsuc n = byTest (λ (t : Bool). t && true ≡ t) (leb n (mag lowestSetting)) (λ _. refl) (λ _. refl)
 
 -- ---- arrays
 
