@@ -15,17 +15,17 @@ read_vectors   The record is a book to read. Lines: `refused N` or
 write_vectors  Routines to write: four parts, each its number of bytes and its
      bytes: a count for each routine, devices, tags, settings of two bytes each;
      then r, the length of the lent buffer, and f, one byte: byte i of the
-     buffer is (f + i) % 256 before. The commands are as many as the shortest
-     of devices, tags and settings has. Each routine takes the next `count` of
-     them, or those that are left. Line: `length N`, `refused N` or
-     `refused N I`, then ` sum H`, the checksum of the whole buffer afterwards.
+     buffer is (f + i) % 256 before. Each routine has the next `count` commands
+     of the row. Line: `length N`, `refused N` or `refused N I`, then ` sum H`,
+     the checksum of the whole buffer afterwards.
 
 Covered in reading: counts; truncations; single bytes changed; bytes left over;
 lengths; offsets; layouts with gaps, overlaps and another order; devices, tags
 and settings at their edges; each refusal at its first, middle and last index;
 two faults in one book; random books, valid, changed and nearly random.
-Covered in writing: numbers of routines; lengths of the buffer; counts; slices
-of unequal lengths; commands left over; edges; two faults; random lists.
+Covered in writing: numbers of routines; lengths of the buffer; counts, with
+fewer and with more commands lent; slices of unequal lengths, each of the three
+too short; commands left over; edges; two faults; random lists.
 """
 
 import collections
@@ -122,15 +122,6 @@ class Taker:
         return int.from_bytes(self.take(2), 'little')
 
 
-def lent_routines(counts, row):
-    """Each routine takes the next `count` commands, or those that are left."""
-    routines = []
-    for count in counts:
-        routines.append(row[:count])
-        row = row[count:]
-    return routines
-
-
 def checksum(data):
     h = 0
     for b in data:
@@ -150,8 +141,7 @@ def answer_writing(rest):
     fill = taker.take(1)[0]
     assert taker.at == len(rest)
     buffer = bytes((fill + i) % 256 for i in range(room))
-    routines = lent_routines(counts, list(zip(devices, tags, settings)))
-    answer = model.write(routines, room)
+    answer = model.write(model.lent(counts, devices, tags, settings), room)
     if answer[0] == 'refused':
         text = refusal_text(answer)
     else:
@@ -642,9 +632,13 @@ def lending_row(counts, row, room, fill=0):
 
 def write_counts():
     for count in (0, 1, 7, 8, 9, 10, 127, 128, 255):
-        yield lending_row([count], row_of(260), 100, 4)
+        refused_4 = not 1 <= count <= 8
+        whole = 'refused 4' if refused_4 else f'length {10 + 4 * count}'
+        yield expecting(whole, lending_row([count], row_of(260), 100, 4))
         for size in (0, 1, 7, 8, 9, 20):
-            yield lending_row([count], row_of(size), 100, 5)
+            there = refused_4 or count <= size
+            yield expecting(whole if there else f'refused 5 {size}',
+                            lending_row([count], row_of(size), 100, 5))
             yield lending_row([count, 1], row_of(size), 100, 6)
             yield lending_row([1, count], row_of(size), 100, 7)
             yield lending_row([count, count], row_of(size), 100, 8)
@@ -652,22 +646,48 @@ def write_counts():
 
 
 def write_asking_more_than_is_left():
-    yield expecting('length 42', lending_row([9], row_of(8), 50))
-    yield expecting('length 42', lending_row([255], row_of(8), 50))
-    yield expecting('length 14', lending_row([255], row_of(1), 50))
+    """A count is the caller's word; what is not there is never left out."""
+    yield expecting('refused 4', lending_row([9], row_of(8), 50))
+    yield expecting('refused 4', lending_row([255], row_of(8), 50))
+    yield expecting('refused 4', lending_row([255], row_of(1), 50))
     yield expecting('refused 4', lending_row([255], row_of(9), 50))
     yield expecting('refused 4', lending_row([255], row_of(0), 50))
-    yield expecting('refused 4', lending_row([8, 1], row_of(8), 90))
+    yield expecting('refused 5 1', lending_row([3], row_of(1), 50))
+    yield expecting('refused 5 0', lending_row([8, 1], row_of(8), 90))
     yield expecting('length 54', lending_row([8, 1], row_of(9), 90))
-    yield expecting('length 54', lending_row([8, 8], row_of(9), 90))
+    yield expecting('refused 5 1', lending_row([8, 8], row_of(9), 90))
     yield expecting('length 54', lending_row([1, 8], row_of(9), 90))
-    yield expecting('refused 4', lending_row([3, 3, 3], row_of(6), 90))
-    yield expecting('length 54', lending_row([3, 3, 3], row_of(7), 90))
-    yield expecting('length 54', lending_row([3, 3, 255], row_of(7), 90))
+    yield expecting('refused 5 7', lending_row([1, 8], row_of(8), 90))
+    yield expecting('refused 5 0', lending_row([3, 3, 3], row_of(6), 90))
+    yield expecting('refused 5 1', lending_row([3, 3, 3], row_of(7), 90))
+    yield expecting('refused 4', lending_row([3, 3, 255], row_of(7), 90))
     yield expecting('refused 4', lending_row([0], row_of(3), 90))
     yield expecting('refused 4', lending_row([1, 0, 1], row_of(3), 90))
-    yield expecting('refused 4', lending_row([1] * 65, row_of(64), 1000))
+    yield expecting('refused 5 0', lending_row([1] * 65, row_of(64), 1000))
     yield expecting('refused 21', lending_row([1] * 65, row_of(65), 1000))
+
+
+def write_parts_missing():
+    """Each part of each command of a routine, not lent; of several the first in 5, 6, 7."""
+    for counts in ([1], [8], [2, 3], [1] * 64 + [8]):
+        size = sum(counts)
+        row = row_of(size)
+        devices, tags, settings = ([c[part] for c in row] for part in range(3))
+        last = counts[-1]
+        for at in spots(last):
+            cut = size - last + at
+            room = 400 + cut
+            for text, lengths in [(f'refused 5 {at}', (cut, size, size)),
+                                  (f'refused 6 {at}', (size, size, cut)),
+                                  (f'refused 7 {at}', (size, cut, size)),
+                                  (f'refused 5 {at}', (cut, cut, size)),
+                                  (f'refused 5 {at}', (cut, size, cut)),
+                                  (f'refused 6 {at}', (size, cut, cut)),
+                                  (f'refused 5 {at}', (cut, cut, cut))]:
+                d, t, s = lengths
+                yield expecting(text, lending(counts, devices[:d], tags[:t], settings[:s], room, at))
+        yield expecting('refused 21' if len(counts) > 64 else 'length',
+                        lending(counts, devices, tags, settings, 1000, 7))
 
 
 def write_left_over():
@@ -683,7 +703,7 @@ def write_left_over():
 
 
 def write_unequal_slices():
-    """The shortest slice says how many commands there are."""
+    """Each slice has its own length; only what a routine counts is looked at."""
     for counts in ([], [1], [2, 2], [4], [3, 1]):
         for d in (0, 1, 3, 4, 9):
             for t in (0, 3, 4, 5):
@@ -692,10 +712,11 @@ def write_unequal_slices():
                     yield lending(counts, [c[0] for c in row[:d]], [c[1] for c in row[:t]],
                                   [c[2] for c in row[:s]], 60, d + 10 * t + 100 * s)
     yield expecting('length 14', lending([1], [1, 255], [1, 9, 9], [5], 20))
-    yield expecting('length 14', lending([2], [1, 255], [1, 9, 9], [5], 20))
-    yield expecting('refused 5 1', lending([2], [1, 255], [1, 9, 9], [5, 5], 30))
-    yield expecting('length 14', lending([2], [1], [1, 9, 9], [5, 2000], 20))
-    yield expecting('length 14', lending([2], [1, 40], [1], [5, 2000], 20))
+    yield expecting('refused 5 1', lending([2], [1, 255], [1, 9, 9], [5], 20))
+    yield expecting('refused 6 1', lending([2], [1, 2], [1, 9, 9], [5], 20))
+    yield expecting('refused 5 1', lending([2], [1], [1, 9, 9], [5, 2000], 20))
+    yield expecting('refused 5 1', lending([2], [1, 40], [1], [5, 2000], 20))
+    yield expecting('refused 7 1', lending([2], [1, 2], [1], [5, 1000, 2000], 20))
 
 
 def write_edges():
@@ -803,6 +824,7 @@ CASES = [
     write_rooms,
     write_counts,
     write_asking_more_than_is_left,
+    write_parts_missing,
     write_left_over,
     write_unequal_slices,
     write_edges,

@@ -7,6 +7,9 @@ read(book)             -> ('refused', number, index or None)
                        or ('routines', list of routines)
 write(routines, room)  -> ('refused', number, index or None)
                        or ('book', bytes)
+lent(counts, devices, tags, settings) -> the list of routines to write
+
+A part of a command that was not lent is None: no device, tag or setting.
 """
 
 # Ranges.
@@ -75,14 +78,18 @@ def length_is_good(length):
             and length % COMMAND_SIZE == 0)
 
 
+def is_within(least, number, most):
+    return number is not None and least <= number <= most
+
+
 # "then the commands in turn, each 5, 6, 7"; "a command's [index] within its routine"
 def fault_in_commands(routine):
     for index, (device, tag, setting) in enumerate(routine):
-        if not 0 <= device < DEVICES:
+        if not is_within(0, device, DEVICES - 1):
             return refused(BAD_DEVICE, index)
-        if not LEAST_SETTING <= setting <= MOST_SETTING:
+        if not is_within(LEAST_SETTING, setting, MOST_SETTING):
             return refused(BAD_SETTING, index)
-        if not 0 <= tag <= MOST_TAG:
+        if not is_within(0, tag, MOST_TAG):
             return refused(BAD_TAG, index)
     return None
 
@@ -139,6 +146,23 @@ def write(routines, room):
     if len(book) > room:
         return refused(BAD_ROOM)
     return ('book', book)
+
+
+# The routines that are lent as a count for each and their commands in a row, part by part: each has
+# exactly as many commands as its count says. What is lent behind the last belongs to none.
+def lent(counts, devices, tags, settings):
+    routines = []
+    begin = 0
+    for count in counts:
+        places = range(begin, begin + count)
+        routines.append([(part_at(devices, at), part_at(tags, at), part_at(settings, at))
+                         for at in places])
+        begin += count
+    return routines
+
+
+def part_at(row, at):
+    return row[at] if at < len(row) else None
 
 
 # "The first routine begins where the pairs end, each next where the one before ends"

@@ -66,18 +66,47 @@ def writing():
     yield [good] * 64 + [[(0, 2, 0)]], 10000, refusal(7, 0)
 
 
+# Counts, devices, tags, settings, room and the answer: a count is the caller's word.
+def lending():
+    eight = [0] * 8
+    yield [9], eight, eight, eight, 100, refusal(4)
+    yield [9], eight + [0], eight + [0], eight + [0], 100, refusal(4)
+    yield [9], [], [], [], 100, refusal(4)
+    yield [0], eight, eight, eight, 100, refusal(4)
+    yield [0], [], [], [], 100, refusal(4)
+    yield [255], eight, eight, eight, 100, refusal(4)
+    yield [3], [0], [0], [0], 100, refusal(5, 1)
+    yield [1], [], [], [], 0, refusal(5, 0)
+    yield [2], [0], [0, 0], [0, 0], 100, refusal(5, 1)
+    yield [2], [0, 0], [0, 0], [0], 100, refusal(6, 1)
+    yield [2], [0, 0], [0], [0, 0], 100, refusal(7, 1)
+    yield [2], [0, 0], [0], [0], 100, refusal(6, 1)
+    yield [1, 2], [0, 0], [0, 0, 0], [0, 0, 0], 100, refusal(5, 1)
+    yield [1, 9], [], [0], [0], 100, refusal(5, 0)
+    yield [9, 1], [], [0], [0], 100, refusal(4)
+    yield [1] * 65, [0] * 64, [0] * 65, [0] * 65, 10000, refusal(5, 0)
+    yield [1] * 65, [0] * 65, [0] * 65, [0] * 65, 10000, refusal(21)
+    yield [1], [31, 255], [1, 9, 9], [-1000], 14, ('book', BYTE(
+        '01 00  0a 00 00 00 04 00 00 00  1f 01 18 fc'))
+    yield [], [0], [0, 2], [1001], 2, ('book', BYTE('00 00'))
+
+
 # Each yields whether one check holds.
 def checks():
     for book, expected in reading():
         yield model.read(book) == expected
     for routines, room, expected in writing():
         yield model.write(routines, room) == expected
+    for counts, devices, tags, settings, room, expected in lending():
+        yield model.write(model.lent(counts, devices, tags, settings), room) == expected
     rng = random.Random(1)
     for turn in range(500):
         routines = random_routines(rng, 64 if turn % 10 == 0 else 6)
         kind, book = model.write(routines, 3000)
         yield kind == 'book' and model.read(book) == ('routines', routines)
         yield model.write(routines, len(book)) == ('book', book)
+        row = [command for routine in routines for command in routine] + [(255, 255, 1001)]
+        yield model.lent([len(routine) for routine in routines], *zip(*row)) == routines
         yield model.write(routines, len(book) - 1) == refusal(21)
         cut = rng.randrange(len(book))
         head = 2 + 8 * len(routines)

@@ -3,7 +3,7 @@ use mathlib.Core.Path.{_≡_, refl, sym, ap, subst, _∙_}
 use mathlib.Core.Bool.{Bool, true, false, _&&_}
 use mathlib.Core.List.{List, [], _∷_}
 use native.Mathlib.Omega.{arith}
-use Prim.Native.Nat.{ℕ, zero, suc, _+_, _%_, _<_, _≤_}
+use Prim.Native.Nat.{ℕ, zero, suc, _%_, _<_, _≤_}
 use lib.Dec.{ltb, eqb}
 use lib.ListN.{length, getD}
 use denote.Ref.{RefT, now}
@@ -20,7 +20,7 @@ use Rattle.layout.specs.declared.Item.{Item}
 use Rattle.layout.specs.declared.Item.the-variants.{Handed, End}
 use Rattle.layout.specs.declared.Next.{Next}
 use Rattle.layout.proofs.Laws.{next-first, next-later, next-refused}
-use Rattle.book.specs.Reader.{Started, Advanced, RoutineByRoutine}
+use Rattle.book.specs.Reader.{Advanced, RoutineByRoutine}
 use Rattle.book.specs.declared.reader.BookReader.{BookReader}
 
 abbrev item : Next → Item

@@ -1,190 +1,231 @@
--- Laws of the row of lent commands, of the routines that take from it, and of bytes that are written one after another. Assumes nothing.
-use Prim.Native.Nat.{ℕ, zero, suc, _+_, _-_, _*_, _≤_, _<_, min}
+-- Laws of the routines as they are lent, of what their counts say, and of bytes that are written one after another. Assumes nothing.
+use Prim.Native.Nat.{ℕ, zero, suc, _+_, _-_, _*_, _≤_, _<_}
 use mathlib.Core.Path.{_≡_, refl, sym, ap, ap₂, _∙_}
+use mathlib.Core.Bool.{Bool, _||_}
 use mathlib.Core.List.{List, [], _∷_, _++_, append-assoc}
-use native.Mathlib.Nat.{zero-add, suc-add}
+use native.Mathlib.Nat.{suc-add}
 use native.Mathlib.Numerals.{add-one}
 use native.Mathlib.Omega.{arith}
-use borrow.Author.Tests.{lt-ltb, le-ltb}
-use lib.IntN.{ℤ, pos}
-use lib.ListN.{length, take, drop, getD, length-append, length-take, length-drop, drop-of-length-le}
-use lib.Seq.{sets, sets-eq, slice, slice-cons, slice-empty, drop-cons, drop-drop, take-nil, drop-nil, take-suc, getD-drop}
-use Rattle.routine.specs.Refusals.{no-room, refusalOf}
-use Rattle.routine.specs.Routine.{zeroCommand, routineCheck}
+use borrow.Author.Tests.{lt-ltb, le-ltb, ltb-true, ltb-false, leb-false}
+use lib.IntN.{ℤ}
+use lib.Dec.{ltb, eqb}
+use lib.ListN.{length, drop, getD, length-append, drop-of-length-le, List·getD-eq-default}
+use lib.Seq.{sets, sets-eq, drop-cons}
+use Rattle.routine.specs.Refusals.{command-count, device-not-below, no-room, refusalOf, refuse_when_}
+use Rattle.routine.specs.Routine.{maxCommands, commandCheck, commandsCheck, routineCheck}
 use Rattle.routine.specs.declared.Command.{Command}
 use Rattle.routine.specs.declared.Refusal.{Refusal}
 use Rattle.routine.specs.declared.Verdict.the-variants.{Accepted, Refused}
-use Rattle.routine.proofs.Laws.{sets-append}
-use Rattle.layout.specs.Layout.{maxRoutines, bookDevices, pairsEnd, commandBytes, commandsBytes, pairsBytes, bodyBytes, bookBytes}
+use Rattle.routine.proofs.Laws.{both-accept, not-refused, byTest, sets-append}
+use Rattle.layout.specs.Layout.{countSize, pairSize, offsetSize, commandSize, maxRoutines, bookDevices, pairsEnd}
+use Rattle.layout.specs.Layout.{commandBytes, commandsBytes, pairsBytes, bodyBytes, bookBytes}
 use Rattle.layout.specs.Numbers.{twoBytes, fourBytes}
-use Rattle.layout.specs.Writing.{rowOf, routinesOf, routinesCheck, writeCheck, writtenOf, bufferAfter}
+use Rattle.layout.specs.Writing.{missingDevice, commandLent, commandsLent, routinesFrom, routinesLent}
+use Rattle.layout.specs.Writing.{routinesCheck, writeCheck, writtenOf, bufferAfter}
 use Rattle.layout.specs.declared.Written.the-variants.{Length, Refused as NotWritten}
 use Rattle.layout.proofs.Laws.{length-twoBytes, length-fourBytes, length-commandBytes, length-commandsBytes, length-pairsBytes}
-use Rattle.book_writer.specs.Count.{commandsIn}
+use Rattle.book_writer.specs.Count.{commandsCounted, pairsCounted}
 
--- ---- the row
+-- ---- counts: what is left from the i-th on
 
--- it is as long as the shortest of the three
-pub row-length : (ds ts : List ℕ) (ss : List ℤ) → length (rowOf ds ts ss) ≡ min (min (length ds) (length ts)) (length ss)
-row-length [] ts ss = omega arith
-row-length (d ∷ ds) [] ss = omega arith
-row-length (d ∷ ds) (t ∷ ts) [] = omega arith
-row-length (d ∷ ds) (t ∷ ts) (s ∷ ss) = let e = row-length ds ts ss in omega arith
+module _ (ns : List ℕ) (i : ℕ) where
+  pub counts-more : i < length ns → drop i ns ≡ getD ns i 0 ∷ drop (i + 1) ns
+  counts-more h = drop-cons ns i 0 h ∙ ap (λ (j : ℕ). getD ns i 0 ∷ drop j ns) (sym (add-one i))
 
--- and its commands have the parts that stand there
-pub row-at : (ds ts : List ℕ) (ss : List ℤ) (i : ℕ) → i < length (rowOf ds ts ss) →
-    getD (rowOf ds ts ss) i zeroCommand ≡ record { device = getD ds i 0; tag = getD ts i 0; setting = getD ss i (pos 0) }
-row-at [] ts ss i h = absurd (omega arith)
-row-at (d ∷ ds) [] ss i h = absurd (omega arith)
-row-at (d ∷ ds) (t ∷ ts) [] i h = absurd (omega arith)
-row-at (d ∷ ds) (t ∷ ts) (s ∷ ss) zero h = refl
-row-at (d ∷ ds) (t ∷ ts) (s ∷ ss) (suc i) h = row-at ds ts ss i (omega arith)
+  pub counted-more : i < length ns → commandsCounted (drop i ns) ≡ getD ns i 0 + commandsCounted (drop (i + 1) ns)
+  counted-more h = ap commandsCounted (counts-more h)
 
--- ---- routines that take from a row
+  pub counted-end : length ns ≤ i → commandsCounted (drop i ns) ≡ 0
+  counted-end h = ap commandsCounted (drop-of-length-le ns h)
 
--- a routine takes no more than is left
-take-less : (n : ℕ) (l : List Command) → take n l ≡ take (min n (length l)) l
-take-less zero l = let e : 0 ≡ min 0 (length l) = omega arith in ap (λ (k : ℕ). take k l) e
-take-less (suc n) [] = sym (take-nil (min (suc n) 0))
-take-less (suc n) (c ∷ l) =
-    let e : suc (min n (length l)) ≡ min (suc n) (suc (length l)) = omega arith in
-    ap (λ (m : List Command). c ∷ m) (take-less n l) ∙ ap (λ (k : ℕ). take k (c ∷ l)) e
+-- a count is a byte
+pub commands-few : (ns : List ℕ) → ((i : ℕ) → getD ns i 0 < 256) → commandsCounted ns ≤ 255 * length ns
+commands-few [] h = omega arith
+commands-few (n ∷ ns) h = let k = commands-few ns (λ i. h (suc i)) in omega (arith, h 0)
 
-drop-less : (n : ℕ) (l : List Command) → drop n l ≡ drop (min n (length l)) l
-drop-less zero l = let e : 0 ≡ min 0 (length l) = omega arith in ap (λ (k : ℕ). drop k l) e
-drop-less (suc n) [] = sym (drop-nil (min (suc n) 0))
-drop-less (suc n) (c ∷ l) =
-    let e : suc (min n (length l)) ≡ min (suc n) (suc (length l)) = omega arith in
-    drop-less n l ∙ ap (λ (k : ℕ). drop k (c ∷ l)) e
+-- ---- commands of the row
 
--- the next routine, where i are behind and they took the first `at` commands
-pub routines-more : (ns : List ℕ) (row : List Command) (i at k : ℕ) → i < length ns → k ≡ min (getD ns i 0) (length row - at) →
-    routinesOf (drop i ns) (drop at row) ≡ take k (drop at row) ∷ routinesOf (drop (i + 1) ns) (drop (at + k) row)
-routines-more ns row i at k h e =
-    let m : min (getD ns i 0) (length (drop at row)) ≡ k = omega (arith, length-drop at row) in
-    let t : take (getD ns i 0) (drop at row) ≡ take k (drop at row) = take-less (getD ns i 0) (drop at row) ∙ ap (λ (j : ℕ). take j (drop at row)) m in
-    let d : drop (getD ns i 0) (drop at row) ≡ drop (at + k) row =
-    drop-less (getD ns i 0) (drop at row) ∙ ap (λ (j : ℕ). drop j (drop at row)) m ∙ drop-drop k at row in
-    ap (λ (l : List ℕ). routinesOf l (drop at row)) (drop-cons ns i 0 h ∙ ap (λ (j : ℕ). getD ns i 0 ∷ drop j ns) (sym (add-one i)))
-    ∙ ap₂ (λ (r l : List Command). r ∷ routinesOf (drop (i + 1) ns) l) t d
+module _ (ds ts : List ℕ) (ss : List ℤ) where
+  -- there are as many as were asked for
+  pub length-lent : (at n : ℕ) → length (commandsLent ds ts ss at n) ≡ n
+  length-lent at zero = refl
+  length-lent at (suc n) = ap suc (length-lent (suc at) n)
 
-pub routines-end : (ns : List ℕ) (row : List Command) (i at : ℕ) → length ns ≤ i → routinesOf (drop i ns) (drop at row) ≡ []
-routines-end ns row i at h = ap (λ (l : List ℕ). routinesOf l (drop at row)) (drop-of-length-le ns h)
+  -- some, and then others behind them
+  pub lent-both : (at n m : ℕ) → commandsLent ds ts ss at (n + m) ≡ commandsLent ds ts ss at n ++ commandsLent ds ts ss (at + n) m
+  lent-both at zero m = let z : 0 + m ≡ m = omega arith in let a : at ≡ at + 0 = omega arith in
+      ap₂ (λ (p k : ℕ). commandsLent ds ts ss p k) a z
+  lent-both at (suc n) m =
+      let a : suc at + n ≡ at + suc n = omega arith in
+      ap (commandsLent ds ts ss at) (suc-add n m)
+      ∙ ap (λ (l : List Command). commandLent ds ts ss at ∷ l)
+      (lent-both (suc at) n m ∙ ap (λ (p : ℕ). commandsLent ds ts ss (suc at) n ++ commandsLent ds ts ss p m) a)
+
+  -- one more, at the end and in front
+  pub lent-more : (at n : ℕ) → commandsLent ds ts ss at (n + 1) ≡ commandsLent ds ts ss at n ++ (commandLent ds ts ss (at + n) ∷ [])
+  lent-more at n = lent-both at n 1
+
+  pub lent-first : (i n : ℕ) → i < n → commandsLent ds ts ss i (n - i) ≡ commandLent ds ts ss i ∷ commandsLent ds ts ss (i + 1) (n - (i + 1))
+  lent-first i n h =
+      let k : n - i ≡ suc (n - (i + 1)) = omega arith in
+      ap (commandsLent ds ts ss i) k ∙ ap (λ (p : ℕ). commandLent ds ts ss i ∷ commandsLent ds ts ss p (n - (i + 1))) (sym (add-one i))
+
+  -- what passes the check is there: no device of a book is the missing one
+  device-there : (j at : ℕ) → commandCheck bookDevices j (commandLent ds ts ss at) ≡ Accepted → at < length ds
+  unfolding commandCheck
+  device-there j at e =
+      let d = leb-false bookDevices (getD ds at missingDevice) (not-refused (device-not-below j) _ (both-accept _ _ e .0)) in
+      byTest (λ (t : Bool). ltb at (length ds) ≡ t → at < length ds) (ltb at (length ds)) (λ _ f. ltb-true at (length ds) f)
+      (λ _ f.
+      let p = List·getD-eq-default ds missingDevice (ltb-false at (length ds) f) in
+      absurd (omega arith))
+      refl
+
+  commands-there : (j at n : ℕ) → at ≤ length ds → commandsCheck bookDevices j (commandsLent ds ts ss at n) ≡ Accepted → at + n ≤ length ds
+  unfolding commandsCheck
+  commands-there j at zero h e = omega arith
+  commands-there j at (suc n) h e =
+      let a = both-accept (commandCheck bookDevices j (commandLent ds ts ss at)) _ e in
+      let d = device-there j at (a .0) in
+      let r = commands-there (suc j) (suc at) n (omega arith) (a .1) in
+      omega arith
+
+  pub routine-there : (at n : ℕ) → at ≤ length ds → routineCheck bookDevices (commandsLent ds ts ss at n) ≡ Accepted → at + n ≤ length ds
+  unfolding routineCheck
+  routine-there at n h e =
+      let cs = commandsLent ds ts ss at n in
+      let a = both-accept (refuse command-count when (eqb (length cs) 0 || ltb maxCommands (length cs))) _ e in
+      commands-there 0 at n h (a .1)
+
+-- ---- routines of the row
+
+module _ (ds ts : List ℕ) (ss : List ℤ) where
+  -- the next routine, which begins at a place, where i are behind
+  pub routines-more : (ns : List ℕ) (i at : ℕ) → i < length ns →
+      routinesFrom ds ts ss at (drop i ns)
+      ≡ commandsLent ds ts ss at (getD ns i 0) ∷ routinesFrom ds ts ss (at + getD ns i 0) (drop (i + 1) ns)
+  routines-more ns i at h = ap (routinesFrom ds ts ss at) (counts-more ns i h)
+
+  pub routines-end : (ns : List ℕ) (i at : ℕ) → length ns ≤ i → routinesFrom ds ts ss at (drop i ns) ≡ []
+  routines-end ns i at h = ap (routinesFrom ds ts ss at) (drop-of-length-le ns h)
+
+  -- how many they are
+  pub length-routines : (at : ℕ) (ns : List ℕ) → length (routinesFrom ds ts ss at ns) ≡ length ns
+  length-routines at [] = refl
+  length-routines at (n ∷ ns) = ap suc (length-routines (at + n) ns)
+
+  -- their pairs follow from the counts
+  pairs-counted : (at p : ℕ) (ns : List ℕ) → pairsBytes p (routinesFrom ds ts ss at ns) ≡ pairsCounted p ns
+  pairs-counted at p [] = refl
+  pairs-counted at p (n ∷ ns) =
+      ap (λ (k : ℕ). fourBytes p ++ (fourBytes (commandSize * k) ++ pairsBytes (p + commandSize * k) (routinesFrom ds ts ss (at + n) ns)))
+      (length-lent ds ts ss at n)
+      ∙ ap (λ (l : List ℕ). fourBytes p ++ (fourBytes (commandSize * n) ++ l)) (pairs-counted (at + n) (p + commandSize * n) ns)
+
+  -- their commands are those of the row in turn
+  body-is : (at : ℕ) (ns : List ℕ) → bodyBytes (routinesFrom ds ts ss at ns) ≡ commandsBytes (commandsLent ds ts ss at (commandsCounted ns))
+  body-is at [] = refl
+  body-is at (n ∷ ns) =
+      let m = commandsCounted ns in
+      ap (λ (l : List ℕ). commandsBytes (commandsLent ds ts ss at n) ++ l) (body-is (at + n) ns)
+      ∙ sym (commands-append (commandsLent ds ts ss at n) (commandsLent ds ts ss (at + n) m))
+      ∙ ap commandsBytes (sym (lent-both ds ts ss at n m))
+    where
+      commands-append : (a b : List Command) → commandsBytes (a ++ b) ≡ commandsBytes a ++ commandsBytes b
+      commands-append [] b = refl
+      commands-append (c ∷ a) b =
+          ap (λ (l : List ℕ). commandBytes c ++ l) (commands-append a b) ∙ sym (append-assoc (commandBytes c) (commandsBytes a) (commandsBytes b))
+
+  -- how long the book is
+  pub length-book : (ns : List ℕ) → length (bookBytes (routinesLent ns ds ts ss)) ≡ pairsEnd (length ns) + commandSize * commandsCounted ns
+  unfolding bookBytes
+  length-book ns =
+      let rs = routinesLent ns ds ts ss in
+      let pairs = pairsBytes (pairsEnd (length rs)) rs in
+      let body = commandsLent ds ts ss 0 (commandsCounted ns) in
+      omega (
+        arith,
+        length-routines 0 ns,
+        length-append (twoBytes (length rs)) (pairs ++ bodyBytes rs),
+        length-twoBytes (length rs),
+        length-append pairs (bodyBytes rs),
+        length-pairsBytes (pairsEnd (length rs)) rs,
+        ap length (body-is 0 ns),
+        length-commandsBytes body,
+        length-lent ds ts ss 0 (commandsCounted ns),
+      )
 
 -- the routines in turn
 pub check-none : routinesCheck [] ≡ Accepted
 unfolding routinesCheck
 check-none = refl
 
-pub check-more : (r : List Command) (rs : List (List Command)) → routineCheck bookDevices r ≡ Accepted → routinesCheck (r ∷ rs) ≡ routinesCheck rs
-unfolding routinesCheck
-check-more r rs e = rw e
+module _ (r : List Command) (rs : List (List Command)) where
+  pub check-more : routineCheck bookDevices r ≡ Accepted → routinesCheck (r ∷ rs) ≡ routinesCheck rs
+  unfolding routinesCheck
+  check-more e = rw e
 
-pub check-stops : (r : List Command) (rs : List (List Command)) (x : Refusal) → routineCheck bookDevices r ≡ Refused x → routinesCheck (r ∷ rs) ≡ Refused x
-unfolding routinesCheck
-check-stops r rs x e = rw e
-
--- how many they are
-pub length-routinesOf : (ns : List ℕ) (row : List Command) → length (routinesOf ns row) ≡ length ns
-length-routinesOf [] row = refl
-length-routinesOf (n ∷ ns) row = ap suc (length-routinesOf ns (drop n row))
-
--- a part of the row is as long as it was asked
-pub length-part : (row : List Command) (at k : ℕ) → at + k ≤ length row → length (take k (drop at row)) ≡ k
-length-part row at k h = omega (arith, length-take k (drop at row), length-drop at row)
-
--- a part with one command more
-pub part-more : (row : List Command) (at i : ℕ) → at + i < length row → take (i + 1) (drop at row) ≡ take i (drop at row) ++ (getD row (at + i) zeroCommand ∷ [])
-part-more row at i h =
-    ap (λ (k : ℕ). take k (drop at row)) (add-one i)
-    ∙ take-suc (drop at row) i zeroCommand (omega (arith, length-drop at row))
-    ∙ ap (λ (c : Command). take i (drop at row) ++ (c ∷ [])) (getD-drop at row i zeroCommand)
-
--- the commands of all routines are the first of the row
-take-both : (n m : ℕ) (l : List Command) → take (length (take n l) + m) l ≡ take n l ++ take m (drop n l)
-take-both zero m l = ap (λ (k : ℕ). take k l) (zero-add m)
-take-both (suc n) m [] = take-nil (0 + m) ∙ sym (take-nil m)
-take-both (suc n) m (c ∷ l) = ap (λ (k : ℕ). take k (c ∷ l)) (suc-add (length (take n l)) m) ∙ ap (λ (k : List Command). c ∷ k) (take-both n m l)
-
-commands-append : (a b : List Command) → commandsBytes (a ++ b) ≡ commandsBytes a ++ commandsBytes b
-commands-append [] b = refl
-commands-append (c ∷ a) b = ap (λ (l : List ℕ). commandBytes c ++ l) (commands-append a b) ∙ sym (append-assoc (commandBytes c) (commandsBytes a) (commandsBytes b))
-
-pub body-is : (ns : List ℕ) (row : List Command) → commandsBytes (take (commandsIn (routinesOf ns row)) row) ≡ bodyBytes (routinesOf ns row)
-body-is [] row = refl
-body-is (n ∷ ns) row =
-    ap commandsBytes (take-both n (commandsIn (routinesOf ns (drop n row))) row)
-    ∙ commands-append (take n row) (take (commandsIn (routinesOf ns (drop n row))) (drop n row))
-    ∙ ap (λ (l : List ℕ). commandsBytes (take n row) ++ l) (body-is ns (drop n row))
-
--- they are no more than the row has
-pub commands-within : (ns : List ℕ) (row : List Command) → commandsIn (routinesOf ns row) ≤ length row
-commands-within [] row = omega arith
-commands-within (n ∷ ns) row = let h = commands-within ns (drop n row) in omega (arith, length-take n row, length-drop n row)
-
--- nor more than 255 for each, since a count is a byte
-pub commands-few : (ns : List ℕ) (row : List Command) → ((i : ℕ) → getD ns i 0 < 256) → commandsIn (routinesOf ns row) ≤ 255 * length ns
-commands-few [] row h = omega arith
-commands-few (n ∷ ns) row h = let k = commands-few ns (drop n row) (λ i. h (suc i)) in omega (arith, length-take n row, h 0)
-
--- how long the book is
-pub length-book : (ns : List ℕ) (row : List Command) →
-    length (bookBytes (routinesOf ns row)) ≡ pairsEnd (length ns) + 4 * commandsIn (routinesOf ns row)
-unfolding bookBytes
-length-book ns row =
-    let rs = routinesOf ns row in
-    let pairs = pairsBytes (pairsEnd (length rs)) rs in
-    let l = length-routinesOf ns row in
-    let p = length-pairsBytes (pairsEnd (length rs)) rs in
-    omega (arith, length-append (twoBytes (length rs)) (pairs ++ bodyBytes rs), length-twoBytes (length rs), length-append pairs (bodyBytes rs), length-bodyBytes rs)
-  where
-    length-bodyBytes : (rs : List (List Command)) → length (bodyBytes rs) ≡ 4 * commandsIn rs
-    length-bodyBytes [] = refl
-    length-bodyBytes (r ∷ rs) = omega (arith, length-append (commandsBytes r) (bodyBytes rs), length-commandsBytes r, length-bodyBytes rs)
+  pub check-stops : (x : Refusal) → routineCheck bookDevices r ≡ Refused x → routinesCheck (r ∷ rs) ≡ Refused x
+  unfolding routinesCheck
+  check-stops x e = rw e
 
 -- ---- bytes that are written one after another
 
 -- one pair of those that are left
-pub pairs-more : (out : List ℕ) (p at n : ℕ) (r : List Command) (rs : List (List Command)) → length r ≡ n →
-    sets out p (pairsBytes at (r ∷ rs)) ≡ sets (sets (sets out p (fourBytes at)) (p + 4) (fourBytes (4 * n))) (p + 8) (pairsBytes (at + 4 * n) rs)
-pairs-more out p at n r rs e =
-    ap (λ (k : ℕ). sets out p (fourBytes at ++ (fourBytes (4 * k) ++ pairsBytes (at + 4 * k) rs))) e
-    ∙ sets-append (fourBytes at) (fourBytes (4 * n) ++ pairsBytes (at + 4 * n) rs) out p
-    ∙ ap (λ (k : ℕ). sets (sets out p (fourBytes at)) (p + k) (fourBytes (4 * n) ++ pairsBytes (at + 4 * n) rs)) (length-fourBytes at)
-    ∙ sets-append (fourBytes (4 * n)) (pairsBytes (at + 4 * n) rs) (sets out p (fourBytes at)) (p + 4)
-    ∙ ap (λ (k : ℕ). sets (sets (sets out p (fourBytes at)) (p + 4) (fourBytes (4 * n))) k (pairsBytes (at + 4 * n) rs)) (omega (arith, length-fourBytes (4 * n)))
+pub pairs-more : (out ns : List ℕ) (p at i : ℕ) → i < length ns →
+    let size = commandSize * getD ns i 0 in
+    sets out p (pairsCounted at (drop i ns))
+    ≡ sets (sets (sets out p (fourBytes at)) (p + offsetSize) (fourBytes size)) (p + pairSize) (pairsCounted (at + size) (drop (i + 1) ns))
+pairs-more out ns p at i h =
+    let size = commandSize * getD ns i 0 in
+    let rest = pairsCounted (at + size) (drop (i + 1) ns) in
+    let one = sets out p (fourBytes at) in
+    ap (λ (l : List ℕ). sets out p (pairsCounted at l)) (counts-more ns i h)
+    ∙ sets-append (fourBytes at) (fourBytes size ++ rest) out p
+    ∙ ap (λ (k : ℕ). sets one (p + k) (fourBytes size ++ rest)) (length-fourBytes at)
+    ∙ sets-append (fourBytes size) rest one (p + offsetSize)
+    ∙ ap (λ (k : ℕ). sets (sets one (p + offsetSize) (fourBytes size)) k rest) (omega (arith, length-fourBytes size))
 
--- one command of those that are left
-pub commands-put : (out : List ℕ) (row : List Command) (p i n : ℕ) → i < n → n ≤ length row →
-    sets out p (commandsBytes (slice i n row)) ≡ sets (sets out p (commandBytes (getD row i zeroCommand))) (p + 4) (commandsBytes (slice (i + 1) n row))
-commands-put out row p i n h k =
-    let c = getD row i zeroCommand in
-    ap (λ (l : List Command). sets out p (commandsBytes l)) (slice-cons i n row zeroCommand h k ∙ ap (λ (j : ℕ). c ∷ slice j n row) (sym (add-one i)))
-    ∙ sets-append (commandBytes c) (commandsBytes (slice (i + 1) n row)) out p
-    ∙ ap (λ (j : ℕ). sets (sets out p (commandBytes c)) (p + j) (commandsBytes (slice (i + 1) n row))) (length-commandBytes c)
+pub pairs-end : (out ns : List ℕ) (p at i : ℕ) → length ns ≤ i → sets out p (pairsCounted at (drop i ns)) ≡ out
+pairs-end out ns p at i h = ap (λ (l : List ℕ). sets out p (pairsCounted at l)) (drop-of-length-le ns h)
 
-pub commands-put-end : (out : List ℕ) (row : List Command) (p i n : ℕ) → i ≤ n → n ≤ i → sets out p (commandsBytes (slice i n row)) ≡ out
-commands-put-end out row p i n h k = let e : i ≡ n = omega arith in rw (e, slice-empty n row)
+module _ (ds ts : List ℕ) (ss : List ℤ) where
+  -- one command of those that are left
+  pub commands-put : (out : List ℕ) (p i n : ℕ) → i < n →
+      sets out p (commandsBytes (commandsLent ds ts ss i (n - i)))
+      ≡ sets (sets out p (commandBytes (commandLent ds ts ss i))) (p + commandSize) (commandsBytes (commandsLent ds ts ss (i + 1) (n - (i + 1))))
+  commands-put out p i n h =
+      let c = commandLent ds ts ss i in
+      let rest = commandsBytes (commandsLent ds ts ss (i + 1) (n - (i + 1))) in
+      ap (λ (l : List Command). sets out p (commandsBytes l)) (lent-first ds ts ss i n h)
+      ∙ sets-append (commandBytes c) rest out p
+      ∙ ap (λ (j : ℕ). sets (sets out p (commandBytes c)) (p + j) rest) (length-commandBytes c)
 
--- the three parts of a book, one after another
-pub book-put : (ns out : List ℕ) (row : List Command) →
-    let rs = routinesOf ns row in
-    sets (sets (sets out 0 (twoBytes (length ns))) 2 (pairsBytes (pairsEnd (length ns)) rs)) (pairsEnd (length ns)) (commandsBytes (take (commandsIn rs) row))
-    ≡ sets out 0 (bookBytes rs)
-unfolding bookBytes
-book-put ns out row =
-    let rs = routinesOf ns row in
-    let n = length-routinesOf ns row in
-    let count = twoBytes (length ns) in
-    let pairs = pairsBytes (pairsEnd (length ns)) rs in
-    let l = length-pairsBytes (pairsEnd (length ns)) rs in
-    let p : pairsEnd (length ns) ≡ 2 + length pairs = omega arith in
-    let two : 2 ≡ 0 + length count = omega (arith, length-twoBytes (length ns)) in
-    ap₂ (λ (k : ℕ) (b : List ℕ). sets (sets (sets out 0 count) 2 pairs) k b) p (body-is ns row)
-    ∙ sym (sets-append pairs (bodyBytes rs) (sets out 0 count) 2)
-    ∙ ap (λ (k : ℕ). sets (sets out 0 count) k (pairs ++ bodyBytes rs)) two
-    ∙ sym (sets-append count (pairs ++ bodyBytes rs) out 0)
-    ∙ ap (λ (k : ℕ). sets out 0 (twoBytes k ++ (pairsBytes (pairsEnd k) rs ++ bodyBytes rs))) (sym n)
+  pub commands-put-end : (out : List ℕ) (p i n : ℕ) → n ≤ i → sets out p (commandsBytes (commandsLent ds ts ss i (n - i))) ≡ out
+  commands-put-end out p i n h = let e : n - i ≡ 0 = omega arith in rw e
+
+  -- the three parts of a book, one after another
+  pub book-put : (ns out : List ℕ) →
+      let first = pairsEnd (length ns) in
+      let counted = sets (sets out 0 (twoBytes (length ns))) countSize (pairsCounted first ns) in
+      sets counted first (commandsBytes (commandsLent ds ts ss 0 (commandsCounted ns))) ≡ sets out 0 (bookBytes (routinesLent ns ds ts ss))
+  unfolding bookBytes
+  book-put ns out =
+      let rs = routinesLent ns ds ts ss in
+      let n = length-routines ds ts ss 0 ns in
+      let count = twoBytes (length ns) in
+      let pairs = pairsBytes (pairsEnd (length ns)) rs in
+      let l = length-pairsBytes (pairsEnd (length ns)) rs in
+      let p : pairsEnd (length ns) ≡ countSize + length pairs = omega arith in
+      let two : countSize ≡ 0 + length count = omega (arith, length-twoBytes (length ns)) in
+      let row = commandsBytes (commandsLent ds ts ss 0 (commandsCounted ns)) in
+      ap (λ (q : List ℕ). sets (sets (sets out 0 count) countSize q) (pairsEnd (length ns)) row)
+      (sym (pairs-counted ds ts ss 0 (pairsEnd (length ns)) ns))
+      ∙ ap₂ (λ (k : ℕ) (b : List ℕ). sets (sets (sets out 0 count) countSize pairs) k b) p (sym (body-is ds ts ss 0 ns))
+      ∙ sym (sets-append pairs (bodyBytes rs) (sets out 0 count) countSize)
+      ∙ ap (λ (k : ℕ). sets (sets out 0 count) k (pairs ++ bodyBytes rs)) two
+      ∙ sym (sets-append count (pairs ++ bodyBytes rs) out 0)
+      ∙ ap (λ (k : ℕ). sets out 0 (twoBytes k ++ (pairsBytes (pairsEnd k) rs ++ bodyBytes rs))) (sym n)
 
 -- ---- what is answered and what is left in the buffer
 

@@ -11,45 +11,58 @@ use routine::Routine;
 use routine::Verdict;
 use routine::refusals::COMMAND_COUNT;
 ghost use mathlib.Core.Path.{_≡_};
-ghost use Prim.Native.Nat.{_+_, _*_, _<_, _≤_, min};
-ghost use lib.ListN.{length, take, drop, getD};
+ghost use Prim.Native.Nat.{_+_, _*_, _≤_};
+ghost use lib.ListN.{length, getD};
 ghost use lib.Seq.{sets};
-ghost use Rattle.routine.specs.Routine.{maxCommands, zeroCommand, routineOf, routineCheck};
-ghost use Rattle.layout.specs.Layout.{countSize, commandSize, maxRoutines, bookDevices, pairsEnd, commandBytes, commandsBytes, pairsBytes, bookBytes};
+ghost use Rattle.routine.specs.Routine.{maxCommands, routineOf, routineCheck};
+ghost use Rattle.layout.specs.Layout.{countSize, commandSize, maxRoutines, bookDevices, pairsEnd};
+ghost use Rattle.layout.specs.Layout.{commandBytes, commandsBytes, bookBytes};
 ghost use Rattle.layout.specs.Numbers.{twoBytes, fourBytes};
-ghost use Rattle.layout.specs.Writing.{rowOf, routinesLent, routinesCheck};
-ghost use Rattle.book_writer.specs.Count.{commandsIn};
+ghost use Rattle.layout.specs.Writing.{missingSetting, commandLent, commandsLent, routinesLent, routinesCheck};
+ghost use Rattle.book_writer.specs.Count.{commandsCounted, pairsCounted};
 
-fn less_of(a: usize, b: usize) -> usize
-    ensures { λ r. ⌜ r ≡ min a b ⌝ }
+// What a part of a command reads as that is not lent: numbers that no command has.
+const MISSING_DEVICE: u8 = 255;
+
+const MISSING_TAG: u8 = 255;
+
+const MISSING_SETTING: i16 = 32767;
+
+// A device or a tag of the row.
+fn byte_in(row: &[u8], at: usize, missing: u8) -> u8
+    ensures { λ r. ⌜ r ≡ getD (now (row .entry)) at missing ⌝ }
 {
-    if a < b { a } else { b }
+    if at < row.len() {
+        return row[at];
+    }
+    missing
 }
 
-// How many commands the row has: a command is there if all its parts are.
-fn row_length(devices: &[u8], tags: &[u8], settings: &[i16]) -> usize
-    ensures { λ r. ⌜ r ≡ length (rowOf (now (devices .entry)) (now (tags .entry)) (now (settings .entry))) ⌝ }
+fn setting_in(settings: &[i16], at: usize) -> i16
+    ensures { λ r. ⌜ r ≡ getD (now (settings .entry)) at missingSetting ⌝ }
 {
-    less_of(less_of(devices.len(), tags.len()), settings.len())
+    if at < settings.len() {
+        return settings[at];
+    }
+    MISSING_SETTING
 }
 
 // A command of the row.
 fn command_in(devices: &[u8], tags: &[u8], settings: &[i16], at: usize) -> Command
-    requires { ⌜ at < length (rowOf (now devices) (now tags) (now settings)) ⌝ }
-    ensures { λ r. ⌜ r ≡ getD (rowOf (now (devices .entry)) (now (tags .entry)) (now (settings .entry))) at zeroCommand ⌝ }
+    ensures { λ r. ⌜ r ≡ commandLent (now (devices .entry)) (now (tags .entry)) (now (settings .entry)) at ⌝ }
 {
-    let setting = settings[at];
+    let setting = setting_in(settings, at);
     Command {
-        device: devices[at],
-        tag: tags[at],
+        device: byte_in(devices, at, MISSING_DEVICE),
+        tag: byte_in(tags, at, MISSING_TAG),
         setting,
     }
 }
 
 // A routine of the row.
 fn routine_in(devices: &[u8], tags: &[u8], settings: &[i16], at: usize, count: usize) -> Routine
-    requires { ⌜ (count ≤ maxCommands) × (at + count ≤ length (rowOf (now devices) (now tags) (now settings))) ⌝ }
-    ensures { λ r. ⌜ r ≡ routineOf (take count (drop at (rowOf (now (devices .entry)) (now (tags .entry)) (now (settings .entry))))) ⌝ }
+    requires { ⌜ (count ≤ maxCommands) × (at ≤ length (now devices)) ⌝ }
+    ensures { λ r. ⌜ r ≡ routineOf (commandsLent (now (devices .entry)) (now (tags .entry)) (now (settings .entry)) at count) ⌝ }
 {
     let mut routine = routine::empty();
     let mut i = 0;
@@ -61,10 +74,10 @@ fn routine_in(devices: &[u8], tags: &[u8], settings: &[i16], at: usize, count: u
     routine
 }
 
-// One routine of the row: 4, then its commands.
+// One routine of the row: 4, whatever is lent; then its commands.
 fn check_one(devices: &[u8], tags: &[u8], settings: &[i16], at: usize, count: usize) -> Verdict
-    requires { ⌜ at + count ≤ length (rowOf (now devices) (now tags) (now settings)) ⌝ }
-    ensures { λ r. ⌜ r ≡ routineCheck bookDevices (take count (drop at (rowOf (now (devices .entry)) (now (tags .entry)) (now (settings .entry))))) ⌝ }
+    requires { ⌜ at ≤ length (now devices) ⌝ }
+    ensures { λ r. ⌜ r ≡ routineCheck bookDevices (commandsLent (now (devices .entry)) (now (tags .entry)) (now (settings .entry)) at count) ⌝ }
 {
     if MAX_COMMANDS < count {
         return Verdict::Refused(Refusal::Number(COMMAND_COUNT));
@@ -73,23 +86,14 @@ fn check_one(devices: &[u8], tags: &[u8], settings: &[i16], at: usize, count: us
     routine::check(routine, BOOK_DEVICES)
 }
 
-// How many of the commands that are left routine i takes.
-fn taken(counts: &[u8], i: usize, left: usize) -> usize
-    requires { ⌜ i < length (now counts) ⌝ }
-    ensures { λ r. ⌜ (r ≡ min (getD (now (counts .entry)) i 0) left) × (r < 256) ⌝ }
-{
-    less_of(counts[i] as usize, left)
-}
-
-// The routines in turn.
+// The routines in turn. Where one is accepted all its commands are there, so that the next begins inside the row or at its end.
 pub fn check_routines(counts: &[u8], devices: &[u8], tags: &[u8], settings: &[i16]) -> Verdict
     ensures { λ r. ⌜ r ≡ routinesCheck (routinesLent (now (counts .entry)) (now (devices .entry)) (now (tags .entry)) (now (settings .entry))) ⌝ }
 {
-    let row = row_length(devices, tags, settings);
     let mut at = 0;
     let mut i = 0;
     while i < counts.len() {
-        let count = taken(counts, i, row - at);
+        let count = counts[i] as usize;
         let verdict = check_one(devices, tags, settings, at, count);
         let Verdict::Accepted = verdict else {
             return verdict;
@@ -101,17 +105,17 @@ pub fn check_routines(counts: &[u8], devices: &[u8], tags: &[u8], settings: &[i1
 }
 
 // How many commands the routines have together.
-pub fn count_commands(counts: &[u8], devices: &[u8], tags: &[u8], settings: &[i16]) -> usize
-    ensures { λ r. ⌜ r ≡ commandsIn (routinesLent (now (counts .entry)) (now (devices .entry)) (now (tags .entry)) (now (settings .entry))) ⌝ }
+pub fn count_commands(counts: &[u8]) -> usize
+    requires { ⌜ length (now counts) ≤ maxRoutines ⌝ }
+    ensures { λ r. ⌜ r ≡ commandsCounted (now (counts .entry)) ⌝ }
 {
-    let row = row_length(devices, tags, settings);
-    let mut at = 0;
+    let mut total = 0;
     let mut i = 0;
     while i < counts.len() {
-        at += taken(counts, i, row - at);
+        total += counts[i] as usize;
         i += 1;
     }
-    at
+    total
 }
 
 // Two bytes, and four, written from a place on.
@@ -134,20 +138,18 @@ fn put_four(out: &mut [u8], at: usize, n: u32)
 }
 
 // The pairs, behind the count.
-fn put_pairs(counts: &[u8], devices: &[u8], tags: &[u8], settings: &[i16], out: &mut [u8])
+fn put_pairs(counts: &[u8], out: &mut [u8])
     requires { ⌜ (length (now counts) ≤ maxRoutines) × (pairsEnd (length (now counts)) ≤ length (now out)) ⌝ }
-    ensures { λ _. ⌜ now (out .exit) ≡ sets (now (out .entry)) countSize (pairsBytes (pairsEnd (length (now (counts .entry)))) (routinesLent (now (counts .entry)) (now (devices .entry)) (now (tags .entry)) (now (settings .entry)))) ⌝ }
+    ensures { λ _. ⌜ now (out .exit) ≡ sets (now (out .entry)) countSize (pairsCounted (pairsEnd (length (now (counts .entry)))) (now (counts .entry))) ⌝ }
 {
-    let row = row_length(devices, tags, settings);
-    let first = COUNT_SIZE + PAIR_SIZE * counts.len();
-    let mut at = 0;
+    let mut at = COUNT_SIZE + PAIR_SIZE * counts.len();
     let mut i = 0;
     while i < counts.len() {
-        let count = taken(counts, i, row - at);
+        let size = COMMAND_SIZE * (counts[i] as usize);
         let pair = COUNT_SIZE + PAIR_SIZE * i;
-        put_four(out, pair, (first + COMMAND_SIZE * at) as u32);
-        put_four(out, pair + OFFSET_SIZE, (COMMAND_SIZE * count) as u32);
-        at += count;
+        put_four(out, pair, at as u32);
+        put_four(out, pair + OFFSET_SIZE, size as u32);
+        at += size;
         i += 1;
     }
 }
@@ -172,8 +174,9 @@ fn put_commands(
     from: usize,
     out: &mut [u8],
 )
-    requires { ⌜ (count ≤ length (rowOf (now devices) (now tags) (now settings))) × (from + commandSize * count ≤ length (now out)) ⌝ }
-    ensures { λ _. ⌜ now (out .exit) ≡ sets (now (out .entry)) from (commandsBytes (take count (rowOf (now (devices .entry)) (now (tags .entry)) (now (settings .entry))))) ⌝ }
+    requires { ⌜ from + commandSize * count ≤ length (now out) ⌝ }
+    ensures { λ _. ⌜ now (out .exit) ≡ sets (now (out .entry)) from
+        (commandsBytes (commandsLent (now (devices .entry)) (now (tags .entry)) (now (settings .entry)) 0 count)) ⌝ }
 {
     let mut i = 0;
     while i < count {
@@ -192,11 +195,13 @@ pub fn put_book(
     commands: usize,
     out: &mut [u8],
 )
-    requires { ⌜ (length (now counts) ≤ maxRoutines) × (commands ≡ commandsIn (routinesLent (now counts) (now devices) (now tags) (now settings))) × (length (bookBytes (routinesLent (now counts) (now devices) (now tags) (now settings))) ≤ length (now out)) ⌝ }
-    ensures { λ _. ⌜ now (out .exit) ≡ sets (now (out .entry)) 0 (bookBytes (routinesLent (now (counts .entry)) (now (devices .entry)) (now (tags .entry)) (now (settings .entry)))) ⌝ }
+    requires { ⌜ (length (now counts) ≤ maxRoutines) × (commands ≡ commandsCounted (now counts))
+        × (length (bookBytes (routinesLent (now counts) (now devices) (now tags) (now settings))) ≤ length (now out)) ⌝ }
+    ensures { λ _. ⌜ now (out .exit) ≡ sets (now (out .entry)) 0
+        (bookBytes (routinesLent (now (counts .entry)) (now (devices .entry)) (now (tags .entry)) (now (settings .entry)))) ⌝ }
 {
     put_two(out, 0, counts.len() as u16);
-    put_pairs(counts, devices, tags, settings, out);
+    put_pairs(counts, out);
     put_commands(
         devices,
         tags,

@@ -9,16 +9,17 @@ use native.Mathlib.Omega.{arith}
 use borrow.Author.Tests.{leb-true, ltb-true, ltb-false, not-false}
 use lib.Dec.{leb, ltb}
 use lib.IntN.{ℤ, pos, negsuc}
+use lib.Signed.{mag}
 use lib.ListN.{length, drop}
 use lib.Seq.{drop-at, drop-drop, drop-cons, getD-drop}
-use Rattle.routine.specs.Range.{inRange}
+use Rattle.routine.specs.Range.{lowestSetting, highestSetting, inRange}
 use Rattle.routine.specs.Refusals.{device-not-below, setting-out-of-range, refuse_when_}
 use Rattle.routine.specs.Routine.{commandCheck, commandsCheck}
 use Rattle.routine.specs.declared.Command.{Command}
 use Rattle.routine.specs.declared.Verdict.the-variants.{Accepted}
 use Rattle.routine.proofs.Laws.{byTest, both-accept, not-refused, in-range-pos, in-range-negsuc}
 use Rattle.layout.specs.Numbers.{twoBytes, fourBytes, byteAt, twoAt, fourAt, bitsOf, settingOf}
-use Rattle.layout.specs.Layout.{commandBytes, commandsBytes, commandAt, commandsAt}
+use Rattle.layout.specs.Layout.{commandSize, commandBytes, commandsBytes, commandAt, commandsAt}
 use Rattle.layout.specs.Claims.{Bytes}
 use Rattle.layout.proofs.Laws.{setting-low, setting-high, bits-pos, bits-negsuc, length-twoBytes, length-commandBytes}
 
@@ -27,10 +28,10 @@ use Rattle.layout.proofs.Laws.{setting-low, setting-high, bits-pos, bit
 -- a setting in range is read from its bits
 pub setting-read : (z : ℤ) → inRange z ≡ true → settingOf (bitsOf z) ≡ z
 setting-read (pos n) e =
-    let l : n ≤ 1000 = leb-true n 1000 (sym (in-range-pos n) ∙ e) in
+    let l = leb-true n (mag highestSetting) (sym (in-range-pos n) ∙ e) in
     rw (bits-pos n) (setting-low n (omega arith))
 setting-read (negsuc n) e =
-    let l : n ≤ 999 = leb-true n 999 (sym (in-range-negsuc n) ∙ e) in
+    let l = leb-true n (mag lowestSetting) (sym (in-range-negsuc n) ∙ e) in
     rw (bits-negsuc n) (setting-high (65535 - n) (omega arith) (omega arith) ∙ ap negsuc (omega arith))
 
 -- bits are those of the setting that they are read as
@@ -111,7 +112,7 @@ commands-read limit k b rest p (c ∷ cs) h e =
     let a = both-accept _ _ h in
     let f = e ∙ append-assoc (commandBytes c) (commandsBytes cs) rest in
     ap₂ _∷_ (command-read b _ p c (in-range limit k c (a .0)) f)
-    (commands-read limit (suc k) b rest (p + 4) cs (a .1) (behind b (commandBytes c) _ p 4 f (length-commandBytes c)))
+    (commands-read limit (suc k) b rest (p + commandSize) cs (a .1) (behind b (commandBytes c) _ p commandSize f (length-commandBytes c)))
 
 -- ---- what was read at a place, written again, is what stands there
 
@@ -147,7 +148,7 @@ module _ (b : List ℕ) (bytes : Bytes b) where
       let k : p + 2 + 2 ≡ p + 4 = omega arith in
       cc (four-twos n (drop (p + 4) b))
 
-  command-written : (p : ℕ) → p + 4 ≤ length b → drop p b ≡ commandBytes (commandAt b p) ++ drop (p + 4) b
+  command-written : (p : ℕ) → p + commandSize ≤ length b → drop p b ≡ commandBytes (commandAt b p) ++ drop (p + commandSize) b
   unfolding commandAt commandBytes
   command-written p h =
       let u = byte-written p (omega arith) in
@@ -155,14 +156,15 @@ module _ (b : List ℕ) (bytes : Bytes b) where
       let w = two-written (p + 2) (omega arith) in
       let x = setting-written (twoAt b (p + 2)) (two-bound (p + 2)) in
       let k : p + 1 + 1 ≡ p + 2 = omega arith in
-      let l : p + 2 + 2 ≡ p + 4 = omega arith in
+      let l : p + 2 + 2 ≡ p + commandSize = omega arith in
       cc
 
-  pub commands-written : (p n : ℕ) → p + 4 * n ≤ length b → drop p b ≡ commandsBytes (commandsAt b p n) ++ drop (p + 4 * n) b
+  pub commands-written : (p n : ℕ) → p + commandSize * n ≤ length b →
+      drop p b ≡ commandsBytes (commandsAt b p n) ++ drop (p + commandSize * n) b
   commands-written p zero h = let k : p ≡ p + 0 = omega arith in ap (λ (q : ℕ). drop q b) k
   commands-written p (suc n) h =
       let x = commandBytes (commandAt b p) in
       let u = command-written p (omega arith) in
-      let v = commands-written (p + 4) n (omega arith) in
-      let k : p + 4 + 4 * n ≡ p + 4 * suc n = omega arith in
-      cc (append-assoc x (commandsBytes (commandsAt b (p + 4) n)) (drop (p + 4 * suc n) b))
+      let v = commands-written (p + commandSize) n (omega arith) in
+      let k : p + commandSize + commandSize * n ≡ p + commandSize * suc n = omega arith in
+      cc (append-assoc x (commandsBytes (commandsAt b (p + commandSize) n)) (drop (p + commandSize * suc n) b))

@@ -8,8 +8,9 @@ use mathlib.Core.List.{List, [], _∷_, _++_, append-assoc}
 use native.Mathlib.Omega.{arith}
 use borrow.Author.Tests.{ltb-true, ltb-false, leb-true, leb-false, not-true, not-false}
 use lib.Dec.{ltb, eqb}
+use lib.Signed.{mag}
 use lib.ListN.{length}
-use Rattle.routine.specs.Range.{inRange}
+use Rattle.routine.specs.Range.{lowestSetting, highestSetting, inRange}
 use Rattle.routine.specs.Refusals.{refuse_when_, _andThen_}
 use Rattle.routine.specs.Routine.{maxCommands, highestTag, commandCheck, commandsCheck}
 use Rattle.routine.specs.declared.Verdict.{Verdict}
@@ -17,13 +18,13 @@ use Rattle.routine.specs.declared.Verdict.the-variants.{Accepted}
 use Rattle.routine.proofs.Laws.{byTest, not-refused, in-range-pos, in-range-negsuc}
 use Rattle.routine.proofs.Exact.{Decides, less, at-most, same, otherwise, either, agree, Outcome, none, passed, one, join}
 use Rattle.routine.proofs.Exact.{accepted-passes, exactly}
-use Rattle.layout.specs.Numbers.{byteAt, twoAt, settingOf}
+use Rattle.layout.specs.Numbers.{byteAt, twoAt, bitsOf, settingOf}
 use Rattle.layout.specs.Layout.{countSize, commandSize, maxRoutines, bookDevices, pairsEnd, countOf, offsetAt, lengthAt, commandAt}
 use Rattle.layout.specs.Layout.{commandsAt}
 use Rattle.layout.specs.Reading.{headCheck, lengthFits, placedCheck, placedChecks, bookCheck}
 use Rattle.layout.specs.Claims.{Bytes, Breaks, ExactRefusals, commandTests, routineTests, tests, causeOf, place}
 use Rattle.layout.specs.Claims.{Test, head, routine-length, routine-place, command-device, command-setting, command-tag, left-over}
-use Rattle.layout.proofs.Laws.{fits-in-fours, in-fours-fits, setting-low, setting-high}
+use Rattle.layout.proofs.Laws.{fits-in-fours, in-fours-fits, setting-low, setting-high, bits-pos, bits-negsuc}
 
 -- ---- what the tests of a book decide
 
@@ -41,17 +42,19 @@ unfit n =
       unmet = λ e h. let f = fits-in-fours n (not-false _ e) in h (f .commands) (f .some) (f .few) (f .size);
     }
 
--- a setting is out of range exactly if its 16 bits are 1,001 to 64,535
-out-of-range : (n : ℕ) → n < 65536 → Decides (not (inRange (settingOf n))) ((1000 < n) × (n < 64536))
+-- a setting is out of range exactly if its 16 bits lie between those of the highest and those of the lowest
+out-of-range : (n : ℕ) → n < 65536 → Decides (not (inRange (settingOf n))) ((bitsOf highestSetting < n) × (n < bitsOf lowestSetting))
 out-of-range n h =
-    byTest (λ (_ : Bool). Decides (not (inRange (settingOf n))) ((1000 < n) × (n < 64536))) (ltb n 32768)
+    let high = bits-pos (mag highestSetting) in
+    let low = bits-negsuc (mag lowestSetting) in
+    byTest (λ (_ : Bool). Decides (not (inRange (settingOf n))) ((bitsOf highestSetting < n) × (n < bitsOf lowestSetting))) (ltb n 32768)
     (λ e. let l = ltb-true n 32768 e in rw (setting-low n l, in-range-pos n) record {
-      met = λ e. let x = leb-false n 1000 (not-true _ e) in (omega arith, omega arith);
-      unmet = λ e p. let x = leb-true n 1000 (not-false _ e) in omega arith;
+      met = λ e. let x = leb-false n (mag highestSetting) (not-true _ e) in (omega arith, omega arith);
+      unmet = λ e p. let x = leb-true n (mag highestSetting) (not-false _ e) in omega arith;
     })
     (λ e. let l = ltb-false n 32768 e in rw (setting-high n l h, in-range-negsuc (65535 - n)) record {
-      met = λ e. let x = leb-false (65535 - n) 999 (not-true _ e) in (omega arith, omega arith);
-      unmet = λ e p. let x = leb-true (65535 - n) 999 (not-false _ e) in omega arith;
+      met = λ e. let x = leb-false (65535 - n) (mag lowestSetting) (not-true _ e) in (omega arith, omega arith);
+      unmet = λ e p. let x = leb-true (65535 - n) (mag lowestSetting) (not-false _ e) in omega arith;
     })
 
 -- ---- the tests of a book

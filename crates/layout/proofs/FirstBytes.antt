@@ -9,11 +9,12 @@ use lib.Dec.{ltb}
 use lib.ListN.{length, take}
 use lib.Seq.{length-take-le, take-all, getD-take}
 use Rattle.routine.specs.Refusals.{book-length, refuse_when_, _andThen_}
+use Rattle.routine.specs.Routine.{maxCommands}
 use Rattle.routine.specs.declared.Verdict.{Verdict}
 use Rattle.routine.specs.declared.Verdict.the-variants.{Accepted, Refused}
 use Rattle.routine.proofs.Laws.{byTest, not-refused}
 use Rattle.layout.specs.Numbers.{byteAt, twoAt, fourAt, settingOf}
-use Rattle.layout.specs.Layout.{maxRoutines, pairsEnd, countOf, pairPlace, offsetAt, lengthAt, commandAt, commandsAt}
+use Rattle.layout.specs.Layout.{offsetSize, commandSize, maxRoutines, pairsEnd, countOf, pairPlace, offsetAt, lengthAt, commandAt, commandsAt}
 use Rattle.layout.specs.Reading.{lengthFits, placedCheck, placedChecks, bookCheck}
 use Rattle.layout.specs.Claims.{longestBook, JudgedByFirstBytes}
 use Rattle.layout.proofs.Laws.{fits-in-fours, placed, checks-left-over, head-many, head-fine, book-refused, book-placed}
@@ -24,7 +25,7 @@ same-after Accepted w x h = h refl
 same-after (Refused r) w x h = refl
 
 -- a length that fits is at most 32
-fits-few : (n : ℕ) → lengthFits n ≡ true → n ≤ 32
+fits-few : (n : ℕ) → lengthFits n ≡ true → n ≤ commandSize * maxCommands
 fits-few n e = let f = fits-in-fours n e in let few = f .few in let size = f .size in omega arith
 
 -- ---- two books that are longer than the longest, and have its bytes in common
@@ -50,9 +51,9 @@ module _ (a b : List ℕ) (la : longestBook < length a) (lb : longestBook < leng
 
   length-same : (i : ℕ) → i < maxRoutines → lengthAt a i ≡ lengthAt b i
   unfolding lengthAt
-  length-same i h = four-same (pairPlace i + 4) (omega arith)
+  length-same i h = four-same (pairPlace i + offsetSize) (omega arith)
 
-  command-same : (at : ℕ) → at + 4 ≤ longestBook → commandAt a at ≡ commandAt b at
+  command-same : (at : ℕ) → at + commandSize ≤ longestBook → commandAt a at ≡ commandAt b at
   unfolding commandAt
   command-same at h =
       let d = same at (omega arith) in
@@ -60,12 +61,12 @@ module _ (a b : List ℕ) (la : longestBook < length a) (lb : longestBook < leng
       let s = two-same (at + 2) (omega arith) in
       λ i. record { device = d i; tag = t i; setting = settingOf (s i) }
 
-  commands-same : (at n : ℕ) → at + 4 * n ≤ longestBook → commandsAt a at n ≡ commandsAt b at n
+  commands-same : (at n : ℕ) → at + commandSize * n ≤ longestBook → commandsAt a at n ≡ commandsAt b at n
   commands-same at zero h = refl
-  commands-same at (suc n) h = ap₂ _∷_ (command-same at (omega arith)) (commands-same (at + 4) n (omega arith))
+  commands-same at (suc n) h = ap₂ _∷_ (command-same at (omega arith)) (commands-same (at + commandSize) n (omega arith))
 
   -- so a routine that the layout puts there is judged alike,
-  placed-same : (i at : ℕ) → i < maxRoutines → at + 32 ≤ longestBook → placedCheck a i at ≡ placedCheck b i at
+  placed-same : (i at : ℕ) → i < maxRoutines → at + commandSize * maxCommands ≤ longestBook → placedCheck a i at ≡ placedCheck b i at
   unfolding placedCheck
   placed-same i at h k =
       rw (length-same i h, offset-same i h) (same-after (refuse (book-length i) when not (lengthFits (lengthAt b i))) _ _ (λ e.
@@ -73,11 +74,11 @@ module _ (a b : List ℕ) (la : longestBook < length a) (lb : longestBook < leng
       rw (
         le-ltb (length a) (at + lengthAt b i) (omega arith),
         le-ltb (length b) (at + lengthAt b i) (omega arith),
-        commands-same at (lengthAt b i / 4) (omega arith),
+        commands-same at (lengthAt b i / commandSize) (omega arith),
       )))
 
   -- and all in turn; behind the last, both have bytes left over.
-  checks-same : (i n at : ℕ) → i + n ≤ maxRoutines → at + 32 * n ≤ longestBook → placedChecks a i n at ≡ placedChecks b i n at
+  checks-same : (i n at : ℕ) → i + n ≤ maxRoutines → at + commandSize * maxCommands * n ≤ longestBook → placedChecks a i n at ≡ placedChecks b i n at
   unfolding placedChecks
   checks-same i zero at h k = checks-left-over a i at (omega arith) ∙ sym (checks-left-over b i at (omega arith))
   checks-same i (suc n) at h k =

@@ -6,13 +6,13 @@ use mathlib.Core.List.{List, [], _∷_, _++_}
 use native.Mathlib.Nat.{zero-add}
 use native.Mathlib.Numerals.{add-one}
 use native.Mathlib.Omega.{arith}
-use borrow.Author.Tests.{lt-ltb, le-ltb, le-leb, lt-leb, eq-eqb, ne-eqb, ltb-true, ltb-false, leb-true, eqb-true, not-false}
+use borrow.Author.Tests.{lt-ltb, le-ltb, le-leb, eq-eqb, ne-eqb, ltb-true, ltb-false, leb-true, eqb-true, not-false}
 use lib.Dec.{leb, eqb}
 use lib.IntN.{ℤ, pos, negsuc, _-ℤ_}
 use lib.Signed.{ltZ, mag}
 use lib.ListN.{length, length-append}
 use Rattle.routine.specs.Refusals.{book-cut-short, book-misplaced, book-length, refusalOf}
-use Rattle.routine.specs.Routine.{maxCommands, routineOf, noRoutine, commandsCheck}
+use Rattle.routine.specs.Routine.{maxCommands, routineOf, commandsCheck}
 use Rattle.routine.specs.declared.Command.{Command}
 use Rattle.routine.specs.declared.Refusal.{Refusal}
 use Rattle.routine.specs.declared.Verdict.the-variants.{Accepted, Refused}
@@ -21,7 +21,7 @@ use Rattle.layout.specs.Numbers.{twoBytes, fourBytes, fourAt, bitsOf, se
 use Rattle.layout.specs.Layout.{countSize, pairSize, offsetSize, commandSize, maxRoutines, bookDevices, pairsEnd, lengthIn}
 use Rattle.layout.specs.Layout.{commandBytes, commandsBytes, pairsBytes, countOf, offsetAt, lengthAt, commandsAt}
 use Rattle.layout.specs.Reading.{headCheck, lengthFits, placedCheck, placedChecks, bookCheck, endAt, pairNext, turnsDown, nextOf}
-use Rattle.layout.specs.declared.Item.the-variants.{Handed, Refused as RefusedBook}
+use Rattle.layout.specs.declared.Item.the-variants.{Handed}
 
 -- ---- lengths that fit: 4 to 32 in fours
 
@@ -34,18 +34,22 @@ pub record InFours (n : ℕ) : Type 0 where
 pub fits-in-fours : (n : ℕ) → lengthFits n ≡ true → InFours n
 unfolding lengthFits
 fits-in-fours n e =
-    let a = and-true (leb 4 n && leb n 32) (eqb (n % 4) 0) e in
-    let b = and-true (leb 4 n) (leb n 32) (a .0) in
-    let l = leb-true 4 n (b .0) in
-    let u = leb-true n 32 (b .1) in
-    let m = eqb-true (n % 4) 0 (a .1) in
-    record { commands = n / 4; some = omega arith; few = omega arith; size = omega arith }
+    let a = and-true (leb commandSize n && leb n (commandSize * maxCommands)) (eqb (n % commandSize) 0) e in
+    let b = and-true (leb commandSize n) (leb n (commandSize * maxCommands)) (a .0) in
+    let l = leb-true commandSize n (b .0) in
+    let u = leb-true n (commandSize * maxCommands) (b .1) in
+    let m = eqb-true (n % commandSize) 0 (a .1) in
+    record { commands = n / commandSize; some = omega arith; few = omega arith; size = omega arith }
 
 pub in-fours-fits : (n : ℕ) → InFours n → lengthFits n ≡ true
 unfolding lengthFits
 in-fours-fits n h =
     let s = h .some in let f = h .few in let e = h .size in
-    simp (le-leb 4 n (omega arith), le-leb n 32 (omega arith), eq-eqb (n % 4) 0 (omega arith))
+    simp (
+      le-leb commandSize n (omega arith),
+      le-leb n (commandSize * maxCommands) (omega arith),
+      eq-eqb (n % commandSize) 0 (omega arith),
+    )
 
 -- ---- settings as 16 bits
 
@@ -99,15 +103,15 @@ pub length-fourBytes : (n : ℕ) → length (fourBytes n) ≡ 4
 unfolding fourBytes
 length-fourBytes n = refl
 
-pub length-commandBytes : (c : Command) → length (commandBytes c) ≡ 4
+pub length-commandBytes : (c : Command) → length (commandBytes c) ≡ commandSize
 unfolding commandBytes twoBytes
 length-commandBytes c = refl
 
-pub length-commandsBytes : (cs : List Command) → length (commandsBytes cs) ≡ 4 * length cs
+pub length-commandsBytes : (cs : List Command) → length (commandsBytes cs) ≡ commandSize * length cs
 length-commandsBytes [] = refl
 length-commandsBytes (c ∷ cs) = omega (arith, length-append (commandBytes c) (commandsBytes cs), length-commandBytes c, length-commandsBytes cs)
 
-pub length-pairsBytes : (at : ℕ) (rs : List (List Command)) → length (pairsBytes at rs) ≡ 8 * length rs
+pub length-pairsBytes : (at : ℕ) (rs : List (List Command)) → length (pairsBytes at rs) ≡ pairSize * length rs
 length-pairsBytes at [] = refl
 length-pairsBytes at (r ∷ rs) =
     let p = pairsBytes (at + lengthIn r) rs in
@@ -115,7 +119,7 @@ length-pairsBytes at (r ∷ rs) =
 
 pub length-commandsAt : (b : List ℕ) (at n : ℕ) → length (commandsAt b at n) ≡ n
 length-commandsAt b at zero = refl
-length-commandsAt b at (suc n) = ap suc (length-commandsAt b (at + 4) n)
+length-commandsAt b at (suc n) = ap suc (length-commandsAt b (at + commandSize) n)
 
 -- ---- a routine of a book, by its tests
 

@@ -18,7 +18,7 @@ use Rattle.routine.specs.declared.Verdict.the-variants.{Accepted, Refused}
 use Rattle.routine.proofs.Laws.{both-accept, accept-both, not-refused, or-false, check-counted, routineOf-commands}
 use Rattle.layout.specs.Numbers.{twoBytes, fourBytes}
 use Rattle.layout.specs.Layout.{maxRoutines, bookDevices, pairsEnd, commandsBytes, lengthIn, pairsBytes, bodyBytes, bookBytes}
-use Rattle.layout.specs.Layout.{countOf, pairPlace, offsetAt, lengthAt, commandsAt}
+use Rattle.layout.specs.Layout.{countSize, pairSize, offsetSize, commandSize, countOf, pairPlace, offsetAt, lengthAt, commandsAt}
 use Rattle.layout.specs.Reading.{headCheck, lengthFits, placedCheck, placedChecks, bookCheck, pairNext, nextWith, nextOf}
 use Rattle.layout.specs.Writing.{routinesCheck, writeCheck, writtenWith, writtenOf, bufferAfter}
 use Rattle.layout.specs.Claims.{Hands, ends, hands, Bytes, WriteThenRead, ReadThenWrite}
@@ -44,7 +44,7 @@ record Stands (b : List ℕ) (i at : ℕ) (r : List Command) : Type 0 where
 
 -- It does if its pair and its commands are written there.
 stands : (b x y z : List ℕ) (i at : ℕ) (r : List Command) → routineCheck bookDevices r ≡ Accepted →
-    drop (pairPlace i) b ≡ fourBytes at ++ x → drop (pairPlace i + 4) b ≡ fourBytes (lengthIn r) ++ y → drop at b ≡ commandsBytes r ++ z → Stands b i at r
+    drop (pairPlace i) b ≡ fourBytes at ++ x → drop (pairPlace i + offsetSize) b ≡ fourBytes (lengthIn r) ++ y → drop at b ≡ commandsBytes r ++ z → Stands b i at r
 unfolding routineCheck offsetAt lengthAt
 stands b x y z i at r h offset size body =
     let a = both-accept (refuse command-count when (eqb (length r) 0 || ltb maxCommands (length r))) _ h in
@@ -54,7 +54,7 @@ stands b x y z i at r h offset size body =
     let l = ap length body ∙ length-append (commandsBytes r) z in
     record {
       offset = four-read b x (pairPlace i) at offset;
-      size = four-read b y (pairPlace i + 4) (lengthIn r) size;
+      size = four-read b y (pairPlace i + offsetSize) (lengthIn r) size;
       inside = omega (arith, length-drop at b, length-commandsBytes r);
       same = commands-read bookDevices 0 b z at r (a .1) body;
       some = s;
@@ -79,10 +79,10 @@ module _ (b : List ℕ) (i at : ℕ) (r : List Command) (s : Stands b i at r) wh
   size-fits : lengthFits (lengthAt b i) ≡ true
   size-fits = in-fours-fits (lengthAt b i) (record { commands = length r; some = s .some; few = s .few; size = s .size })
 
-  commands-same : commandsAt b at (lengthAt b i / 4) ≡ r
+  commands-same : commandsAt b at (lengthAt b i / commandSize) ≡ r
   commands-same =
       let e = s .size in
-      let n : lengthAt b i / 4 ≡ length r = omega arith in
+      let n : lengthAt b i / commandSize ≡ length r = omega arith in
       ap (commandsAt b at) n ∙ s .same
 
   -- it passes the check of a book,
@@ -96,8 +96,8 @@ module _ (b : List ℕ) (i at : ℕ) (r : List Command) (s : Stands b i at r) wh
   unfolding offsetAt lengthAt
   stands-handed a h =
       let o = s .offset in
-      let c = ap (λ (p : ℕ). commandsAt b p (lengthAt b i / 4)) o ∙ commands-same in
-      let q : pairPlace i + 8 ≡ pairPlace (suc i) = omega arith in
+      let c = ap (λ (p : ℕ). commandsAt b p (lengthAt b i / commandSize)) o ∙ commands-same in
+      let q : pairPlace i + pairSize ≡ pairPlace (suc i) = omega arith in
       pair-next b a i
       ∙ pair-handed b (pairPlace i) (omega arith) (omega arith)
       ∙ (λ j. record { item = Handed; routine = routineOf (c j); position = q j })
@@ -124,12 +124,12 @@ read-back b rest i at (r ∷ rs) h n pairs body =
     let a = both-accept (routineCheck bookDevices r) _ h in
     let more = pairsBytes (at + lengthIn r) rs ++ rest in
     let offset : drop (pairPlace i) b ≡ fourBytes at ++ (fourBytes (lengthIn r) ++ more) = simp append-assoc at pairs in
-    let size = behind b (fourBytes at) (fourBytes (lengthIn r) ++ more) (pairPlace i) 4 offset (length-fourBytes at) in
+    let size = behind b (fourBytes at) (fourBytes (lengthIn r) ++ more) (pairPlace i) offsetSize offset (length-fourBytes at) in
     let s = stands b (fourBytes (lengthIn r) ++ more) more (bodyBytes rs) i at r (a .0) offset size body in
-    let p : pairPlace (suc i) ≡ pairPlace i + 4 + 4 = omega arith in
+    let p : pairPlace (suc i) ≡ pairPlace i + offsetSize + 4 = omega arith in
     let next =
     ap (λ (q : ℕ). drop q b) p
-    ∙ behind b (fourBytes (lengthIn r)) more (pairPlace i + 4) 4 size (length-fourBytes (lengthIn r)) in
+    ∙ behind b (fourBytes (lengthIn r)) more (pairPlace i + offsetSize) 4 size (length-fourBytes (lengthIn r)) in
     let c = behind b (commandsBytes r) (bodyBytes rs) at (lengthIn r) body (length-commandsBytes r) in
     let f = read-back b rest (suc i) (at + lengthIn r) rs (a .1) (omega arith) next c in (
       accept-both _ _ (stands-accepted b i at r s) (rw (s .size) (f .0)),
@@ -139,15 +139,15 @@ read-back b rest i at (r ∷ rs) h n pairs body =
     )
 
 -- An accepted book is read from position 0 as from its first pair.
-from-start : (b : List ℕ) (rs : List (List Command)) → bookCheck b ≡ Accepted → Hands b 2 rs → Hands b 0 rs
+from-start : (b : List ℕ) (rs : List (List Command)) → bookCheck b ≡ Accepted → Hands b countSize rs → Hands b 0 rs
 from-start b [] e (ends x) = let t = next-first b e ∙ sym (pair-next b e 0) in ends {at = 0} (ap (λ (u : Next). u .item) t ∙ x)
-from-start b (r ∷ rs) e (hands x y z) = hands-by b 0 (nextOf b 2) r rs (next-first b e ∙ sym (pair-next b e 0)) x y z
+from-start b (r ∷ rs) e (hands x y z) = hands-by b 0 (nextOf b countSize) r rs (next-first b e ∙ sym (pair-next b e 0)) x y z
 
 -- Routines that may be written, and book b is their bytes.
-record Makes (rs : List (List Command)) (b : List ℕ) : Type 0 where
-  fine : routinesCheck rs ≡ Accepted
-  few : length rs ≤ maxRoutines
-  book : bookBytes rs ≡ b
+pub record Makes (rs : List (List Command)) (b : List ℕ) : Type 0 where
+  pub fine : routinesCheck rs ≡ Accepted
+  pub few : length rs ≤ maxRoutines
+  pub book : bookBytes rs ≡ b
 
 -- Then it is read as these routines.
 book-read : (rs : List (List Command)) (b : List ℕ) → Makes rs b → Hands b 0 rs
@@ -158,8 +158,8 @@ book-read rs b w =
     let pairs = pairsBytes (pairsEnd (length rs)) rs in
     let body = bodyBytes rs in
     let n = two-read b (pairs ++ body) 0 (length rs) (sym e) in
-    let p = behind b count (pairs ++ body) 0 2 (sym e) refl in
-    let q = behind b pairs body 2 (8 * length rs) p (length-pairsBytes (pairsEnd (length rs)) rs) in
+    let p = behind b count (pairs ++ body) 0 countSize (sym e) refl in
+    let q = behind b pairs body countSize (pairSize * length rs) p (length-pairsBytes (pairsEnd (length rs)) rs) in
     let f = read-back b body 0 (pairsEnd (length rs)) rs (w .fine) (omega arith) p q in
     let z = ap length e in
     let l : pairsEnd (countOf b) ≤ length b = omega (arith, length-append pairs body, length-pairsBytes (pairsEnd (length rs)) rs) in
@@ -184,11 +184,11 @@ holds b bytes i at l p f =
     let n = length-commandsAt b at (f .commands) in
     let some = f .some in let few = f .few in let e = f .size in let offset = p .offset in let inside = p .inside in
     let s : lengthAt b i ≡ lengthIn r = omega arith in
-    let c : f .commands ≡ lengthAt b i / 4 = omega arith in
-    let k : pairPlace i + 4 + 4 ≡ pairPlace (suc i) = omega arith in
-    let m : at + 4 * f .commands ≡ at + lengthIn r = omega arith in
+    let c : f .commands ≡ lengthAt b i / commandSize = omega arith in
+    let k : pairPlace i + offsetSize + 4 ≡ pairPlace (suc i) = omega arith in
+    let m : at + commandSize * f .commands ≡ at + lengthIn r = omega arith in
     let x = four-written b bytes (pairPlace i) (omega arith) in
-    let y = four-written b bytes (pairPlace i + 4) (omega arith) in
+    let y = four-written b bytes (pairPlace i + offsetSize) (omega arith) in
     let z = commands-written b bytes at (f .commands) (omega arith) in
     record {
       routine = r;
@@ -243,9 +243,9 @@ book-written : (b : List ℕ) → Bytes b → bookCheck b ≡ Accepted → (rs :
 unfolding bookCheck headCheck countOf bookBytes
 book-written b bytes e =
     let a = both-accept (headCheck b) _ e in
-    let t = or-false (ltb (length b) 2 || ltb 64 (countOf b)) _ (not-refused book-cut-short _ (a .0)) in
-    let u = or-false (ltb (length b) 2) _ (t .0) in
-    let k = ltb-false 64 (countOf b) (u .1) in
+    let t = or-false (ltb (length b) countSize || ltb maxRoutines (countOf b)) _ (not-refused book-cut-short _ (a .0)) in
+    let u = or-false (ltb (length b) countSize) _ (t .0) in
+    let k = ltb-false maxRoutines (countOf b) (u .1) in
     let l = ltb-false (length b) (pairsEnd (countOf b)) (t .1) in
     let z : 0 + countOf b ≡ countOf b = omega arith in
     let h = holds-all b bytes 0 (countOf b) (pairsEnd (countOf b)) (omega arith) (a .1) in
@@ -267,10 +267,16 @@ not-turned-down : (b : List ℕ) (v : Verdict) → ((r : Refusal) → nextWith v
 not-turned-down b Accepted h = refl
 not-turned-down b (Refused r) h = absurd (h r refl)
 
-hands-accepted : (b : List ℕ) (rs : List (List Command)) → Hands b 0 rs → bookCheck b ≡ Accepted
+pub hands-accepted : (b : List ℕ) (rs : List (List Command)) → Hands b 0 rs → bookCheck b ≡ Accepted
 unfolding nextOf
 hands-accepted b [] (ends x) = not-turned-down b (bookCheck b) (λ r e. let z : _≡_ {A = ℕ} 0 1 = cc in omega arith)
 hands-accepted b (r ∷ rs) (hands x y z) = not-turned-down b (bookCheck b) (λ r e. let z : _≡_ {A = ℕ} 0 1 = cc in omega arith)
+
+-- So what was read of a book makes it.
+pub hands-make : (b : List ℕ) → Bytes b → (rs : List (List Command)) → Hands b 0 rs → Makes rs b
+hands-make b bytes rs h =
+    let w = book-written b bytes (hands-accepted b rs h) in
+    subst (λ (qs : List (List Command)). Makes qs b) (hands-same b 0 (w .0) rs (book-read (w .0) b (w .1)) h) (w .1)
 
 -- A length is answered only for a writing that is accepted, and is the book's;
 written-accepted : (v : Verdict) (book : List ℕ) (n : ℕ) → writtenWith v book ≡ Length n → (v ≡ Accepted) × (length book ≡ n)
@@ -316,8 +322,5 @@ write-then-read rs buffer n e =
 pub read-then-write : ReadThenWrite
 read-then-write b bytes = (
   λ e. let w = book-written b bytes e in (w .0, book-read (w .0) b (w .1)),
-  λ rs h buffer l.
-      let w = book-written b bytes (hands-accepted b rs h) in
-      let same = hands-same b 0 (w .0) rs (book-read (w .0) b (w .1)) h in
-      write-again rs b buffer (subst (λ (qs : List (List Command)). Makes qs b) same (w .1)) l,
+  λ rs h buffer l. write-again rs b buffer (hands-make b bytes rs h) l,
 )

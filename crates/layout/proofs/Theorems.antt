@@ -1,7 +1,8 @@
 -- The theorems of the routine book, by name. What each says stands in specs/Claims.antt and WritingCauses.antt. Assumes nothing.
-use Rattle.layout.specs.Claims.{WriteThenRead, ReadThenWrite, ExactRefusals, JudgedByFirstBytes}
+use Rattle.layout.specs.Claims.{WriteThenRead, ReadThenWrite, LentAgain, ExactRefusals, JudgedByFirstBytes}
 use Rattle.layout.specs.WritingCauses.{ExactWriting}
 use Rattle.layout.proofs.RoundTrip as RoundTrip
+use Rattle.layout.proofs.Lending as Lending
 use Rattle.layout.proofs.Exact as Exact
 use Rattle.layout.proofs.WritingExact as WritingExact
 use Rattle.layout.proofs.FirstBytes as FirstBytes
@@ -25,3 +26,7 @@ exact-writing = WritingExact.exact-writing
 -- (d) A book is judged by its first bytes.
 pub judged-by-first-bytes : JudgedByFirstBytes
 judged-by-first-bytes = FirstBytes.judged-by-first-bytes
+
+-- What is lent of routines is those routines again.
+pub lent-again : LentAgain
+lent-again = Lending.lent-again

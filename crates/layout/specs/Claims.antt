@@ -4,17 +4,19 @@ use mathlib.Core.Path.{_≡_}
 use mathlib.Core.Logic.{_⊎_, _≢_}
 use mathlib.Core.List.{List, [], _∷_, _++_}
 use Prim.Native.Nat.{ℕ, zero, suc, _+_, _*_, _<_, _≤_}
+use lib.IntN.{ℤ}
 use lib.ListN.{length, take}
+use Rattle.routine.specs.Range.{lowestSetting, highestSetting}
 use Rattle.routine.specs.Refusals.{Cause, device-not-below, setting-out-of-range, tag-out-of-range, book-cut-short, book-misplaced}
 use Rattle.routine.specs.Refusals.{book-length}
 use Rattle.routine.specs.Causes.{Exactly}
 use Rattle.routine.specs.Routine.{maxCommands, highestTag, commandsOf}
 use Rattle.routine.specs.declared.Command.{Command}
 use Rattle.routine.specs.declared.Verdict.the-variants.{Accepted, Refused}
-use Rattle.layout.specs.Numbers.{byteAt, twoAt}
+use Rattle.layout.specs.Numbers.{byteAt, twoAt, bitsOf}
 use Rattle.layout.specs.Layout.{countSize, commandSize, maxRoutines, bookDevices, pairsEnd, countOf, offsetAt, lengthAt}
 use Rattle.layout.specs.Reading.{bookCheck, nextOf}
-use Rattle.layout.specs.Writing.{writtenOf, bufferAfter}
+use Rattle.layout.specs.Writing.{routinesLent, countsOf, devicesOf, tagsOf, settingsOf, writtenOf, bufferAfter}
 use Rattle.layout.specs.declared.Item.the-variants.{Handed, End}
 use Rattle.layout.specs.declared.Written.the-variants.{Length}
 
@@ -44,6 +46,14 @@ ReadThenWrite =
     (bookCheck b ≡ Accepted → (rs : List (List Command)) × Hands b 0 rs)
     × ((rs : List (List Command)) → Hands b 0 rs → (buffer : List ℕ) → length b ≤ length buffer →
     (writtenOf rs (length buffer) ≡ Length (length b)) × (take (length b) (bufferAfter rs buffer) ≡ b))
+
+-- ---- how routines are lent
+
+-- What is lent of routines is those routines again, whatever is lent behind them.
+abbrev pub LentAgain : Type 0
+LentAgain =
+    (rs : List (List Command)) (x y : List ℕ) (z : List ℤ) →
+    routinesLent (countsOf rs) (devicesOf rs ++ x) (tagsOf rs ++ y) (settingsOf rs ++ z) ≡ rs
 
 -- ---- when a book is turned down
 
@@ -87,7 +97,7 @@ place b zero = pairsEnd (countOf b)
 place b (suc i) = place b i + lengthAt b i
 
 -- Book b breaks a test: said of its bytes, each test by itself. A routine is there if its index is below the count, and a command if
--- it begins before its routine's length is over. The 16 bits of a setting above 1,000 or below −1,000 are 1,001 to 64,535.
+-- it begins before its routine's length is over. The 16 bits of a setting out of range lie between those of the highest and those of the lowest.
 abbrev pub Breaks : List ℕ → Test → Type 0
 Breaks b head = (length b < countSize) ⊎ ((maxRoutines < countOf b) ⊎ (length b < pairsEnd (countOf b)))
 Breaks b (routine-length i) = (i < countOf b) × ((k : ℕ) → 1 ≤ k → k ≤ maxCommands → lengthAt b i ≢ commandSize * k)
@@ -95,7 +105,7 @@ Breaks b (routine-place i) = (i < countOf b) × ((offsetAt b i ≢ place b i) �
 Breaks b (command-device i j) = (i < countOf b) × (commandSize * j < lengthAt b i) × (bookDevices ≤ byteAt b (place b i + commandSize * j))
 Breaks b (command-setting i j) =
     (i < countOf b) × (commandSize * j < lengthAt b i)
-    × (1000 < twoAt b (place b i + commandSize * j + 2)) × (twoAt b (place b i + commandSize * j + 2) < 64536)
+    × (bitsOf highestSetting < twoAt b (place b i + commandSize * j + 2)) × (twoAt b (place b i + commandSize * j + 2) < bitsOf lowestSetting)
 Breaks b (command-tag i j) = (i < countOf b) × (commandSize * j < lengthAt b i) × (highestTag < byteAt b (place b i + commandSize * j + 1))
 Breaks b left-over = place b (countOf b) < length b
 

@@ -14,9 +14,10 @@ use Rattle.routine.specs.declared.Verdict.the-variants.{Accepted, Refused}
 use Rattle.layout.specs.Numbers.{twoBytes, fourBytes, twoAt, fourAt, bitsOf, settingOf}
 use Rattle.layout.specs.Layout.{commandBytes, bookBytes, countOf, offsetAt, lengthAt, commandAt}
 use Rattle.layout.specs.Reading.{headCheck, lengthFits, placedCheck, placedChecks, bookCheck, pairNext, turnsDown, nextOf}
-use Rattle.layout.specs.Writing.{routinesCheck, writeCheck, writtenOf, bufferAfter}
+use Rattle.layout.specs.Writing.{routinesLent, routinesCheck, writeCheck, writtenOf, bufferAfter}
 use Rattle.layout.specs.declared.Item.{Item}
 use Rattle.layout.specs.declared.Item.the-variants.{Handed, End, Refused as NotRead}
+use Rattle.layout.specs.declared.Written.{Written}
 use Rattle.layout.specs.declared.Written.the-variants.{Length, Refused as NotWritten}
 
 -- All that a computation opens.
@@ -91,3 +92,33 @@ pub turned-down : (bookCheck (take 17 bytes) ≡ Refused (Number 18)) × (bookCh
     × (bookCheck (take 20 bytes ++ (233 ∷ 3 ∷ 31 ∷ 1 ∷ 24 ∷ 252 ∷ 0 ∷ 0 ∷ 70 ∷ 0 ∷ [])) ≡ Refused (Indexed 6 0))
 unfolding calc
 turned-down = (refl, refl, refl, refl, refl)
+
+-- ---- routines lent
+
+-- What writing answers for routines that are lent, where there is room.
+abbrev answered : List ℕ → List ℕ → List ℕ → List ℤ → Written
+answered ns ds ts ss = writtenOf (routinesLent ns ds ts ss) 100
+
+abbrev eight : {A : Type 0} → A → List A
+eight x = x ∷ x ∷ x ∷ x ∷ x ∷ x ∷ x ∷ x ∷ []
+
+-- A count is the caller's word: 9 with eight commands lent, and 0, are refused with 4; eight with eight lent is written.
+pub counted : (answered (9 ∷ []) (eight 0) (eight 0) (eight (pos 0)) ≡ NotWritten (Number 4))
+    × (answered (0 ∷ []) (eight 0) (eight 0) (eight (pos 0)) ≡ NotWritten (Number 4))
+    × (answered (8 ∷ []) (eight 0) (eight 0) (eight (pos 0)) ≡ Length 42)
+unfolding calc
+counted = (refl, refl, refl)
+
+-- Three commands with one lent: the second is not there. Of two commands, the second without its device, its setting, its tag.
+pub not-all-there : (answered (3 ∷ []) (0 ∷ []) (0 ∷ []) (pos 0 ∷ []) ≡ NotWritten (Indexed 5 1))
+    × (answered (2 ∷ []) (0 ∷ []) (0 ∷ 0 ∷ []) (pos 0 ∷ pos 0 ∷ []) ≡ NotWritten (Indexed 5 1))
+    × (answered (2 ∷ []) (0 ∷ 0 ∷ []) (0 ∷ 0 ∷ []) (pos 0 ∷ []) ≡ NotWritten (Indexed 6 1))
+    × (answered (2 ∷ []) (0 ∷ 0 ∷ []) (0 ∷ []) (pos 0 ∷ pos 0 ∷ []) ≡ NotWritten (Indexed 7 1))
+unfolding calc
+not-all-there = (refl, refl, refl, refl)
+
+-- Commands left over, whole and in part, bad ones too, belong to no routine.
+pub left-over : (answered (1 ∷ []) (0 ∷ 255 ∷ []) (0 ∷ 9 ∷ 9 ∷ []) (pos 0 ∷ []) ≡ Length 14)
+    × (answered [] (0 ∷ []) (0 ∷ []) (pos 0 ∷ []) ≡ Length 2)
+unfolding calc
+left-over = (refl, refl)

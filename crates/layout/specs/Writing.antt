@@ -1,11 +1,11 @@
 -- Writing a book: document 01, "The routine book" and "When a call is turned down" ("Writing: the routines in turn (4, then commands), then
 -- 21"). Assumes nothing.
 use mathlib.Core.Bool.{_||_}
-use mathlib.Core.List.{List, [], _∷_, _++_}
-use Prim.Native.Nat.{ℕ}
+use mathlib.Core.List.{List, [], _∷_, _++_, map}
+use Prim.Native.Nat.{ℕ, zero, suc, _+_}
 use lib.Dec.{ltb}
-use lib.IntN.{ℤ}
-use lib.ListN.{length, take, drop}
+use lib.IntN.{ℤ, pos}
+use lib.ListN.{length, drop, getD}
 use Rattle.routine.specs.Refusals.{no-room, refuse_when_, _andThen_}
 use Rattle.routine.specs.Routine.{routineCheck}
 use Rattle.routine.specs.declared.Command.{Command}
@@ -17,22 +17,52 @@ use Rattle.layout.specs.declared.Written.the-variants.{Length, Refused a
 
 -- ---- the routines to write, as they are lent
 
--- Commands in a row, lent as three slices; a command is there if all its parts are.
-abbrev pub rowOf : List ℕ → List ℕ → List ℤ → List Command
-rowOf [] ts ss = []
-rowOf (d ∷ ds) [] ss = []
-rowOf (d ∷ ds) (t ∷ ts) [] = []
-rowOf (d ∷ ds) (t ∷ ts) (s ∷ ss) = record { device = d; tag = t; setting = s } ∷ rowOf ds ts ss
+-- A part of a command that is not lent reads as a number that no command has, so that its routine is turned down for it and is never written
+-- shorter.
+abbrev pub missingDevice : ℕ
+missingDevice = 255
 
--- Routines lent as a count for each and the row of their commands: each routine has as many of the row's next commands as its count says, or
--- those that are left. Commands behind the last routine belong to none.
-abbrev pub routinesOf : List ℕ → List Command → List (List Command)
-routinesOf [] row = []
-routinesOf (n ∷ ns) row = take n row ∷ routinesOf ns (drop n row)
+abbrev pub missingTag : ℕ
+missingTag = 255
+
+abbrev pub missingSetting : ℤ
+missingSetting = pos 32767
+
+-- Commands are lent in a row, as three slices: devices, tags, settings. The command at a place of the row, and n of them from there on.
+abbrev pub commandLent : List ℕ → List ℕ → List ℤ → ℕ → Command
+commandLent ds ts ss at =
+    record { device = getD ds at missingDevice; tag = getD ts at missingTag; setting = getD ss at missingSetting }
+
+abbrev pub commandsLent : List ℕ → List ℕ → List ℤ → ℕ → ℕ → List Command
+commandsLent ds ts ss at zero = []
+commandsLent ds ts ss at (suc n) = commandLent ds ts ss at ∷ commandsLent ds ts ss (suc at) n
+
+-- Routines of these counts, the first of which begins at a place of the row, each next where the one before ends. A routine has exactly as many
+-- commands as its count says. What is lent behind the last routine belongs to none.
+abbrev pub routinesFrom : List ℕ → List ℕ → List ℤ → ℕ → List ℕ → List (List Command)
+routinesFrom ds ts ss at [] = []
+routinesFrom ds ts ss at (n ∷ ns) = commandsLent ds ts ss at n ∷ routinesFrom ds ts ss (at + n) ns
 
 -- The routines of four lent slices: counts, devices, tags, settings.
 abbrev pub routinesLent : List ℕ → List ℕ → List ℕ → List ℤ → List (List Command)
-routinesLent ns ds ts ss = routinesOf ns (rowOf ds ts ss)
+routinesLent ns ds ts ss = routinesFrom ds ts ss 0 ns
+
+-- The other way round, how routines are lent: a count for each, and each part of all their commands in a row.
+abbrev pub rowOf : List (List Command) → List Command
+rowOf [] = []
+rowOf (r ∷ rs) = r ++ rowOf rs
+
+abbrev pub countsOf : List (List Command) → List ℕ
+countsOf rs = map length rs
+
+abbrev pub devicesOf : List (List Command) → List ℕ
+devicesOf rs = map (λ (c : Command). c .device) (rowOf rs)
+
+abbrev pub tagsOf : List (List Command) → List ℕ
+tagsOf rs = map (λ (c : Command). c .tag) (rowOf rs)
+
+abbrev pub settingsOf : List (List Command) → List ℤ
+settingsOf rs = map (λ (c : Command). c .setting) (rowOf rs)
 
 -- ---- what is turned down, what is answered and what is left in the buffer
 

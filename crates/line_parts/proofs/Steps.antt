@@ -20,7 +20,6 @@ use Rattle.line_rules.specs.Claims.{cut}
 use Rattle.hub.specs.declared.Hub.{Hub}
 use Rattle.line.specs.View.{hubIn}
 use Rattle.line.specs.Contract.{Ample, Runs}
-use Rattle.line_parts.specs.declared.Step.{Step}
 use Rattle.line_parts.specs.Parts.{unended, wholeLines, after, printedAfter, heldAfter}
 use Rattle.line_parts.specs.Contract.{roomFor, Holds, pieceOf, TakesPiece, TakesEnd}
 use Rattle.line_parts.proofs.Laws.{whole-first, unended-others, whole-within, after-more, held-more, whole-text, lines-few}

@@ -7,7 +7,7 @@ use Rattle.line_rules.specs.Text.{bytes, digit0}
 use Rattle.line_rules.specs.Reading.{maxLine}
 use Rattle.line_rules.specs.Program.{programText}
 use Rattle.line_rules.specs.Examples.{calc as calcLines}
-use Rattle.line_parts.specs.Parts.{unendedFrom, unended, wholeLines, after, hubAfter, printedAfter, heldAfter}
+use Rattle.line_parts.specs.Parts.{unendedFrom, unended, wholeLines, after, printedAfter, heldAfter}
 
 -- All that a computation with pieces opens.
 unfoldable pub calc : Unit {0}

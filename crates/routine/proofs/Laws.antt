@@ -1,5 +1,5 @@
 -- Laws of the definitions that callers cite, so that no caller opens them. Assumes nothing.
-use Prim.Native.Nat.{ℕ, suc, _+_, _-_, _≤_, _<_, _^_}
+use Prim.Native.Nat.{ℕ, zero, suc, _+_, _-_, _≤_, _<_, _^_}
 use mathlib.Core.Path.{_≡_, refl, sym, ap, _∙_}
 use mathlib.Core.Bool.{Bool, true, false, _&&_, _||_}
 use mathlib.Core.List.{List, [], _∷_, _++_, map, append-assoc}
@@ -9,10 +9,11 @@ use native.Mathlib.Omega.{arith}
 use borrow.Author.Tests.{lt-ltb, le-ltb, le-leb, lt-leb, eq-eqb, ne-eqb}
 use lib.Dec.{leb, ltb}
 use lib.IntN.{pos, negsuc}
+use lib.Signed.{mag}
 use lib.ListN.{length, take, getD, set, replicate, length-append, length-replicate, length-map}
 use lib.Seq.{sets, set-at, take-append-seam, slice, slice-cons, slice-empty, take-append-le, length-take-le}
 use Rattle.routine.specs.Choice.{if_then_else_}
-use Rattle.routine.specs.Range.{inRange}
+use Rattle.routine.specs.Range.{lowestSetting, highestSetting, inRange}
 use Rattle.routine.specs.Refusals.{Cause, command-count, device-not-below, setting-out-of-range, tag-out-of-range, refusalOf, refuse_when_, _andThen_}
 use Rattle.routine.specs.Routine.{maxCommands, highestTag, zeroCommand, commandsOf, routineOf, withCommand, commandCheck, commandsCheck, routineCheck}
 use Rattle.routine.specs.declared.Command.{Command}
@@ -51,20 +52,26 @@ and-true false t e = let z : _≡_ {A = ℕ} 0 1 = cc in absurd (omega arith)
 
 -- ---- settings
 
--- a setting is in range if it is at most 1,000 away from 0
-pub in-range-pos : (n : ℕ) → inRange (pos n) ≡ leb n 1000
+-- a setting is in range if it is no farther from 0 than the highest, or the lowest (`mag` is n of n and of −(n + 1))
+pub in-range-pos : (n : ℕ) → inRange (pos n) ≡ leb n (mag highestSetting)
 unfolding inRange
 in-range-pos n = refl
 
-pub in-range-negsuc : (n : ℕ) → inRange (negsuc n) ≡ leb n 999
+pub in-range-negsuc : (n : ℕ) → inRange (negsuc n) ≡ leb n (mag lowestSetting)
 unfolding inRange
-in-range-negsuc n = byTest (λ (t : Bool). t && true ≡ t) (leb n 999) (λ _. refl) (λ _. refl)
+in-range-negsuc n = byTest (λ (t : Bool). t && true ≡ t) (leb n (mag lowestSetting)) (λ _. refl) (λ _. refl)
 
 -- ---- arrays
 
 -- an array that a struct holds stands in what is known of it at `map` of the identity
 pub length-mapped : (X Y : Type 0) (f : X → Y) (l : List X) (n : ℕ) → length (map f l) ≡ n → length l ≡ n
 length-mapped X Y f l n p = sym (length-map l f) ∙ p
+
+-- what stands past the end does not matter inside
+pub any-default : {A : Type 0} (l : List A) (i : ℕ) (x y : A) → i < length l → getD l i x ≡ getD l i y
+any-default [] i x y h = absurd (omega arith)
+any-default (a ∷ l) zero x y h = refl
+any-default (a ∷ l) (suc i) x y h = any-default l i x y (omega arith)
 
 -- values stored from a place on, then others behind them
 pub sets-append : (vs ws l : List ℕ) (i : ℕ) → sets l i (vs ++ ws) ≡ sets (sets l i vs) (i + length vs) ws

@@ -3,11 +3,12 @@ use mathlib.Core.Path.{_≡_, sym, _∙_}
 use Prim.Native.Nat.{_*_, _≤_}
 use native.Mathlib.Omega.{arith}
 use lib.ListN.{length}
-use Rattle.layout.specs.Writing.{rowOf, routinesOf}
 use Rattle.routine.specs.Refusals.{refusalOf}
 use Rattle.routine.specs.declared.Verdict.the-variants.{Accepted}
-use Rattle.layout.specs.Writing.{routinesCheck}
-use Rattle.book_writer.proofs.Row.{length-routinesOf, commands-few, length-book, write-refused, write-many, write-short, write-fits, turned-down, written}
+use Rattle.layout.specs.Layout.{bookBytes}
+use Rattle.layout.specs.Writing.{routinesLent, routinesCheck}
+use Rattle.book_writer.proofs.Row.{commands-few, length-routines, length-book}
+use Rattle.book_writer.proofs.Row.{write-refused, write-many, write-short, write-fits, turned-down, written}
 use borrow.Author.Needs.{needs}
 use Rattle.book_writer.proofs.write.Statement.{statement}
 use Rattle.book_writer.proofs.write.Tie as tie
@@ -21,7 +22,7 @@ enum-known-verdict c = search needs
 -- the routines pass
 accepted : (c : tie.After-enum-told) →
     let a = c .before .before .before .before .before .before .before .args in
-    routinesCheck (routinesOf (a .counts .now) (rowOf (a .devices .now) (a .tags .now) (a .settings .now))) ≡ Accepted
+    routinesCheck (routinesLent (a .counts .now) (a .devices .now) (a .tags .now) (a .settings .now)) ≡ Accepted
 accepted c = sym (c .before .before .check-routines .ensures) ∙ c .enum-told .given .1
 
 -- how many commands there can be
@@ -29,14 +30,13 @@ few : (c : tie.After-count-commands) →
     c .count-commands .result ≤ 255 * length (c .before .before .before .before .before .before .before .before .before .args .counts .now)
 few c =
     let s = c .before .before .before .before .before .before .before .before in
-    let a = s .before .args in
-    let f = commands-few (a .counts .now) (rowOf (a .devices .now) (a .tags .now) (a .settings .now)) (λ i. s .shared-slice-known .given i .fits) in
-    omega (arith, c .count-commands .ensures, f)
+    omega (arith, c .count-commands .ensures, commands-few (s .before .args .counts .now) (λ i. s .shared-slice-known .given i .fits))
 
 returns : tie.Need-returns
 returns c = let x = c .before .before .before in
     let a = x .before .before .before .before .before .args in
-    turned-down (routinesOf (a .counts .now) (rowOf (a .devices .now) (a .tags .now) (a .settings .now))) (a .out .now) _ (write-refused (routinesOf (a .counts .now) (rowOf (a .devices .now) (a .tags .now) (a .settings .now))) _ _ (sym (x .check-routines .ensures) ∙ c .before .verdict .given .1))
+    let rs = routinesLent (a .counts .now) (a .devices .now) (a .tags .now) (a .settings .now) in
+    turned-down rs (a .out .now) _ (write-refused rs _ _ (sym (x .check-routines .ensures) ∙ c .before .verdict .given .1))
 
 enum-told : tie.Need-enum-told
 enum-told c = search needs
@@ -45,8 +45,9 @@ returns-2 : tie.Need-returns-2
 unfolding refusalOf
 returns-2 c = let x = c .before .before .before in
     let a = x .before .before .before .before .before .args in
-    let n = length-routinesOf (a .counts .now) (rowOf (a .devices .now) (a .tags .now) (a .settings .now)) in
-    turned-down (routinesOf (a .counts .now) (rowOf (a .devices .now) (a .tags .now) (a .settings .now))) (a .out .now) _ (write-many (routinesOf (a .counts .now) (rowOf (a .devices .now) (a .tags .now) (a .settings .now))) _ (accepted (c .before)) (omega arith))
+    let rs = routinesLent (a .counts .now) (a .devices .now) (a .tags .now) (a .settings .now) in
+    let n = length-routines (a .devices .now) (a .tags .now) (a .settings .now) 0 (a .counts .now) in
+    turned-down rs (a .out .now) _ (write-many rs _ (accepted (c .before)) (omega arith))
 
 count-commands-requires : tie.Need-count-commands-requires
 count-commands-requires c κs = search needs
@@ -67,16 +68,17 @@ returns-3 : tie.Need-returns-3
 unfolding refusalOf
 returns-3 c = let y = c .before .before in
     let a = y .before .before .before .before .before .before .before .before .args in
-    let n = length-routinesOf (a .counts .now) (rowOf (a .devices .now) (a .tags .now) (a .settings .now)) in
-    let l = length-book (a .counts .now) (rowOf (a .devices .now) (a .tags .now) (a .settings .now)) in
+    let rs = routinesLent (a .counts .now) (a .devices .now) (a .tags .now) (a .settings .now) in
+    let n = length-routines (a .devices .now) (a .tags .now) (a .settings .now) 0 (a .counts .now) in
+    let l = length-book (a .devices .now) (a .tags .now) (a .settings .now) (a .counts .now) in
     let e = c .before .count-commands .ensures in
-    turned-down (routinesOf (a .counts .now) (rowOf (a .devices .now) (a .tags .now) (a .settings .now))) (a .out .now) _ (write-short (routinesOf (a .counts .now) (rowOf (a .devices .now) (a .tags .now) (a .settings .now))) _ (accepted (y .before)) (omega arith) (omega (arith, c .if2 .taken, e, l)))
+    turned-down rs (a .out .now) _ (write-short rs _ (accepted (y .before)) (omega arith) (omega (arith, c .if2 .taken, e, l)))
 
 put-book-requires : tie.Need-put-book-requires
 put-book-requires c κs = let d = c .before .before in
     let y = d .before in
     let a = y .before .before .before .before .before .before .before .before .args in
-    let l = length-book (a .counts .now) (rowOf (a .devices .now) (a .tags .now) (a .settings .now)) in
+    let l = length-book (a .devices .now) (a .tags .now) (a .settings .now) (a .counts .now) in
     (y .if1 .left, d .count-commands .ensures, omega (arith, c .before .if2 .left, d .count-commands .ensures, l))
 
 same-length : tie.Need-same-length
@@ -87,11 +89,13 @@ returns-4 c = let z = c .before .before .before .before in
     let d = z .before in
     let y = d .before in
     let a = y .before .before .before .before .before .before .before .before .args in
-    let n = length-routinesOf (a .counts .now) (rowOf (a .devices .now) (a .tags .now) (a .settings .now)) in
-    let l = length-book (a .counts .now) (rowOf (a .devices .now) (a .tags .now) (a .settings .now)) in
+    let rs = routinesLent (a .counts .now) (a .devices .now) (a .tags .now) (a .settings .now) in
+    let n = length-routines (a .devices .now) (a .tags .now) (a .settings .now) 0 (a .counts .now) in
+    let l = length-book (a .devices .now) (a .tags .now) (a .settings .now) (a .counts .now) in
     let e = d .count-commands .ensures in
-    let fits = write-fits (routinesOf (a .counts .now) (rowOf (a .devices .now) (a .tags .now) (a .settings .now))) (length (a .out .now)) (accepted (y .before)) (omega (arith, y .if1 .left, n)) (omega (arith, z .if2 .left, e, l)) in
-    written (routinesOf (a .counts .now) (rowOf (a .devices .now) (a .tags .now) (a .settings .now))) (a .out .now) fits (omega (arith, z .if2 .left, e, l)) _ _ (omega (arith, e, l)) (c .before .before .put-book .ensures)
+    let room : length (bookBytes rs) ≤ length (a .out .now) = omega (arith, z .if2 .left, e, l) in
+    let fits = write-fits rs (length (a .out .now)) (accepted (y .before)) (omega (arith, y .if1 .left, n)) room in
+    written rs (a .out .now) fits room _ _ (omega (arith, e, l)) (c .before .before .put-book .ensures)
 
 pub write-spec : {M : Type 1} → statement M
 write-spec =

@@ -7,7 +7,7 @@ use mathlib.Core.Path.{_≡_, refl, sym, _∙_}
 use lib.ListN.{length, take}
 use lib.Seq.{slice}
 use Rattle.routine.specs.Refusals.{refusalOf}
-use Rattle.routine.specs.Routine.{commandsOf, commandsCheck, routineCheck}
+use Rattle.routine.specs.Routine.{maxCommands, commandsOf, commandsCheck, routineCheck}
 use Rattle.routine.proofs.Laws.{length-commandsOf, length-mapped, check-empty, check-long, check-held, commands-more, commands-refused, commands-end}
 use Rattle.routine.proofs.check.Statement.{statement}
 use Rattle.routine.proofs.check.Tie as tie
@@ -19,7 +19,7 @@ abbrev μ-loop : tie.MeasureT-loop
 μ-loop limit routine count i₀ i = count - i
 
 -- the array's length
-long : (c : tie.Else2 Inv-loop μ-loop) → length (c .before .before .args .t1 .commands) ≡ 8
+long : (c : tie.Else2 Inv-loop μ-loop) → length (c .before .before .args .t1 .commands) ≡ maxCommands
 long c = search (needs, length-mapped)
 
 -- after the two tests of the count

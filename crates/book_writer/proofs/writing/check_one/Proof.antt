@@ -1,14 +1,13 @@
 -- `book_writer::writing::check_one` meets its contract. Assumes nothing.
 use mathlib.Core.Path.{sym, ap, _∙_}
 use native.Mathlib.Omega.{arith}
-use lib.ListN.{take, drop}
 use Rattle.routine.specs.Refusals.{refusalOf}
 use Rattle.routine.specs.Routine.{commandsOf, routineCheck}
 use Rattle.routine.specs.declared.Routine.{Routine}
 use Rattle.routine.proofs.Laws.{check-long, routineOf-commands}
 use Rattle.layout.specs.Layout.{bookDevices}
-use Rattle.layout.specs.Writing.{rowOf}
-use Rattle.book_writer.proofs.Row.{length-part}
+use Rattle.layout.specs.Writing.{commandsLent}
+use Rattle.book_writer.proofs.Row.{length-lent}
 use borrow.Author.Needs.{needs}
 use Rattle.book_writer.proofs.writing.check_one.Statement.{statement}
 use Rattle.book_writer.proofs.writing.check_one.Tie as tie
@@ -16,7 +15,7 @@ use Rattle.book_writer.proofs.writing.check_one.Tie as tie
 returns : tie.Need-returns
 unfolding refusalOf
 returns c = let a = c .before .before .before .args in
-    let n = length-part (rowOf (a .devices .now) (a .tags .now) (a .settings .now)) (a .at) (a .count) (c .before .before .before .pre) in
+    let n = length-lent (a .devices .now) (a .tags .now) (a .settings .now) (a .at) (a .count) in
     sym (check-long _ _ (omega arith))
 
 routine-in-requires : tie.Need-routine-in-requires
@@ -27,8 +26,8 @@ check-requires c κs = search needs
 
 returns-2 : tie.Need-returns-2
 returns-2 c = let a = c .before .before .before .before .before .args in
-    let cs = take (a .count) (drop (a .at) (rowOf (a .devices .now) (a .tags .now) (a .settings .now))) in
-    let n = length-part (rowOf (a .devices .now) (a .tags .now) (a .settings .now)) (a .at) (a .count) (c .before .before .before .before .before .pre) in
+    let cs = commandsLent (a .devices .now) (a .tags .now) (a .settings .now) (a .at) (a .count) in
+    let n = length-lent (a .devices .now) (a .tags .now) (a .settings .now) (a .at) (a .count) in
     c .check .ensures
     ∙ ap (λ (r : Routine). routineCheck bookDevices (commandsOf r)) (c .before .routine-in .ensures)
     ∙ ap (routineCheck bookDevices) (routineOf-commands cs (omega arith))

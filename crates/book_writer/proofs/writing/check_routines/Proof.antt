@@ -1,45 +1,36 @@
--- `book_writer::writing::check_routines` meets its contract. The loop's invariant: the check of the routines from the i-th on, which take the row's
--- commands from `at` on, is the check of all of them. Assumes nothing.
+-- `book_writer::writing::check_routines` meets its contract. The loop's invariant: the check of the routines from the i-th on, which begin at `at` in the
+-- row, is the check of all of them. Assumes nothing.
 use borrow.Author.Needs.{needs}
-use Prim.Native.Nat.{_-_, _≤_, min}
+use borrow.Author.Needs.{needs}
+use Prim.Native.Nat.{_+_, _-_, _≤_}
 use mathlib.Core.Path.{_≡_, refl, sym, ap, _∙_}
 use native.Mathlib.Omega.{arith}
 use lib.ListN.{length, drop, getD}
-use Rattle.layout.specs.Writing.{rowOf, routinesOf}
-use Rattle.layout.specs.Writing.{routinesCheck}
-use Rattle.book_writer.proofs.Row.{routines-more, routines-end, check-none, check-more, check-stops}
+use Rattle.routine.specs.Routine.{routineCheck}
+use Rattle.routine.specs.declared.Verdict.the-variants.{Accepted}
+use Rattle.layout.specs.Layout.{bookDevices}
+use Rattle.layout.specs.Writing.{commandsLent, routinesFrom, routinesLent, routinesCheck}
+use Rattle.book_writer.proofs.Row.{routine-there, routines-more, routines-end, check-none, check-more, check-stops}
 use Rattle.book_writer.proofs.writing.check_routines.Statement.{statement}
 use Rattle.book_writer.proofs.writing.check_routines.Tie as tie
 
 abbrev Inv-loop : tie.InvT-loop
-Inv-loop counts devices tags settings row at₀ i₀ at i = (at ≤ row) × (routinesCheck (routinesOf (drop i counts) (drop at (rowOf devices tags settings))) ≡ routinesCheck (routinesOf counts (rowOf devices tags settings)))
+Inv-loop counts devices tags settings at₀ i₀ at i = (at ≤ length devices) × (routinesCheck (routinesFrom devices tags settings at (drop i counts)) ≡ routinesCheck (routinesLent counts devices tags settings))
 
 abbrev μ-loop : tie.MeasureT-loop
-μ-loop counts devices tags settings row at₀ i₀ at i = length counts - i
-
--- the commands that the next routine takes
-takes : (c : tie.After-taken Inv-loop μ-loop) →
-    let l = c .before .before in
-    let a = l .before .before .before .before .before .args in
-    c .taken .result ≡ min (getD (a .counts .now) (l .loop .i) 0) (length (rowOf (a .devices .now) (a .tags .now) (a .settings .now)) - l .loop .at)
-takes c =
-    let l = c .before .before in
-    omega (arith, c .taken .ensures .0, l .before .row-length .ensures)
-
-row-length-requires : tie.Need-row-length-requires Inv-loop μ-loop
-row-length-requires c κs = search needs
+μ-loop counts devices tags settings at₀ i₀ at i = length counts - i
 
 loop-holds : tie.Need-loop-holds Inv-loop μ-loop
 loop-holds c = (search needs, refl)
 
-sub-taken : tie.Need-sub-taken Inv-loop μ-loop
-sub-taken c = search needs
+shared-slice-read-count : tie.Need-shared-slice-read-count Inv-loop μ-loop
+shared-slice-read-count c = search needs
 
-taken-requires : tie.Need-taken-requires Inv-loop μ-loop
-taken-requires c κs = search needs
+cast-count : tie.Need-cast-count Inv-loop μ-loop
+cast-count c = omega (arith, c .shared-slice-known4 .given (c .before .before .loop .i))
 
 check-one-requires : tie.Need-check-one-requires Inv-loop μ-loop
-check-one-requires c κs = let e = takes c in omega (arith, c .before .before .before .row-length .ensures)
+check-one-requires c κs = search needs
 
 enum-told : tie.Need-enum-told Inv-loop μ-loop
 enum-told c = search needs
@@ -48,16 +39,31 @@ enum-told-2 : tie.Need-enum-told-2 Inv-loop μ-loop
 enum-told-2 c = search needs
 
 returns : tie.Need-returns Inv-loop μ-loop
-returns c = let x = c .before .before .before in
-    let l = x .before .before in
-    let a = l .before .before .before .before .before .args in
+returns c = let l = c .before .before .before .before .before in
+    let a = l .before .before .before .before .args in
     c .enum-told2 .given .1
     ∙ sym (check-stops _ _ _ (sym (c .before .before .check-one .ensures) ∙ c .enum-told2 .given .1))
-    ∙ ap routinesCheck (sym (routines-more (a .counts .now) (rowOf (a .devices .now) (a .tags .now) (a .settings .now)) (l .loop .i) (l .loop .at) _ (x .before .loop-test .taken) (takes x)))
+    ∙ ap routinesCheck (sym (routines-more (a .devices .now) (a .tags .now) (a .settings .now) (a .counts .now) (l .loop .i) (l .loop .at) (c .before .before .before .before .loop-test .taken)))
     ∙ l .loop .inv .1
 
+-- the routine passes, so that all its commands are there
+accepted : (c : tie.After-enum-told Inv-loop μ-loop) →
+    let l = c .before .before .before .before .before in
+    let a = l .before .before .before .before .args in
+    routineCheck bookDevices (commandsLent (a .devices .now) (a .tags .now) (a .settings .now) (l .loop .at) (getD (a .counts .now) (l .loop .i) 0)) ≡ Accepted
+accepted c = sym (c .before .before .check-one .ensures) ∙ c .enum-told .given .1
+
+there : (c : tie.After-enum-told Inv-loop μ-loop) →
+    let l = c .before .before .before .before .before in
+    let a = l .before .before .before .before .args in
+    l .loop .at + getD (a .counts .now) (l .loop .i) 0 ≤ length (a .devices .now)
+there c =
+    let l = c .before .before .before .before .before in
+    let a = l .before .before .before .before .args in
+    routine-there (a .devices .now) (a .tags .now) (a .settings .now) (l .loop .at) _ (l .loop .inv .0) (accepted c)
+
 add-at : tie.Need-add-at Inv-loop μ-loop
-add-at c = let e = takes (c .before .before .before) in search needs
+add-at c = let h = there c in search needs
 
 add-i : tie.Need-add-i Inv-loop μ-loop
 add-i c = search needs
@@ -66,22 +72,18 @@ loop-less : tie.Need-loop-less Inv-loop μ-loop
 loop-less c = search needs
 
 loop-again : tie.Need-loop-again Inv-loop μ-loop
-loop-again c = let x = c .before .before .before in
-    let l = x .before .before in
-    let a = l .before .before .before .before .before .args in
-    let e = takes x in (
-      omega (arith, e, l .before .row-length .ensures),
-      sym (check-more _ _ (sym (c .before .before .check-one .ensures) ∙ c .enum-told .given .1))
-          ∙ ap routinesCheck (sym (routines-more (a .counts .now) (rowOf (a .devices .now) (a .tags .now) (a .settings .now)) (l .loop .i) (l .loop .at) _ (x .before .loop-test .taken) e))
+loop-again c = let l = c .before .before .before .before .before in
+    let a = l .before .before .before .before .args in (
+      there c,
+      sym (check-more _ _ (accepted c))
+          ∙ ap routinesCheck (sym (routines-more (a .devices .now) (a .tags .now) (a .settings .now) (a .counts .now) (l .loop .i) (l .loop .at) (c .before .before .before .before .loop-test .taken)))
           ∙ l .loop .inv .1,
     )
 
 returns-2 : tie.Need-returns-2 Inv-loop μ-loop
 returns-2 c = let l = c .before in
-    let a = l .before .before .before .before .before .args in
-    sym check-none
-    ∙ ap routinesCheck (sym (routines-end (a .counts .now) (rowOf (a .devices .now) (a .tags .now) (a .settings .now)) (l .loop .i) (l .loop .at) (c .loop-test .left)))
-    ∙ l .loop .inv .1
+    let a = l .before .before .before .before .args in
+    sym check-none ∙ ap routinesCheck (sym (routines-end (a .devices .now) (a .tags .now) (a .settings .now) (a .counts .now) (l .loop .i) (l .loop .at) (c .loop-test .left))) ∙ l .loop .inv .1
 
 pub check-routines-spec : {M : Type 1} → statement M
 check-routines-spec =
@@ -89,10 +91,9 @@ check-routines-spec =
     (tie.spec
     Inv-loop
     μ-loop
-    row-length-requires
     loop-holds
-    sub-taken
-    taken-requires
+    shared-slice-read-count
+    cast-count
     check-one-requires
     enum-told
     enum-told-2

@@ -1,45 +1,33 @@
 -- `book_writer::writing::count_commands` meets its contract. The loop's invariant: the commands counted and those of the routines from the i-th on are
 -- all. Assumes nothing.
 use borrow.Author.Needs.{needs}
-use Prim.Native.Nat.{_+_, _-_, _≤_, min}
-use mathlib.Core.Path.{_≡_, ap}
+use borrow.Author.Needs.{needs}
+use Prim.Native.Nat.{_+_, _*_, _-_, _≤_}
+use mathlib.Core.Path.{_≡_}
 use native.Mathlib.Omega.{arith}
-use lib.ListN.{length, drop, getD}
-use Rattle.layout.specs.Writing.{rowOf, routinesOf}
-use Rattle.book_writer.specs.Count.{commandsIn}
-use Rattle.book_writer.proofs.Row.{routines-more, routines-end, length-part}
+use lib.ListN.{length, drop}
+use Rattle.book_writer.specs.Count.{commandsCounted}
+use Rattle.book_writer.proofs.Row.{counted-more, counted-end}
 use Rattle.book_writer.proofs.writing.count_commands.Statement.{statement}
 use Rattle.book_writer.proofs.writing.count_commands.Tie as tie
 
 abbrev Inv-loop : tie.InvT-loop
-Inv-loop counts devices tags settings row at₀ i₀ at i = (at ≤ row) × (at + commandsIn (routinesOf (drop i counts) (drop at (rowOf devices tags settings))) ≡ commandsIn (routinesOf counts (rowOf devices tags settings)))
+Inv-loop counts total₀ i₀ total i = (total ≤ 255 * i) × (total + commandsCounted (drop i counts) ≡ commandsCounted counts)
 
 abbrev μ-loop : tie.MeasureT-loop
-μ-loop counts devices tags settings row at₀ i₀ at i = length counts - i
-
--- the commands that the next routine takes
-takes : (c : tie.After-taken Inv-loop μ-loop) →
-    let l = c .before .before in
-    let a = l .before .before .before .before .before .args in
-    c .taken .result ≡ min (getD (a .counts .now) (l .loop .i) 0) (length (rowOf (a .devices .now) (a .tags .now) (a .settings .now)) - l .loop .at)
-takes c =
-    let l = c .before .before in
-    omega (arith, c .taken .ensures .0, l .before .row-length .ensures)
-
-row-length-requires : tie.Need-row-length-requires Inv-loop μ-loop
-row-length-requires c κs = search needs
+μ-loop counts total₀ i₀ total i = length counts - i
 
 loop-holds : tie.Need-loop-holds Inv-loop μ-loop
 loop-holds c = (search needs, omega arith)
 
-sub-taken : tie.Need-sub-taken Inv-loop μ-loop
-sub-taken c = search needs
+shared-slice-read-total : tie.Need-shared-slice-read-total Inv-loop μ-loop
+shared-slice-read-total c = search needs
 
-taken-requires : tie.Need-taken-requires Inv-loop μ-loop
-taken-requires c κs = search needs
+cast-total : tie.Need-cast-total Inv-loop μ-loop
+cast-total c = omega (arith, c .shared-slice-known .given (c .before .before .loop .i))
 
-add-at : tie.Need-add-at Inv-loop μ-loop
-add-at c = let e = takes c in search needs
+add-total : tie.Need-add-total Inv-loop μ-loop
+add-total c = omega (arith, c .shared-slice-known .given (c .before .before .loop .i))
 
 add-i : tie.Need-add-i Inv-loop μ-loop
 add-i c = search needs
@@ -49,19 +37,16 @@ loop-less c = search needs
 
 loop-again : tie.Need-loop-again Inv-loop μ-loop
 loop-again c = let l = c .before .before in
-    let a = l .before .before .before .before .before .args in
-    let e = takes c in
-    let r = l .before .row-length .ensures in
-    let m = ap commandsIn (routines-more (a .counts .now) (rowOf (a .devices .now) (a .tags .now) (a .settings .now)) (l .loop .i) (l .loop .at) _ (c .before .loop-test .taken) e) in
-    let p = length-part (rowOf (a .devices .now) (a .tags .now) (a .settings .now)) (l .loop .at) (c .taken .result) (omega arith) in
+    let a = l .before .args in
+    let k = c .shared-slice-known .given (l .loop .i) .fits in
+    let m = counted-more (a .counts .now) (l .loop .i) (c .before .loop-test .taken) in
     let i = l .loop .inv .1 in
-    (omega (arith, e, r), omega (arith, m, p, i))
+    (omega arith, omega arith)
 
 returns : tie.Need-returns Inv-loop μ-loop
-returns c = let l = c .before in
-    let a = l .before .before .before .before .before .args in
-    let m = ap commandsIn (routines-end (a .counts .now) (rowOf (a .devices .now) (a .tags .now) (a .settings .now)) (l .loop .i) (l .loop .at) (c .loop-test .left)) in
-    omega (arith, m, l .loop .inv .1)
+returns c = let m = counted-end (c .before .before .args .counts .now) (c .before .loop .i) (c .loop-test .left) in
+    let i = c .before .loop .inv .1 in
+    omega arith
 
 pub count-commands-spec : {M : Type 1} → statement M
 count-commands-spec =
@@ -69,11 +54,10 @@ count-commands-spec =
     (tie.spec
     Inv-loop
     μ-loop
-    row-length-requires
     loop-holds
-    sub-taken
-    taken-requires
-    add-at
+    shared-slice-read-total
+    cast-total
+    add-total
     add-i
     loop-less
     loop-again

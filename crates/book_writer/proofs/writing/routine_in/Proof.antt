@@ -1,21 +1,21 @@
 -- `book_writer::writing::routine_in` meets its contract. The loop's invariant: the routine holds the first i of its commands. Assumes nothing.
 use borrow.Author.Needs.{needs}
+use borrow.Author.Needs.{needs}
 use Prim.Native.Nat.{ℕ, _-_, _≤_}
 use mathlib.Core.Path.{_≡_, sym, ap, _∙_}
 use mathlib.Core.List.{[], _∷_, _++_}
 use native.Mathlib.Omega.{arith}
-use lib.ListN.{take, drop}
 use Rattle.routine.specs.declared.Command.{Command}
 use Rattle.routine.specs.declared.Routine.{Routine}
-use Rattle.layout.specs.Writing.{rowOf}
 use Rattle.routine.specs.Routine.{routineOf, withCommand}
-use Rattle.routine.proofs.Laws.{routineOf-count, with-more}
-use Rattle.book_writer.proofs.Row.{row-length, length-part, part-more}
+use Rattle.routine.proofs.Laws.{with-more}
+use Rattle.layout.specs.Writing.{commandsLent}
+use Rattle.book_writer.proofs.Row.{length-lent, lent-more}
 use Rattle.book_writer.proofs.writing.routine_in.Statement.{statement}
 use Rattle.book_writer.proofs.writing.routine_in.Tie as tie
 
 abbrev Inv-loop : tie.InvT-loop
-Inv-loop devices tags settings at count routine₀ i₀ routine i = (i ≤ count) × (routine ≡ routineOf (take i (drop at (rowOf devices tags settings))))
+Inv-loop devices tags settings at count routine₀ i₀ routine i = (i ≤ count) × (routine ≡ routineOf (commandsLent devices tags settings at i))
 
 abbrev μ-loop : tie.MeasureT-loop
 μ-loop devices tags settings at count routine₀ i₀ routine i = count - i
@@ -27,21 +27,13 @@ loop-holds : tie.Need-loop-holds Inv-loop μ-loop
 loop-holds c = (search needs, c .empty .ensures)
 
 add-command-in : tie.Need-add-command-in Inv-loop μ-loop
-add-command-in c = let l = c .before in
-    let a = l .before .before .before .before .args in
-    let p = l .before .before .before .before .pre in
-    omega (arith, row-length (a .devices .now) (a .tags .now) (a .settings .now))
+add-command-in c = search needs
 
 command-in-requires : tie.Need-command-in-requires Inv-loop μ-loop
 command-in-requires c κs = search needs
 
 with-command-requires : tie.Need-with-command-requires Inv-loop μ-loop
-with-command-requires c κs = let l = c .before .before in
-    let a = l .before .before .before .before .args in
-    let p = l .before .before .before .before .pre in
-    let e : l .loop .routine .count ≡ l .loop .i =
-    ap (λ (r : Routine). r .count) (l .loop .inv .1) ∙ routineOf-count _ ∙ length-part (rowOf (a .devices .now) (a .tags .now) (a .settings .now)) (a .at) (l .loop .i) (omega arith) in
-    omega arith
+with-command-requires c κs = search needs
 
 add-i : tie.Need-add-i Inv-loop μ-loop
 add-i c = search needs
@@ -52,20 +44,20 @@ loop-less c = search needs
 loop-again : tie.Need-loop-again Inv-loop μ-loop
 loop-again c = let l = c .before .before .before in
     let a = l .before .before .before .before .args in
-    let p = l .before .before .before .before .pre in
-    let n = length-part (rowOf (a .devices .now) (a .tags .now) (a .settings .now)) (a .at) (l .loop .i) (omega arith) in (
+    let n = length-lent (a .devices .now) (a .tags .now) (a .settings .now) (a .at) (l .loop .i) in
+    let few = l .before .before .before .before .pre .0 in (
       search needs,
       c .with-command .ensures
           ∙ ap (λ (r : Routine). withCommand r (c .before .command-in .result)) (l .loop .inv .1)
           ∙ with-more _ _ (omega arith)
-          ∙ ap (λ (x : Command). routineOf (take (l .loop .i) (drop (a .at) (rowOf (a .devices .now) (a .tags .now) (a .settings .now))) ++ (x ∷ []))) (c .before .command-in .ensures)
-          ∙ ap routineOf (sym (part-more (rowOf (a .devices .now) (a .tags .now) (a .settings .now)) (a .at) (l .loop .i) (omega arith))),
+          ∙ ap (λ (x : Command). routineOf (commandsLent (a .devices .now) (a .tags .now) (a .settings .now) (a .at) (l .loop .i) ++ (x ∷ []))) (c .before .command-in .ensures)
+          ∙ ap routineOf (sym (lent-more (a .devices .now) (a .tags .now) (a .settings .now) (a .at) (l .loop .i))),
     )
 
 returns : tie.Need-returns Inv-loop μ-loop
 returns c = let a = c .before .before .before .before .before .args in
     let n : c .before .loop .i ≡ a .count = omega arith in
-    c .before .loop .inv .1 ∙ ap (λ (k : ℕ). routineOf (take k (drop (a .at) (rowOf (a .devices .now) (a .tags .now) (a .settings .now))))) n
+    c .before .loop .inv .1 ∙ ap (λ (k : ℕ). routineOf (commandsLent (a .devices .now) (a .tags .now) (a .settings .now) (a .at) k)) n
 
 pub routine-in-spec : {M : Type 1} → statement M
 routine-in-spec =

@@ -3,7 +3,6 @@ use Prim.Native.Nat.{_+_, _<_}
 use borrow.Author.Needs.{needs}
 use Prim.Native.Nat.{_≤_, _-_}
 use mathlib.Core.Path.{_≡_, refl}
-use native.Mathlib.Omega.{arith}
 use lib.ListN.{length, take, drop}
 use Rattle.line_parts.proofs.Laws.{one-moved, others-still, all-moved}
 use Rattle.line_parts.proofs.pieces.keep.Statement.{statement}
