@@ -64,11 +64,12 @@ def comment_behind(line):
 
 def code(line):
     indent = len(line) - len(line.lstrip())
-    use = re.match(r"((?:ghost )?use [^{]*\.\{)([^}]*)\}(;?)$", line)
-    if use:
-        names = [n.strip() for n in use.group(2).split(",") if n.strip()]
-        lines = textwrap.wrap(", ".join(names), WIDTH - 2, break_long_words=False, break_on_hyphens=False)
-        return [use.group(1)] + ["  " + n for n in lines] + ["}" + use.group(3)]
+    use = re.match(r"((?:ghost )?use [^{]*\.\{)([^}]*)(\};?)$", line)
+    if use:  # as many lines as the names need, each a `use` of its own: `rt fmt` would give each name a line
+        head, names, tail = use.groups()
+        names = ", ".join(n.strip() for n in names.split(",") if n.strip())
+        rows = textwrap.wrap(names, WIDTH - len(head) - len(tail), break_long_words=False, break_on_hyphens=False)
+        return [head + row.rstrip(",") + tail for row in rows]
     at = comment_behind(line)
     if at is not None:
         return fill(line[at:].strip()[3:], " " * indent + line[at:].strip()[:3], " " * indent + line[at:].strip()[:3]) + wrapped(line[:at])

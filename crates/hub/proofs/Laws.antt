@@ -28,7 +28,8 @@ use Rattle.hub.specs.declared.Hub.{Hub}
 use Rattle.hub.specs.declared.Outcome.{Outcome}
 
 -- an outcome with the answers of its step answers the same
-same-answers : (step : StepOutcome) (o : Outcome) → o .first ≡ step .first → o .answer ≡ step .answer → o .backs ≡ step .backs → answersIn o ≡ stepAnswers step
+same-answers : (step : StepOutcome) (o : Outcome) → o .first ≡ step .first → o .answer ≡ step .answer → o .backs ≡ step .backs →
+    answersIn o ≡ stepAnswers step
 same-answers step o e f g = λ i. answersOf (e i) (f i) (g i)
 
 -- an outcome with this state and the answers of its step
@@ -36,7 +37,8 @@ abbrev pub Wraps : HubState → StepOutcome → Outcome → Type 0
 Wraps s step o = (o .hub .state ≡ s) × (o .first ≡ step .first) × (o .answer ≡ step .answer) × (o .backs ≡ step .backs)
 
 -- it is the outcome of the settled step, if this state is its state
-wraps-settled : (s : HubState) (step : StepOutcome) (o : Outcome) → Wraps s step o → StateOk s → record { state = stateOf s; answers = stepAnswers step } ≡ afterSettling step →
+wraps-settled : (s : HubState) (step : StepOutcome) (o : Outcome) → Wraps s step o → StateOk s →
+    record { state = stateOf s; answers = stepAnswers step } ≡ afterSettling step →
     (changesNothing (step .answer) ≡ true → s ≡ step .state) → SettledStep step o
 wraps-settled s step o w v e k = record {
   valid = subst StateOk (sym (w .0)) v;
@@ -72,7 +74,8 @@ pub none-after : (step : StepOutcome) (a : Answer) → step .answer ≡ a → ch
 none-after step a e f = ap (λ (t : Bool). if t then false else firstCommitted (membersOf (step .state .sequence))) (ap changesNothing e ∙ f)
 
 -- after a change, it is the first in the sequence that decides
-first-decides : (step : StepOutcome) → changesNothing (step .answer) ≡ false → settlesAfter step ≡ firstCommitted (membersOf (step .state .sequence))
+first-decides : (step : StepOutcome) → changesNothing (step .answer) ≡ false →
+    settlesAfter step ≡ firstCommitted (membersOf (step .state .sequence))
 first-decides step e = ap (λ (t : Bool). if t then false else firstCommitted (membersOf (step .state .sequence))) e
 
 pub due-after : (step : StepOutcome) → OneOf notRefused (tagOf the-type (step .answer)) → OneOf notWait (tagOf the-type (step .answer)) →
@@ -85,25 +88,30 @@ changed true u e = t≠f (sym e)
 changed false u e = refl
 
 -- a step after which the hub settles has settled
-pub step-settles : (s : HubState) (step : StepOutcome) (o : Outcome) → settlesAfter step ≡ true → StateOk s → stateOf s ≡ settle (stateOf (step .state)) →
+pub step-settles : (s : HubState) (step : StepOutcome) (o : Outcome) → settlesAfter step ≡ true → StateOk s →
+    stateOf s ≡ settle (stateOf (step .state)) →
     Wraps s step o → SettledStep step o
 step-settles s step o d v e w =
-    let f : changesNothing (step .answer) ≡ false = changed (changesNothing (step .answer)) (firstCommitted (membersOf (step .state .sequence))) d in
+    let f : changesNothing (step .answer) ≡ false =
+    changed (changesNothing (step .answer)) (firstCommitted (membersOf (step .state .sequence))) d in
     wraps-settled s step o w v
-    ((λ i. record { state = e i; answers = stepAnswers step }) ∙ sym (ap (λ (t : Bool). if t then stepResult step else settling (stepResult step)) f))
+    ((λ i. record { state = e i; answers = stepAnswers step })
+    ∙ sym (ap (λ (t : Bool). if t then stepResult step else settling (stepResult step)) f))
     (λ t. t≠f (sym t ∙ f))
 
 -- where the first is running, settling changes nothing
 settle-from-none : (s : State) (l : List Member) → s .sequence ≡ l → firstCommitted l ≡ false → settleFrom s l ≡ s
 settle-from-none s [] p e = ap (withSequence s) (sym p)
-settle-from-none s (m ∷ l) p e = ap (λ (t : Bool). if t then settleFrom (joinSettled s m) l else withSequence s (m ∷ l)) e ∙ ap (withSequence s) (sym p)
+settle-from-none s (m ∷ l) p e = ap (λ (t : Bool). if t then settleFrom (joinSettled s m) l else withSequence s (m ∷ l)) e
+    ∙ ap (withSequence s) (sym p)
 
 settle-none : (h : HubState) → firstCommitted (membersOf (h .sequence)) ≡ false → settle (stateOf h) ≡ stateOf h
 unfolding settle stateOf
 settle-none h e = settle-from-none (stateOf h) (membersOf (h .sequence)) refl e
 
 -- any other step has settled as it stands
-pub step-stands : (step : StepOutcome) (o : Outcome) → StateOk (step .state) → settlesAfter step ≡ false → Wraps (step .state) step o → SettledStep step o
+pub step-stands : (step : StepOutcome) (o : Outcome) → StateOk (step .state) → settlesAfter step ≡ false → Wraps (step .state) step o →
+    SettledStep step o
 step-stands step o v d w =
     wraps-settled (step .state) step o w v
     (byIf (λ r. stepResult step ≡ r) (changesNothing (step .answer)) (λ _. refl)
@@ -111,12 +119,14 @@ step-stands step o v d w =
     (λ t. refl)
 
 -- a step that has settled gives what the call's contract says
-pub settled-gives : (h : Hub) (step : StepOutcome) (o : Outcome) (result : Result) → StepGives (h .state) step result → SettledStep step o → Gives h o result
+pub settled-gives : (h : Hub) (step : StepOutcome) (o : Outcome) (result : Result) → StepGives (h .state) step result → SettledStep step o →
+    Gives h o result
 settled-gives h step o result g s = record {
   valid = s .valid;
   gives = s .gives ∙ g .gives;
   backs-fit = subst BacksOk (sym (s .same-backs)) (g .backs-fit);
-  backs-told = ap backsOf (s .same-backs) ∙ g .backs-told ∙ sym (ap backsIn (same-answers step o (s .same-first) (s .same-answer) (s .same-backs)));
+  backs-told = ap backsOf (s .same-backs) ∙ g .backs-told
+      ∙ sym (ap backsIn (same-answers step o (s .same-first) (s .same-answer) (s .same-backs)));
   same-hub = λ e.
       let k : changesNothing (step .answer) ≡ true = sym (ap changesNothing (s .same-answer)) ∙ e in
       λ i. record { state = (s .same-state k ∙ g .same-state k) i };

@@ -55,7 +55,8 @@ module _ (n k first : ℕ) where
 
   pub open-fine : 0 < n → n ≤ maxDevices → k ≤ highestPassLimit → 0 < first → openCheck n k first ≡ Accepted
   unfolding openCheck
-  open-fine h m p f = simp (ne-eqb n 0 (λ e. omega arith), le-ltb maxDevices n m, le-ltb highestPassLimit k p, ne-eqb first 0 (λ e. omega arith))
+  open-fine h m p f =
+      simp (ne-eqb n 0 (λ e. omega arith), le-ltb maxDevices n m, le-ltb highestPassLimit k p, ne-eqb first 0 (λ e. omega arith))
 
   -- an accepted opening has these in range
   pub open-fits : openCheck n k first ≡ Accepted → (n ≤ maxDevices) × (0 < first)
@@ -98,7 +99,8 @@ module _ (n k first : ℕ) where
   }
 
   -- what is answered
-  pub opens : (o : Opened) → o .verdict ≡ openCheck n k first → o .verdict ≡ Accepted → Valid (o .hub) → view (o .hub) ≡ newHub n k first → Opens n k first o
+  pub opens : (o : Opened) → o .verdict ≡ openCheck n k first → o .verdict ≡ Accepted → Valid (o .hub) → view (o .hub) ≡ newHub n k first →
+      Opens n k first o
   unfolding openOf
   opens o c e v w = record {
     valid = v;

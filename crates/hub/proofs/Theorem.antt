@@ -17,7 +17,9 @@ use Rattle.rules.proofs.Theorem.{demand-3, hub-order}
 use Rattle.hub.specs.View.{view, resultIn}
 use Rattle.hub.specs.Valid.{Valid}
 use Rattle.hub.specs.Contract.{Opens, Gives}
-use Rattle.hub.specs.Demand3.{HubCall, submits, turns, reports, fails, restarts, cancels, callOf, Meets, HubAct, called, device-takes, Chain, hubAfter, worldThenAll, PremiseThenAll, newWorldOf, HubDemand3, HubStatement, ReadersStatement}
+use Rattle.hub.specs.Demand3.{HubCall, submits, turns, reports, fails, restarts, cancels, callOf, Meets, HubAct, called}
+use Rattle.hub.specs.Demand3.{device-takes, Chain, hubAfter, worldThenAll, PremiseThenAll, newWorldOf, HubDemand3, HubStatement}
+use Rattle.hub.specs.Demand3.{ReadersStatement}
 use Rattle.hub.specs.declared.Hub.{Hub}
 use Rattle.hub.specs.declared.Opened.{Opened}
 use Rattle.hub.specs.declared.Outcome.{Outcome}
@@ -40,14 +42,16 @@ met-in : (w : World) (h : Hub) → w .state ≡ view h → (c : HubCall) (o : Ou
 met-in w h e c o m = met h c o m .gives ∙ ap (λ s. resultOf s (callOf c)) (sym e)
 
 -- so the outcomes make the same world as the rules
-worlds : (w : World) (h : Hub) (acts : List HubAct) → w .state ≡ view h → Chain h acts → worldThenAll w acts ≡ worldAfterAll w (map actOf acts)
+worlds : (w : World) (h : Hub) (acts : List HubAct) → w .state ≡ view h → Chain h acts →
+    worldThenAll w acts ≡ worldAfterAll w (map actOf acts)
 worlds w h [] e ch = refl
 worlds w h (called c o v ∷ l) e ch =
     worlds (afterCall w (callOf c) v (resultIn o)) (o .hub) l refl (ch .1)
     ∙ ap (λ (r : Result). worldAfterAll (afterCall w (callOf c) v r) (map actOf l)) (met-in w h e c o (ch .0))
 worlds w h (device-takes d k ∷ l) e ch = worlds (worldAfter w (takes-one d k)) h l e ch
 
-premises : (w : World) (h : Hub) (acts : List HubAct) → w .state ≡ view h → Chain h acts → PremiseThenAll w acts → PremiseAll w (map actOf acts)
+premises : (w : World) (h : Hub) (acts : List HubAct) → w .state ≡ view h → Chain h acts → PremiseThenAll w acts →
+    PremiseAll w (map actOf acts)
 premises w h [] e ch p = tt
 premises w h (called c o v ∷ l) e ch p =
     let q = met-in w h e c o (ch .0) in (
@@ -68,7 +72,8 @@ carried : (h : Hub) (acts : List HubAct) → Chain h acts → Demand3 (view h) (
 carried h acts ch d = record {
   end-state = λ p. subst (EndState (view h .devices)) (sym whole) (d .end-state (premises w h acts refl ch p));
   settled-part = λ before rest e.
-      subst (λ (v : World). Begins (orderIn v .settled) (entries (orderIn (worldThenAll w acts)))) (sym (worlds w h before refl (chain-left h before rest (subst (Chain h) e ch))))
+      subst (λ (v : World). Begins (orderIn v .settled) (entries (orderIn (worldThenAll w acts))))
+      (sym (worlds w h before refl (chain-left h before rest (subst (Chain h) e ch))))
       (subst (λ (v : World). Begins (orderIn (worldAfterAll w (map actOf before)) .settled) (entries (orderIn v))) (sym whole)
       (d .settled-part (map actOf before) (map actOf rest) (ap (map actOf) e ∙ map-append actOf before rest)));
   commands-stand = subst (λ (v : World). CommandsStand (accounts v) (entries (orderIn v)) allUp) (sym whole) (d .commands-stand);
@@ -105,5 +110,6 @@ hub-demand-3 n k first o op accepted acts ch =
 pub hub-readers : ReadersStatement
 hub-readers n k first o op accepted acts ch d =
     let h = o .hub in
-    let i = subst IsHubs (sym (worlds (newWorldOf h) h acts refl ch)) (hub-order n k first (view h) (opens-as n k first o op accepted) (map actOf acts)) in
+    let i = subst IsHubs (sym (worlds (newWorldOf h) h acts refl ch))
+    (hub-order n k first (view h) (opens-as n k first o op accepted) (map actOf acts)) in
     i .devices-are d ∙ ap (λ (s : State). record { up = s .up d; setting = due s d }) (state-then (newWorldOf h) h acts refl)

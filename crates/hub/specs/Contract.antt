@@ -34,8 +34,8 @@ pub record Opens (n k first : ℕ) (o : Opened) : Type 0 where
   pub gives : openIf (o .verdict) (view (o .hub)) ≡ openOf n k first
   pub no-hub : (r : Refusal) → o .verdict ≡ Refused r → (view (o .hub) ≡ closedHub) × TurnsAllDown (view (o .hub))
 
--- A call on the hub h gives what the rules give: the answers and, as the rules see it, the next hub, which is valid again. Its list of put-backs fits its
--- array and is that of the answers. Where nothing changes, it is the same hub, whole.
+-- A call on the hub h gives what the rules give: the answers and, as the rules see it, the next hub, which is valid again. Its list of
+-- put-backs fits its array and is that of the answers. Where nothing changes, it is the same hub, whole.
 pub record Gives (h : Hub) (o : Outcome) (result : Result) : Type 0 where
   pub valid : Valid (o .hub)
   pub gives : resultIn o ≡ result
@@ -61,8 +61,8 @@ Failed h device o = Gives h o (failureOf (view h) device)
 abbrev pub Restarted : Hub → ℕ → ℤ → Outcome → Type 0
 Restarted h device setting o = Gives h o (restartOf (view h) device setting)
 
--- Does a routine settle after this step? Document 01, "Settling": "After each call, while the first in the sequence is committed"; but a refusal and a wait
--- change nothing.
+-- Does a routine settle after this step? Document 01, "Settling": "After each call, while the first in the sequence is committed"; but a
+-- refusal and a wait change nothing.
 abbrev pub settlesAfter : StepOutcome → Bool
 settlesAfter step = if changesNothing (step .answer) then false else firstCommitted (membersOf (step .state .sequence))
 

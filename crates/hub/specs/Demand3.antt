@@ -1,5 +1,5 @@
--- Demand 3 of this hub: for every chain of hubs that starts at an accepted `open` and goes from each hub to the next by the contract of a public call,
--- with the answers that the contracts give. The proof is `hub-demand-3` of `proofs/Theorem.antt`. Assumes nothing.
+-- Demand 3 of this hub: for every chain of hubs that starts at an accepted `open` and goes from each hub to the next by the contract of a
+-- public call, with the answers that the contracts give. The proof is `hub-demand-3` of `proofs/Theorem.antt`. Assumes nothing.
 use mathlib.Core.Path.{_≡_}
 use mathlib.Core.List.{List, [], _∷_, _++_}
 use Prim.Native.Nat.{ℕ}
@@ -46,8 +46,8 @@ Meets h (fails d) o = Failed h d o
 Meets h (restarts d v) o = Restarted h d v o
 Meets h (cancels i) o = Cancelled h i o
 
--- What happens: a call with its outcome; should it be an accepted failure, it leaves its device at the setting given here. Or a device takes one of what was
--- sent to it, passing over some.
+-- What happens: a call with its outcome; should it be an accepted failure, it leaves its device at the setting given here. Or a device
+-- takes one of what was sent to it, passing over some.
 pub data HubAct : Type 0 where
   called : HubCall → Outcome → ℤ → HubAct
   device-takes : ℕ → ℕ → HubAct  -- device, how many it passes over
@@ -96,7 +96,8 @@ pub record HubDemand3 (h : Hub) (acts : List HubAct) : Type 0 where
       let w = worldThenAll (newWorldOf h) acts in
       CommandsStand (accounts w) (entries (orderIn w)) allUp
 
--- What the readers tell of each device, whether it is up and its due setting, is what the serial run in the hub's order gives, running routines included.
+-- What the readers tell of each device, whether it is up and its due setting, is what the serial run in the hub's order gives, running
+-- routines included.
 abbrev pub ReadersTell : Hub → List HubAct → Type 0
 ReadersTell h acts =
     let s = view (hubAfter h acts) in
@@ -104,8 +105,10 @@ ReadersTell h acts =
 
 -- Demand 3, for every accepted opening and every chain.
 abbrev pub HubStatement : Type 0
-HubStatement = (n k first : ℕ) (o : Opened) → Opens n k first o → o .verdict ≡ Accepted → (acts : List HubAct) → Chain (o .hub) acts → HubDemand3 (o .hub) acts
+HubStatement = (n k first : ℕ) (o : Opened) → Opens n k first o → o .verdict ≡ Accepted → (acts : List HubAct) → Chain (o .hub) acts →
+    HubDemand3 (o .hub) acts
 
 -- And what the readers tell. The proof is `hub-readers`.
 abbrev pub ReadersStatement : Type 0
-ReadersStatement = (n k first : ℕ) (o : Opened) → Opens n k first o → o .verdict ≡ Accepted → (acts : List HubAct) → Chain (o .hub) acts → ReadersTell (o .hub) acts
+ReadersStatement = (n k first : ℕ) (o : Opened) → Opens n k first o → o .verdict ≡ Accepted → (acts : List HubAct) → Chain (o .hub) acts →
+    ReadersTell (o .hub) acts

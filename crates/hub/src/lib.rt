@@ -1,5 +1,5 @@
-// The plot hub, by value: document 01, "The steps". Here stand the public calls with their contracts. Each call is a step, in the crate of its name, and
-// then settling; `specs/` reads a hub as the state of the rules, and an outcome as their answers.
+// The plot hub, by value: document 01, "The steps". Here stand the public calls with their contracts. Each call is a step, in the crate of
+// its name, and then settling; `specs/` reads a hub as the state of the rules, and an outcome as their answers.
 mod opening;
 mod settling;
 
@@ -29,8 +29,8 @@ pub struct Opened {
     pub hub: Hub,
 }
 
-// What a call gives: the next hub; the abort that comes first, if there is one; the answer; and the settings that devices are put back to, beside the
-// answer that they belong to.
+// What a call gives: the next hub; the abort that comes first, if there is one; the answer; and the settings that devices are put back to,
+// beside the answer that they belong to.
 pub struct Outcome {
     pub hub: Hub,
     pub first: First,

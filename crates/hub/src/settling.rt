@@ -25,8 +25,8 @@ fn outcome_with(state: HubState, step: StepOutcome) -> Outcome
     }
 }
 
-// Does the hub settle after this step? "After each call": a refusal and a wait change nothing, so that nothing settles after them. Each call asks first: where
-// it does not settle, the step's state is handed on as it is, with no copy for settling to work on.
+// Does the hub settle after this step? "After each call": a refusal and a wait change nothing, so that nothing settles after them. Each
+// call asks first: where it does not settle, the step's state is handed on as it is, with no copy for settling to work on.
 pub fn is_due(step: StepOutcome) -> bool
     requires { ⌜ StateOk (step .state) ⌝ }
     ensures { λ r. ⌜ r ≡ settlesAfter step ⌝ }

@@ -1,5 +1,5 @@
-// A record of the hub: kind, N, K, the first id in four bytes; then the calls, each of the same size: its letter, a byte (a count of commands, a code or a
-// device), and four bytes of id, two of setting, or the commands.
+// A record of the hub: kind, N, K, the first id in four bytes; then the calls, each of the same size: its letter, a byte (a count of
+// commands, a code or a device), and four bytes of id, two of setting, or the commands.
 use hub::Hub;
 use hub::Opened;
 use hub::Outcome;

@@ -12,14 +12,16 @@ use denote.Enum.Declared.{tagOf}
 use lib.Dec.{ltb, eqb}
 use lib.ListN.{length, length-append}
 use Rattle.routine.specs.Choice.{if_then_else_}
-use Rattle.routine.specs.Refusals.{command-count, devices-out-of-range, pass-limit-out-of-range, first-id-0, refusalOf, refuse_when_, _andThen_}
+use Rattle.routine.specs.Refusals.{command-count, devices-out-of-range, pass-limit-out-of-range, first-id-0, refusalOf, refuse_when_}
+use Rattle.routine.specs.Refusals.{_andThen_}
 use Rattle.routine.specs.Routine.{maxDevices, maxCommands, commandsOf, routineOf, noRoutine, withCommand}
 use Rattle.routine.specs.declared.Command.{Command}
 use Rattle.routine.specs.declared.Refusal.{Refusal}
 use Rattle.routine.specs.declared.Routine.{Routine}
 use Rattle.routine.specs.declared.Verdict.{Verdict}
 use Rattle.routine.specs.declared.Verdict.the-variants.{Accepted, Refused}
-use Rattle.routine.proofs.Laws.{byTest, both-accept, not-refused, or-false, length-commandsOf, routineOf-commands, routineOf-count, with-more, check-long}
+use Rattle.routine.proofs.Laws.{byTest, both-accept, not-refused, or-false, length-commandsOf, routineOf-commands, routineOf-count}
+use Rattle.routine.proofs.Laws.{with-more, check-long}
 use Rattle.rules.specs.State.{highestPassLimit, State}
 use Rattle.rules.specs.Answers.{Call as Told, submit, turn, report, failure, restart, cancel, Result, turnedDown}
 use Rattle.rules.specs.Open.{opened, not-opened, openCheck, newHub, closedHub, openIf, openOf}
@@ -120,7 +122,8 @@ line-opening h (opening m l i) n k first e =
     let d : i ≡ first = cc in
     rw (a, b, d)
 line-opening h (calling c) n k first e =
-    byTest (λ (t : Bool). heardIf t c ≡ Open n k first → step (hubIn h) (calling c) ≡ printsOpening (hubIn h) (openOf n k first)) (eqb (view h .devices) 0)
+    byTest (λ (t : Bool). heardIf t c ≡ Open n k first → step (hubIn h) (calling c) ≡ printsOpening (hubIn h) (openOf n k first))
+    (eqb (view h .devices) 0)
     (λ _ f. let z : _≡_ {A = ℕ} 0 1 = cc in absurd (omega arith))
     (λ _ f. let z : _≡_ {A = ℕ} 0 1 = cc in absurd (omega arith))
     e
@@ -138,8 +141,11 @@ line-calling h (calling c) call e =
     (eqb (view h .devices) 0)
     (λ _ f. let z : _≡_ {A = ℕ} 0 1 = cc in absurd (omega arith))
     (λ t f.
-    let same : heldCall c ≡ call = cc in
-    (eqb-false (view h .devices) 0 t, ap printsResult (sym (same-call (view h) c) ∙ ap (λ (x : Call). resultOf (view h) (callIn x (heldRoutine c))) same)))
+    let same : heldCall c ≡ call = cc in (
+      eqb-false (view h .devices) 0 t,
+      ap printsResult
+          (sym (same-call (view h) c) ∙ ap (λ (x : Call). resultOf (view h) (callIn x (heldRoutine c))) same),
+    ))
     e
 line-calling h unread call e = let z : _≡_ {A = ℕ} 0 1 = cc in absurd (omega arith)
 
@@ -196,10 +202,12 @@ pub record Does (h : Hub) (q : Said) (next : Hub) (text : List ℕ) : Type 0 whe
   pub is : step (hubIn h) q ≡ record { hub = hubIn next; text = text }
   pub unopened : hubIn next ≡ none → next ≡ h
 
-pub does-unread : (h : Hub) (q : Said) → Valid h → heardOf (heldLine q .line) (view h .devices) ≡ Unread → Does h q h (asLine (bytes "unread"))
+pub does-unread : (h : Hub) (q : Said) → Valid h → heardOf (heldLine q .line) (view h .devices) ≡ Unread →
+    Does h q h (asLine (bytes "unread"))
 does-unread h q v e = record { valid = v; is = line-unread h q e; unopened = λ _. refl }
 
-module _ (h : Hub) (q : Said) (n k first : ℕ) (e : heardOf (heldLine q .line) (view h .devices) ≡ Open n k first) (o : Opened) (w : Opens n k first o) where
+module _ (h : Hub) (q : Said) (n k first : ℕ) (e : heardOf (heldLine q .line) (view h .devices) ≡ Open n k first) (o : Opened)
+    (w : Opens n k first o) where
   pub does-open : o .verdict ≡ Accepted → Does h q (o .hub) (asLine (bytes "opened"))
   does-open a =
       let f : openOf n k first ≡ opened (view (o .hub)) = sym (w .gives) ∙ ap (λ (v : Verdict). openIf v (view (o .hub))) a in
@@ -216,7 +224,8 @@ module _ (h : Hub) (q : Said) (n k first : ℕ) (e : heardOf (heldLine q .line) 
       let f : openOf n k first ≡ not-opened r = sym (w .gives) ∙ ap (λ (u : Verdict). openIf u (view (o .hub))) a in
       record { valid = v; is = line-opening h q n k first e ∙ ap (printsOpening (hubIn h)) f; unopened = λ _. refl }
 
-module _ (h : Hub) (q : Said) (call : Call) (e : heardOf (heldLine q .line) (view h .devices) ≡ Calling call) (o : Outcome) {r : LineRead} (f : r ≡ heldLine q)
+module _ (h : Hub) (q : Said) (call : Call) (e : heardOf (heldLine q .line) (view h .devices) ≡ Calling call) (o : Outcome) {r : LineRead}
+    (f : r ≡ heldLine q)
     (g : Gives h o (resultOf (view h) (callIn call (r .routine)))) where
   gives-it : Gives h o (resultOf (view h) (callIn call (heldLine q .routine)))
   gives-it = subst (λ (x : LineRead). Gives h o (resultOf (view h) (callIn call (x .routine)))) f g
@@ -229,7 +238,8 @@ module _ (h : Hub) (q : Said) (call : Call) (e : heardOf (heldLine q .line) (vie
       let there = hub-some (o .hub) (subst (λ (d : ℕ). d ≢ 0) (sym same) (l .0)) in
       record {
         valid = g .valid;
-        is = l .1 ∙ ap printsResult (sym (gives-it .gives)) ∙ ap (λ (s : Option State). record { hub = s; text = answersText (answersIn o) }) (sym there);
+        is = l .1 ∙ ap printsResult (sym (gives-it .gives))
+            ∙ ap (λ (s : Option State). record { hub = s; text = answersText (answersIn o) }) (sym there);
         unopened = λ z. not-none there z;
       }
 

@@ -83,7 +83,8 @@ pub goes : {h : Hub} {q : Said} {out out′ out″ : List ℕ} {at at′ at″ :
 goes {h} {q} {out} {out′ = out′} {at = at} {at″ = at″} {text = text} d p a b c = record {
   text = text;
   does = subst (λ (x : Hub). Does h q x text) (sym b) d;
-  put = subst (λ (l : List ℕ). PutShort maxText out l at at″ text) (sym a) (subst (λ (n : ℕ). PutShort maxText out out′ at n text) (sym c) p);
+  put = subst (λ (l : List ℕ). PutShort maxText out l at at″ text) (sym a)
+      (subst (λ (n : ℕ). PutShort maxText out out′ at n text) (sym c) p);
 }
 
 -- one line more
@@ -125,7 +126,8 @@ begins {input = input} {now = now} {from = from} r =
     omega (arith, r .put .ends, length-append (r .text) rest)
 
 -- there is more than there is room for
-pub ran-past : {h : Hub} {input buffer out : List ℕ} {room : ℕ} {s : Lines} {from : ℕ} → Ran h input buffer out room (s .hub) (s .at) from → room < s .at →
+pub ran-past : {h : Hub} {input buffer out : List ℕ} {room : ℕ} {s : Lines} {from : ℕ} → Ran h input buffer out room (s .hub) (s .at) from →
+    room < s .at →
     RunsLines h input room buffer out s
 ran-past {input = input} {from = from} r past = record {
   valid = r .valid;
@@ -177,9 +179,11 @@ pub count-end : (byte : ℕ) (bs : List ℕ) (i : ℕ) → i < length bs → get
 unfolding pieces piecesFrom
 count-end byte bs i h e = rw (drop-cons bs i 0 h, eq-eqb (getD bs i 0) byte e, add-one i)
 
-pub count-on : (byte : ℕ) (bs : List ℕ) (i : ℕ) → i < length bs → getD bs i 0 ≢ byte → length (pieces byte (drop i bs)) ≡ length (pieces byte (drop (i + 1) bs))
+pub count-on : (byte : ℕ) (bs : List ℕ) (i : ℕ) → i < length bs → getD bs i 0 ≢ byte →
+    length (pieces byte (drop i bs)) ≡ length (pieces byte (drop (i + 1) bs))
 unfolding pieces piecesFrom
-count-on byte bs i h e = rw (drop-cons bs i 0 h, ne-eqb (getD bs i 0) byte e, add-one i) (pieces-held byte (getD bs i 0 ∷ []) (drop (suc i) bs))
+count-on byte bs i h e =
+    rw (drop-cons bs i 0 h, ne-eqb (getD bs i 0) byte e, add-one i) (pieces-held byte (getD bs i 0 ∷ []) (drop (suc i) bs))
 
 pub count-last : (byte : ℕ) (bs : List ℕ) (i : ℕ) → length bs ≤ i → length (pieces byte (drop i bs)) ≡ 1
 unfolding pieces piecesFrom
@@ -208,7 +212,8 @@ devices-more s d (suc n) =
     ∙ ap (λ (k : ℕ). deviceLines s d (suc n) ++ asLine (deviceText s k)) e
 
 pub devices-next : (s : State) (n : ℕ) → deviceLines s 0 (n + 1) ≡ deviceLines s 0 n ++ asLine (deviceText s n)
-devices-next s n = ap (deviceLines s 0) (add-one n) ∙ devices-more s 0 n ∙ ap (λ (k : ℕ). deviceLines s 0 n ++ asLine (deviceText s k)) (zero-add n)
+devices-next s n = ap (deviceLines s 0) (add-one n) ∙ devices-more s 0 n
+    ∙ ap (λ (k : ℕ). deviceLines s 0 n ++ asLine (deviceText s k)) (zero-add n)
 
 pub devices-are : (h : Hub) → view h .devices ≡ h .state .devices
 unfolding stateOf
@@ -241,7 +246,8 @@ length-fits : (text : List ℕ) (room : ℕ) → length text ≤ room → length
 unfolding lengthOr21
 length-fits text room h = rw (le-ltb room (length text) h)
 
-pub wrote-none : (p : Printed) (h : Hub) (buffer : List ℕ) → Valid h → length buffer < length (p .text) → Wrote p h h buffer buffer (negsuc 20)
+pub wrote-none : (p : Printed) (h : Hub) (buffer : List ℕ) → Valid h → length buffer < length (p .text) →
+    Wrote p h h buffer buffer (negsuc 20)
 unfolding hubWith
 wrote-none p h buffer v short = record {
   valid = v;
@@ -253,16 +259,20 @@ wrote-none p h buffer v short = record {
 }
 
 -- the length as a signed number
-pub cast-fits : {text buffer buffer′ : List ℕ} {at : ℕ} → length buffer < 2 ^ 63 → length text ≤ length buffer → Put buffer buffer′ 0 at text → at < 2 ^ 63
+pub cast-fits : {text buffer buffer′ : List ℕ} {at : ℕ} → length buffer < 2 ^ 63 → length text ≤ length buffer →
+    Put buffer buffer′ 0 at text → at < 2 ^ 63
 cast-fits small fits put = omega (arith, put .ends)
 
-answers-all : (text buffer buffer′ : List ℕ) (at : ℕ) → length buffer < 2 ^ 63 → length text ≤ length buffer → Put buffer buffer′ 0 at text →
+answers-all : (text buffer buffer′ : List ℕ) (at : ℕ) → length buffer < 2 ^ 63 → length text ≤ length buffer →
+    Put buffer buffer′ 0 at text →
     toZ w64 at ≡ lengthOr21 text (length buffer)
 answers-all text buffer buffer′ at small fits put =
     toZ-pos w64 (cast-fits small fits put) ∙ ap pos (put .ends ∙ zero-add (length text)) ∙ sym (length-fits text (length buffer) fits)
 
-pub wrote-all : (p : Printed) (h next : Hub) (buffer buffer′ : List ℕ) (at : ℕ) → length buffer < 2 ^ 63 → Valid next → hubIn next ≡ p .hub →
-    length (p .text) ≤ length buffer → Put buffer buffer′ 0 at (p .text) → (hubIn next ≡ none → next ≡ h) → Wrote p h next buffer buffer′ (toZ w64 at)
+pub wrote-all : (p : Printed) (h next : Hub) (buffer buffer′ : List ℕ) (at : ℕ) → length buffer < 2 ^ 63 → Valid next →
+    hubIn next ≡ p .hub →
+    length (p .text) ≤ length buffer → Put buffer buffer′ 0 at (p .text) → (hubIn next ≡ none → next ≡ h) →
+    Wrote p h next buffer buffer′ (toZ w64 at)
 unfolding hubWith
 wrote-all p h next buffer buffer′ at small v e fits put unopened = record {
   valid = v;
@@ -319,7 +329,8 @@ module _ (h : Hub) (input : List ℕ) (room : ℕ) (buffer out : List ℕ) (s : 
     -- they fit, and the device lines stand behind them
     whole-put : length (lines .text) ≤ room → Put buffer buffer′ 0 end (runFrom (hubIn h) input .text)
     unfolding runFrom
-    whole-put fits = let f = r .fits fits in put-then (f .1) (subst (λ (o : Option State). Put out buffer′ (s .at) end (endText o)) (f .0) (p .put))
+    whole-put fits = let f = r .fits fits in
+        put-then (f .1) (subst (λ (o : Option State). Put out buffer′ (s .at) end (endText o)) (f .0) (p .put))
 
     -- there is room for all lines and the device lines
     pub whole-fits : Ample input room → length (runFrom (hubIn h) input .text) ≤ room
@@ -343,5 +354,7 @@ module _ (h : Hub) (input : List ℕ) (room : ℕ) (buffer out : List ℕ) (s : 
       -- what is written
       pub whole-wrote : Wrote (runFrom (hubIn h) input) h (s .hub) buffer buffer′ (toZ w64 end)
       unfolding runFrom
-      whole-wrote = wrote-all (runFrom (hubIn h) input) h (s .hub) buffer buffer′ end (omega arith) (r .valid) (r .fits here .0) (omega arith) (whole-put here)
+      whole-wrote =
+          wrote-all (runFrom (hubIn h) input) h (s .hub) buffer buffer′ end (omega arith) (r .valid) (r .fits here .0) (omega arith)
+          (whole-put here)
           (r .unopened)

@@ -16,9 +16,9 @@ use Rattle.line.specs.declared.running.Lines.{Lines}
 
 -- ---- the calls that others make
 
--- What is printed is written: the result is the length of the text or −21; the text stands in the buffer and nothing else is changed there; and the hub
--- afterwards is the one that the program leaves. If the buffer is too short, it and the hub are as they were, whole. Where no `O` was
--- accepted, the hub of no devices is the same hub, whole.
+-- What is printed is written: the result is the length of the text or −21; the text stands in the buffer and nothing else is changed there;
+-- and the hub afterwards is the one that the program leaves. If the buffer is too short, it and the hub are as they were, whole. Where no
+-- `O` was accepted, the hub of no devices is the same hub, whole.
 pub record Wrote (p : Printed) (before after : Hub) (buffer buffer′ : List ℕ) (result : ℤ) : Type 0 where
   pub valid : Valid after
   pub answers : result ≡ lengthOr21 (p .text) (length buffer)
@@ -42,8 +42,8 @@ pub record Runs (p : Printed) (input : List ℕ) (before after : Hub) (buffer bu
 abbrev pub maxEnd : ℕ
 maxEnd = maxDevices * maxDeviceLine
 
--- What all lines print stands in the buffer, if there is room for it; else the place is some place past the room, at most maxText further. `ample`: where the room
--- is maxText bytes for each line, what they print has no more bytes than that.
+-- What all lines print stands in the buffer, if there is room for it; else the place is some place past the room, at most maxText further.
+-- `ample`: where the room is maxText bytes for each line, what they print has no more bytes than that.
 pub record RunsLines (h : Hub) (input : List ℕ) (room : ℕ) (buffer buffer′ : List ℕ) (s : Lines) : Type 0 where
   pub valid : Valid (s .hub)
   pub near : s .at ≤ room + maxText

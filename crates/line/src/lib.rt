@@ -1,5 +1,5 @@
-// The line program on byte slices: document 01, "The line program". Here stand the calls that others make: the exported one for C, the one over a hub that is
-// lent and changed there, and those for an input that comes in parts. All below them is by value.
+// The line program on byte slices: document 01, "The line program". Here stand the calls that others make: the exported one for C, the one
+// over a hub that is lent and changed there, and those for an input that comes in parts. All below them is by value.
 mod lines;
 mod running;
 
@@ -51,14 +51,16 @@ pub fn run_last(hub: Hub, input: &[u8], out: &mut [u8]) -> Written
 // The whole program on a hub that is lent and changed there: "It steps on a hub lent to it and changed there, all below it by value."
 pub fn run(hub: &mut Hub, input: &[u8], out: &mut [u8]) -> i64
     requires { ⌜ Valid (now hub) ⌝ }
-    ensures { λ r. ⌜ Wrote (runFrom (hubIn (now (hub .entry))) (now (input .entry))) (now (hub .entry)) (now (hub .exit)) (now (out .entry)) (now (out .exit)) r ⌝ }
+    ensures { λ r. ⌜ Wrote (runFrom (hubIn (now (hub .entry))) (now (input .entry))) (now (hub .entry)) (now (hub .exit)) (now (out .entry))
+        (now (out .exit)) r ⌝ }
 {
     let written = running::run_whole(*hub, input, out);
     *hub = written.hub;
     written.result
 }
 
-// "called from a web server written in C, on two byte slices: the input, and a lent buffer for the output; the result is the length written .. or −21".
+// "called from a web server written in C, on two byte slices: the input, and a lent buffer for the output; the result is the length written
+// .. or −21".
 #[no_mangle]
 pub extern "C" fn plot_hub_run(input: &[u8], out: &mut [u8]) -> i64
     ensures answers { λ r. ⌜ r ≡ lengthOr21 (programText (now (input .entry))) (length (now (out .entry))) ⌝ }

@@ -1,5 +1,5 @@
-// Lines in turn, and the whole program, by value. A buffer that is too short stays as it was, so the text is measured first, on a buffer of one byte. Where there
-// is room for any text of so many lines, it is not measured.
+// Lines in turn, and the whole program, by value. A buffer that is too short stays as it was, so the text is measured first, on a buffer of
+// one byte. Where there is room for any text of so many lines, it is not measured.
 use crate::TOO_SHORT;
 use crate::Written;
 use crate::lines;

@@ -35,7 +35,8 @@ put-then {a} {b} {c} {at} {m} {e} {t} {u} p q = record {
   ends = omega (arith, p .ends, q .ends, length-append t u);
 }
 
-pub short-then : {j k : ℕ} {a b c : List ℕ} {at m e : ℕ} {t u : List ℕ} → PutShort j a b at m t → PutShort k b c m e u → PutShort (j + k) a c at e (t ++ u)
+pub short-then : {j k : ℕ} {a b c : List ℕ} {at m e : ℕ} {t u : List ℕ} → PutShort j a b at m t → PutShort k b c m e u →
+    PutShort (j + k) a c at e (t ++ u)
 short-then {t = t} {u = u} p q = record { put = put-then (p .put) (q .put); short = omega (arith, p .short, q .short, length-append t u) }
 
 -- as much room as this text takes
@@ -46,7 +47,8 @@ pub within : {j k : ℕ} {a b : List ℕ} {at e : ℕ} {t : List ℕ} → j ≤ 
 within h p = record { put = p .put; short = omega (arith, p .short) }
 
 -- a word and a text behind it
-pub shorter : (t u : List ℕ) {k : ℕ} {a b : List ℕ} {at e : ℕ} → Put a b at e (t ++ u) → length u ≤ k → PutShort (length t + k) a b at e (t ++ u)
+pub shorter : (t u : List ℕ) {k : ℕ} {a b : List ℕ} {at e : ℕ} → Put a b at e (t ++ u) → length u ≤ k →
+    PutShort (length t + k) a b at e (t ++ u)
 shorter t u p h = record { put = p; short = omega (arith, length-append t u) }
 
 pub as-text : {k : ℕ} {a b : List ℕ} {at e : ℕ} {t u : List ℕ} → t ≡ u → PutShort k a b at e t → PutShort k a b at e u
@@ -101,7 +103,8 @@ pub answers-append : (k l : List Answer) → answersText (k ++ l) ≡ answersTex
 unfolding answersText
 answers-append [] l = refl
 answers-append (a ∷ k) l =
-    ap (λ (t : List ℕ). asLine (answerText a) ++ t) (answers-append k l) ∙ sym (append-assoc (asLine (answerText a)) (answersText k) (answersText l))
+    ap (λ (t : List ℕ). asLine (answerText a) ++ t) (answers-append k l)
+    ∙ sym (append-assoc (asLine (answerText a)) (answersText k) (answersText l))
 
 -- ---- a setting's size, as the code has it
 
@@ -124,7 +127,8 @@ less v h t = ap (λ (u : ℤ). pos 0 -ℤ toZ w64 (ofZ w64 u)) (kept v h) ∙ ap
     negated (pos n) e = absurd (omega (arith, ltb-true n 0 e))
     negated (negsuc n) e = ap pos (omega arith)
 
-pub size-below : (v : ℤ) → SFits w16 v → ltZ v (pos 0) ≡ true → toZ w64 (ofZ w64 (pos 0 -ℤ toZ w64 (ofZ w64 (toZ w16 (ofZ w16 v))))) ≡ pos (natAbs v)
+pub size-below : (v : ℤ) → SFits w16 v → ltZ v (pos 0) ≡ true →
+    toZ w64 (ofZ w64 (pos 0 -ℤ toZ w64 (ofZ w64 (toZ w16 (ofZ w16 v))))) ≡ pos (natAbs v)
 size-below v h t = ap (λ (u : ℤ). toZ w64 (ofZ w64 u)) (less v h t) ∙ toZ-ofZ {w = w64} (record { sfits = omega (arith, size-fits v h) })
 
 pub signed-below : (v : ℤ) → ltZ v (pos 0) ≡ true → signed v ≡ minus ∷ decimal (natAbs v)

@@ -1,5 +1,5 @@
-// The lines that the line program prints, put into a lent buffer from a place on: document 01, "The line program". What lies past the buffer's end is
-// counted and not put, so that a line can be measured on a buffer of one byte.
+// The lines that the line program prints, put into a lent buffer from a place on: document 01, "The line program". What lies past the
+// buffer's end is counted and not put, so that a line can be measured on a buffer of one byte.
 mod text;
 mod words;
 

@@ -68,7 +68,8 @@ pub fn put_setting(out: &mut [u8], at: usize, setting: i16) -> usize
 // A word and a number.
 pub fn put_one(out: &mut [u8], at: usize, word: &[u8], n: u64) -> usize
     requires { ⌜ at + (length (now word) + maxDigits) < 2 ^ 64 ⌝ }
-    ensures { λ r. ⌜ PutShort (length (now (word .entry)) + maxDigits) (now (out .entry)) (now (out .exit)) at r (now (word .entry) ++ decimal n) ⌝ }
+    ensures { λ r. ⌜ PutShort (length (now (word .entry)) + maxDigits) (now (out .entry)) (now (out .exit)) at r
+        (now (word .entry) ++ decimal n) ⌝ }
 {
     let from = put_word(out, at, word);
     put_number(out, from, n)
@@ -78,7 +79,8 @@ pub fn put_one(out: &mut [u8], at: usize, word: &[u8], n: u64) -> usize
 pub fn put_two(out: &mut [u8], at: usize, word: &[u8], n: u64, between: &[u8], m: u64) -> usize
     requires { ⌜ at + (length (now word) + maxDigits + length (now between) + maxDigits) < 2 ^ 64 ⌝ }
     ensures { λ r. ⌜
-        PutShort (length (now (word .entry)) + maxDigits + length (now (between .entry)) + maxDigits) (now (out .entry)) (now (out .exit)) at r
+        PutShort (length (now (word .entry)) + maxDigits + length (now (between .entry)) + maxDigits) (now (out .entry))
+        (now (out .exit)) at r
         (now (word .entry) ++ decimal n ++ now (between .entry) ++ decimal m)
         ⌝ }
 {

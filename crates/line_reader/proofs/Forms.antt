@@ -19,7 +19,9 @@ use Rattle.rules.specs.Report.{codeDone, codeFailed}
 use Rattle.rules.proofs.Lists.{byIf, t≠f}
 use Rattle.line_rules.specs.Text.{space, same}
 use Rattle.line_rules.specs.Pieces.{wordsOf}
-use Rattle.line_rules.specs.Reading.{Line as Said, opening, calling, unread, maxLine, highest8, highest32, numberUpTo, setting, openingWith, openingLine, commandBefore, commands, submitLine, submitWith, callWith, oneNumber, restartWith, restartLine, lineWith, lineBy, readLine}
+use Rattle.line_rules.specs.Reading.{Line as Said, opening, calling, unread, maxLine, highest8, highest32, numberUpTo, setting}
+use Rattle.line_rules.specs.Reading.{openingWith, openingLine, commandBefore, commands, submitLine, submitWith, callWith, oneNumber}
+use Rattle.line_rules.specs.Reading.{restartWith, restartLine, lineWith, lineBy, readLine}
 use Rattle.line_reader.specs.Places.{behindLetter, wordAt, wordEnd, wordsFrom, commandBehind, CommandAt}
 use Rattle.line_reader.specs.declared.Call.the-variants.{Submit}
 use Rattle.line_reader.specs.declared.Line.{Line}
@@ -46,7 +48,8 @@ module _ (line : List ℕ) (end : ℕ) where
 
 -- ---- one number
 
-one-not : (highest : ℕ) (says : Option ℕ → Said) → says none ≡ unread → (ws : List (List ℕ)) → NotFirst (numberUpTo highest) ws → oneNumber highest says ws ≡ unread
+one-not : (highest : ℕ) (says : Option ℕ → Said) → says none ≡ unread → (ws : List (List ℕ)) → NotFirst (numberUpTo highest) ws →
+    oneNumber highest says ws ≡ unread
 unfolding oneNumber
 one-not highest says u [] e = refl
 one-not highest says u (w ∷ []) e = ap says e ∙ u
@@ -56,11 +59,13 @@ module _ (highest : ℕ) (says : Option ℕ → Said) (u : says none ≡ unread)
   pub one-none : NotFirst (numberUpTo highest) (wordsFrom line at) → oneNumber highest says (wordsFrom line at) ≡ unread
   one-none e = one-not highest says u (wordsFrom line at) e
 
-  pub one-more : {n end : ℕ} → WordSays (numberUpTo highest) line at n end → end < length line → oneNumber highest says (wordsFrom line at) ≡ unread
+  pub one-more : {n end : ℕ} → WordSays (numberUpTo highest) line at n end → end < length line →
+      oneNumber highest says (wordsFrom line at) ≡ unread
   unfolding oneNumber
   one-more {n} {end} a h = rw (a .words, more-words line end h)
 
-  pub one-found : {n end : ℕ} → WordSays (numberUpTo highest) line at n end → length line ≤ end → oneNumber highest says (wordsFrom line at) ≡ says (some n)
+  pub one-found : {n end : ℕ} → WordSays (numberUpTo highest) line at n end → length line ≤ end →
+      oneNumber highest says (wordsFrom line at) ≡ says (some n)
   unfolding oneNumber
   one-found {n} {end} a h = rw (a .words, last-word line end h, a .says)
 
@@ -74,14 +79,16 @@ opens-1 (n ∷ k ∷ []) e = refl
 opens-1 (n ∷ k ∷ first ∷ []) e = rw e
 opens-1 (n ∷ k ∷ first ∷ w ∷ ws) e = refl
 
-opens-2 : (n : List ℕ) (ws : List (List ℕ)) (d : ℕ) → numberUpTo highest8 n ≡ some d → NotFirst (numberUpTo highest8) ws → openingLine (n ∷ ws) ≡ unread
+opens-2 : (n : List ℕ) (ws : List (List ℕ)) (d : ℕ) → numberUpTo highest8 n ≡ some d → NotFirst (numberUpTo highest8) ws →
+    openingLine (n ∷ ws) ≡ unread
 unfolding openingLine
 opens-2 n [] d s e = refl
 opens-2 n (k ∷ []) d s e = refl
 opens-2 n (k ∷ first ∷ []) d s e = rw (s, e)
 opens-2 n (k ∷ first ∷ w ∷ ws) d s e = refl
 
-opens-3 : (n k : List ℕ) (ws : List (List ℕ)) (d p : ℕ) → numberUpTo highest8 n ≡ some d → numberUpTo highest8 k ≡ some p → NotFirst (numberUpTo highest32) ws →
+opens-3 : (n k : List ℕ) (ws : List (List ℕ)) (d p : ℕ) → numberUpTo highest8 n ≡ some d → numberUpTo highest8 k ≡ some p →
+    NotFirst (numberUpTo highest32) ws →
     openingLine (n ∷ k ∷ ws) ≡ unread
 unfolding openingLine
 opens-3 n k [] d p s t e = refl
@@ -96,9 +103,11 @@ module _ (line : List ℕ) (at : ℕ) where
       openingLine (wordsFrom line at) ≡ unread
   open-one {n} {end} a e = rw (a .words) (opens-2 (wordAt line at) (wordsFrom line (end + 1)) n (a .says) e)
 
-  module _ {n k stop end : ℕ} (a : WordSays (numberUpTo highest8) line at n stop) (b : WordSays (numberUpTo highest8) line (stop + 1) k end) where
+  module _ {n k stop end : ℕ} (a : WordSays (numberUpTo highest8) line at n stop)
+      (b : WordSays (numberUpTo highest8) line (stop + 1) k end) where
     pub open-two : NotFirst (numberUpTo highest32) (wordsFrom line (end + 1)) → openingLine (wordsFrom line at) ≡ unread
-    open-two e = rw (a .words, b .words) (opens-3 (wordAt line at) (wordAt line (stop + 1)) (wordsFrom line (end + 1)) n k (a .says) (b .says) e)
+    open-two e = rw (a .words, b .words)
+        (opens-3 (wordAt line at) (wordAt line (stop + 1)) (wordsFrom line (end + 1)) n k (a .says) (b .says) e)
 
     module _ {first last : ℕ} (c : WordSays (numberUpTo highest32) line (end + 1) first last) where
       pub open-more : last < length line → openingLine (wordsFrom line at) ≡ unread
@@ -118,7 +127,8 @@ restarts-1 (d ∷ []) e = refl
 restarts-1 (d ∷ v ∷ []) e = rw e
 restarts-1 (d ∷ v ∷ w ∷ ws) e = refl
 
-restarts-2 : (w : List ℕ) (ws : List (List ℕ)) (d : ℕ) → numberUpTo highest8 w ≡ some d → NotFirst setting ws → restartLine (w ∷ ws) ≡ unread
+restarts-2 : (w : List ℕ) (ws : List (List ℕ)) (d : ℕ) → numberUpTo highest8 w ≡ some d → NotFirst setting ws →
+    restartLine (w ∷ ws) ≡ unread
 unfolding restartLine
 restarts-2 w [] d s e = refl
 restarts-2 w (v ∷ []) d s e = rw (s, e)
@@ -154,13 +164,15 @@ commands-1 w [] e = refl
 commands-1 w (t ∷ []) e = refl
 commands-1 w (t ∷ v ∷ ws) e = rw e
 
-commands-2 : (w : List ℕ) (ws : List (List ℕ)) (d : ℕ) → numberUpTo highest8 w ≡ some d → NotFirst (numberUpTo highest8) ws → commands (w ∷ ws) ≡ none
+commands-2 : (w : List ℕ) (ws : List (List ℕ)) (d : ℕ) → numberUpTo highest8 w ≡ some d → NotFirst (numberUpTo highest8) ws →
+    commands (w ∷ ws) ≡ none
 unfolding commands
 commands-2 w [] d s e = refl
 commands-2 w (t ∷ []) d s e = refl
 commands-2 w (t ∷ v ∷ ws) d s e = rw (s, e)
 
-commands-3 : (w u : List ℕ) (ws : List (List ℕ)) (d t : ℕ) → numberUpTo highest8 w ≡ some d → numberUpTo highest8 u ≡ some t → NotFirst setting ws →
+commands-3 : (w u : List ℕ) (ws : List (List ℕ)) (d t : ℕ) → numberUpTo highest8 w ≡ some d → numberUpTo highest8 u ≡ some t →
+    NotFirst setting ws →
     commands (w ∷ u ∷ ws) ≡ none
 unfolding commands
 commands-3 w u [] d t s r e = refl
@@ -178,15 +190,19 @@ module _ (line : List ℕ) (at : ℕ) where
 
     module _ {t end : ℕ} (b : WordSays (numberUpTo highest8) line (stop + 1) t end) where
       pub command-two : NotFirst setting (wordsFrom line (end + 1)) → commands (wordsFrom line at) ≡ none
-      command-two e = rw (a .words, b .words) (commands-3 (wordAt line at) (wordAt line (stop + 1)) (wordsFrom line (end + 1)) d t (a .says) (b .says) e)
+      command-two e =
+          rw (a .words, b .words)
+          (commands-3 (wordAt line at) (wordAt line (stop + 1)) (wordsFrom line (end + 1)) d t (a .says) (b .says) e)
 
       pub command-all : {v : ℤ} {last : ℕ} → WordSays setting line (end + 1) v last →
           commands (wordsFrom line at) ≡ commandBehind (record { device = d; tag = t; setting = v }) (commands (wordsFrom line (last + 1)))
       unfolding commands
-      command-all {v} {last} c = rw (a .words, b .words, c .words, a .says, b .says, c .says) (before-behind d t v (commands (wordsFrom line (last + 1))))
+      command-all {v} {last} c =
+          rw (a .words, b .words, c .words, a .says, b .says, c .says) (before-behind d t v (commands (wordsFrom line (last + 1))))
 
 -- what is read at a place: no command, or one and the commands behind it
-pub none-at : (line : List ℕ) (from : ℕ) (r : CommandRead) → r .found ≡ false → (from ≤ length line → commands (wordsFrom line from) ≡ none) →
+pub none-at : (line : List ℕ) (from : ℕ) (r : CommandRead) → r .found ≡ false →
+    (from ≤ length line → commands (wordsFrom line from) ≡ none) →
     CommandAt line from r
 none-at line from r e h = record { found-one = λ t. t≠f (sym t ∙ e); found-none = λ _. h }
 
@@ -206,7 +222,8 @@ submit-all ws = go (commands ws)
     go none = refl
     go (some cs) = refl
 
-pub submit-more : (r : Routine) (c : Command) (o : Option (List Command)) → submitFrom r (commandBehind c o) ≡ submitFrom (withCommand r c) o
+pub submit-more : (r : Routine) (c : Command) (o : Option (List Command)) →
+    submitFrom r (commandBehind c o) ≡ submitFrom (withCommand r c) o
 unfolding together
 submit-more r c none = refl
 submit-more r c (some cs) = refl
@@ -235,7 +252,8 @@ pub letter-submit : (letter : ℕ) (ws : List (List ℕ)) → letter ≡ letterO
 unfolding lineWith same
 letter-submit letter ws e = rw e
 
-pub letter-fail : (letter : ℕ) (ws : List (List ℕ)) → letter ≡ letterOf "F" → lineWith (letter ∷ []) ws ≡ oneNumber highest8 (callWith failure) ws
+pub letter-fail : (letter : ℕ) (ws : List (List ℕ)) → letter ≡ letterOf "F" →
+    lineWith (letter ∷ []) ws ≡ oneNumber highest8 (callWith failure) ws
 unfolding lineWith same
 letter-fail letter ws e = rw e
 
@@ -267,10 +285,18 @@ id-forms letter [] = simp either
 id-forms letter (w ∷ []) = id-says letter (numberUpTo highest32 w)
 id-forms letter (w ∷ v ∷ ws) = simp either
 
-pub letter-other : (letter : ℕ) (ws : List (List ℕ)) → letter ≢ letterOf "O" → letter ≢ letterOf "S" → letter ≢ letterOf "F" → letter ≢ letterOf "R" → lineWith (letter ∷ []) ws ≡ idLine letter ws
+pub letter-other : (letter : ℕ) (ws : List (List ℕ)) → letter ≢ letterOf "O" → letter ≢ letterOf "S" → letter ≢ letterOf "F" →
+    letter ≢ letterOf "R" → lineWith (letter ∷ []) ws ≡ idLine letter ws
 unfolding lineWith same
 letter-other letter ws a b c d =
-    simp (and-true, ne-eqb letter (letterOf "O") a, ne-eqb letter (letterOf "S") b, ne-eqb letter (letterOf "F") c, ne-eqb letter (letterOf "R") d) (id-forms letter ws)
+    simp (
+      and-true,
+      ne-eqb letter (letterOf "O") a,
+      ne-eqb letter (letterOf "S") b,
+      ne-eqb letter (letterOf "F") c,
+      ne-eqb letter
+          (letterOf "R") d,
+    ) (id-forms letter ws)
 
 -- ---- the first word of a line
 
@@ -284,7 +310,8 @@ module _ (line : List ℕ) where
   first-word = ap lineBy (words-all line ∙ words-first line 0 (omega arith))
 
   first-empty : wordAt line 0 ≡ [] → lineBy (wordsOf line) ≡ unread
-  first-empty e = first-word ∙ ap (λ (w : List ℕ). lineWith w (wordsFrom line (suc (wordEnd line 0)))) e ∙ no-letter (wordsFrom line (suc (wordEnd line 0)))
+  first-empty e = first-word ∙ ap (λ (w : List ℕ). lineWith w (wordsFrom line (suc (wordEnd line 0)))) e
+      ∙ no-letter (wordsFrom line (suc (wordEnd line 0)))
 
   first-letter : 0 < length line → getD line 0 0 ≢ space →
       lineBy (wordsOf line) ≡ lineWith (getD line 0 0 ∷ wordAt line 1) (wordsFrom line (suc (wordEnd line 1)))
@@ -307,7 +334,8 @@ module _ (line : List ℕ) where
           ∙ two-letters (getD line 0 0) (getD line 1 0) (wordAt line 2) (wordsFrom line (suc (wordEnd line 1)))
 
   -- a byte alone is the first word, or a space, which makes an empty one
-  byte-alone : 0 < length line → (wordAt line 1 ≡ []) × (wordEnd line 1 ≡ 1) → lineBy (wordsOf line) ≡ lineWith (getD line 0 0 ∷ []) (wordsFrom line behindLetter)
+  byte-alone : 0 < length line → (wordAt line 1 ≡ []) × (wordEnd line 1 ≡ 1) →
+      lineBy (wordsOf line) ≡ lineWith (getD line 0 0 ∷ []) (wordsFrom line behindLetter)
   byte-alone h e = go (eqb (getD line 0 0) space) refl
     where
       go : (t : Bool) → eqb (getD line 0 0) space ≡ t → lineBy (wordsOf line) ≡ lineWith (getD line 0 0 ∷ []) (wordsFrom line behindLetter)
@@ -321,7 +349,8 @@ module _ (line : List ℕ) where
   pub one-byte : length line ≡ 1 → lineBy (wordsOf line) ≡ lineWith (getD line 0 0 ∷ []) (wordsFrom line behindLetter)
   one-byte h = byte-alone (omega arith) (word-past line 1 (omega arith))
 
-  pub letter-alone : 1 < length line → getD line 1 0 ≡ space → lineBy (wordsOf line) ≡ lineWith (getD line 0 0 ∷ []) (wordsFrom line behindLetter)
+  pub letter-alone : 1 < length line → getD line 1 0 ≡ space →
+      lineBy (wordsOf line) ≡ lineWith (getD line 0 0 ∷ []) (wordsFrom line behindLetter)
   letter-alone h s = byte-alone (omega arith) (word-none line 1 h s)
 
 -- ---- beside a line that submits nothing there is the empty routine
@@ -367,7 +396,8 @@ id-routine : (letter : ℕ) (o : Option ℕ) → heldLine (idCallWith letter o) 
 id-routine letter none = refl
 id-routine letter (some i) =
     byIf P (eqb letter (letterOf "N")) (λ _. refl)
-    (λ _. byIf P (eqb letter (letterOf "D")) (λ _. refl) (λ _. byIf P (eqb letter (letterOf "B")) (λ _. refl) (λ _. byIf P (eqb letter (letterOf "C")) (λ _. refl) (λ _. refl))))
+    (λ _. byIf P (eqb letter (letterOf "D")) (λ _. refl)
+    (λ _. byIf P (eqb letter (letterOf "B")) (λ _. refl) (λ _. byIf P (eqb letter (letterOf "C")) (λ _. refl) (λ _. refl))))
   where
     P : Said → Type 0
     P said = heldLine said .routine ≡ noRoutine
@@ -378,14 +408,16 @@ plain-routine letter ws h = go (eqb letter (letterOf "O")) (eqb letter (letterOf
     routineOf : Said → Routine
     routineOf said = heldLine said .routine
 
-    go : (o f r : Bool) → eqb letter (letterOf "O") ≡ o → eqb letter (letterOf "F") ≡ f → eqb letter (letterOf "R") ≡ r → routineOf (lineWith (letter ∷ []) ws) ≡ noRoutine
+    go : (o f r : Bool) → eqb letter (letterOf "O") ≡ o → eqb letter (letterOf "F") ≡ f → eqb letter (letterOf "R") ≡ r →
+        routineOf (lineWith (letter ∷ []) ws) ≡ noRoutine
     go true f r a b c = ap routineOf (letter-open letter ws (eqb-true letter (letterOf "O") a)) ∙ open-routine ws
     go false true r a b c =
         ap routineOf (letter-fail letter ws (eqb-true letter (letterOf "F") b))
         ∙ one-routine highest8 (callWith failure) fail-routine ws
     go false false true a b c = ap routineOf (letter-restart letter ws (eqb-true letter (letterOf "R") c)) ∙ restart-routine ws
     go false false false a b c =
-        ap routineOf (letter-other letter ws (eqb-false letter (letterOf "O") a) h (eqb-false letter (letterOf "F") b) (eqb-false letter (letterOf "R") c))
+        ap routineOf (letter-other letter ws (eqb-false letter (letterOf "O") a) h (eqb-false letter (letterOf "F") b)
+        (eqb-false letter (letterOf "R") c))
         ∙ one-routine highest32 (idCallWith letter) (id-routine letter) ws
 
 -- ---- a line that is not too long

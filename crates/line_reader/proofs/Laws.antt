@@ -18,7 +18,8 @@ use Rattle.routine.specs.Choice.{if_then_else_}
 use Rattle.routine.proofs.Laws.{byTest}
 use Rattle.line_rules.specs.Text.{space, minus, digit0}
 use Rattle.line_rules.specs.Pieces.{pieces, reach, wordsOf}
-use Rattle.line_rules.specs.Reading.{highest16, lowest16, isDigit, digitsFrom, number, within, numberUpTo, positive, minusOf, negative, setting}
+use Rattle.line_rules.specs.Reading.{highest16, lowest16, isDigit, digitsFrom, number, within, numberUpTo, positive, minusOf, negative}
+use Rattle.line_rules.specs.Reading.{setting}
 use Rattle.line_rules.proofs.Laws.{drop-behind, reach-within, pieces-parted, pieces-one}
 use Rattle.line_reader.specs.Places.{wordAt, wordEnd, wordsFrom, heldNumber, foundFrom, numberAt, heldSetting, settingAt}
 use Rattle.line_reader.specs.declared.numbers.Number.{Number}
@@ -36,7 +37,8 @@ reach-here : (byte : ℕ) (bs : List ℕ) (at : ℕ) → at < length bs → getD
 unfolding reach
 reach-here byte bs at h e = rw (drop-cons bs at 0 h, eq-eqb (getD bs at 0) byte e)
 
-reach-on : (byte : ℕ) (bs : List ℕ) (at : ℕ) → at < length bs → getD bs at 0 ≢ byte → reach byte (drop at bs) ≡ suc (reach byte (drop (suc at) bs))
+reach-on : (byte : ℕ) (bs : List ℕ) (at : ℕ) → at < length bs → getD bs at 0 ≢ byte →
+    reach byte (drop at bs) ≡ suc (reach byte (drop (suc at) bs))
 unfolding reach
 reach-on byte bs at h n = rw (drop-cons bs at 0 h, ne-eqb (getD bs at 0) byte n)
 
@@ -48,7 +50,8 @@ ends-past byte bs at h = omega (arith, reach-past byte bs at h)
 pub ends-here : (byte : ℕ) (bs : List ℕ) (at : ℕ) → at < length bs → getD bs at 0 ≡ byte → at + reach byte (drop at bs) ≡ at
 ends-here byte bs at h e = omega (arith, reach-here byte bs at h e)
 
-pub ends-on : (byte : ℕ) (bs : List ℕ) (at : ℕ) → at < length bs → getD bs at 0 ≢ byte → at + reach byte (drop at bs) ≡ suc at + reach byte (drop (suc at) bs)
+pub ends-on : (byte : ℕ) (bs : List ℕ) (at : ℕ) → at < length bs → getD bs at 0 ≢ byte →
+    at + reach byte (drop at bs) ≡ suc at + reach byte (drop (suc at) bs)
 ends-on byte bs at h n = omega (arith, reach-on byte bs at h n)
 
 -- ---- the word at a place
@@ -159,7 +162,8 @@ within-bound highest (some m) n e = go (leb m highest) refl e
     go false t f = let z : _≡_ {A = ℕ} 0 1 = cc in absurd (omega arith)
 
 -- one that was read to the end of its word
-read-whole : (highest : ℕ) (word : List ℕ) (value from at : ℕ) → digitsFrom 0 word ≡ some value → value ≤ highest → at ≡ from + length word →
+read-whole : (highest : ℕ) (word : List ℕ) (value from at : ℕ) → digitsFrom 0 word ≡ some value → value ≤ highest →
+    at ≡ from + length word →
     foundFrom value from at ≡ heldNumber (numberUpTo highest word) at
 read-whole highest [] value from at d h e = rw (number-empty highest, eq-eqb from at (omega arith))
 read-whole highest (b ∷ bs) value from at d h e =
@@ -179,7 +183,8 @@ module _ (highest : ℕ) (line : List ℕ) (from : ℕ) where
   number-ended at value left h e =
       let ends : at ≡ wordEnd line from = sym (e .1) ∙ left .ends in
       let digits : digitsFrom 0 (wordAt line from) ≡ some value = sym (left .digits) ∙ ap (digitsFrom value) (e .0) in
-      read-whole highest (wordAt line from) value from at digits h (ends ∙ word-length line from) ∙ ap (heldNumber (numberUpTo highest (wordAt line from))) ends
+      read-whole highest (wordAt line from) value from at digits h (ends ∙ word-length line from)
+      ∙ ap (heldNumber (numberUpTo highest (wordAt line from))) ends
 
   -- the digits left say that there is none
   pub number-missing : (at value : ℕ) → Left line from at value → within highest (digitsFrom value (wordAt line at)) ≡ none →
@@ -199,7 +204,8 @@ module _ (line : List ℕ) (at value : ℕ) (h : at < length line) (n : getD lin
   pub left-more : (from : ℕ) → Left line from at value → digit0 ≤ getD line at 0 → getD line at 0 < digit0 + 10 →
       Left line from (suc at) (10 * value + (getD line at 0 - digit0))
   left-more from left k l = record {
-    digits = sym (digits-more value (getD line at 0) (wordAt line (suc at)) k l) ∙ ap (digitsFrom value) (sym (word-more line at h n .0)) ∙ left .digits;
+    digits = sym (digits-more value (getD line at 0) (wordAt line (suc at)) k l) ∙ ap (digitsFrom value) (sym (word-more line at h n .0))
+        ∙ left .digits;
     ends = sym (word-more line at h n .1) ∙ left .ends;
   }
 
@@ -239,11 +245,16 @@ module _ (line : List ℕ) (from : ℕ) where
   unfolding settingAt numberAt
   setting-minus h e =
       let more = word-more line from h (λ f. omega arith) in
-      rw (add-one from, word-minus (wordAt line from) (wordAt line (suc from)) (more .0 ∙ ap (λ (b : ℕ). b ∷ wordAt line (suc from)) e), more .1)
+      rw (
+        add-one from,
+        word-minus (wordAt line from) (wordAt line (suc from)) (more .0 ∙ ap (λ (b : ℕ). b ∷ wordAt line (suc from)) e),
+        more .1,
+      )
       (minus-held (numberUpTo lowest16 (wordAt line (suc from))) (wordEnd line (suc from)))
 
   -- the word at a place has no minus before it if there is none at that place
-  plain-word : (from < length line → getD line from 0 ≢ minus) → setting (wordAt line from) ≡ positive (numberUpTo highest16 (wordAt line from))
+  plain-word : (from < length line → getD line from 0 ≢ minus) →
+      setting (wordAt line from) ≡ positive (numberUpTo highest16 (wordAt line from))
   plain-word n = go (ltb from (length line)) (eqb (getD line from 0) space) refl refl
     where
       go : (s t : Bool) → ltb from (length line) ≡ s → eqb (getD line from 0) space ≡ t →
@@ -252,7 +263,8 @@ module _ (line : List ℕ) (from : ℕ) where
       go true true e f = rw (word-none line from (ltb-true from (length line) e) (eqb-true (getD line from 0) space f) .0) word-empty
       go true false e f =
           let h = ltb-true from (length line) e in
-          rw (word-more line from h (eqb-false (getD line from 0) space f) .0) (word-plain (getD line from 0) (wordAt line (suc from)) (n h))
+          rw (word-more line from h (eqb-false (getD line from 0) space f) .0)
+          (word-plain (getD line from 0) (wordAt line (suc from)) (n h))
 
   pub setting-plain : (from < length line → getD line from 0 ≢ minus) → settingAt line from ≡ plainHeld (numberAt highest16 line from)
   unfolding settingAt numberAt
@@ -289,7 +301,8 @@ module _ {A : Type 0} (reads : List ℕ → Option A) (line : List ℕ) (at : �
       go true t = rw (words-first line at (leb-true at (length line) t)) e
       go false t = rw (words-none line at (leb-false at (length line) t)) tt
 
-  word-says : reads [] ≡ none → (a : A) (end : ℕ) → (reads (wordAt line at) ≡ some a) × (wordEnd line at ≡ end) → WordSays reads line at a end
+  word-says : reads [] ≡ none → (a : A) (end : ℕ) → (reads (wordAt line at) ≡ some a) × (wordEnd line at ≡ end) →
+      WordSays reads line at a end
   word-says none′ a end e = record {
     says = e .0;
     begins = omega (arith, word-length line at, e .1);
@@ -327,7 +340,8 @@ module _ (highest : ℕ) (line : List ℕ) (at : ℕ) where
   pub number-says : (n end : ℕ) → numberAt highest line at ≡ Found n end → WordSays (numberUpTo highest) line at n end
   unfolding numberAt
   number-says n end e =
-      word-says (numberUpTo highest) line at (number-empty highest) n end (held-some (numberUpTo highest (wordAt line at)) (wordEnd line at) n end e)
+      word-says (numberUpTo highest) line at (number-empty highest) n end
+      (held-some (numberUpTo highest (wordAt line at)) (wordEnd line at) n end e)
 
   -- "with a number outside its width": none
   pub number-bound : (n end : ℕ) → numberAt highest line at ≡ Found n end → n ≤ highest

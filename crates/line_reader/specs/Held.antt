@@ -17,7 +17,8 @@ use Rattle.line_reader.specs.declared.Call.the-variants.{Submit, Turn, R
 use Rattle.line_reader.specs.declared.Line.the-variants.{Open, Calling, Unread}
 use Rattle.line_reader.specs.declared.LineRead.{LineRead}
 
--- A routine put together command by command, behind those that it holds. It counts past the eighth and holds eight: a longer one is turned down for its count.
+-- A routine put together command by command, behind those that it holds. It counts past the eighth and holds eight: a longer one is turned
+-- down for its count.
 unfoldable pub together : Routine → List Command → Routine
 together r [] = r
 together r (c ∷ cs) = together (withCommand r c) cs

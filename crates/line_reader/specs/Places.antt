@@ -59,5 +59,6 @@ commandBehind c (some cs) = some (c ∷ cs)
 -- A command that begins at a place within a line, and the commands behind it; if there is none, the line has another shape.
 pub record CommandAt (line : List ℕ) (from : ℕ) (r : CommandRead) : Type 0 where
   pub found-one : r .found ≡ true →
-      (from ≤ r .end) × (r .end ≤ length line) × (commands (wordsFrom line from) ≡ commandBehind (r .command) (commands (wordsFrom line (r .end + 1))))
+      (from ≤ r .end) × (r .end ≤ length line)
+      × (commands (wordsFrom line from) ≡ commandBehind (r .command) (commands (wordsFrom line (r .end + 1))))
   pub found-none : r .found ≡ false → from ≤ length line → commands (wordsFrom line from) ≡ none

@@ -1,5 +1,5 @@
-// The forms of lines, by their first letter. A place in a line is where a word begins; the words end at the line's end, so that the word behind the last
-// would begin past it.
+// The forms of lines, by their first letter. A place in a line is where a word begins; the words end at the line's end, so that the word
+// behind the last would begin past it.
 use crate::Call;
 use crate::Line;
 use crate::LineRead;
@@ -19,7 +19,8 @@ ghost use mathlib.Core.Logic.{_≢_};
 ghost use Rattle.routine.specs.Routine.{noRoutine};
 ghost use Rattle.rules.specs.Answers.{failure};
 ghost use Rattle.line_rules.specs.Pieces.{wordsOf};
-ghost use Rattle.line_rules.specs.Reading.{highest8, unread as notRead, openingLine, restartLine, submitLine, callWith, oneNumber, lineWith, lineBy};
+ghost use Rattle.line_rules.specs.Reading.{highest8, unread as notRead, openingLine, restartLine, submitLine, callWith, oneNumber};
+ghost use Rattle.line_rules.specs.Reading.{lineWith, lineBy};
 ghost use Rattle.line_reader.specs.Held.{letterOf, idCall, idLine, heldLine};
 ghost use Rattle.line_reader.specs.Places.{behindLetter, wordsFrom, CommandAt};
 

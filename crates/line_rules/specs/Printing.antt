@@ -30,7 +30,8 @@ unfoldable pub backIfAny : List Back → List ℕ
 backIfAny [] = []
 backIfAny (b ∷ bs) = backText (b ∷ bs)
 
--- An answer, without the byte that ends its line: the forms of 01's listing. "`send` has id, device, setting"; "Other forms: `wait 3 on 2`".
+-- An answer, without the byte that ends its line: the forms of 01's listing. "`send` has id, device, setting"; "Other forms: `wait 3 on
+-- 2`".
 unfoldable pub answerText : Answer → List ℕ
 answerText (refused r) = refusalText r
 answerText (placed i after) = bytes "placed " ++ decimal i ++ bytes " after " ++ decimal after

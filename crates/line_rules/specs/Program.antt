@@ -29,7 +29,8 @@ abbrev pub printsOpening : Option State → Opening → Printed
 printsOpening h (opened s) = record { hub = some s; text = asLine (bytes "opened") }
 printsOpening h (not-opened r) = record { hub = h; text = asLine (refusalText r) }
 
--- "One line of output each, ended by byte 10; an abort caused by `F` or `R` is printed first, on a line of its own." They are the answers of the call.
+-- "One line of output each, ended by byte 10; an abort caused by `F` or `R` is printed first, on a line of its own." They are the answers
+-- of the call.
 abbrev pub printsResult : Result → Printed
 printsResult r = record { hub = some (r .state); text = answersText (r .answers) }
 
@@ -60,7 +61,8 @@ endText (some s) = deviceLines s 0 (s .devices)
 
 -- The whole program on a hub that was opened already, or on none.
 unfoldable pub runFrom : Option State → List ℕ → Printed
-runFrom h input = record { hub = steps h (linesOf input) .hub; text = steps h (linesOf input) .text ++ endText (steps h (linesOf input) .hub) }
+runFrom h input =
+    record { hub = steps h (linesOf input) .hub; text = steps h (linesOf input) .text ++ endText (steps h (linesOf input) .hub) }
 
 -- What the line program prints of an input.
 unfoldable pub programText : List ℕ → List ℕ

@@ -1,4 +1,5 @@
--- What the calls and answers tell is what the hub holds: of each routine, of the ids not given yet, and of which devices are up. Assumes nothing.
+-- What the calls and answers tell is what the hub holds: of each routine, of the ids not given yet, and of which devices are up. Assumes
+-- nothing.
 use mathlib.Core.Path.{_≡_, refl, sym, ap, _∙_, subst}
 use mathlib.Core.Bool.{Bool, true, false, not}
 use mathlib.Core.List.{List, [], _∷_, _++_, append-nil}
@@ -18,17 +19,21 @@ use Rattle.rules.specs.Abort.{leave, abort}
 use Rattle.rules.specs.Submit.{newcomer, place}
 use Rattle.rules.specs.Turn.{commit, commitTurn, sendTurn, skipTurn}
 use Rattle.rules.specs.Report.{doneReport, skippedState, skipReport}
-use Rattle.rules.specs.History.{Outcome, reported-done, reported-failed, not-sent, Answered, Account, placedAccount, sentAccount, answeredAccount, endedAccount, noteAnswers, workingAfterAll}
+use Rattle.rules.specs.History.{Outcome, reported-done, reported-failed, not-sent, Answered, Account, placedAccount, sentAccount}
+use Rattle.rules.specs.History.{answeredAccount, endedAccount, noteAnswers, workingAfterAll}
 use Rattle.rules.specs.Order.{Event, failure-of, restart-of}
 use Rattle.rules.specs.Demand3.{doneOnes}
 use Rattle.rules.specs.HubOrder.{doneSteps}
 use Rattle.rules.specs.Attach.{attach, oneRestart}
-use Rattle.rules.proofs.Lists.{byIf, put-same, put-other, put-keeps, fold-++, each-mid, each-drop, each-insert, NotIn, ids-fresh, ids-right}
+use Rattle.rules.proofs.Lists.{byIf, put-same, put-other, put-keeps, fold-++, each-mid, each-drop, each-insert, NotIn, ids-fresh}
+use Rattle.rules.proofs.Lists.{ids-right}
 use Rattle.rules.proofs.Groups.{Group, ids, alone, with, leaving, attachEvent, other-ids}
 use Rattle.rules.proofs.Same.{Pairwise, Same, same-refl, same-placed, same-leaving, same-attached, same-each}
-use Rattle.rules.proofs.Steps.{leftSteps, answeredSteps, send-step, skip-step, done-step, done-gains, fail-step, fail-done, Fresh, fresh-newcomer}
+use Rattle.rules.proofs.Steps.{leftSteps, answeredSteps, send-step, skip-step, done-step, done-gains, fail-step, fail-done, Fresh}
+use Rattle.rules.proofs.Steps.{fresh-newcomer}
 use Rattle.rules.proofs.Invariant.{HubOk, commandsIn, AccountTells}
-use Rattle.rules.proofs.View.{sentMember, skippedMember, doneMember, failedMember, Gone, nobody, somebody, Moves, places, commits, sends, skips, dones, misses, aborts, fails, restarts}
+use Rattle.rules.proofs.View.{sentMember, skippedMember, doneMember, failedMember, Gone, nobody, somebody, Moves, places, commits}
+use Rattle.rules.proofs.View.{sends, skips, dones, misses, aborts, fails, restarts}
 use Rattle.rules.proofs.Fields.{Fixed, gone-fixed, attach-fixed}
 use Rattle.rules.proofs.Marks.{in-turn, ids-at}
 
@@ -51,12 +56,15 @@ same-tells : (a : ℕ → Account) {l k : List Group} → Pairwise Same l k → 
 same-tells a = same-each (AccountTells a) (λ g h q. tells-same a a g h q refl)
 
 -- the account of another id changes
-others : (a : ℕ → Account) (i : ℕ) (x : Account) (l : List Group) → NotIn i (ids l) → Each (AccountTells a) l → Each (AccountTells (put a i x)) l
+others : (a : ℕ → Account) (i : ℕ) (x : Account) (l : List Group) → NotIn i (ids l) → Each (AccountTells a) l →
+    Each (AccountTells (put a i x)) l
 others a i x [] n t = tt
-others a i x (g ∷ l) n t = (tells-same a (put a i x) g g (same-refl g) (put-other a i x (g .member .id) (n .0)) (t .0), others a i x l (n .1) (t .1))
+others a i x (g ∷ l) n t =
+    (tells-same a (put a i x) g g (same-refl g) (put-other a i x (g .member .id) (n .0)) (t .0), others a i x l (n .1) (t .1))
 
 -- the account of g changes, and the others'
-module _ (s : State) (a : ℕ → Account) (x : Account) (ga : List Group) (g : Group) (gb : List Group) (k : HubOk s (ga ++ (g ∷ gb))) (t : Each (AccountTells a) (ga ++ (g ∷ gb))) where
+module _ (s : State) (a : ℕ → Account) (x : Account) (ga : List Group) (g : Group) (gb : List Group) (k : HubOk s (ga ++ (g ∷ gb)))
+    (t : Each (AccountTells a) (ga ++ (g ∷ gb))) where
   besides : Each (AccountTells (put a (g .member .id) x)) (ga ++ gb)
   besides = others a (g .member .id) x (ga ++ gb) (other-ids (s .nextId) ga g gb (k .ids-ok)) (each-drop (AccountTells a) ga g gb t)
 
@@ -69,8 +77,10 @@ module _ (s : State) (a : ℕ → Account) (x : Account) (ga : List Group) (g : 
   leave-tells = same-tells (put a (g .member .id) x) (same-leaving ga g gb) besides
 
 -- the account x tells of h
-own-tells : (a : ℕ → Account) (i : ℕ) (x : Account) (h : Group) → h .member .id ≡ i → x .running ≡ not (h .member .committed) → x .left ≡ leftSteps (h .member .steps) →
-    ((y : Flight) → flight (h .member .steps) ≡ some y → x .lastSent ≡ y .command) → commandsIn (x .answered) ≡ answeredSteps (h .member .steps) →
+own-tells : (a : ℕ → Account) (i : ℕ) (x : Account) (h : Group) → h .member .id ≡ i → x .running ≡ not (h .member .committed) →
+    x .left ≡ leftSteps (h .member .steps) →
+    ((y : Flight) → flight (h .member .steps) ≡ some y → x .lastSent ≡ y .command) →
+    commandsIn (x .answered) ≡ answeredSteps (h .member .steps) →
     doneOnes (x .answered) ≡ doneSteps (h .member .steps) → AccountTells (put a i x) h
 own-tells a i x h same r l s n d = record {
   runs = ap (λ (y : Account). y .running) is ∙ r;
@@ -94,7 +104,8 @@ done-snoc [] x = refl
 done-snoc (y ∷ l) x = go (y .outcome) (done-snoc l x)
   where
     go : (o : Outcome) → doneOnes (l ++ (x ∷ [])) ≡ doneOnes l ++ doneOnes (x ∷ []) →
-        doneOnes (record { command = y .command; outcome = o } ∷ (l ++ (x ∷ []))) ≡ doneOnes (record { command = y .command; outcome = o } ∷ l) ++ doneOnes (x ∷ [])
+        doneOnes (record { command = y .command; outcome = o } ∷ (l ++ (x ∷ []))) ≡ doneOnes
+        (record { command = y .command; outcome = o } ∷ l) ++ doneOnes (x ∷ [])
     go reported-done e = ap (λ m. y .command ∷ m) e
     go reported-failed e = e
     go not-sent e = e
@@ -104,16 +115,20 @@ no-sent : (c : Command) (h : Group) → flight (h .member .steps) ≡ none → (
 no-sent c h e y q = absurd (Option·none-ne-some y (sym e ∙ q))
 
 -- the first command that is left, c, is answered: g becomes h
-answered-tells : (a : ℕ → Account) (g h : Group) (c : Command) (o : Outcome) → h .member .id ≡ g .member .id → h .member .committed ≡ g .member .committed →
-    leftSteps (g .member .steps) ≡ c ∷ leftSteps (h .member .steps) → answeredSteps (h .member .steps) ≡ answeredSteps (g .member .steps) ++ (c ∷ []) →
-    flight (h .member .steps) ≡ none → doneSteps (h .member .steps) ≡ doneSteps (g .member .steps) ++ doneOnes (record { command = c; outcome = o } ∷ []) → AccountTells a g →
+answered-tells : (a : ℕ → Account) (g h : Group) (c : Command) (o : Outcome) → h .member .id ≡ g .member .id →
+    h .member .committed ≡ g .member .committed →
+    leftSteps (g .member .steps) ≡ c ∷ leftSteps (h .member .steps) → answeredSteps (h .member .steps) ≡ answeredSteps (g .member .steps)
+    ++ (c ∷ []) →
+    flight (h .member .steps) ≡ none → doneSteps (h .member .steps) ≡ doneSteps (g .member .steps)
+    ++ doneOnes (record { command = c; outcome = o } ∷ []) → AccountTells a g →
     AccountTells (put a (g .member .id) (answeredAccount o (a (g .member .id) .left) (a (g .member .id)))) h
 answered-tells a g h c o same same-committed left more grounded done-more t =
     subst (λ q. AccountTells (put a i (answeredAccount o q (a i))) h) (sym (t .left-is ∙ left))
     (own-tells a i (answeredAccount o (c ∷ leftSteps (h .member .steps)) (a i)) h same (t .runs ∙ ap not (sym same-committed)) refl
     (no-sent (a i .lastSent) h grounded)
     (in-snoc (a i .answered) (record { command = c; outcome = o }) ∙ ap (λ l. l ++ (c ∷ [])) (t .answered-is) ∙ sym more)
-    (done-snoc (a i .answered) (record { command = c; outcome = o }) ∙ ap (λ l. l ++ doneOnes (record { command = c; outcome = o } ∷ [])) (t .done-is) ∙ sym done-more))
+    (done-snoc (a i .answered) (record { command = c; outcome = o })
+    ∙ ap (λ l. l ++ doneOnes (record { command = c; outcome = o } ∷ [])) (t .done-is) ∙ sym done-more))
   where
     i : ℕ
     i = g .member .id
@@ -123,7 +138,8 @@ answered-tells a g h c o same same-committed left more grounded done-more t =
 pub note-++ : (c : Call) (l k : List Answer) (a : ℕ → Account) → noteAnswers c (l ++ k) a ≡ noteAnswers c k (noteAnswers c l a)
 note-++ c = fold-++ (noteAnswers c) (λ a. refl) (λ x l a. refl)
 
-gone-tells : (s t : State) (c : Call) (d : ℕ) (a : ℕ → Account) (l : List Group) {r : Result} {lead : List Event} {k : List Group} → HubOk s l → Each (AccountTells a) l → Gone t d l r lead k →
+gone-tells : (s t : State) (c : Call) (d : ℕ) (a : ℕ → Account) (l : List Group) {r : Result} {lead : List Event} {k : List Group} →
+    HubOk s l → Each (AccountTells a) l → Gone t d l r lead k →
     Each (AccountTells (noteAnswers c (r .answers) a)) k
 unfolding abort
 gone-tells s t c d a l h w (nobody q) = w
@@ -136,7 +152,8 @@ unfolding newcomer commit commitTurn sendTurn skipTurn doneReport skipReport abo
 accounts-moves s a l h t (places cs ga gb q e u p n) =
     same-tells (put a i x) (same-placed ga (alone new) gb)
     (each-insert (AccountTells (put a i x)) ga (alone new) gb (others a i x (ga ++ gb) fresh (subst (Each (AccountTells a)) e t))
-    (own-tells a i x (alone new) refl refl (sym (f .left-is)) (no-sent zeroCommand (alone new) (f .flight-is)) (sym (f .answered-is)) (sym (f .done-is))))
+    (own-tells a i x (alone new) refl refl (sym (f .left-is)) (no-sent zeroCommand (alone new) (f .flight-is)) (sym (f .answered-is))
+    (sym (f .done-is))))
   where
     i : ℕ
     i = s .nextId
@@ -186,13 +203,17 @@ accounts-moves s a l h t (misses i code ga g gb x e n r f q) =
     let k = fail-step (g .member) (in-turn s ga g gb w) x f in
     around s a _ ga g gb w v (with g (failedMember g))
     (answered-tells a g (with g (failedMember g)) (x .command) reported-failed refl refl (k .left-is) (k .more-answered) (k .flight-is)
-    (fail-done (g .member) (in-turn s ga g gb w) x f ∙ sym (append-nil (doneSteps (g .member .steps)))) (each-mid (AccountTells a) ga g gb v))
-accounts-moves s a l h t (aborts c ga g gb e r k) = leave-tells s a (endedAccount (a (g .member .id))) ga g gb (subst (HubOk s) e h) (subst (Each (AccountTells a)) e t)
+    (fail-done (g .member) (in-turn s ga g gb w) x f ∙ sym (append-nil (doneSteps (g .member .steps))))
+    (each-mid (AccountTells a) ga g gb v))
+accounts-moves s a l h t (aborts c ga g gb e r k) =
+    leave-tells s a (endedAccount (a (g .member .id))) ga g gb (subst (HubOk s) e h) (subst (Each (AccountTells a)) e t)
 accounts-moves s a l h t (fails d r lead k n u w) =
-    subst (λ b. Each (AccountTells b) (attachEvent (r .state .mark d) (failure-of d) k)) (sym (note-++ (failure d) (r .answers) (down d (r .state .mark d) ∷ []) a))
+    subst (λ b. Each (AccountTells b) (attachEvent (r .state .mark d) (failure-of d) k))
+    (sym (note-++ (failure d) (r .answers) (down d (r .state .mark d) ∷ []) a))
     (same-tells _ (same-attached (r .state .mark d) (failure-of d) k) (gone-tells s _ (failure d) d a l h t w))
 accounts-moves s a l h t (restarts d v r lead k n u w) =
-    subst (λ b. Each (AccountTells b) (attachEvent (r .state .mark d) (restart-of d v) k)) (sym (note-++ (restart d v) (r .answers) (up d (r .state .mark d) ∷ []) a))
+    subst (λ b. Each (AccountTells b) (attachEvent (r .state .mark d) (restart-of d v) k))
+    (sym (note-++ (restart d v) (r .answers) (up d (r .state .mark d) ∷ []) a))
     (same-tells _ (same-attached (r .state .mark d) (restart-of d v) k) (gone-tells s _ (restart d v) d a l h t w))
 
 -- ---- for an id that is not given yet nothing was sent
@@ -208,7 +229,8 @@ put-sends = put-keeps (λ (x : Account). x .sends)
 pub put-answered : (a : ℕ → Account) (j : ℕ) (o : Outcome) (i : ℕ) → put a j (answeredAccount o (a j .left) (a j)) i .sends ≡ a i .sends
 put-answered a j o = put-sends a j (answeredAccount o (a j .left) (a j)) (answered-sends o (a j .left) (a j))
 
-gone-sends : (s : State) (c : Call) (d : ℕ) (a : ℕ → Account) (l : List Group) {r : Result} {lead : List Event} {k : List Group} → Gone s d l r lead k → (i : ℕ) →
+gone-sends : (s : State) (c : Call) (d : ℕ) (a : ℕ → Account) (l : List Group) {r : Result} {lead : List Event} {k : List Group} →
+    Gone s d l r lead k → (i : ℕ) →
     noteAnswers c (r .answers) a i .sends ≡ a i .sends
 unfolding abort
 gone-sends s c d a l (nobody q) i = refl
@@ -217,12 +239,15 @@ gone-sends s c d a l (somebody ga g gb e q) i = put-sends a (g .member .id) _ re
 abbrev pub Unsent : State → (ℕ → Account) → Type 0
 Unsent s a = (i : ℕ) → s .nextId ≤ i → a i .sends ≡ 0
 
-pub unsent-moves : (s : State) (a : ℕ → Account) (l : List Group) {c : Call} {r : Result} {lead : List Event} {k : List Group} → HubOk s l → Unsent s a → Moves s l c r lead k →
+pub unsent-moves : (s : State) (a : ℕ → Account) (l : List Group) {c : Call} {r : Result} {lead : List Event} {k : List Group} → HubOk s l →
+    Unsent s a → Moves s l c r lead k →
     Unsent (r .state) (noteAnswers c (r .answers) a)
 unfolding place commitTurn sendTurn skipTurn doneReport skippedState skipReport abort leave attach
-unsent-moves s a l h u (places cs ga gb q f v p n) i e = byIf (λ (x : Account). x .sends ≡ 0) (eqb i (s .nextId)) (λ _. refl) (λ _. u i (omega arith))
+unsent-moves s a l h u (places cs ga gb q f v p n) i e =
+    byIf (λ (x : Account). x .sends ≡ 0) (eqb i (s .nextId)) (λ _. refl) (λ _. u i (omega arith))
 unsent-moves s a l h u (commits j ga g gb f n r k q) i e = put-sends a (g .member .id) _ refl i ∙ u i e
-unsent-moves s a l h u (sends j ga g gb c f n r k q x v) i e = ap (λ (y : Account). y .sends) (put-other a (g .member .id) _ i (λ z. given z)) ∙ u i e
+unsent-moves s a l h u (sends j ga g gb c f n r k q x v) i e =
+    ap (λ (y : Account). y .sends) (put-other a (g .member .id) _ i (λ z. given z)) ∙ u i e
   where
     below : g .member .id < s .nextId
     below = ids-right (s .nextId) (ids ga) (g .member .id ∷ ids gb) (ids-at s ga g gb (subst (HubOk s) f h)) .1
@@ -245,7 +270,8 @@ unsent-moves s a l h u (restarts d v r lead k n w g) i e =
 working-++ : (l k : List Answer) (w : ℕ → Bool) → workingAfterAll (l ++ k) w ≡ workingAfterAll k (workingAfterAll l w)
 working-++ = fold-++ workingAfterAll (λ w. refl) (λ x l w. refl)
 
-gone-working : (s : State) (d : ℕ) (w : ℕ → Bool) (l : List Group) {r : Result} {lead : List Event} {k : List Group} → Gone s d l r lead k → workingAfterAll (r .answers) w ≡ w
+gone-working : (s : State) (d : ℕ) (w : ℕ → Bool) (l : List Group) {r : Result} {lead : List Event} {k : List Group} → Gone s d l r lead k →
+    workingAfterAll (r .answers) w ≡ w
 unfolding abort
 gone-working s d w l (nobody q) = refl
 gone-working s d w l (somebody ga g gb e q) = refl
@@ -265,7 +291,8 @@ working-moves s w l e (dones i code ga g gb x f n r k q) d = e d
 working-moves s w l e (misses i code ga g gb x f n r k q) d = e d
 working-moves s w l e (aborts c ga g gb f r k) d = e d
 working-moves s w l e (fails x r lead k n u g) d =
-    ap (λ f. f d) (working-++ (r .answers) (down x (r .state .mark x) ∷ []) w ∙ ap (λ f. put f x false) (gone-working _ x w l g)) ∙ put-agree w (s .up) x false d (e d)
+    ap (λ f. f d) (working-++ (r .answers) (down x (r .state .mark x) ∷ []) w ∙ ap (λ f. put f x false) (gone-working _ x w l g))
+    ∙ put-agree w (s .up) x false d (e d)
     ∙ ap (λ (f : Fixed). f .up d) (sym (gone-fixed _ x l g))
 working-moves s w l e (restarts x v r lead k n u g) d =
     ap (λ f. f d) (working-++ (r .answers) (up x (r .state .mark x) ∷ []) w ∙ ap (λ f. put f x true) (gone-working s x w l g))

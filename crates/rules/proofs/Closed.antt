@@ -37,7 +37,8 @@ no-routine (c ∷ cs) = by (ltb maxCommands (length (c ∷ cs))) refl
     by true e = (refusalOf command-count, check-long 0 (c ∷ cs) (ltb-true maxCommands (length (c ∷ cs)) e))
     by false e = (
       refusalOf (device-not-below 0),
-      check-counted 0 (c ∷ cs) (omega arith) (ltb-false maxCommands (length (c ∷ cs)) e) ∙ commands-first 0 0 c cs (command-device 0 0 c (omega arith)),
+      check-counted 0 (c ∷ cs) (omega arith) (ltb-false maxCommands (length (c ∷ cs)) e)
+          ∙ commands-first 0 0 c cs (command-device 0 0 c (omega arith)),
     )
 
 no-submission : (cs : List Command) → (r : Refusal) × (submitOf closedHub cs ≡ turnedDown r closedHub)

@@ -1,5 +1,6 @@
--- Worlds in which a wrong rule shows: each is computed, and one of the three parts of demand 3 fails in it as soon as the rule is changed as the edit of the same name
--- in `must-fail/` does. (`failed_never_puts_back` shows in `failedAfterChange` of `Worlds.antt`.) Assumes nothing.
+-- Worlds in which a wrong rule shows: each is computed, and one of the three parts of demand 3 fails in it as soon as the rule is changed
+-- as the edit of the same name in `must-fail/` does. (`failed_never_puts_back` shows in `failedAfterChange` of `Worlds.antt`.) Assumes
+-- nothing.
 use mathlib.Core.Path.{refl}
 use mathlib.Core.List.{List, [], _∷_, _++_}
 use lib.IntN.{pos}
@@ -12,13 +13,16 @@ use Rattle.rules.specs.Demand3.{orderIn, Begins, CommandsStand}
 use Rattle.rules.specs.Examples.{must, best}
 use Rattle.rules.proofs.Worlds.{calcWorld, Passage, endOf, Passes, call, elsewhere}
 
--- commit_leaves_at_once: 2 is committed behind 1, which runs; 3 follows 2. If 2 were gone, 3 would be placed ahead of both, and the serial run would end with 2's 70.
+-- commit_leaves_at_once: 2 is committed behind 1, which runs; 3 follows 2. If 2 were gone, 3 would be placed ahead of both, and the serial
+-- run would end with 2's 70.
 abbrev pub committedStays : Passage
 committedStays = record {
   devices = 2;
   passLimit = 8;
-  acts = call (submit (must 0 (pos 50) ∷ must 1 (pos 20) ∷ [])) ∷ call (turn 1) ∷ takes-one 0 0 ∷ call (report 1 0) ∷ call (submit (must 0 (pos 70) ∷ [])) ∷ call (turn 2) ∷ takes-one 0 0
-      ∷ call (report 2 0) ∷ call (turn 2) ∷ call (submit (must 0 (pos 9) ∷ [])) ∷ call (turn 3) ∷ takes-one 0 0 ∷ call (report 3 0) ∷ call (turn 3) ∷ call (cancel 1) ∷ takes-one 0 0 ∷ [];
+  acts = call (submit (must 0 (pos 50) ∷ must 1 (pos 20) ∷ [])) ∷ call (turn 1) ∷ takes-one 0 0 ∷ call (report 1 0) ∷ call
+      (submit (must 0 (pos 70) ∷ [])) ∷ call (turn 2) ∷ takes-one 0 0
+      ∷ call (report 2 0) ∷ call (turn 2) ∷ call (submit (must 0 (pos 9) ∷ [])) ∷ call (turn 3) ∷ takes-one 0 0 ∷ call (report 3 0) ∷ call
+      (turn 3) ∷ call (cancel 1) ∷ takes-one 0 0 ∷ [];
   settings = pos 9 ∷ pos 0 ∷ [];
 }
 
@@ -26,9 +30,28 @@ pub committed-stays : Passes committedStays
 unfolding calcWorld
 committed-stays = record {
   accepted = refl;
-  premise = ((λ _. tt), ((λ _. tt), (tt, ((λ _. refl), ((λ _. tt), ((λ _. tt), (tt, ((λ _. refl), ((λ _. tt), ((λ _. tt), ((λ _. tt), (tt, ((λ _. refl), ((λ _. tt), ((λ _. tt), (tt, tt))))))))))))))));
+  premise = (
+    (λ _. tt),
+    (
+      (λ _. tt),
+      (
+        tt,
+        (
+          (λ _. refl),
+          (
+            (λ _. tt),
+            (
+              (λ _. tt),
+              (tt, ((λ _. refl), ((λ _. tt), ((λ _. tt), ((λ _. tt), (tt, ((λ _. refl), ((λ _. tt), ((λ _. tt), (tt, tt)))))))))),
+            ),
+          ),
+        ),
+      ),
+    ),
+  );
   none-runs = λ i. elsewhere (accounts (endOf committedStays)) 1 refl i
-      (λ n. elsewhere (accounts (endOf committedStays)) 2 refl i (λ m. elsewhere (accounts (endOf committedStays)) 3 refl i (λ k. rw (n, m, k) refl)));
+      (λ n. elsewhere (accounts (endOf committedStays)) 2 refl i
+      (λ m. elsewhere (accounts (endOf committedStays)) 3 refl i (λ k. rw (n, m, k) refl)));
   ready = refl;
   settings-are = refl;
   serial-is = refl;
@@ -40,7 +63,8 @@ abbrev pub eventAfterAbort : Passage
 eventAfterAbort = record {
   devices = 2;
   passLimit = 0;
-  acts = call (submit (must 0 (pos 50) ∷ must 0 (pos 60) ∷ [])) ∷ call (turn 1) ∷ takes-one 0 0 ∷ call (report 1 0) ∷ call (submit (must 1 (pos 5) ∷ [])) ∷ calls (failure 0) (pos 33)
+  acts = call (submit (must 0 (pos 50) ∷ must 0 (pos 60) ∷ [])) ∷ call (turn 1) ∷ takes-one 0 0 ∷ call (report 1 0) ∷ call
+      (submit (must 1 (pos 5) ∷ [])) ∷ calls (failure 0) (pos 33)
       ∷ call (restart 0 (pos 33)) ∷ call (turn 2) ∷ takes-one 1 0 ∷ call (report 2 0) ∷ call (turn 2) ∷ [];
   settings = pos 33 ∷ pos 5 ∷ [];
 }
@@ -49,8 +73,12 @@ pub event-after-abort : Passes eventAfterAbort
 unfolding calcWorld
 event-after-abort = record {
   accepted = refl;
-  premise = ((λ _. tt), ((λ _. tt), (tt, ((λ _. refl), ((λ _. tt), ((λ _. tt), ((λ _. refl), ((λ _. tt), (tt, ((λ _. refl), ((λ _. tt), tt)))))))))));
-  none-runs = λ i. elsewhere (accounts (endOf eventAfterAbort)) 1 refl i (λ n. elsewhere (accounts (endOf eventAfterAbort)) 2 refl i (λ m. rw (n, m) refl));
+  premise = (
+    (λ _. tt),
+    ((λ _. tt), (tt, ((λ _. refl), ((λ _. tt), ((λ _. tt), ((λ _. refl), ((λ _. tt), (tt, ((λ _. refl), ((λ _. tt), tt)))))))))),
+  );
+  none-runs = λ i. elsewhere (accounts (endOf eventAfterAbort)) 1 refl i
+      (λ n. elsewhere (accounts (endOf eventAfterAbort)) 2 refl i (λ m. rw (n, m) refl));
   ready = refl;
   settings-are = refl;
   serial-is = refl;
@@ -62,7 +90,8 @@ abbrev pub laterStands : Passage
 laterStands = record {
   devices = 2;
   passLimit = 8;
-  acts = call (submit (must 0 (pos 50) ∷ must 1 (pos 20) ∷ [])) ∷ call (turn 1) ∷ takes-one 0 0 ∷ call (report 1 0) ∷ call (submit (must 0 (pos 70) ∷ [])) ∷ call (turn 2) ∷ takes-one 0 0
+  acts = call (submit (must 0 (pos 50) ∷ must 1 (pos 20) ∷ [])) ∷ call (turn 1) ∷ takes-one 0 0 ∷ call (report 1 0) ∷ call
+      (submit (must 0 (pos 70) ∷ [])) ∷ call (turn 2) ∷ takes-one 0 0
       ∷ call (report 2 0) ∷ call (turn 2) ∷ call (cancel 1) ∷ takes-one 0 0 ∷ [];
   settings = pos 70 ∷ pos 0 ∷ [];
 }
@@ -71,8 +100,12 @@ pub later-stands : Passes laterStands
 unfolding calcWorld
 later-stands = record {
   accepted = refl;
-  premise = ((λ _. tt), ((λ _. tt), (tt, ((λ _. refl), ((λ _. tt), ((λ _. tt), (tt, ((λ _. refl), ((λ _. tt), ((λ _. tt), (tt, tt)))))))))));
-  none-runs = λ i. elsewhere (accounts (endOf laterStands)) 1 refl i (λ n. elsewhere (accounts (endOf laterStands)) 2 refl i (λ m. rw (n, m) refl));
+  premise = (
+    (λ _. tt),
+    ((λ _. tt), (tt, ((λ _. refl), ((λ _. tt), ((λ _. tt), (tt, ((λ _. refl), ((λ _. tt), ((λ _. tt), (tt, tt)))))))))),
+  );
+  none-runs = λ i. elsewhere (accounts (endOf laterStands)) 1 refl i
+      (λ n. elsewhere (accounts (endOf laterStands)) 2 refl i (λ m. rw (n, m) refl));
   ready = refl;
   settings-are = refl;
   serial-is = refl;
@@ -84,8 +117,10 @@ abbrev pub markGoesBack : Passage
 markGoesBack = record {
   devices = 2;
   passLimit = 8;
-  acts = call (submit (must 0 (pos 50) ∷ must 1 (pos 1) ∷ [])) ∷ call (turn 1) ∷ takes-one 0 0 ∷ call (report 1 0) ∷ call (submit (must 0 (pos 60) ∷ must 0 (pos 61) ∷ [])) ∷ call (turn 2)
-      ∷ takes-one 0 0 ∷ call (report 2 0) ∷ call (cancel 2) ∷ takes-one 0 0 ∷ calls (failure 0) (pos 33) ∷ call (restart 0 (pos 33)) ∷ call (turn 1) ∷ takes-one 1 0 ∷ call (report 1 0)
+  acts = call (submit (must 0 (pos 50) ∷ must 1 (pos 1) ∷ [])) ∷ call (turn 1) ∷ takes-one 0 0 ∷ call (report 1 0) ∷ call
+      (submit (must 0 (pos 60) ∷ must 0 (pos 61) ∷ [])) ∷ call (turn 2)
+      ∷ takes-one 0 0 ∷ call (report 2 0) ∷ call (cancel 2) ∷ takes-one 0 0 ∷ calls (failure 0) (pos 33) ∷ call (restart 0 (pos 33)) ∷ call
+      (turn 1) ∷ takes-one 1 0 ∷ call (report 1 0)
       ∷ call (turn 1) ∷ [];
   settings = pos 33 ∷ pos 1 ∷ [];
 }
@@ -94,8 +129,27 @@ pub mark-goes-back : Passes markGoesBack
 unfolding calcWorld
 mark-goes-back = record {
   accepted = refl;
-  premise = ((λ _. tt), ((λ _. tt), (tt, ((λ _. refl), ((λ _. tt), ((λ _. tt), (tt, ((λ _. refl), ((λ _. tt), (tt, ((λ _. tt), ((λ _. refl), ((λ _. tt), (tt, ((λ _. refl), ((λ _. tt), tt))))))))))))))));
-  none-runs = λ i. elsewhere (accounts (endOf markGoesBack)) 1 refl i (λ n. elsewhere (accounts (endOf markGoesBack)) 2 refl i (λ m. rw (n, m) refl));
+  premise = (
+    (λ _. tt),
+    (
+      (λ _. tt),
+      (
+        tt,
+        (
+          (λ _. refl),
+          (
+            (λ _. tt),
+            (
+              (λ _. tt),
+              (tt, ((λ _. refl), ((λ _. tt), (tt, ((λ _. tt), ((λ _. refl), ((λ _. tt), (tt, ((λ _. refl), ((λ _. tt), tt)))))))))),
+            ),
+          ),
+        ),
+      ),
+    ),
+  );
+  none-runs = λ i. elsewhere (accounts (endOf markGoesBack)) 1 refl i
+      (λ n. elsewhere (accounts (endOf markGoesBack)) 2 refl i (λ m. rw (n, m) refl));
   ready = refl;
   settings-are = refl;
   serial-is = refl;
@@ -107,8 +161,10 @@ abbrev pub eventsStay : Passage
 eventsStay = record {
   devices = 2;
   passLimit = 8;
-  acts = call (submit (must 0 (pos 50) ∷ must 1 (pos 1) ∷ [])) ∷ call (turn 1) ∷ takes-one 0 0 ∷ call (report 1 0) ∷ call (submit (must 0 (pos 60) ∷ must 1 (pos 2) ∷ [])) ∷ call (turn 2)
-      ∷ takes-one 0 0 ∷ call (report 2 0) ∷ calls (failure 0) (pos 33) ∷ call (restart 0 (pos 33)) ∷ call (cancel 2) ∷ takes-one 0 0 ∷ call (turn 1) ∷ takes-one 1 0 ∷ call (report 1 0)
+  acts = call (submit (must 0 (pos 50) ∷ must 1 (pos 1) ∷ [])) ∷ call (turn 1) ∷ takes-one 0 0 ∷ call (report 1 0) ∷ call
+      (submit (must 0 (pos 60) ∷ must 1 (pos 2) ∷ [])) ∷ call (turn 2)
+      ∷ takes-one 0 0 ∷ call (report 2 0) ∷ calls (failure 0) (pos 33) ∷ call (restart 0 (pos 33)) ∷ call (cancel 2) ∷ takes-one 0 0 ∷ call
+      (turn 1) ∷ takes-one 1 0 ∷ call (report 1 0)
       ∷ call (turn 1) ∷ [];
   settings = pos 33 ∷ pos 1 ∷ [];
 }
@@ -117,8 +173,27 @@ pub events-stay : Passes eventsStay
 unfolding calcWorld
 events-stay = record {
   accepted = refl;
-  premise = ((λ _. tt), ((λ _. tt), (tt, ((λ _. refl), ((λ _. tt), ((λ _. tt), (tt, ((λ _. refl), ((λ _. tt), ((λ _. refl), ((λ _. tt), (tt, ((λ _. tt), (tt, ((λ _. refl), ((λ _. tt), tt))))))))))))))));
-  none-runs = λ i. elsewhere (accounts (endOf eventsStay)) 1 refl i (λ n. elsewhere (accounts (endOf eventsStay)) 2 refl i (λ m. rw (n, m) refl));
+  premise = (
+    (λ _. tt),
+    (
+      (λ _. tt),
+      (
+        tt,
+        (
+          (λ _. refl),
+          (
+            (λ _. tt),
+            (
+              (λ _. tt),
+              (tt, ((λ _. refl), ((λ _. tt), ((λ _. refl), ((λ _. tt), (tt, ((λ _. tt), (tt, ((λ _. refl), ((λ _. tt), tt)))))))))),
+            ),
+          ),
+        ),
+      ),
+    ),
+  );
+  none-runs = λ i. elsewhere (accounts (endOf eventsStay)) 1 refl i
+      (λ n. elsewhere (accounts (endOf eventsStay)) 2 refl i (λ m. rw (n, m) refl));
   ready = refl;
   settings-are = refl;
   serial-is = refl;
@@ -129,9 +204,11 @@ events-stay = record {
 abbrev pub Stands : List Act → Type 0
 Stands acts = let w = worldAfterAll (newWorld (newHub 1 0 1)) acts in CommandsStand (accounts w) (entries (orderIn w)) allUp
 
--- restart_aborts_nobody: 1 has skipped 0 as down and has 0 left: the restart aborts it. Else it would do 0 ahead of the restart, where 0 is down.
+-- restart_aborts_nobody: 1 has skipped 0 as down and has 0 left: the restart aborts it. Else it would do 0 ahead of the restart, where 0 is
+-- down.
 pub restart-aborts :
-    Stands (call (failure 0) ∷ call (submit (best 0 (pos 5) ∷ best 0 (pos 6) ∷ [])) ∷ call (turn 1) ∷ call (restart 0 (pos 0)) ∷ call (turn 1) ∷ takes-one 0 0 ∷ call (report 1 0) ∷ [])
+    Stands (call (failure 0) ∷ call (submit (best 0 (pos 5) ∷ best 0 (pos 6) ∷ [])) ∷ call (turn 1) ∷ call (restart 0 (pos 0)) ∷ call
+    (turn 1) ∷ takes-one 0 0 ∷ call (report 1 0) ∷ [])
 unfolding calcWorld
 restart-aborts = tt
 
@@ -140,9 +217,11 @@ pub skip-begins : Stands (call (failure 0) ∷ call (submit (best 0 (pos 5) ∷ 
 unfolding calcWorld
 skip-begins = (refl, (refl, tt), tt)
 
--- marks_stay_settled: 1 has settled and the mark of 0 is 0, so the failure of 0 comes last in the settled part. Attached to 1, it would get in ahead of 2, which has settled too.
+-- marks_stay_settled: 1 has settled and the mark of 0 is 0, so the failure of 0 comes last in the settled part. Attached to 1, it would get
+-- in ahead of 2, which has settled too.
 pub settled-stands :
-    let first = call (submit (must 0 (pos 5) ∷ [])) ∷ call (turn 1) ∷ call (report 1 0) ∷ call (turn 1) ∷ call (submit (must 1 (pos 6) ∷ [])) ∷ call (turn 2) ∷ call (report 2 0) ∷ call (turn 2) ∷ [] in
+    let first = call (submit (must 0 (pos 5) ∷ [])) ∷ call (turn 1) ∷ call (report 1 0) ∷ call (turn 1) ∷ call
+    (submit (must 1 (pos 6) ∷ [])) ∷ call (turn 2) ∷ call (report 2 0) ∷ call (turn 2) ∷ [] in
     let o = newWorld (newHub 2 0 1) in
     Begins (orderIn (worldAfterAll o first) .settled) (entries (orderIn (worldAfterAll o (first ++ (call (failure 0) ∷ [])))))
 unfolding calcWorld

@@ -1,4 +1,5 @@
--- An abort, at a call of the routine's own or ahead of a failure or restart, and such an event: each device still comes to its due setting. Assumes nothing.
+-- An abort, at a call of the routine's own or ahead of a failure or restart, and such an event: each device still comes to its due setting.
+-- Assumes nothing.
 use mathlib.Core.Path.{_≡_, refl, sym, ap, _∙_, subst}
 use mathlib.Core.Bool.{Bool, true, false, not, _&&_, _||_, or-true}
 use mathlib.Core.List.{List, [], _∷_, _++_}
@@ -18,13 +19,17 @@ use Rattle.rules.specs.Sequence.{withUp}
 use Rattle.rules.specs.Abort.{leave, isPutBack, putBacks, abort}
 use Rattle.rules.specs.History.{Account, noteAnswer, noteAnswers}
 use Rattle.rules.specs.Order.{Event, failure-of, restart-of}
-use Rattle.rules.specs.World.{sent-for, Message, Device, receives, putBack, putAllBack, drops, dropReported, devicesAfter, devicesAfterAll}
+use Rattle.rules.specs.World.{sent-for, Message, Device, receives, putBack, putAllBack, drops, dropReported, devicesAfter}
+use Rattle.rules.specs.World.{devicesAfterAll}
 use Rattle.rules.specs.Attach.{attachTo, settleRestarts, attachAt, attach, oneRestart}
-use Rattle.rules.proofs.Lists.{byIf, t≠f, this-or-other, same-setting, put-same, put-other, put-keeps, fold-++, each-++, each-right, each-mid, each-drop, NotIn}
+use Rattle.rules.proofs.Lists.{byIf, t≠f, this-or-other, same-setting, put-same, put-other, put-keeps, fold-++, each-++, each-right}
+use Rattle.rules.proofs.Lists.{each-mid, each-drop, NotIn}
 use Rattle.rules.proofs.Groups.{Group, members, ids, foundAt, leaving, attachEvent, other-ids}
 use Rattle.rules.proofs.Same.{Pairwise, Same, same-leaving, same-attached}
 use Rattle.rules.proofs.Steps.{flight-on}
-use Rattle.rules.proofs.Invariant.{NotBegun, HubOk, NotHalfway, EventsOk, CountedSend, CountedMessage, backTo, ReachesSetting, has, goes-back, NoFlightOn, OneFlightOn, DeviceAt, is-down, none-on-it, one-on-it, DeviceOk, PremiseOnCall}
+use Rattle.rules.proofs.Invariant.{NotBegun, HubOk, NotHalfway, EventsOk, CountedSend, CountedMessage, backTo, ReachesSetting, has}
+use Rattle.rules.proofs.Invariant.{goes-back, NoFlightOn, OneFlightOn, DeviceAt, is-down, none-on-it, one-on-it, DeviceOk}
+use Rattle.rules.proofs.Invariant.{PremiseOnCall}
 use Rattle.rules.proofs.View.{Aborts, by-turn, by-report, by-cancel, Gone, nobody, somebody}
 use Rattle.rules.proofs.Runs.{restart-later, one-here, one-other, not-begun-members, events-leaving}
 use Rattle.rules.proofs.Fields.{Fixed, gone-fixed, attach-fixed}
@@ -32,7 +37,8 @@ use Rattle.rules.proofs.Marks.{in-turn, MarkPlace, at-zero, at-group, m
 use Rattle.rules.proofs.Moved.{hub-leaves, hub-gone, hub-up}
 use Rattle.rules.proofs.Kept.{all-no-flight-on}
 use Rattle.rules.proofs.Accounts.{note-++}
-use Rattle.rules.proofs.Messages.{ok-state, no-flights-on-same, one-same, ok-same, no-flights-on-any, one-any, one-this, one-drop, SameForOthers, endedAt, alike-ended, alike-drops, one-alike, AfterCall}
+use Rattle.rules.proofs.Messages.{ok-state, no-flights-on-same, one-same, ok-same, no-flights-on-any, one-any, one-this, one-drop}
+use Rattle.rules.proofs.Messages.{SameForOthers, endedAt, alike-ended, alike-drops, one-alike, AfterCall}
 
 -- ---- what is put back
 
@@ -40,7 +46,8 @@ past-backs : (s : State) (m : Member) (t : State) (d left e : ℕ) (ds : ℕ →
 unfolding putBacks
 past-backs s m t d zero e ds n = refl
 past-backs s m t d (suc left) e ds n =
-    byIf (λ l. putAllBack l ds d ≡ ds d) (isPutBack s m t e) (λ _. past-backs s m t d left (suc e) _ (omega arith) ∙ put-other ds e _ d (omega arith))
+    byIf (λ l. putAllBack l ds d ≡ ds d) (isPutBack s m t e)
+    (λ _. past-backs s m t d left (suc e) _ (omega arith) ∙ put-other ds e _ d (omega arith))
     (λ _. past-backs s m t d left (suc e) ds (omega arith))
 
 -- d gets one setting at most
@@ -50,26 +57,30 @@ unfolding putBacks
 backs-at s m t d zero e ds n h = absurd (omega arith)
 backs-at s m t d (suc left) e ds n h =
     this-or-other (λ f. putAllBack (putBacks s m t f (suc left)) ds d ≡ to (ds d)) d e (at-d (isPutBack s m t d))
-    (λ q. byIf (λ l. putAllBack l ds d ≡ to (ds d)) (isPutBack s m t e) (λ _. backs-at s m t d left (suc e) _ (omega arith) (omega arith) ∙ ap to (put-other ds e _ d q))
+    (λ q. byIf (λ l. putAllBack l ds d ≡ to (ds d)) (isPutBack s m t e)
+    (λ _. backs-at s m t d left (suc e) _ (omega arith) (omega arith) ∙ ap to (put-other ds e _ d q))
     (λ _. backs-at s m t d left (suc e) ds (omega arith) (omega arith)))
   where
     to : Device → Device
     to w = if isPutBack s m t d then receives (backTo (due t d)) w else w
 
-    at-d : (q : Bool) → putAllBack (if q then record { device = d; setting = due t d } ∷ putBacks s m t (suc d) left else putBacks s m t (suc d) left) ds d
+    at-d : (q : Bool) →
+        putAllBack (if q then record { device = d; setting = due t d } ∷ putBacks s m t (suc d) left else putBacks s m t (suc d) left) ds d
         ≡ (if q then receives (backTo (due t d)) (ds d) else ds d)
     at-d true = past-backs s m t d left (suc d) _ (omega arith) ∙ put-same ds d _
     at-d false = past-backs s m t d left (suc d) ds (omega arith)
 
 -- a part of a device that nothing sent to it changes
-backs-keep : {A : Type 0} (f : Device → A) → ((m : Message) (w : Device) → f (receives m w) ≡ f w) → (d : ℕ) (l : List Back) (ds : ℕ → Device) → f (putAllBack l ds d) ≡ f (ds d)
+backs-keep : {A : Type 0} (f : Device → A) → ((m : Message) (w : Device) → f (receives m w) ≡ f w) →
+    (d : ℕ) (l : List Back) (ds : ℕ → Device) → f (putAllBack l ds d) ≡ f (ds d)
 backs-keep f r d [] ds = refl
 backs-keep f r d (b ∷ l) ds = backs-keep f r d l (putBack b ds) ∙ put-keeps f ds (b .device) _ (r _ (ds (b .device))) d
 
 -- ---- a routine leaves
 
 -- w before, u after the report; b: the accounts after the call
-leave-at : (d : ℕ) (s : State) (a b : ℕ → Account) (x : List Group) (g : Group) (y : List Group) (w u : Device) → HubOk s (x ++ (g ∷ y)) → SameForOthers (g .member .id) a b w u →
+leave-at : (d : ℕ) (s : State) (a b : ℕ → Account) (x : List Group) (g : Group) (y : List Group) (w u : Device) → HubOk s (x ++ (g ∷ y)) →
+    SameForOthers (g .member .id) a b w u →
     DeviceAt d (s .up d) (due s d) a (x ++ (g ∷ y)) w →
     let t = leave s (foundAt x g y) in
     DeviceAt d (t .up d) (due t d) b (leaving x g y) (if isPutBack s (g .member) t d then receives (backTo (due t d)) u else u)
@@ -102,15 +113,18 @@ leave-at d s a b x g y w u h q at = go at
     ends : s .up d ≡ true → Each (NoFlightOn d) (x ++ y) → (r : Bool) → touched ≡ r → Goal r → Goal (isPutBack s (g .member) t d)
     ends p l r n at = subst Goal (sym (back-is false p (no-flights-on-any d k (no-flights-on l)) ∙ n)) at
 
-    nobody-flies : s .up d ≡ true → Each (NoFlightOn d) (x ++ y) → inFlightOn d (g .member) ≡ false → ReachesSetting (w .setting) (due s d) (w .sent) → (r : Bool) → sameSetting (due s d) (due t d) ≡ r →
+    nobody-flies : s .up d ≡ true → Each (NoFlightOn d) (x ++ y) → inFlightOn d (g .member) ≡ false →
+        ReachesSetting (w .setting) (due s d) (w .sent) → (r : Bool) → sameSetting (due s d) (due t d) ≡ r →
         Goal (isPutBack s (g .member) t d)
     nobody-flies p l f c true n =
         ends p l false (rw (n, f) refl)
-        (none-on-it p (no-flights-on l) (subst (λ v. ReachesSetting (u .setting) v (u .sent)) (same-setting (due s d) (due t d) n) (q .same-reaches (due s d) c)))
+        (none-on-it p (no-flights-on l)
+        (subst (λ v. ReachesSetting (u .setting) v (u .sent)) (same-setting (due s d) (due t d) n) (q .same-reaches (due s d) c)))
     nobody-flies p l f c false n = ends p l true (rw n refl) (none-on-it p (no-flights-on l) (goes-back (u .sent) refl))
 
     -- it is g, or another
-    somebody-flies : s .up d ≡ true → OneFlightOn d a w (x ++ (g ∷ y)) → (f : Bool) → inFlightOn d (g .member) ≡ f → Goal (isPutBack s (g .member) t d)
+    somebody-flies : s .up d ≡ true → OneFlightOn d a w (x ++ (g ∷ y)) → (f : Bool) → inFlightOn d (g .member) ≡ f →
+        Goal (isPutBack s (g .member) t d)
     somebody-flies p o true f =
         let z = flight-on (g .member) (in-turn s x g y h) d f in
         let r = one-this d a w x g y (z .0) (z .1) f o in
@@ -120,24 +134,31 @@ leave-at d s a b x g y w u h q at = go at
       where
         flies : OneFlightOn d b u k
         flies = one-same d b u (same-leaving x g y)
-            (one-alike d (g .member .id) a b (x ++ y) w u q (other-ids (s .nextId) x g y (h .ids-ok)) (one-drop d a w x g y (in-turn s x g y h) (record { no-flight-on = f }) o))
+            (one-alike d (g .member .id) a b (x ++ y) w u q (other-ids (s .nextId) x g y (h .ids-ok))
+            (one-drop d a w x g y (in-turn s x g y h) (record { no-flight-on = f }) o))
 
     go : DeviceAt d (s .up d) (due s d) a (x ++ (g ∷ y)) w → Goal (isPutBack s (g .member) t d)
     go (is-down p n) = subst Goal (sym (ap (λ r. r && not (anyOf (inFlightOn d) (t .sequence)) && touched) p)) (is-down p (q .same-empty n))
-    go (none-on-it p l c) = nobody-flies p (each-drop (NoFlightOn d) x g y l) (each-mid (NoFlightOn d) x g y l .no-flight-on) c (sameSetting (due s d) (due t d)) refl
+    go (none-on-it p l c) =
+        nobody-flies p (each-drop (NoFlightOn d) x g y l) (each-mid (NoFlightOn d) x g y l .no-flight-on) c
+        (sameSetting (due s d) (due t d)) refl
     go (one-on-it p o) = somebody-flies p o (inFlightOn d (g .member)) refl
 
 -- ---- an abort
 
-abort-device : (d : ℕ) (s : State) (a : ℕ → Account) (ds : ℕ → Device) (v : ℤ) (c : Call) (x : List Group) (g : Group) (y : List Group) → d < s .devices → HubOk s (x ++ (g ∷ y)) →
+abort-device : (d : ℕ) (s : State) (a : ℕ → Account) (ds : ℕ → Device) (v : ℤ) (c : Call) (x : List Group) (g : Group) (y : List Group) →
+    d < s .devices → HubOk s (x ++ (g ∷ y)) →
     (let b = endedAt (g .member .id) a in SameForOthers (g .member .id) a b (ds d) (dropReported c b ds d)) →
     DeviceOk d s a (x ++ (g ∷ y)) (ds d) → AfterCall d a ds v c (abort s (foundAt x g y)) (leaving x g y)
 unfolding abort
 abort-device d s a ds v c x g y n h q o =
-    subst (λ w. DeviceOk d t b (leaving x g y) w) (sym (backs-at s (g .member) t d (s .devices) 0 (dropReported c b ds) (omega arith) (omega arith))) (record {
+    subst (λ w. DeviceOk d t b (leaving x g y) w)
+    (sym (backs-at s (g .member) t d (s .devices) 0 (dropReported c b ds) (omega arith) (omega arith))) (record {
       old-sent = byIf (λ (w : Device). Each (CountedMessage b) (w .sent)) (isPutBack s (g .member) t d)
-          (λ _. each-++ (CountedMessage b) (u .sent) (backTo (due t d) ∷ []) (q .same-sent (o .old-sent)) (tt, tt)) (λ _. q .same-sent (o .old-sent));
-      old-took = byIf (λ (w : Device). Each (CountedSend b) (w .took)) (isPutBack s (g .member) t d) (λ _. q .same-took (o .old-took)) (λ _. q .same-took (o .old-took));
+          (λ _. each-++ (CountedMessage b) (u .sent) (backTo (due t d) ∷ []) (q .same-sent (o .old-sent)) (tt, tt))
+          (λ _. q .same-sent (o .old-sent));
+      old-took = byIf (λ (w : Device). Each (CountedSend b) (w .took)) (isPutBack s (g .member) t d) (λ _. q .same-took (o .old-took))
+          (λ _. q .same-took (o .old-took));
       device-at = leave-at d s a b x g y (ds d) u h q (o .device-at);
     })
   where
@@ -150,7 +171,8 @@ abort-device d s a ds v c x g y n h q o =
     u : Device
     u = dropReported c b ds d
 
-pub device-aborts : (d : ℕ) (s : State) (a : ℕ → Account) (ds : ℕ → Device) (v : ℤ) (c : Call) (x : List Group) (g : Group) (y : List Group) → d < s .devices → HubOk s (x ++ (g ∷ y)) →
+pub device-aborts : (d : ℕ) (s : State) (a : ℕ → Account) (ds : ℕ → Device) (v : ℤ) (c : Call) (x : List Group) (g : Group)
+    (y : List Group) → d < s .devices → HubOk s (x ++ (g ∷ y)) →
     DeviceOk d s a (x ++ (g ∷ y)) (ds d) → Aborts g c → AfterCall d a ds v c (abort s (foundAt x g y)) (leaving x g y)
 device-aborts d s a ds v c x g y n h o q = abort-device d s a ds v c x g y n h (drops-own c q) o
   where
@@ -164,7 +186,8 @@ device-aborts d s a ds v c x g y n h o q = abort-device d s a ds v c x g y n h (
     drops-own : (c : Call) → Aborts g c → SameForOthers i a b (ds d) (dropReported c b ds d)
     drops-own c (by-turn j p f) = alike-ended i a (ds d)
     drops-own c (by-report j code z p f m) =
-        subst (λ k. SameForOthers i a b (ds d) (drops (sent-for k (b k .sends)) (ds d))) p (alike-drops i (b i .sends) a b (ds d) (ds d) (alike-ended i a (ds d)))
+        subst (λ k. SameForOthers i a b (ds d) (drops (sent-for k (b k .sends)) (ds d))) p
+        (alike-drops i (b i .sends) a b (ds d) (ds d) (alike-ended i a (ds d)))
     drops-own c (by-cancel j p) = alike-ended i a (ds d)
 
 -- ---- the abort ahead of an event of e
@@ -174,7 +197,8 @@ abbrev Plain : Call → Type 0
 Plain c = (b : ℕ → Account) (ds : ℕ → Device) → dropReported c b ds ≡ ds
 
 module _ (s : State) (e : ℕ) (l : List Group) where
-  gone-old : (a : ℕ → Account) (c : Call) (w : Device) → Each (CountedSend a) (w .took) → {r : Result} {lead : List Event} {k : List Group} → Gone s e l r lead k →
+  gone-old : (a : ℕ → Account) (c : Call) (w : Device) → Each (CountedSend a) (w .took) →
+      {r : Result} {lead : List Event} {k : List Group} → Gone s e l r lead k →
       Each (CountedSend (noteAnswers c (r .answers) a)) (w .took)
   unfolding abort
   gone-old a c w o (nobody n) = o
@@ -184,37 +208,49 @@ module _ (s : State) (e : ℕ) (l : List Group) where
   gone-events h (nobody n) = h
   gone-events h (somebody x g y p n) = events-leaving x g y (subst (Each EventsOk) p h)
 
-  gone-keeps : {A : Type 0} (f : Device → A) → ((m : Message) (w : Device) → f (receives m w) ≡ f w) → (d : ℕ) (a : ℕ → Account) (ds : ℕ → Device) (v : ℤ) (c : Call) → Plain c →
+  gone-keeps : {A : Type 0} (f : Device → A) → ((m : Message) (w : Device) → f (receives m w) ≡ f w) →
+      (d : ℕ) (a : ℕ → Account) (ds : ℕ → Device) (v : ℤ) (c : Call) → Plain c →
       {r : Result} {lead : List Event} {k : List Group} → Gone s e l r lead k → f (devicesAfterAll c a v (r .answers) ds d) ≡ f (ds d)
   unfolding abort
   gone-keeps f m d a ds v c q (nobody n) = refl
-  gone-keeps f m d a ds v c q (somebody x g y p n) = backs-keep f m d (putBacks s (g .member) (leave s (foundAt x g y)) 0 (s .devices)) (dropReported c a ds) ∙ ap (λ x. f (x d)) (q a ds)
+  gone-keeps f m d a ds v c q (somebody x g y p n) =
+      backs-keep f m d (putBacks s (g .member) (leave s (foundAt x g y)) 0 (s .devices)) (dropReported c a ds) ∙ ap (λ x. f (x d)) (q a ds)
 
-  gone-device : (d : ℕ) (a : ℕ → Account) (ds : ℕ → Device) (v : ℤ) (c : Call) → Plain c → d < s .devices → HubOk s l → DeviceOk d s a l (ds d) →
+  gone-device : (d : ℕ) (a : ℕ → Account) (ds : ℕ → Device) (v : ℤ) (c : Call) → Plain c → d < s .devices → HubOk s l →
+      DeviceOk d s a l (ds d) →
       {r : Result} {lead : List Event} {k : List Group} → Gone s e l r lead k → AfterCall d a ds v c r k
   gone-device d a ds v c q n h o (nobody m) = o
   gone-device d a ds v c q n h o (somebody x g y p m) =
       let b = endedAt (g .member .id) a in
-      abort-device d s a ds v c x g y n (subst (HubOk s) p h) (subst (λ f. SameForOthers (g .member .id) a b (ds d) (f d)) (sym (q b ds)) (alike-ended (g .member .id) a (ds d)))
+      abort-device d s a ds v c x g y n (subst (HubOk s) p h)
+      (subst (λ f. SameForOthers (g .member .id) a b (ds d) (f d)) (sym (q b ds)) (alike-ended (g .member .id) a (ds d)))
       (subst (λ k. DeviceOk d s a k (ds d)) p o)
 
 -- ---- an event
 
 -- the event's own answer comes last
 answer-last : (d : ℕ) (a : ℕ → Account) (ds : ℕ → Device) (v : ℤ) (c : Call) (x : List Answer) (y : Answer) (t : State) (k : List Group) →
-    (let b = noteAnswer c y (noteAnswers c x a) in DeviceOk d t b k (devicesAfter c b v y (devicesAfterAll c b v x ds) d)) → AfterCall d a ds v c (record { state = t; answers = x ++ (y ∷ []) }) k
+    (let b = noteAnswer c y (noteAnswers c x a) in DeviceOk d t b k (devicesAfter c b v y (devicesAfterAll c b v x ds) d)) →
+    AfterCall d a ds v c (record { state = t; answers = x ++ (y ∷ []) }) k
 answer-last d a ds v c x y t k o =
-    rw (note-++ c x (y ∷ []) a, fold-++ (devicesAfterAll c (noteAnswer c y (noteAnswers c x a)) v) (λ w. refl) (λ z l w. refl) x (y ∷ []) ds) o
+    rw (
+      note-++ c x (y ∷ []) a,
+      fold-++ (devicesAfterAll c (noteAnswer c y (noteAnswers c x a)) v) (λ w. refl) (λ z l w. refl) x
+          (y ∷ []) ds,
+    ) o
 
 due-up : (s : State) (u : ℕ → Bool) (d : ℕ) → due (withUp s u) d ≡ due s d
 unfolding due
 due-up s u d = refl
 
-pub device-fails : (d : ℕ) (s : State) (a : ℕ → Account) (l : List Group) (ds : ℕ → Device) (v : ℤ) → d < s .devices → HubOk s l → DeviceOk d s a l (ds d) →
+pub device-fails : (d : ℕ) (s : State) (a : ℕ → Account) (l : List Group) (ds : ℕ → Device) (v : ℤ) → d < s .devices → HubOk s l →
+    DeviceOk d s a l (ds d) →
     (e : ℕ) (r : Result) (lead : List Event) (k : List Group) → Gone (withUp s (put (s .up) e false)) e l r lead k →
-    AfterCall d a ds v (failure e) (record { state = r .state; answers = r .answers ++ (down e (r .state .mark e) ∷ []) }) (attachEvent (r .state .mark e) (failure-of e) k)
+    AfterCall d a ds v (failure e) (record { state = r .state; answers = r .answers ++ (down e (r .state .mark e) ∷ []) })
+    (attachEvent (r .state .mark e) (failure-of e) k)
 device-fails d s a l ds v n h o e r lead k gone =
-    answer-last d a ds v (failure e) (r .answers) (down e (r .state .mark e)) (r .state) j (byIf (λ w. DeviceOk d (r .state) b j w) (eqb d e) this other)
+    answer-last d a ds v (failure e) (r .answers) (down e (r .state .mark e)) (r .state) j
+    (byIf (λ w. DeviceOk d (r .state) b j w) (eqb d e) this other)
   where
     t : State
     t = withUp s (put (s .up) e false)
@@ -231,14 +267,17 @@ device-fails d s a l ds v n h o e r lead k gone =
     this : eqb d e ≡ true → DeviceOk d (r .state) b j (record { setting = v; sent = []; took = fs e .took })
     this i = record {
       old-sent = tt;
-      old-took = subst (λ l. Each (CountedSend b) l) (sym (gone-keeps t e l (λ (w : Device). w .took) (λ m w. refl) d b ds v (failure e) (λ b ds. refl) gone) ∙ ap (λ j. fs j .took) (eqb-true d e i))
+      old-took = subst (λ l. Each (CountedSend b) l)
+          (sym (gone-keeps t e l (λ (w : Device). w .took) (λ m w. refl) d b ds v (failure e) (λ b ds. refl) gone)
+          ∙ ap (λ j. fs j .took) (eqb-true d e i))
           (gone-old t e l a (failure e) (ds d) (o .old-took) gone);
       device-at = is-down (ap (λ (x : Fixed). x .up d) (gone-fixed t e l gone) ∙ rw i refl) refl;
     }
 
     other : eqb d e ≡ false → DeviceOk d (r .state) b j (fs d)
     other i = ok-same d (r .state) b k j (fs d) (same-attached (r .state .mark e) (failure-of e) k)
-        (gone-device t e l d a ds v (failure e) (λ b ds. refl) n (hub-up s (put (s .up) e false) l h) (ok-state d s t a l (ds d) (rw i refl) (due-up s (put (s .up) e false) d) o) gone)
+        (gone-device t e l d a ds v (failure e) (λ b ds. refl) n (hub-up s (put (s .up) e false) l h)
+        (ok-state d s t a l (ds d) (rw i refl) (due-up s (put (s .up) e false) d) o) gone)
 
 -- ---- a restart is attached
 
@@ -250,7 +289,8 @@ attached-after d f m v = restart-later (m .restarts d) (f d) _
 at-other : (d i : ℕ) (f : ℕ → Option ℤ) → f d ≡ none → (l : List Member) (v : ℤ) → afterMembers d (attachAt i f l) v ≡ afterMembers d l v
 at-other d i f n [] v = refl
 at-other d i f n (m ∷ l) v =
-    byIf (λ k. afterMembers d k v ≡ afterMembers d (m ∷ l) v) (eqb (m .id) i) (λ _. ap (λ u. afterMembers d l u) (attached-after d f m v ∙ ap (λ x. afterRestart x (afterMember d m v)) n))
+    byIf (λ k. afterMembers d k v ≡ afterMembers d (m ∷ l) v) (eqb (m .id) i)
+    (λ _. ap (λ u. afterMembers d l u) (attached-after d f m v ∙ ap (λ x. afterRestart x (afterMember d m v)) n))
     (λ _. at-other d i f n l (afterMember d m v))
 
 -- restarts of other devices change nothing of d
@@ -258,17 +298,22 @@ due-other : (d i : ℕ) (f : ℕ → Option ℤ) (s : State) → f d ≡ none �
 unfolding attach due settleRestarts
 due-other d i f s n = go (eqb i 0)
   where
-    go : (b : Bool) → afterMembers d (if b then s .sequence else attachAt i f (s .sequence)) ((if b then settleRestarts f (s .settled) else s .settled) d) ≡ due s d
+    go : (b : Bool) →
+        afterMembers d (if b then s .sequence else attachAt i f (s .sequence))
+        ((if b then settleRestarts f (s .settled) else s .settled) d) ≡ due s d
     go true = ap (λ x. afterMembers d (s .sequence) (afterRestart x (s .settled d))) n
     go false = at-other d i f n (s .sequence) (s .settled d)
 
 -- a restart of e at a routine behind which everyone is quiet
-at-this : (e i : ℕ) (f : ℕ → Option ℤ) (w : ℤ) → f e ≡ some w → (x : List Group) (g : Group) (y : List Group) → NotIn i (ids x) → g .member .id ≡ i → Each EventsOk y → Each (NotBegun e) y →
+at-this : (e i : ℕ) (f : ℕ → Option ℤ) (w : ℤ) → f e ≡ some w → (x : List Group) (g : Group) (y : List Group) → NotIn i (ids x) →
+    g .member .id ≡ i → Each EventsOk y → Each (NotBegun e) y →
     (v : ℤ) → afterMembers e (attachAt i f (members (x ++ (g ∷ y)))) v ≡ w
 at-this e i f w p [] g y n j k q v =
     rw (eq-eqb (g .member .id) i j)
-    (ap (λ u. afterMembers e (members y) u) (attached-after e f (g .member) v ∙ ap (λ o. afterRestart o (afterMember e (g .member) v)) p) ∙ not-begun-members e y w k q)
-at-this e i f w p (h ∷ x) g y n j k q v = rw (ne-eqb (h .member .id) i (n .0)) (at-this e i f w p x g y (n .1) j k q (afterMember e (h .member) v))
+    (ap (λ u. afterMembers e (members y) u) (attached-after e f (g .member) v ∙ ap (λ o. afterRestart o (afterMember e (g .member) v)) p)
+    ∙ not-begun-members e y w k q)
+at-this e i f w p (h ∷ x) g y n j k q v =
+    rw (ne-eqb (h .member .id) i (n .0)) (at-this e i f w p x g y (n .1) j k q (afterMember e (h .member) v))
 
 due-this : (e : ℕ) (w : ℤ) (s : State) (l : List Group) → HubOk s l → Each EventsOk l → due (attach (s .mark e) (oneRestart e w) s) e ≡ w
 unfolding attach due settleRestarts
@@ -283,17 +328,22 @@ due-this e w s l h k = go (mark-place s l h e)
     go : MarkPlace e i l → due (attach i f s) e ≡ w
     go (at-zero z n q) = rw (eq-eqb i 0 z, h .sequence-is, one-here e w) (not-begun-members e l w k q)
     go (at-group x g y p j z n q) =
-        rw (ne-eqb i 0 z, h .sequence-is, p) (at-this e i f w (one-here e w) x g y n j (each-right EventsOk x (g ∷ y) (subst (Each EventsOk) p k) .1) q (s .settled e))
+        rw (ne-eqb i 0 z, h .sequence-is, p)
+        (at-this e i f w (one-here e w) x g y n j (each-right EventsOk x (g ∷ y) (subst (Each EventsOk) p k) .1) q (s .settled e))
 
 dead-empty : (d : ℕ) (t : Bool) (v : ℤ) (a : ℕ → Account) (l : List Group) (w : Device) → t ≡ false → DeviceAt d t v a l w → w .sent ≡ []
 dead-empty d t v a l w e (is-down p n) = n
 dead-empty d t v a l w e (none-on-it p s c) = t≠f (sym p ∙ e)
 dead-empty d t v a l w e (one-on-it p o) = t≠f (sym p ∙ e)
 
-pub device-restarts : (d : ℕ) (s : State) (a : ℕ → Account) (l : List Group) (ds : ℕ → Device) (v : ℤ) → d < s .devices → HubOk s l → Each EventsOk l → DeviceOk d s a l (ds d) →
-    (e : ℕ) (w : ℤ) → PremiseOnCall a ds (restart e w) → (r : Result) (lead : List Event) (k : List Group) → s .up e ≡ false → Gone s e l r lead k →
+pub device-restarts : (d : ℕ) (s : State) (a : ℕ → Account) (l : List Group) (ds : ℕ → Device) (v : ℤ) → d < s .devices → HubOk s l →
+    Each EventsOk l → DeviceOk d s a l (ds d) →
+    (e : ℕ) (w : ℤ) → PremiseOnCall a ds (restart e w) → (r : Result) (lead : List Event) (k : List Group) → s .up e ≡ false →
+    Gone s e l r lead k →
     let t = attach (r .state .mark e) (oneRestart e w) (r .state) in
-    AfterCall d a ds v (restart e w) (record { state = withUp t (put (t .up) e true); answers = r .answers ++ (up e (r .state .mark e) ∷ []) }) (attachEvent (r .state .mark e) (restart-of e w) k)
+    AfterCall d a ds v (restart e w)
+    (record { state = withUp t (put (t .up) e true); answers = r .answers ++ (up e (r .state .mark e) ∷ []) })
+    (attachEvent (r .state .mark e) (restart-of e w) k)
 device-restarts d s a l ds v n h p o e w z r lead k q gone =
     answer-last d a ds v (restart e w) (r .answers) (up e (r .state .mark e)) (withUp t (put (t .up) e true)) j (go (eqb d e) refl)
   where
@@ -322,9 +372,14 @@ device-restarts d s a l ds v n h p o e w z r lead k q gone =
     go true i = record {
       old-sent = gone-ok .old-sent;
       old-took = gone-ok .old-took;
-      device-at = none-on-it (rw i refl) (no-flights-on-same d as-before (subst (λ f. Each (NoFlightOn f) k) (sym this) (all-no-flight-on e k (gone-hub .0 .turns) (gone-hub .0 .nothing-left-all) (gone-hub .1))))
-          (has (dead-empty d (r .state .up d) (due (r .state) d) b k (fs d) (ap (λ (x : Fixed). x .up d) (gone-fixed s e l gone) ∙ ap (s .up) this ∙ q) (gone-ok .device-at))
-          (gone-keeps s e l (λ (w : Device). w .setting) (λ m w. refl) d b ds v (restart e w) (λ b ds. refl) gone ∙ ap (λ f. ds f .setting) this ∙ sym z ∙ sym due-is));
+      device-at = none-on-it (rw i refl)
+          (no-flights-on-same d as-before
+          (subst (λ f. Each (NoFlightOn f) k) (sym this)
+          (all-no-flight-on e k (gone-hub .0 .turns) (gone-hub .0 .nothing-left-all) (gone-hub .1))))
+          (has (dead-empty d (r .state .up d) (due (r .state) d) b k (fs d)
+          (ap (λ (x : Fixed). x .up d) (gone-fixed s e l gone) ∙ ap (s .up) this ∙ q) (gone-ok .device-at))
+          (gone-keeps s e l (λ (w : Device). w .setting) (λ m w. refl) d b ds v (restart e w) (λ b ds. refl) gone
+          ∙ ap (λ f. ds f .setting) this ∙ sym z ∙ sym due-is));
     }
       where
         this : d ≡ e
@@ -333,5 +388,7 @@ device-restarts d s a l ds v n h p o e w z r lead k q gone =
         due-is : due (withUp t (put (t .up) e true)) d ≡ w
         due-is = due-up t (put (t .up) e true) d ∙ ap (due t) this ∙ due-this e w (r .state) k (gone-hub .0) (gone-events s e l p gone)
     go false i =
-        ok-state d (r .state) (withUp t (put (t .up) e true)) b j (fs d) (rw i (ap (λ (x : Fixed). x .up d) (attach-fixed (r .state .mark e) (oneRestart e w) (r .state))))
-        (due-up t (put (t .up) e true) d ∙ due-other d (r .state .mark e) (oneRestart e w) (r .state) (one-other d e w i)) (ok-same d (r .state) b k j (fs d) as-before gone-ok)
+        ok-state d (r .state) (withUp t (put (t .up) e true)) b j (fs d)
+        (rw i (ap (λ (x : Fixed). x .up d) (attach-fixed (r .state .mark e) (oneRestart e w) (r .state))))
+        (due-up t (put (t .up) e true) d ∙ due-other d (r .state .mark e) (oneRestart e w) (r .state) (one-other d e w i))
+        (ok-same d (r .state) b k j (fs d) as-before gone-ok)

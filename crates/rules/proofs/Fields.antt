@@ -30,7 +30,8 @@ abbrev pub fixedOf : State → Fixed
 fixedOf s = record { devices = s .devices; passLimit = s .passLimit; nextId = s .nextId; up = s .up }
 
 -- the abort ahead of an event
-pub gone-fixed : (s : State) (d : ℕ) (l : List Group) {r : Result} {lead : List Event} {k : List Group} → Gone s d l r lead k → fixedOf (r .state) ≡ fixedOf s
+pub gone-fixed : (s : State) (d : ℕ) (l : List Group) {r : Result} {lead : List Event} {k : List Group} → Gone s d l r lead k →
+    fixedOf (r .state) ≡ fixedOf s
 unfolding abort leave attach
 gone-fixed s d l (nobody n) = refl
 gone-fixed s d l (somebody a g b e n) = refl
@@ -51,7 +52,8 @@ settle-fixed s = from-fixed (s .sequence) s
 from-due : (d : ℕ) (l : List Member) (s : State) → due (settleFrom s l) d ≡ afterMembers d l (s .settled d)
 unfolding due joinSettled
 from-due d [] s = refl
-from-due d (m ∷ l) s = byIf (λ t. due t d ≡ afterMembers d (m ∷ l) (s .settled d)) (m .committed) (λ _. from-due d l (joinSettled s m)) (λ _. refl)
+from-due d (m ∷ l) s =
+    byIf (λ t. due t d ≡ afterMembers d (m ∷ l) (s .settled d)) (m .committed) (λ _. from-due d l (joinSettled s m)) (λ _. refl)
 
 -- what is due stays when routines settle
 pub settle-due : (s : State) (d : ℕ) → due (settle s) d ≡ due s d
@@ -61,8 +63,10 @@ settle-due s d = from-due d (s .sequence) s
 -- ---- routines settle one by one
 
 -- P holds of the state and of the groups left while they settle, and gives Q where they stop
-pub settles : (P Q : State → List Group → Type 0) → ((s : State) (g : Group) (l : List Group) → g .member .committed ≡ true → P s (g ∷ l) → P (joinSettled s (g .member)) l) →
-    ((s : State) (l : List Group) → FirstRuns l → P s l → Q (withSequence s (members l)) l) → (s : State) (l : List Group) → s .sequence ≡ members l → P s l → Q (settle s) (stillHeld l)
+pub settles : (P Q : State → List Group → Type 0) →
+    ((s : State) (g : Group) (l : List Group) → g .member .committed ≡ true → P s (g ∷ l) → P (joinSettled s (g .member)) l) →
+    ((s : State) (l : List Group) → FirstRuns l → P s l → Q (withSequence s (members l)) l) → (s : State) (l : List Group) →
+    s .sequence ≡ members l → P s l → Q (settle s) (stillHeld l)
 unfolding settle
 settles P Q f g s l e h = subst (λ q. Q (settleFrom s q) (stillHeld l)) (sym e) (from l s h)
   where
@@ -70,7 +74,9 @@ settles P Q f g s l e h = subst (λ q. Q (settleFrom s q) (stillHeld l)) (sym e)
     from [] s h = g s [] tt h
     from (x ∷ l) s h = go (from l (joinSettled s (x .member))) (x .member .committed) refl
       where
-        go : (P (joinSettled s (x .member)) l → Q (settleFrom (joinSettled s (x .member)) (members l)) (stillHeld l)) → (b : Bool) → x .member .committed ≡ b →
-            Q (if b then settleFrom (joinSettled s (x .member)) (members l) else withSequence s (members (x ∷ l))) (if b then stillHeld l else x ∷ l)
+        go : (P (joinSettled s (x .member)) l → Q (settleFrom (joinSettled s (x .member)) (members l)) (stillHeld l)) → (b : Bool) →
+            x .member .committed ≡ b →
+            Q (if b then settleFrom (joinSettled s (x .member)) (members l) else withSequence s (members (x ∷ l)))
+            (if b then stillHeld l else x ∷ l)
         go ih true e = ih (f s x l e h)
         go ih false e = g s (x ∷ l) e h

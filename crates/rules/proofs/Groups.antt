@@ -1,5 +1,5 @@
--- Each routine of the sequence together with all events attached to it: the hub's sequence and the order behind the bar are read off this list, which
--- only the proofs keep. What the calls do to the list, and what is then read off it. Assumes nothing.
+-- Each routine of the sequence together with all events attached to it: the hub's sequence and the order behind the bar are read off this
+-- list, which only the proofs keep. What the calls do to the list, and what is then read off it. Assumes nothing.
 use mathlib.Core.Path.{_≡_, refl, sym, ap, _∙_, subst}
 use mathlib.Core.Bool.{Bool, false}
 use mathlib.Core.List.{List, [], _∷_, _++_, map, append-assoc, append-nil, map-append}
@@ -135,7 +135,9 @@ entryIds-events (e ∷ l) = entryIds-events l
 
 pub entryIds-flat : (l : List Group) → entryIds (flat l) ≡ ids l
 entryIds-flat [] = refl
-entryIds-flat (g ∷ l) = ap (λ m. g .member .id ∷ m) (entryIds-++ (map event (g .events)) (flat l) ∙ ap (λ m. m ++ entryIds (flat l)) (entryIds-events (g .events)) ∙ entryIds-flat l)
+entryIds-flat (g ∷ l) =
+    ap (λ m. g .member .id ∷ m)
+    (entryIds-++ (map event (g .events)) (flat l) ∙ ap (λ m. m ++ entryIds (flat l)) (entryIds-events (g .events)) ∙ entryIds-flat l)
 
 -- ---- ids
 
@@ -145,7 +147,8 @@ ids-swap a g h b e = ids-++ a (h ∷ b) ∙ ap (λ i. ids a ++ (i ∷ ids b)) e 
 
 -- the ids of all but g are others than g's
 pub other-ids : (n : ℕ) (a : List Group) (g : Group) (b : List Group) → IdsOk n (ids (a ++ (g ∷ b))) → NotIn (g .member .id) (ids (a ++ b))
-other-ids n a g b h = subst (NotIn (g .member .id)) (sym (ids-++ a b)) (ids-other n (ids a) (g .member .id) (ids b) (subst (IdsOk n) (ids-++ a (g ∷ b)) h))
+other-ids n a g b h =
+    subst (NotIn (g .member .id)) (sym (ids-++ a b)) (ids-other n (ids a) (g .member .id) (ids b) (subst (IdsOk n) (ids-++ a (g ∷ b)) h))
 
 -- ---- a routine is placed
 
@@ -163,15 +166,20 @@ flat-pass (g ∷ l) = ap (λ m. entryOf (g .member) ∷ (map event (g .events) +
 pub events-++ : (f h : List Event) (l : List Entry) → map event (f ++ h) ++ l ≡ map event f ++ (map event h ++ l)
 events-++ f h l = ap (λ m. m ++ l) (map-append event f h) ∙ append-assoc (map event f) (map event h) l
 
-flat-last : (f : List Event) (e : ℕ → Option ℤ) (g : Group) (a b : List Group) → flat (addToLast f e (g ∷ a) ++ b) ≡ flat (g ∷ a) ++ (map event f ++ flat b)
+flat-last : (f : List Event) (e : ℕ → Option ℤ) (g : Group) (a b : List Group) → flat (addToLast f e (g ∷ a) ++ b) ≡ flat (g ∷ a)
+    ++ (map event f ++ flat b)
 unfolding attachTo
 flat-last f e g [] b =
-    ap (λ m. entryOf (g .member) ∷ m) (events-++ (g .events) f (flat b) ∙ ap (λ m. m ++ (map event f ++ flat b)) (sym (append-nil (map event (g .events)))))
+    ap (λ m. entryOf (g .member) ∷ m)
+    (events-++ (g .events) f (flat b) ∙ ap (λ m. m ++ (map event f ++ flat b)) (sym (append-nil (map event (g .events)))))
 flat-last f e g (h ∷ a) b =
-    ap (λ m. entryOf (g .member) ∷ m) (ap (λ m. map event (g .events) ++ m) (flat-last f e h a b) ∙ sym (append-assoc (map event (g .events)) (flat (h ∷ a)) (map event f ++ flat b)))
+    ap (λ m. entryOf (g .member) ∷ m)
+    (ap (λ m. map event (g .events) ++ m) (flat-last f e h a b)
+    ∙ sym (append-assoc (map event (g .events)) (flat (h ∷ a)) (map event f ++ flat b)))
 
 -- the routine goes, its events stay
-pub flat-leaving : (a : List Group) (g : Group) (b : List Group) → map event (leadOf a g) ++ flat (leaving a g b) ≡ flat a ++ (map event (g .events) ++ flat b)
+pub flat-leaving : (a : List Group) (g : Group) (b : List Group) → map event (leadOf a g) ++ flat (leaving a g b) ≡ flat a
+    ++ (map event (g .events) ++ flat b)
 flat-leaving [] g b = refl
 flat-leaving (x ∷ a) g b = flat-last (g .events) (g .member .restarts) x a b
 
@@ -184,19 +192,23 @@ unfolding attachTo
 added-is (failure-of d) g = refl
 added-is (restart-of d v) g = refl
 
-pub flat-added : (x : Event) (a : List Group) (g : Group) (b : List Group) → flat (a ++ (addEvent x g ∷ b)) ≡ flat (a ++ (g ∷ [])) ++ (event x ∷ flat b)
+pub flat-added : (x : Event) (a : List Group) (g : Group) (b : List Group) → flat (a ++ (addEvent x g ∷ b)) ≡ flat (a ++ (g ∷ []))
+    ++ (event x ∷ flat b)
 unfolding attachTo
 flat-added x [] g b =
-    ap (λ h. flat (h ∷ b)) (added-is x g) ∙ ap (λ m. entryOf (g .member) ∷ m) (rw (append-nil (map event (g .events))) (events-++ (g .events) (x ∷ []) (flat b)))
+    ap (λ h. flat (h ∷ b)) (added-is x g)
+    ∙ ap (λ m. entryOf (g .member) ∷ m) (rw (append-nil (map event (g .events))) (events-++ (g .events) (x ∷ []) (flat b)))
 flat-added x (y ∷ a) g b =
-    ap (λ m. entryOf (y .member) ∷ m) (rw (flat-added x a g b) (sym (append-assoc (map event (y .events)) (flat (a ++ (g ∷ []))) (event x ∷ flat b))))
+    ap (λ m. entryOf (y .member) ∷ m)
+    (rw (flat-added x a g b) (sym (append-assoc (map event (y .events)) (flat (a ++ (g ∷ []))) (event x ∷ flat b))))
 
 -- nobody has the id, or g has
 pub attach-miss : (j : ℕ) (x : Event) (l : List Group) → NotIn j (ids l) → attachEvent j x l ≡ l
 attach-miss j x [] h = refl
 attach-miss j x (g ∷ l) h = rw (ne-eqb (g .member .id) j (h .0), attach-miss j x l (h .1)) refl
 
-pub attach-hit : (j : ℕ) (x : Event) (a : List Group) (g : Group) (b : List Group) → NotIn j (ids a) → g .member .id ≡ j → attachEvent j x (a ++ (g ∷ b)) ≡ a ++ (addEvent x g ∷ b)
+pub attach-hit : (j : ℕ) (x : Event) (a : List Group) (g : Group) (b : List Group) → NotIn j (ids a) → g .member .id ≡ j →
+    attachEvent j x (a ++ (g ∷ b)) ≡ a ++ (addEvent x g ∷ b)
 attach-hit j x [] g b n e = rw (eq-eqb (g .member .id) j e) refl
 attach-hit j x (y ∷ a) g b n e = rw (ne-eqb (y .member .id) j (n .0), attach-hit j x a g b (n .1) e) refl
 

@@ -159,7 +159,8 @@ pub record NotOrigin (o : Origin) (m : Message) : Type 0 where
 -- the command in flight of routine i: taken, or the last on its way
 pub data OnItsWay (a : ℕ → Account) (i : ℕ) (x : Flight) (w : Device) : Type 0 where
   arrived : w .sent ≡ [] → w .setting ≡ x .command .setting → anyOf (sameOrigin (flightOrigin a i)) (w .took) ≡ true → OnItsWay a i x w
-  going : (k : List Message) → w .sent ≡ k ++ (record { setting = x .command .setting; origin = flightOrigin a i } ∷ []) → Each (NotOrigin (flightOrigin a i)) k →
+  going : (k : List Message) → w .sent ≡ k ++ (record { setting = x .command .setting; origin = flightOrigin a i } ∷ []) →
+      Each (NotOrigin (flightOrigin a i)) k →
       anyOf (sameOrigin (flightOrigin a i)) (w .took) ≡ false → ReachesSetting (w .setting) (x .dueThen) k → OnItsWay a i x w
 
 pub record NoFlightOn (d : ℕ) (g : Group) : Type 0 where
@@ -167,7 +168,8 @@ pub record NoFlightOn (d : ℕ) (g : Group) : Type 0 where
 
 -- one routine of the list has a command in flight on d, and it flies so
 pub data OneFlightOn (d : ℕ) (a : ℕ → Account) (w : Device) : List Group → Type 0 where
-  first-has-it : {g : Group} {l : List Group} (x : Flight) → flight (g .member .steps) ≡ some x → x .command .device ≡ d → OnItsWay a (g .member .id) x w → Each (NoFlightOn d) l → OneFlightOn d a w (g ∷ l)
+  first-has-it : {g : Group} {l : List Group} (x : Flight) → flight (g .member .steps) ≡ some x → x .command .device ≡ d →
+      OnItsWay a (g .member .id) x w → Each (NoFlightOn d) l → OneFlightOn d a w (g ∷ l)
   later-has-it : {g : Group} {l : List Group} → NoFlightOn d g → OneFlightOn d a w l → OneFlightOn d a w (g ∷ l)
 
 pub data DeviceAt (d : ℕ) (isUp : Bool) (v : ℤ) (a : ℕ → Account) (l : List Group) (w : Device) : Type 0 where

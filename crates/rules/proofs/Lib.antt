@@ -1,38 +1,33 @@
--- The proof of demand 3 over the rules, in the order in which it is read. Each file's first lines say more; `docs/DEMAND-3.md` walks through
--- the statement. A reader who wants the argument alone reads `Invariant` (what is kept), `View` (the ways a call can go) and `Theorem`.
+-- The proof of demand 3 over the rules, in the order in which it is read. Each file's first lines say more; `docs/DEMAND-3.md` walks
+-- through the statement. A reader who wants the argument alone reads `Invariant` (what is kept), `View` (the ways a call can go) and
+-- `Theorem`.
 
--- Ground: laws of lists and tables; a routine with its events (a list that only the proofs keep); groups that differ in little; the commands
--- of one routine.
+-- Ground: laws of lists and tables; a routine with its events (a list that only the proofs keep); groups that differ in little; the
+-- commands of one routine.
 pub mod Lists
 pub mod Groups
 pub mod Same
 pub mod Steps
-
 -- What holds between calls, and every call seen once.
 pub mod Invariant
 pub mod View
-
 -- What a call leaves alone, and what entries and groups do to one device.
 pub mod Runs
 pub mod Fields
-
 -- The hub's own invariant is kept: where routines stand to a mark; a placing, a leaving, an attachment, settling; all calls.
 pub mod Marks
 pub mod Moved
 pub mod Kept
-
 -- The order, built from answers, stays that of the hub; the accounts stay true; part 3 is kept.
 pub mod Serial
 pub mod Ordered
 pub mod Accounts
 pub mod Stands
-
 -- Each device comes to its due setting: what was sent; placings, turns and reports; aborts and events; all calls.
 pub mod Messages
 pub mod Devices
 pub mod DeviceAborts
 pub mod DeviceKept
-
 -- The hub of no devices; demand 3; each number under its cause alone; worlds that meet the premise, and worlds in which a wrong rule shows.
 pub mod Closed
 pub mod Theorem

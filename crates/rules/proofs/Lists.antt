@@ -64,12 +64,14 @@ pub put-other {ℓ} : {A : Type ℓ} (f : ℕ → A) (i : ℕ) (v : A) (j : ℕ)
 put-other f i v j n = ap (λ t. if t then v else f j) (ne-eqb j i n)
 
 -- a part that the new value has from the old one
-pub put-keeps {ℓ κ} : {A : Type ℓ} {B : Type κ} (part : A → B) (f : ℕ → A) (i : ℕ) (v : A) → part v ≡ part (f i) → (j : ℕ) → part (put f i v j) ≡ part (f j)
+pub put-keeps {ℓ κ} : {A : Type ℓ} {B : Type κ} (part : A → B) (f : ℕ → A) (i : ℕ) (v : A) → part v ≡ part (f i) → (j : ℕ) →
+    part (put f i v j) ≡ part (f j)
 put-keeps part f i v e j = byIf (λ x. part x ≡ part (f j)) (eqb j i) (λ t. e ∙ ap (λ k. part (f k)) (sym (eqb-true j i t))) (λ _. refl)
 
 -- ---- a thing done for each of a list in turn
 
-pub fold-++ {ℓ κ} : {X : Type ℓ} {A : Type κ} (all : List X → A → A) → ((a : A) → all [] a ≡ a) → ((x : X) (l : List X) (a : A) → all (x ∷ l) a ≡ all l (all (x ∷ []) a)) →
+pub fold-++ {ℓ κ} : {X : Type ℓ} {A : Type κ} (all : List X → A → A) → ((a : A) → all [] a ≡ a) →
+    ((x : X) (l : List X) (a : A) → all (x ∷ l) a ≡ all l (all (x ∷ []) a)) →
     (k l : List X) (a : A) → all (k ++ l) a ≡ all l (all k a)
 fold-++ all n c [] l a = ap (all l) (sym (n a))
 fold-++ all n c (x ∷ k) l a = c x (k ++ l) a ∙ fold-++ all n c k l (all (x ∷ []) a) ∙ ap (all l) (sym (c x k a))

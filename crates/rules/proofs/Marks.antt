@@ -1,5 +1,5 @@
--- Where the routines stand to a device's mark: those ahead of it have finished the device, those behind it have not begun it. By that a turn and a report
--- keep the hub's invariant. Assumes nothing.
+-- Where the routines stand to a device's mark: those ahead of it have finished the device, those behind it have not begun it. By that a
+-- turn and a report keep the hub's invariant. Assumes nothing.
 use mathlib.Core.Path.{_≡_, refl, sym, ap, _∙_, subst}
 use mathlib.Core.Logic.{_≢_, inl, inr}
 use mathlib.Core.Bool.{Bool, true, false, not, _&&_}
@@ -18,10 +18,13 @@ use Rattle.rules.specs.Sequence.{isRunning, withMark, change}
 use Rattle.rules.specs.Turn.{holds, firstHolding, markBegun, commit, commitTurn, sendTurn, skipTurn}
 use Rattle.rules.specs.Report.{doneReport, skippedState, skipReport}
 use Rattle.rules.specs.Events.{isHalfway}
-use Rattle.rules.proofs.Lists.{byIf, t≠f, and-left, and-right, this-or-other, put-same, put-other, each-++, each-left, each-right, each-mid, each-swap, IsNot, NotIn, In, IdsOk, ids-other, ids-not-zero}
+use Rattle.rules.proofs.Lists.{byIf, t≠f, and-left, and-right, this-or-other, put-same, put-other, each-++, each-left, each-right}
+use Rattle.rules.proofs.Lists.{each-mid, each-swap, IsNot, NotIn, In, IdsOk, ids-other, ids-not-zero}
 use Rattle.rules.proofs.Groups.{Group, members, ids, isOf, with, foundAt, members-++, ids-++, ids-swap}
-use Rattle.rules.proofs.Steps.{InTurn, AnsweredOne, send-step, skip-step, done-step, fail-step, none-left, left-finished, left-grounded}
-use Rattle.rules.proofs.Invariant.{NotBegun, HasFinished, AtMark, whole, part, MarkedAt, here, there, MarkOk, unmarked, marked, CommittedHasNothingLeft, CommandsInTurn, HubOk}
+use Rattle.rules.proofs.Steps.{InTurn, AnsweredOne, send-step, skip-step, done-step, fail-step, none-left, left-finished}
+use Rattle.rules.proofs.Steps.{left-grounded}
+use Rattle.rules.proofs.Invariant.{NotBegun, HasFinished, AtMark, whole, part, MarkedAt, here, there, MarkOk, unmarked, marked}
+use Rattle.rules.proofs.Invariant.{CommittedHasNothingLeft, CommandsInTurn, HubOk}
 use Rattle.rules.proofs.View.{sentMember, skippedMember, doneMember, failedMember}
 
 -- ---- the mark, seen from a routine of the sequence
@@ -35,7 +38,8 @@ pub data MarkSeen (d i : ℕ) (a : List Group) (g : Group) (b : List Group) : Ty
   nowhere : i ≡ 0 → Each (NotBegun d) a → NotBegun d g → Each (NotBegun d) b → MarkSeen d i a g b
   near : NearMark d i a g b → MarkSeen d i a g b
 
-nearer : (d i : ℕ) (x : Group) (a : List Group) (g : Group) (b : List Group) → HasFinished d x → NearMark d i a g b → NearMark d i (x ∷ a) g b
+nearer : (d i : ℕ) (x : Group) (a : List Group) (g : Group) (b : List Group) → HasFinished d x → NearMark d i a g b →
+    NearMark d i (x ∷ a) g b
 nearer d i x a g b f (mark-ahead u q s) = mark-ahead (there f u) q s
 nearer d i x a g b f (mark-here fs e h s) = mark-here (f, fs) e h s
 nearer d i x a g b f (mark-behind fs k u) = mark-behind (f, fs) k u
@@ -49,7 +53,8 @@ see-upto d i (x ∷ a) g b (here e h q) =
 see-upto d i (x ∷ a) g b (there f u) = nearer d i x a g b f (see-upto d i a g b u)
 
 pub see-mark : (d i : ℕ) (a : List Group) (g : Group) (b : List Group) → MarkOk d i (a ++ (g ∷ b)) → MarkSeen d i a g b
-see-mark d i a g b (unmarked z q) = let r = each-right (NotBegun d) a (g ∷ b) q in nowhere z (each-left (NotBegun d) a (g ∷ b) q) (r .0) (r .1)
+see-mark d i a g b (unmarked z q) = let r = each-right (NotBegun d) a (g ∷ b) q in
+    nowhere z (each-left (NotBegun d) a (g ∷ b) q) (r .0) (r .1)
 see-mark d i a g b (marked u) = near (see-upto d i a g b u)
 
 pub upto-right : (d i : ℕ) (a b : List Group) → MarkedAt d i a → Each (NotBegun d) b → MarkedAt d i (a ++ b)
@@ -81,7 +86,8 @@ pub record ClearOfDevice (d : ℕ) (a : List Group) (g : Group) (b : List Group)
   pub behind-not-begun : Each (NotBegun d) b
 
 -- a routine that has begun d and not finished it is at the mark
-at-mark : (d i : ℕ) (a : List Group) (g : Group) (b : List Group) → begun d (g .member) ≡ true → finished d (g .member) ≡ false → MarkOk d i (a ++ (g ∷ b)) →
+at-mark : (d i : ℕ) (a : List Group) (g : Group) (b : List Group) → begun d (g .member) ≡ true → finished d (g .member) ≡ false →
+    MarkOk d i (a ++ (g ∷ b)) →
     ClearOfDevice d a g b × (g .member .id ≡ i)
 at-mark d i a g b y n k = go (see-mark d i a g b k)
   where
@@ -93,7 +99,8 @@ at-mark d i a g b y n k = go (see-mark d i a g b k)
     go (near (mark-behind f w u)) = t≠f (sym (w .finished-it) ∙ n)
 
 -- if everyone ahead has finished d and g has not, d's mark is not behind g
-not-behind : (d i : ℕ) (a : List Group) (g : Group) (b : List Group) → Each (HasFinished d) a → finished d (g .member) ≡ false → MarkOk d i (a ++ (g ∷ b)) → ClearOfDevice d a g b
+not-behind : (d i : ℕ) (a : List Group) (g : Group) (b : List Group) → Each (HasFinished d) a → finished d (g .member) ≡ false →
+    MarkOk d i (a ++ (g ∷ b)) → ClearOfDevice d a g b
 not-behind d i a g b f n k = go (see-mark d i a g b k)
   where
     go : MarkSeen d i a g b → ClearOfDevice d a g b
@@ -104,7 +111,8 @@ not-behind d i a g b f n k = go (see-mark d i a g b k)
     go (near (mark-behind p w u)) = t≠f (sym (w .finished-it) ∙ n)
 
 -- what is committed has finished every device, and has no command in flight
-pub nothing-left-finished-it : (d : ℕ) (g : Group) → CommittedHasNothingLeft g → (g .member .committed ≡ false → finished d (g .member) ≡ true) → HasFinished d g
+pub nothing-left-finished-it : (d : ℕ) (g : Group) → CommittedHasNothingLeft g →
+    (g .member .committed ≡ false → finished d (g .member) ≡ true) → HasFinished d g
 nothing-left-finished-it d g s f = record { finished-it = go (g .member .committed) refl }
   where
     go : (t : Bool) → g .member .committed ≡ t → finished d (g .member) ≡ true
@@ -136,14 +144,17 @@ none-holds d (g ∷ a) s e = go (none-holds d a (s .1)) (holds d (g .member)) re
 pub in-turn : (s : State) (a : List Group) (g : Group) (b : List Group) → HubOk s (a ++ (g ∷ b)) → InTurn (g .member .steps)
 in-turn s a g b h = each-mid CommandsInTurn a g b (h .turns) .turns
 
-pub ids-at : (s : State) (a : List Group) (g : Group) (b : List Group) → HubOk s (a ++ (g ∷ b)) → IdsOk (s .nextId) (ids a ++ (g .member .id ∷ ids b))
+pub ids-at : (s : State) (a : List Group) (g : Group) (b : List Group) → HubOk s (a ++ (g ∷ b)) →
+    IdsOk (s .nextId) (ids a ++ (g .member .id ∷ ids b))
 ids-at s a g b h = subst (IdsOk (s .nextId)) (ids-++ a (g ∷ b)) (h .ids-ok)
 
 -- the device of the next command, when nobody ahead holds it
 pub turn-clear : (s : State) (a : List Group) (g : Group) (b : List Group) (c : Command) → HubOk s (a ++ (g ∷ b)) →
-    next (g .member .steps) ≡ some c → flight (g .member .steps) ≡ none → firstHolding (c .device) (members a) ≡ none → ClearOfDevice (c .device) a g b
+    next (g .member .steps) ≡ some c → flight (g .member .steps) ≡ none → firstHolding (c .device) (members a) ≡ none →
+    ClearOfDevice (c .device) a g b
 turn-clear s a g b c h e f n =
-    not-behind (c .device) (s .mark (c .device)) a g b (none-holds (c .device) a (each-left CommittedHasNothingLeft a (g ∷ b) (h .nothing-left-all)) n)
+    not-behind (c .device) (s .mark (c .device)) a g b
+    (none-holds (c .device) a (each-left CommittedHasNothingLeft a (g ∷ b) (h .nothing-left-all)) n)
     (skip-step (g .member) (in-turn s a g b h) c e f .unfinished) (h .marks (c .device))
 
 -- the device of the command in flight
@@ -154,17 +165,20 @@ flight-clear s a g b x h e =
     at-mark (x .command .device) (s .mark (x .command .device)) a g b (y .had-begun) (y .unfinished) (h .marks (x .command .device)) .0
 
 -- a device that a routine has begun and not finished
-pub halfway-clear : (s : State) (d : ℕ) (a : List Group) (g : Group) (b : List Group) → HubOk s (a ++ (g ∷ b)) → isHalfway d (g .member) ≡ true → ClearOfDevice d a g b
+pub halfway-clear : (s : State) (d : ℕ) (a : List Group) (g : Group) (b : List Group) → HubOk s (a ++ (g ∷ b)) →
+    isHalfway d (g .member) ≡ true → ClearOfDevice d a g b
 unfolding isHalfway
 halfway-clear s d a g b h e =
     let m = g .member in
     let y = and-left (isRunning m && begun d m) (not (finished d m)) e in
-    at-mark d (s .mark d) a g b (and-right (isRunning m) (begun d m) y) (not-true (finished d m) (and-right (isRunning m && begun d m) (not (finished d m)) e)) (h .marks d) .0
+    at-mark d (s .mark d) a g b (and-right (isRunning m) (begun d m) y)
+    (not-true (finished d m) (and-right (isRunning m && begun d m) (not (finished d m)) e)) (h .marks d) .0
 
 -- the mark in the list
 pub data MarkPlace (d i : ℕ) (l : List Group) : Type 0 where
   at-zero : i ≡ 0 → NotIn i (ids l) → Each (NotBegun d) l → MarkPlace d i l
-  at-group : (a : List Group) (g : Group) (b : List Group) → l ≡ a ++ (g ∷ b) → g .member .id ≡ i → i ≢ 0 → NotIn i (ids a) → Each (NotBegun d) b → MarkPlace d i l
+  at-group : (a : List Group) (g : Group) (b : List Group) → l ≡ a ++ (g ∷ b) → g .member .id ≡ i → i ≢ 0 → NotIn i (ids a) →
+      Each (NotBegun d) b → MarkPlace d i l
 
 upto-place : (d i : ℕ) (l : List Group) → MarkedAt d i l →
     (a : List Group) × (g : Group) × (b : List Group) × (l ≡ a ++ (g ∷ b)) × (g .member .id ≡ i) × Each (NotBegun d) b
@@ -181,7 +195,8 @@ mark-place s l h d = go (h .marks d)
         let i = r .1 .member .id in
         let k = ids-at s (r .0) (r .1) (r .2) (subst (HubOk s) (r .3) h) in
         let ahead = each-left (IsNot i) (ids (r .0)) (ids (r .2)) (ids-other (s .nextId) (ids (r .0)) i (ids (r .2)) k) in
-        at-group (r .0) (r .1) (r .2) (r .3) (r .4) (λ z. each-mid (IsNot 0) (ids (r .0)) i (ids (r .2)) (ids-not-zero (s .nextId) (ids (r .0) ++ (i ∷ ids (r .2))) k) (r .4 ∙ z))
+        at-group (r .0) (r .1) (r .2) (r .3) (r .4)
+        (λ z. each-mid (IsNot 0) (ids (r .0)) i (ids (r .2)) (ids-not-zero (s .nextId) (ids (r .0) ++ (i ∷ ids (r .2))) k) (r .4 ∙ z))
         (subst (λ j. NotIn j (ids (r .0))) (r .4) ahead) (r .5)
 
 -- ---- a routine changes in its place
@@ -213,7 +228,8 @@ running g n r = record { nothing-left = λ t. t≠f (sym t ∙ r) }
 
 module _ (s : State) (a : List Group) (g : Group) (b : List Group) (h : HubOk s (a ++ (g ∷ b))) where
   -- g becomes n, with these marks
-  hub-changes : (n : Member) (mark : ℕ → ℕ) → n .id ≡ g .member .id → CommittedHasNothingLeft (with g n) → InTurn (n .steps) → ((d : ℕ) → MarkOk d (mark d) (a ++ (with g n ∷ b))) →
+  hub-changes : (n : Member) (mark : ℕ → ℕ) → n .id ≡ g .member .id → CommittedHasNothingLeft (with g n) → InTurn (n .steps) →
+      ((d : ℕ) → MarkOk d (mark d) (a ++ (with g n ∷ b))) →
       HubOk (withMark (change s (foundAt a g b) n) mark) (a ++ (with g n ∷ b))
   hub-changes n mark e c t k = record {
     sequence-is = sym (members-++ a (with g n ∷ b));
@@ -230,7 +246,8 @@ module _ (s : State) (a : List Group) (g : Group) (b : List Group) (h : HubOk s 
       (d : ℕ) → MarkOk d (markBegun (g .member) e (s .mark) d) (a ++ (with g n ∷ b))
   unfolding markBegun
   begin-marks e n i c u y o f d = this-or-other (λ x. Ok x (markBegun (g .member) e (s .mark))) e d
-      (byIf (Ok e) (begun e (g .member)) (λ p. subst (λ j. MarkOk e j (a ++ (with g n ∷ b))) (at-mark e (s .mark e) a g b p u (h .marks e) .1) mine)
+      (byIf (Ok e) (begun e (g .member))
+      (λ p. subst (λ j. MarkOk e j (a ++ (with g n ∷ b))) (at-mark e (s .mark e) a g b p u (h .marks e) .1) mine)
       (λ _. rw (put-same (s .mark) e (g .member .id)) mine))
       (λ q. byIf (Ok d) (begun e (g .member)) (λ _. other q) (λ _. rw (put-other (s .mark) e (g .member .id) d (λ p. q (sym p))) (other q)))
     where
@@ -238,49 +255,60 @@ module _ (s : State) (a : List Group) (g : Group) (b : List Group) (h : HubOk s 
       Ok x mark = MarkOk x (mark x) (a ++ (with g n ∷ b))
 
       mine : MarkOk e (g .member .id) (a ++ (with g n ∷ b))
-      mine = seen-back e (g .member .id) a (with g n) b (near (mark-here (c .ahead-finished-it) i (part y (c .no-event)) (c .behind-not-begun)))
+      mine = seen-back e (g .member .id) a (with g n) b
+          (near (mark-here (c .ahead-finished-it) i (part y (c .no-event)) (c .behind-not-begun)))
 
       other : e ≢ d → MarkOk d (s .mark d) (a ++ (with g n ∷ b))
       other q = swap-mark d (s .mark d) a g b n i (o d q) (f d) (h .marks d)
 
 -- the five changes of a turn or a report keep the hub's invariant
-pub hub-commits : (s : State) (a : List Group) (g : Group) (b : List Group) → HubOk s (a ++ (g ∷ b)) → flight (g .member .steps) ≡ none → next (g .member .steps) ≡ none →
+pub hub-commits : (s : State) (a : List Group) (g : Group) (b : List Group) → HubOk s (a ++ (g ∷ b)) → flight (g .member .steps) ≡ none →
+    next (g .member .steps) ≡ none →
     HubOk (commitTurn s (foundAt a g b) .state) (a ++ (with g (commit (g .member)) ∷ b))
 unfolding commitTurn commit begun finished
 hub-commits s a g b h f e =
     hub-changes s a g b h (commit (g .member)) (s .mark) refl (record { nothing-left = λ _. none-left (g .member) e f }) (in-turn s a g b h)
     (λ d. swap-mark d (s .mark d) a g b (commit (g .member)) refl refl (λ q. q) (h .marks d))
 
-pub hub-sends : (s : State) (a : List Group) (g : Group) (b : List Group) (c : Command) → HubOk s (a ++ (g ∷ b)) → g .member .committed ≡ false →
+pub hub-sends : (s : State) (a : List Group) (g : Group) (b : List Group) (c : Command) → HubOk s (a ++ (g ∷ b)) →
+    g .member .committed ≡ false →
     flight (g .member .steps) ≡ none → next (g .member .steps) ≡ some c → firstHolding (c .device) (members a) ≡ none →
     HubOk (sendTurn s (foundAt a g b) c .state) (a ++ (with g (sentMember s g c) ∷ b))
 unfolding sendTurn
 hub-sends s a g b c h r f e n =
     let x = send-step (g .member) (in-turn s a g b h) c (due s (c .device)) e f in
-    hub-changes s a g b h (sentMember s g c) (markBegun (g .member) (c .device) (s .mark)) refl (running g (sentMember s g c) r) (x .in-turn)
-    (begin-marks s a g b h (c .device) (sentMember s g c) refl (turn-clear s a g b c h e f n) (x .unfinished) (x .begins) (x .other-begun) (λ d q. x .finishes d ∙ q))
+    hub-changes s a g b h (sentMember s g c) (markBegun (g .member) (c .device) (s .mark)) refl (running g (sentMember s g c) r)
+    (x .in-turn)
+    (begin-marks s a g b h (c .device) (sentMember s g c) refl (turn-clear s a g b c h e f n) (x .unfinished) (x .begins) (x .other-begun)
+    (λ d q. x .finishes d ∙ q))
 
-pub hub-skips : (s : State) (a : List Group) (g : Group) (b : List Group) (c : Command) → HubOk s (a ++ (g ∷ b)) → g .member .committed ≡ false →
+pub hub-skips : (s : State) (a : List Group) (g : Group) (b : List Group) (c : Command) → HubOk s (a ++ (g ∷ b)) →
+    g .member .committed ≡ false →
     flight (g .member .steps) ≡ none → next (g .member .steps) ≡ some c → firstHolding (c .device) (members a) ≡ none →
     HubOk (skipTurn s (foundAt a g b) c .state) (a ++ (with g (skippedMember g) ∷ b))
 unfolding skipTurn
 hub-skips s a g b c h r f e n =
     let x = skip-step (g .member) (in-turn s a g b h) c e f in
     hub-changes s a g b h (skippedMember g) (markBegun (g .member) (c .device) (s .mark)) refl (running g (skippedMember g) r) (x .in-turn)
-    (begin-marks s a g b h (c .device) (skippedMember g) refl (turn-clear s a g b c h e f n) (x .unfinished) (x .begins) (x .other-begun) (x .finishes))
+    (begin-marks s a g b h (c .device) (skippedMember g) refl (turn-clear s a g b c h e f n) (x .unfinished) (x .begins) (x .other-begun)
+    (x .finishes))
 
 -- the command in flight, c, is answered
-hub-answers : (s : State) (a : List Group) (g : Group) (b : List Group) (c : Command) (n : Member) → HubOk s (a ++ (g ∷ b)) → n .id ≡ g .member .id → n .committed ≡ false →
+hub-answers : (s : State) (a : List Group) (g : Group) (b : List Group) (c : Command) (n : Member) → HubOk s (a ++ (g ∷ b)) →
+    n .id ≡ g .member .id → n .committed ≡ false →
     AnsweredOne c (g .member) n → HubOk (change s (foundAt a g b) n) (a ++ (with g n ∷ b))
 hub-answers s a g b c n h i r x =
-    hub-changes s a g b h n (s .mark) i (running g n r) (x .in-turn) (λ d. swap-mark d (s .mark d) a g b n i (x .same-begun d) (x .finishes d) (h .marks d))
+    hub-changes s a g b h n (s .mark) i (running g n r) (x .in-turn)
+    (λ d. swap-mark d (s .mark d) a g b n i (x .same-begun d) (x .finishes d) (h .marks d))
 
-pub hub-dones : (s : State) (a : List Group) (g : Group) (b : List Group) (x : Flight) → HubOk s (a ++ (g ∷ b)) → g .member .committed ≡ false →
+pub hub-dones : (s : State) (a : List Group) (g : Group) (b : List Group) (x : Flight) → HubOk s (a ++ (g ∷ b)) →
+    g .member .committed ≡ false →
     flight (g .member .steps) ≡ some x → HubOk (doneReport s (foundAt a g b) .state) (a ++ (with g (doneMember g) ∷ b))
 unfolding doneReport
 hub-dones s a g b x h r e = hub-answers s a g b (x .command) (doneMember g) h refl r (done-step (g .member) (in-turn s a g b h) x e)
 
-pub hub-misses : (s : State) (a : List Group) (g : Group) (b : List Group) (x : Flight) → HubOk s (a ++ (g ∷ b)) → g .member .committed ≡ false →
+pub hub-misses : (s : State) (a : List Group) (g : Group) (b : List Group) (x : Flight) → HubOk s (a ++ (g ∷ b)) →
+    g .member .committed ≡ false →
     flight (g .member .steps) ≡ some x → HubOk (skipReport s (foundAt a g b) x .state) (a ++ (with g (failedMember g) ∷ b))
 unfolding skipReport skippedState
 hub-misses s a g b x h r e = hub-answers s a g b (x .command) (failedMember g) h refl r (fail-step (g .member) (in-turn s a g b h) x e)

@@ -10,7 +10,8 @@ use Rattle.rules.specs.Order.{Event}
 use Rattle.rules.specs.Attach.{attachTo}
 use Rattle.rules.specs.Tables.{Each}
 use Rattle.rules.proofs.Lists.{byIf}
-use Rattle.rules.proofs.Groups.{Group, ids, lastRestart, with, passAll, addEvents, addToLast, leaving, addEvent, attachEvent, added-is}
+use Rattle.rules.proofs.Groups.{Group, ids, lastRestart, with, passAll, addEvents, addToLast, leaving, addEvent, attachEvent}
+use Rattle.rules.proofs.Groups.{added-is}
 
 -- ---- two lists, one by one
 
@@ -18,7 +19,8 @@ pub data Pairwise (R : Group → Group → Type 0) : List Group → List Group �
   no-pair : Pairwise R [] []
   pair : {g h : Group} {l k : List Group} → R g h → Pairwise R l k → Pairwise R (g ∷ l) (h ∷ k)
 
-pub pairs-each : (R : Group → Group → Type 0) (P : Group → Type 0) → ((g h : Group) → R g h → P g → P h) → {l k : List Group} → Pairwise R l k → Each P l → Each P k
+pub pairs-each : (R : Group → Group → Type 0) (P : Group → Type 0) → ((g h : Group) → R g h → P g → P h) → {l k : List Group} →
+    Pairwise R l k → Each P l → Each P k
 pairs-each R P f no-pair h = tt
 pairs-each R P f (pair r q) h = (f _ _ r (h .0), pairs-each R P f q (h .1))
 
@@ -28,7 +30,8 @@ module _ (R : Group → Group → Type 0) (same : (g : Group) → R g g) where
   pairs-refl (g ∷ l) = pair (same g) (pairs-refl l)
 
   -- the newcomer x is placed ahead of b
-  pub pairs-placed : ((g : Group) → R g (with g (pass (g .member)))) → (a : List Group) (x : Group) (b : List Group) → Pairwise R (a ++ (x ∷ b)) (a ++ (x ∷ passAll b))
+  pub pairs-placed : ((g : Group) → R g (with g (pass (g .member)))) → (a : List Group) (x : Group) (b : List Group) →
+      Pairwise R (a ++ (x ∷ b)) (a ++ (x ∷ passAll b))
   pairs-placed f [] x b = pair (same x) (passed b)
     where
       passed : (b : List Group) → Pairwise R b (passAll b)
@@ -37,7 +40,8 @@ module _ (R : Group → Group → Type 0) (same : (g : Group) → R g g) where
   pairs-placed f (g ∷ a) x b = pair (same g) (pairs-placed f a x b)
 
   -- events f, whose last restarts are e, move to the last of a
-  pub pairs-last : (f : List Event) (e : ℕ → Option ℤ) → ((g : Group) → R g (addEvents f e g)) → (a b : List Group) → Pairwise R (a ++ b) (addToLast f e a ++ b)
+  pub pairs-last : (f : List Event) (e : ℕ → Option ℤ) → ((g : Group) → R g (addEvents f e g)) → (a b : List Group) →
+      Pairwise R (a ++ b) (addToLast f e a ++ b)
   pairs-last f e h [] b = pairs-refl b
   pairs-last f e h (g ∷ []) b = pair (h g) (pairs-refl b)
   pairs-last f e h (g ∷ (x ∷ a)) b = pair (same g) (pairs-last f e h (x ∷ a) b)
@@ -45,7 +49,8 @@ module _ (R : Group → Group → Type 0) (same : (g : Group) → R g g) where
   pub pairs-attached : (j : ℕ) (x : Event) → ((g : Group) → R g (addEvent x g)) → (l : List Group) → Pairwise R l (attachEvent j x l)
   pairs-attached j x f [] = no-pair
   pairs-attached j x f (g ∷ l) =
-      byIf (λ k. Pairwise R (g ∷ l) k) (eqb (g .member .id) j) (λ _. pair (f g) (pairs-refl l)) (λ _. pair (same g) (pairs-attached j x f l))
+      byIf (λ k. Pairwise R (g ∷ l) k) (eqb (g .member .id) j) (λ _. pair (f g) (pairs-refl l))
+      (λ _. pair (same g) (pairs-attached j x f l))
 
 -- ---- the same routine, in all but its events and how often it was passed
 

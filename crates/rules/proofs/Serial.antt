@@ -1,4 +1,5 @@
--- The serial run, device by device, leaves what is due; and settling keeps order and hub together, the bar moving over what settles. Assumes nothing.
+-- The serial run, device by device, leaves what is due; and settling keeps order and hub together, the bar moving over what settles.
+-- Assumes nothing.
 use mathlib.Core.Path.{_≡_, refl, sym, ap, _∙_, subst}
 use mathlib.Core.Bool.{Bool, true, false}
 use mathlib.Core.List.{List, [], _∷_, _++_, map, append-assoc, append-nil, tail-eq-of-cons-eq, nil≢cons}
@@ -25,7 +26,8 @@ use Rattle.rules.proofs.Fields.{settles}
 -- ---- the serial run, device by device
 
 -- a field of the changed table, with the test turned round as in setAfter and upAfter
-put-field : {A : Type 0} (f : DeviceState → A) (t : ℕ → DeviceState) (e : ℕ) (c : DeviceState) (d : ℕ) → f (put t e c d) ≡ (if eqb e d then f c else f (t d))
+put-field : {A : Type 0} (f : DeviceState → A) (t : ℕ → DeviceState) (e : ℕ) (c : DeviceState) (d : ℕ) →
+    f (put t e c d) ≡ (if eqb e d then f c else f (t d))
 put-field f t e c d = go (eqb d e) ∙ ap (λ b. if b then f c else f (t d)) (eqb-sym d e)
   where
     go : (b : Bool) → f (if b then c else t d) ≡ (if b then f c else f (t d))
@@ -34,12 +36,14 @@ put-field f t e c d = go (eqb d e) ∙ ap (λ b. if b then f c else f (t d)) (eq
 
 commands-setting : (d : ℕ) (l : List Command) (t : ℕ → DeviceState) → runCommands l t d .setting ≡ setCommands d l (t d .setting)
 commands-setting d [] t = refl
-commands-setting d (c ∷ l) t = commands-setting d l (runCommand c t) ∙ ap (λ v. setCommands d l v) (put-field (λ x. x .setting) t (c .device) _ d)
+commands-setting d (c ∷ l) t = commands-setting d l (runCommand c t)
+    ∙ ap (λ v. setCommands d l v) (put-field (λ x. x .setting) t (c .device) _ d)
 
 pub serial-setting : (d : ℕ) (l : List Entry) (t : ℕ → DeviceState) → serialRun l t d .setting ≡ setAfter d l (t d .setting)
 serial-setting d [] t = refl
 serial-setting d (routine i cs b ∷ l) t = serial-setting d l _ ∙ ap (λ v. setAfter d l v) (commands-setting d cs t)
-serial-setting d (event (failure-of e) ∷ l) t = serial-setting d l _ ∙ ap (λ v. setAfter d l v) (put-keeps (λ (x : DeviceState). x .setting) t e _ refl d)
+serial-setting d (event (failure-of e) ∷ l) t = serial-setting d l _
+    ∙ ap (λ v. setAfter d l v) (put-keeps (λ (x : DeviceState). x .setting) t e _ refl d)
 serial-setting d (event (restart-of e v) ∷ l) t = serial-setting d l _ ∙ ap (λ v. setAfter d l v) (put-field (λ x. x .setting) t e _ d)
 
 commands-up : (d : ℕ) (l : List Command) (t : ℕ → DeviceState) → runCommands l t d .up ≡ t d .up
@@ -106,8 +110,10 @@ pub bar-stays : (s : State) (o : Order) (l : List Group) → OrderOk s o [] l �
 unfolding moveBar
 bar-stays s o l k f =
     let a : beforeBar (entries o) ≡ o .settled =
-    before-++ (o .settled) (o .unsettled) (k .barred) ∙ ap (λ q. o .settled ++ q) (ap beforeBar (k .unsettled-is) ∙ before-flat l f) ∙ append-nil (o .settled) in
-    let b : behindBar (entries o) ≡ o .unsettled = behind-++ (o .settled) (o .unsettled) (k .barred) ∙ ap behindBar (k .unsettled-is) ∙ behind-flat l f ∙ sym (k .unsettled-is) in
+    before-++ (o .settled) (o .unsettled) (k .barred) ∙ ap (λ q. o .settled ++ q) (ap beforeBar (k .unsettled-is) ∙ before-flat l f)
+    ∙ append-nil (o .settled) in
+    let b : behindBar (entries o) ≡ o .unsettled = behind-++ (o .settled) (o .unsettled) (k .barred) ∙ ap behindBar (k .unsettled-is)
+    ∙ behind-flat l f ∙ sym (k .unsettled-is) in
     ap (λ q. record { settled = q; unsettled = behindBar (entries o) }) a ∙ ap (λ q. record { settled = o .settled; unsettled = q }) b
 
 pub first-runs : (l : List Group) → FirstRuns (stillHeld l)
@@ -126,8 +132,10 @@ abbrev barAt : List Entry → List Group → Order
 barAt p l = record { settled = p; unsettled = flat l }
 
 -- the bar behind p goes over r, where the groups begin
-bar-over : (s : State) (p r : List Entry) (l : List Group) → beforeBar p ≡ p → beforeBar r ≡ r → ((d : ℕ) → setAfter d (p ++ r) (pos 0) ≡ s .settled d) →
-    ((d : ℕ) → upAfter d (p ++ (r ++ flat l)) true ≡ s .up d) → Each EventsOk l → IdsOk (s .nextId) (entryIds p ++ (entryIds r ++ ids l)) → OrderOk s (barAt (p ++ r) l) [] l
+bar-over : (s : State) (p r : List Entry) (l : List Group) → beforeBar p ≡ p → beforeBar r ≡ r →
+    ((d : ℕ) → setAfter d (p ++ r) (pos 0) ≡ s .settled d) →
+    ((d : ℕ) → upAfter d (p ++ (r ++ flat l)) true ≡ s .up d) → Each EventsOk l → IdsOk (s .nextId) (entryIds p ++ (entryIds r ++ ids l)) →
+    OrderOk s (barAt (p ++ r) l) [] l
 bar-over s p r l before-p before-r set up eo io = record {
   unsettled-is = refl;
   settled-is = λ d. ap (λ q. setAfter d q (pos 0)) (append-nil (p ++ r)) ∙ set d;
@@ -138,9 +146,11 @@ bar-over s p r l before-p before-r set up eo io = record {
 }
 
 -- over the events attached to 0
-lead-settles : (s : State) (o : Order) (lead : List Event) (l : List Group) → OrderOk s o lead l → OrderOk s (barAt (o .settled ++ map event lead) l) [] l
+lead-settles : (s : State) (o : Order) (lead : List Event) (l : List Group) → OrderOk s o lead l →
+    OrderOk s (barAt (o .settled ++ map event lead) l) [] l
 lead-settles s o lead l k =
-    bar-over s (o .settled) (map event lead) l (k .barred) (before-events lead) (k .settled-is) (λ d. ap (λ q. upAfter d (o .settled ++ q) true) (sym (k .unsettled-is)) ∙ k .up-is d)
+    bar-over s (o .settled) (map event lead) l (k .barred) (before-events lead) (k .settled-is)
+    (λ d. ap (λ q. upAfter d (o .settled ++ q) true) (sym (k .unsettled-is)) ∙ k .up-is d)
     (k .events-ok) (rw (entryIds-events lead) (k .ids-ok))
 
 -- over a committed routine and its events
@@ -153,16 +163,19 @@ before-group g t = rw t (ap (λ q. routine (g .member .id) (doneSteps (g .member
 set-group : (d : ℕ) (g : Group) (v : ℤ) → EventsOk g → setAfter d (entriesOf g) v ≡ afterMember d (g .member) v
 set-group d g v h = ap (λ q. setAfter d q v) (sym (append-nil (entriesOf g))) ∙ set-flat d (g ∷ []) v (h, tt)
 
-member-settles : (s : State) (p : List Entry) (g : Group) (l : List Group) → g .member .committed ≡ true → OrderOk s (barAt p (g ∷ l)) [] (g ∷ l) →
+member-settles : (s : State) (p : List Entry) (g : Group) (l : List Group) → g .member .committed ≡ true →
+    OrderOk s (barAt p (g ∷ l)) [] (g ∷ l) →
     OrderOk (joinSettled s (g .member)) (barAt (p ++ entriesOf g) l) [] l
 unfolding joinSettled
 member-settles s p g l t k =
     bar-over (joinSettled s (g .member)) p (entriesOf g) l (k .barred) (before-group g t)
-    (λ d. set-++ d p (entriesOf g) (pos 0) ∙ set-group d g _ (k .events-ok .0) ∙ ap (λ v. afterMember d (g .member) v) (settled-alone s (barAt p (g ∷ l)) (g ∷ l) k d))
+    (λ d. set-++ d p (entriesOf g) (pos 0) ∙ set-group d g _ (k .events-ok .0)
+    ∙ ap (λ v. afterMember d (g .member) v) (settled-alone s (barAt p (g ∷ l)) (g ∷ l) k d))
     (k .up-is) (k .events-ok .1) (rw (entryIds-events (g .events)) (k .ids-ok))
 
 -- at a routine that runs, or at the end, neither the bar nor the hub goes on
-rest-stays : (s : State) (p : List Entry) (l : List Group) → FirstRuns l → OrderOk s (barAt p l) [] l → OrderOk (withSequence s (members l)) (moveBar (barAt p l)) [] l
+rest-stays : (s : State) (p : List Entry) (l : List Group) → FirstRuns l → OrderOk s (barAt p l) [] l →
+    OrderOk (withSequence s (members l)) (moveBar (barAt p l)) [] l
 rest-stays s p l f k = subst (λ o. OrderOk (withSequence s (members l)) o [] l) (sym (bar-stays s (barAt p l) l k f)) record {
   unsettled-is = k .unsettled-is;
   settled-is = k .settled-is;
@@ -181,13 +194,16 @@ pub order-settles : (s : State) (o : Order) (lead : List Event) (l : List Group)
 unfolding moveBar
 order-settles s o lead l h k =
     let p = o .settled ++ map event lead in
-    let same : moveBar (barAt p l) ≡ moveBar o = bar-same (barAt p l) o (append-assoc (o .settled) (map event lead) (flat l) ∙ ap (λ q. o .settled ++ q) (sym (k .unsettled-is))) in (
-      settles (Settling o) (λ s l. OrderOk s (moveBar o) [] l) joins (λ s l f q. subst (λ o. OrderOk (withSequence s (members l)) o [] l) (q .1) (rest-stays s (q .0) l f (q .2))) s l
+    let same : moveBar (barAt p l) ≡ moveBar o =
+    bar-same (barAt p l) o (append-assoc (o .settled) (map event lead) (flat l) ∙ ap (λ q. o .settled ++ q) (sym (k .unsettled-is))) in (
+      settles (Settling o) (λ s l. OrderOk s (moveBar o) [] l) joins
+          (λ s l f q. subst (λ o. OrderOk (withSequence s (members l)) o [] l) (q .1) (rest-stays s (q .0) l f (q .2))) s l
           (h .sequence-is) (p, same, lead-settles s o lead l k),
       (beforeBar (o .unsettled), before-++ (o .settled) (o .unsettled) (k .barred)),
     )
   where
-    joins : (s : State) (g : Group) (l : List Group) → g .member .committed ≡ true → Settling o s (g ∷ l) → Settling o (joinSettled s (g .member)) l
+    joins : (s : State) (g : Group) (l : List Group) → g .member .committed ≡ true → Settling o s (g ∷ l) →
+        Settling o (joinSettled s (g .member)) l
     joins s g l t q = (
       q .0 ++ entriesOf g,
       bar-same (barAt (q .0 ++ entriesOf g) l) (barAt (q .0) (g ∷ l)) (append-assoc (q .0) (entriesOf g) (flat l)) ∙ q .1,

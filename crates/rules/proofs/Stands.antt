@@ -16,16 +16,20 @@ use Rattle.rules.specs.Abort.{abort}
 use Rattle.rules.specs.Submit.{newcomer}
 use Rattle.rules.specs.Turn.{commit, commitTurn, sendTurn, skipTurn}
 use Rattle.rules.specs.Report.{doneReport, skipReport}
-use Rattle.rules.specs.History.{Outcome, reported-done, reported-failed, not-sent, Answered, Account, placedAccount, sentAccount, answeredAccount, endedAccount, noteAnswer, noteAnswers}
+use Rattle.rules.specs.History.{Outcome, reported-done, reported-failed, not-sent, Answered, Account, placedAccount, sentAccount}
+use Rattle.rules.specs.History.{answeredAccount, endedAccount, noteAnswer, noteAnswers}
 use Rattle.rules.specs.Order.{Event, failure-of, restart-of, Entry, routine, event, Order, orderAfterAll, entries}
 use Rattle.rules.specs.Serial.{DeviceState, allUp, runEntry}
 use Rattle.rules.specs.Demand3.{Finds, afterAnswered, AllFind, doneOnes, CommandsStand}
 use Rattle.rules.specs.HubOrder.{doneSteps}
-use Rattle.rules.proofs.Lists.{or-left, or-right, put-same, put-other, put-keeps, each-++, each-left, each-right, each-mid, IsNot, NotIn, IdsOk, ids-fresh, ids-other}
-use Rattle.rules.proofs.Groups.{Group, ids, flat, entryIds, deviceOf, alone, changed, passAll, leaving, leadOf, attachEvent, leadWith, flat-++, entryIds-++, entryIds-flat, flat-pass, flat-leaving}
+use Rattle.rules.proofs.Lists.{or-left, or-right, put-same, put-other, put-keeps, each-++, each-left, each-right, each-mid, IsNot}
+use Rattle.rules.proofs.Lists.{NotIn, IdsOk, ids-fresh, ids-other}
+use Rattle.rules.proofs.Groups.{Group, ids, flat, entryIds, deviceOf, alone, changed, passAll, leaving, leadOf, attachEvent}
+use Rattle.rules.proofs.Groups.{leadWith, flat-++, entryIds-++, entryIds-flat, flat-pass, flat-leaving}
 use Rattle.rules.proofs.Steps.{leftSteps, skip-step, done-step, fail-step, unbegun-answered}
 use Rattle.rules.proofs.Invariant.{NotBegun, HubOk, InFlightIsUp, upEvent, upAfter, OrderOk, commandsIn, AccountTells}
-use Rattle.rules.proofs.View.{sentMember, skippedMember, doneMember, failedMember, Gone, nobody, somebody, Moves, places, commits, sends, skips, dones, misses, aborts, fails, restarts}
+use Rattle.rules.proofs.View.{sentMember, skippedMember, doneMember, failedMember, Gone, nobody, somebody, Moves, places, commits}
+use Rattle.rules.proofs.View.{sends, skips, dones, misses, aborts, fails, restarts}
 use Rattle.rules.proofs.Runs.{up-++, bringsUp, up-event, up-not-begun, up-flat-not-begun}
 use Rattle.rules.proofs.Marks.{ClearOfDevice, in-turn, turn-clear, flight-clear, mark-place}
 use Rattle.rules.proofs.Moved.{hub-gone, hub-up}
@@ -55,7 +59,9 @@ Standing a l = Stand (answeredIn a) l (λ d. true)
 -- this is what the statement says: a run's commands leave the devices up or down as they were
 fits-is : (l : List Answered) (t : ℕ → DeviceState) → AllFind l t ≡ Each (Fits (λ d. t d .up)) l
 fits-is [] t = refl
-fits-is (x ∷ l) t = ap (λ A. Fits (λ d. t d .up) x × A) (fits-is l (afterAnswered (x .outcome) (x .command) t) ∙ ap (λ u. Each (Fits u) l) (same-up (x .outcome)))
+fits-is (x ∷ l) t =
+    ap (λ A. Fits (λ d. t d .up) x × A)
+    (fits-is l (afterAnswered (x .outcome) (x .command) t) ∙ ap (λ u. Each (Fits u) l) (same-up (x .outcome)))
   where
     same-up : (o : Outcome) → _≡_ {A = ℕ → Bool} (λ d. afterAnswered o (x .command) t d .up) (λ d. t d .up)
     same-up reported-done = fun-ext (λ d. serial-up d (routine 0 (x .command ∷ []) true ∷ []) t)
@@ -67,7 +73,8 @@ stand-is a [] t = refl
 stand-is a (routine i cs b ∷ l) t =
     ap₂ (λ A B. (cs ≡ doneOnes (a i .answered)) × A × B) (fits-is (a i .answered) t)
     (stand-is a l (runEntry (routine i cs b) t) ∙ ap (λ u. Stand (answeredIn a) l u) (fun-ext (λ d. serial-up d (routine i cs b ∷ []) t)))
-stand-is a (event e ∷ l) t = stand-is a l (runEntry (event e) t) ∙ ap (λ u. Stand (answeredIn a) l u) (fun-ext (λ d. serial-up d (event e ∷ []) t))
+stand-is a (event e ∷ l) t = stand-is a l (runEntry (event e) t)
+    ∙ ap (λ u. Stand (answeredIn a) l u) (fun-ext (λ d. serial-up d (event e ∷ []) t))
 
 -- ---- parts of orders
 
@@ -86,23 +93,28 @@ stand-join q (routine i cs b ∷ p) r u h k = (h .0, h .1, stand-join q p r u (h
 stand-join q (event e ∷ p) r u h k = stand-join q p r (λ d. upEvent d e (u d)) h k
 
 -- the part behind p changes
-stand-behind : (q : ℕ → List Answered) (p r l : List Entry) → ((u : ℕ → Bool) → Stand q r u → Stand q l u) → (u : ℕ → Bool) → Stand q (p ++ r) u → Stand q (p ++ l) u
+stand-behind : (q : ℕ → List Answered) (p r l : List Entry) → ((u : ℕ → Bool) → Stand q r u → Stand q l u) → (u : ℕ → Bool) →
+    Stand q (p ++ r) u → Stand q (p ++ l) u
 stand-behind q p r l f u h = let k = stand-split q p r u h in stand-join q p l u (k .0) (f (upBehind p u) (k .1))
 
 -- other routines do not look at the commands of i
-stand-other : (q : ℕ → List Answered) (i : ℕ) (v : List Answered) (l : List Entry) (u : ℕ → Bool) → NotIn i (entryIds l) → Stand q l u → Stand (put q i v) l u
+stand-other : (q : ℕ → List Answered) (i : ℕ) (v : List Answered) (l : List Entry) (u : ℕ → Bool) → NotIn i (entryIds l) → Stand q l u →
+    Stand (put q i v) l u
 stand-other q i v [] u n h = tt
 stand-other q i v (routine j cs b ∷ l) u n h =
-    subst (λ x. (cs ≡ doneOnes x) × Each (Fits u) x × Stand (put q i v) l u) (sym (put-other q i v j (n .0))) (h .0, h .1, stand-other q i v l u (n .1) (h .2))
+    subst (λ x. (cs ≡ doneOnes x) × Each (Fits u) x × Stand (put q i v) l u) (sym (put-other q i v j (n .0)))
+    (h .0, h .1, stand-other q i v l u (n .1) (h .2))
 stand-other q i v (event e ∷ l) u n h = stand-other q i v l (λ d. upEvent d e (u d)) n h
 
 -- the routine i between p and r, its answered commands being v
-stand-with : (q : ℕ → List Answered) (i : ℕ) (v : List Answered) (p : List Entry) (cs : List Command) (b : Bool) (r : List Entry) (u : ℕ → Bool) →
+stand-with : (q : ℕ → List Answered) (i : ℕ) (v : List Answered) (p : List Entry) (cs : List Command) (b : Bool) (r : List Entry)
+    (u : ℕ → Bool) →
     NotIn i (entryIds p) → NotIn i (entryIds r) → Stand q p u → Stand q r (upBehind p u) → cs ≡ doneOnes v → Each (Fits (upBehind p u)) v →
     Stand (put q i v) (p ++ (routine i cs b ∷ r)) u
 stand-with q i v p cs b r u m n h k e f =
     stand-join (put q i v) p (routine i cs b ∷ r) u (stand-other q i v p u m h)
-    (subst (λ x. (cs ≡ doneOnes x) × Each (Fits (upBehind p u)) x × Stand (put q i v) r (upBehind p u)) (sym (put-same q i v)) (e, f, stand-other q i v r (upBehind p u) n k))
+    (subst (λ x. (cs ≡ doneOnes x) × Each (Fits (upBehind p u)) x × Stand (put q i v) r (upBehind p u)) (sym (put-same q i v))
+    (e, f, stand-other q i v r (upBehind p u) n k))
 
 -- ---- an event of d is put in, behind which no answered command is on d
 
@@ -112,11 +124,13 @@ onDevice d c = eqb (c .device) d
 abbrev SameBut : ℕ → (ℕ → Bool) → (ℕ → Bool) → Type 0
 SameBut d u w = (x : ℕ) → x ≢ d → u x ≡ w x
 
-fits-spared : (d : ℕ) (u w : ℕ → Bool) → SameBut d u w → (l : List Answered) → anyOf (onDevice d) (commandsIn l) ≡ false → Each (Fits u) l → Each (Fits w) l
+fits-spared : (d : ℕ) (u w : ℕ → Bool) → SameBut d u w → (l : List Answered) → anyOf (onDevice d) (commandsIn l) ≡ false → Each (Fits u) l →
+    Each (Fits w) l
 fits-spared d u w e [] n h = tt
 fits-spared d u w e (x ∷ l) n h =
     let y = x .command in (
-      subst (λ b. Finds b (x .outcome)) (e (y .device) (eqb-false (y .device) d (or-left (onDevice d y) (anyOf (onDevice d) (commandsIn l)) n))) (h .0),
+      subst (λ b. Finds b (x .outcome))
+          (e (y .device) (eqb-false (y .device) d (or-left (onDevice d y) (anyOf (onDevice d) (commandsIn l)) n))) (h .0),
       fits-spared d u w e l (or-right (onDevice d y) (anyOf (onDevice d) (commandsIn l)) n) (h .1),
     )
 
@@ -124,15 +138,18 @@ fits-spared d u w e (x ∷ l) n h =
 abbrev Spared : ℕ → (ℕ → List Answered) → ℕ → Type 0
 Spared d q i = anyOf (onDevice d) (commandsIn (q i)) ≡ false
 
-stand-spared : (d : ℕ) (q : ℕ → List Answered) (l : List Entry) (u w : ℕ → Bool) → SameBut d u w → Each (Spared d q) (entryIds l) → Stand q l u → Stand q l w
+stand-spared : (d : ℕ) (q : ℕ → List Answered) (l : List Entry) (u w : ℕ → Bool) → SameBut d u w → Each (Spared d q) (entryIds l) →
+    Stand q l u → Stand q l w
 stand-spared d q [] u w e n h = tt
 stand-spared d q (routine i cs b ∷ l) u w e n h = (h .0, fits-spared d u w e (q i) (n .0) (h .1), stand-spared d q l u w e (n .1) (h .2))
-stand-spared d q (event x ∷ l) u w e n h = stand-spared d q l (λ y. upEvent y x (u y)) (λ y. upEvent y x (w y)) (λ y m. ap (upEvent y x) (e y m)) n h
+stand-spared d q (event x ∷ l) u w e n h =
+    stand-spared d q l (λ y. upEvent y x (u y)) (λ y. upEvent y x (w y)) (λ y m. ap (upEvent y x) (e y m)) n h
 
 event-other : (e : Event) (u : ℕ → Bool) → SameBut (deviceOf e) u (λ x. upEvent x e (u x))
 event-other e u x n = sym (up-event x e (u x) ∙ ap (λ b. if b then bringsUp e else u x) (ne-eqb (deviceOf e) x (λ z. n (sym z))))
 
-spared-groups : (d : ℕ) (a : ℕ → Account) (l : List Group) → Each (NotBegun d) l → Each (AccountTells a) l → Each (Spared d (answeredIn a)) (ids l)
+spared-groups : (d : ℕ) (a : ℕ → Account) (l : List Group) → Each (NotBegun d) l → Each (AccountTells a) l →
+    Each (Spared d (answeredIn a)) (ids l)
 spared-groups d a [] q t = tt
 spared-groups d a (g ∷ l) q t =
     (ap (anyOf (onDevice d)) (t .0 .answered-is) ∙ unbegun-answered (g .member) d (q .0 .idle), spared-groups d a l (q .1) (t .1))
@@ -141,7 +158,8 @@ spared-groups d a (g ∷ l) q t =
 stand-event : (e : Event) (a : ℕ → Account) (l : List Group) → Each (NotBegun (deviceOf e)) l → Each (AccountTells a) l → (u : ℕ → Bool) →
     Stand (answeredIn a) (flat l) u → Stand (answeredIn a) (event e ∷ flat l) u
 stand-event e a l q k u h =
-    stand-spared (deviceOf e) (answeredIn a) (flat l) u (λ x. upEvent x e (u x)) (event-other e u) (rw (entryIds-flat l) (spared-groups (deviceOf e) a l q k)) h
+    stand-spared (deviceOf e) (answeredIn a) (flat l) u (λ x. upEvent x e (u x)) (event-other e u)
+    (rw (entryIds-flat l) (spared-groups (deviceOf e) a l q k)) h
 
 -- ---- the entries of groups
 
@@ -175,27 +193,32 @@ record Before (s : State) (o : Order) (a : ℕ → Account) (l : List Group) : T
 flat-at : (p : List Entry) (a b : List Group) → p ++ flat (a ++ b) ≡ (p ++ flat a) ++ flat b
 flat-at p a b = ap (λ k. p ++ k) (flat-++ a b) ∙ sym (append-assoc p (flat a) (flat b))
 
-entry-ids : (s : State) (o : Order) (a b : List Group) → OrderOk s o [] (a ++ b) → IdsOk (s .nextId) (entryIds (o .settled ++ flat a) ++ entryIds (flat b))
+entry-ids : (s : State) (o : Order) (a b : List Group) → OrderOk s o [] (a ++ b) →
+    IdsOk (s .nextId) (entryIds (o .settled ++ flat a) ++ entryIds (flat b))
 entry-ids s o a b k = rw (entryIds-++ (o .settled) (flat a), entryIds-flat a, entryIds-flat b) (order-ids s o [] a b k)
 
 -- and behind p and these groups, from all devices up
 abbrev upPast : List Entry → List Group → ℕ → Bool
 upPast p x = upBehind (p ++ flat x) (λ d. true)
 
-stand-at : (a : ℕ → Account) (p : List Entry) (x y : List Group) → Standing a (p ++ flat (x ++ y)) → Standing a (p ++ flat x) × Stand (answeredIn a) (flat y) (upPast p x)
+stand-at : (a : ℕ → Account) (p : List Entry) (x y : List Group) → Standing a (p ++ flat (x ++ y)) → Standing a (p ++ flat x)
+    × Stand (answeredIn a) (flat y) (upPast p x)
 stand-at a p x y w = stand-split (answeredIn a) (p ++ flat x) (flat y) (λ d. true) (subst (λ l. Standing a l) (flat-at p x y) w)
 
 -- g stands between x and y, its account having become z
 stand-put : (a : ℕ → Account) (p : List Entry) (x : List Group) (g : Group) (y : List Group) (z : Account) →
     NotIn (g .member .id) (entryIds (p ++ flat x)) → NotIn (g .member .id) (entryIds (map event (g .events) ++ flat y)) →
     Standing a (p ++ flat x) → Stand (answeredIn a) (map event (g .events) ++ flat y) (upPast p x) →
-    Each (AccountTells (put a (g .member .id) z)) (x ++ (g ∷ y)) → Each (Fits (upPast p x)) (z .answered) → Standing (put a (g .member .id) z) (p ++ flat (x ++ (g ∷ y)))
+    Each (AccountTells (put a (g .member .id) z)) (x ++ (g ∷ y)) → Each (Fits (upPast p x)) (z .answered) →
+    Standing (put a (g .member .id) z) (p ++ flat (x ++ (g ∷ y)))
 stand-put a p x g y z m n h k t f =
     let i = g .member .id in
-    let e : doneSteps (g .member .steps) ≡ doneOnes (z .answered) = sym (each-mid (AccountTells (put a i z)) x g y t .done-is) ∙ ap (λ (c : Account). doneOnes (c .answered)) (put-same a i z) in
+    let e : doneSteps (g .member .steps) ≡ doneOnes (z .answered) = sym (each-mid (AccountTells (put a i z)) x g y t .done-is)
+    ∙ ap (λ (c : Account). doneOnes (c .answered)) (put-same a i z) in
     subst (λ l. Standing (put a i z) l) (sym (flat-at p x (g ∷ y)))
     (subst (λ q. Stand q ((p ++ flat x) ++ flat (g ∷ y)) (λ d. true)) (sym (put-answered a i z))
-    (stand-with (answeredIn a) i (z .answered) (p ++ flat x) (doneSteps (g .member .steps)) (g .member .committed) (map event (g .events) ++ flat y) (λ d. true) m n h k e f))
+    (stand-with (answeredIn a) i (z .answered) (p ++ flat x) (doneSteps (g .member .steps)) (g .member .committed)
+    (map event (g .events) ++ flat y) (λ d. true) m n h k e f))
 
 stand-places : (s : State) (o : Order) (a : ℕ → Account) (cs : List Command) (x y : List Group) → Before s o a (x ++ y) →
     Each (AccountTells (put a (s .nextId) (placedAccount cs))) (x ++ (alone (newcomer (s .nextId) cs) ∷ passAll y)) →
@@ -214,25 +237,29 @@ stand-places s o a cs x y f t =
 module _ (s : State) (o : Order) (a : ℕ → Account) (x : List Group) (g : Group) (y : List Group) (f : Before s o a (x ++ (g ∷ y))) where
   stand-changes : (l : List Step) (b : Bool) (z : Account) →
       (Each (Fits (upPast (o .settled) x)) (a (g .member .id) .answered) → Each (Fits (upPast (o .settled) x)) (z .answered)) →
-      Each (AccountTells (put a (g .member .id) z)) (x ++ (changed g l b ∷ y)) → Standing (put a (g .member .id) z) (o .settled ++ flat (x ++ (changed g l b ∷ y)))
+      Each (AccountTells (put a (g .member .id) z)) (x ++ (changed g l b ∷ y)) →
+      Standing (put a (g .member .id) z) (o .settled ++ flat (x ++ (changed g l b ∷ y)))
   stand-changes l b z m t =
       let i = g .member .id in
       let p = entryIds (o .settled ++ flat x) in
       let r = entryIds (map event (g .events) ++ flat y) in
       let n = ids-other (s .nextId) p i r (entry-ids s o x (g ∷ y) (f .order)) in
       let h = stand-at a (o .settled) x (g ∷ y) (f .stand) in
-      stand-put a (o .settled) x (changed g l b) y z (each-left (IsNot i) p r n) (each-right (IsNot i) p r n) (h .0) (h .1 .2) t (m (h .1 .1))
+      stand-put a (o .settled) x (changed g l b) y z (each-left (IsNot i) p r n) (each-right (IsNot i) p r n) (h .0) (h .1 .2) t
+      (m (h .1 .1))
 
   -- its first command that is left, c, is answered
   stand-answers : (l : List Step) (b : Bool) (c : Command) (cs : List Command) (v : Outcome) → leftSteps (g .member .steps) ≡ c ∷ cs →
       Finds (upPast (o .settled) x (c .device)) v → let z = answeredAccount v (a (g .member .id) .left) (a (g .member .id)) in
-      Each (AccountTells (put a (g .member .id) z)) (x ++ (changed g l b ∷ y)) → Standing (put a (g .member .id) z) (o .settled ++ flat (x ++ (changed g l b ∷ y)))
+      Each (AccountTells (put a (g .member .id) z)) (x ++ (changed g l b ∷ y)) →
+      Standing (put a (g .member .id) z) (o .settled ++ flat (x ++ (changed g l b ∷ y)))
   stand-answers l b c cs v e m =
       let j = a (g .member .id) in
       let u = upPast (o .settled) x in
       let k : j .left ≡ c ∷ cs = each-mid (AccountTells a) x g y (f .tells) .left-is ∙ e in
       stand-changes l b (answeredAccount v (j .left) j)
-      (λ h. subst (λ r. Each (Fits u) (answeredAccount v r j .answered)) (sym k) (each-++ (Fits u) (j .answered) (record { command = c; outcome = v } ∷ []) h (m, tt)))
+      (λ h. subst (λ r. Each (Fits u) (answeredAccount v r j .answered)) (sym k)
+      (each-++ (Fits u) (j .answered) (record { command = c; outcome = v } ∷ []) h (m, tt)))
 
   -- a device that nothing behind g touches is up before g as it is now
   up-before : (d : ℕ) → ClearOfDevice d x g y → upPast (o .settled) x d ≡ s .up d
@@ -240,7 +267,8 @@ module _ (s : State) (o : Order) (a : ℕ → Account) (x : List Group) (g : Gro
       let p = o .settled ++ flat x in
       let u = upPast (o .settled) x d in
       let whole : entries o ≡ p ++ flat (g ∷ y) = ap (λ l. o .settled ++ l) (f .order .unsettled-is) ∙ flat-at (o .settled) x (g ∷ y) in
-      let same : upAfter d (flat (g ∷ y)) u ≡ u = up-++ d (map event (g .events)) (flat y) u ∙ up-flat-not-begun d y _ (c .behind-not-begun) ∙ up-not-begun d (g .events) u (c .no-event) in
+      let same : upAfter d (flat (g ∷ y)) u ≡ u = up-++ d (map event (g .events)) (flat y) u ∙ up-flat-not-begun d y _ (c .behind-not-begun)
+      ∙ up-not-begun d (g .events) u (c .no-event) in
       sym (ap (λ l. upAfter d l true) whole ∙ up-++ d p (flat (g ∷ y)) true ∙ same) ∙ f .order .up-is d
 
 -- ---- a routine leaves
@@ -257,30 +285,36 @@ stand-leaves a p x g y w =
 
 stand-attached : (s : State) (e : Event) (a : ℕ → Account) (p : List Entry) (lead : List Event) (l : List Group) → HubOk s l →
     let j = s .mark (deviceOf e) in
-    Each (AccountTells a) (attachEvent j e l) → Standing a (p ++ openPart lead l) → Standing a (p ++ openPart (leadWith j e lead) (attachEvent j e l))
+    Each (AccountTells a) (attachEvent j e l) → Standing a (p ++ openPart lead l) →
+    Standing a (p ++ openPart (leadWith j e lead) (attachEvent j e l))
 stand-attached s e a p lead l h k w =
     let c = cut-at e (s .mark (deviceOf e)) lead l (mark-place s l h (deviceOf e)) in
     let old = flat (c .behind) in
     let told = each-right (AccountTells a) (c .ahead) (c .behind) (subst (Each (AccountTells a)) (c .attached) k) in
     subst (λ r. Standing a (p ++ r)) (sym (c .becomes))
     (stand-behind (answeredIn a) p (c .before ++ old) (c .before ++ (event e ∷ old))
-    (stand-behind (answeredIn a) (c .before) old (event e ∷ old) (stand-event e a (c .behind) (c .not-begun) told)) (λ d. true) (subst (λ r. Standing a (p ++ r)) (c .was) w))
+    (stand-behind (answeredIn a) (c .before) old (event e ∷ old) (stand-event e a (c .behind) (c .not-begun) told)) (λ d. true)
+    (subst (λ r. Standing a (p ++ r)) (c .was) w))
 
 -- the abort ahead of the event
-stand-gone : (s : State) (d : ℕ) (l : List Group) {r : Result} {lead : List Event} {k : List Group} → Gone s d l r lead k → (a : ℕ → Account) (p : List Entry) →
+stand-gone : (s : State) (d : ℕ) (l : List Group) {r : Result} {lead : List Event} {k : List Group} → Gone s d l r lead k →
+    (a : ℕ → Account) (p : List Entry) →
     Standing a (p ++ flat l) → Standing a (p ++ openPart lead k)
 stand-gone s d l (nobody n) a p w = w
 stand-gone s d l (somebody x g y e n) a p w = stand-leaves a p x g y (subst (λ b. Standing a (p ++ flat b)) e w)
 
 -- the answer behind it tells nothing of a routine
 gone-answered : (s : State) (d : ℕ) (l : List Group) {r : Result} {lead : List Event} {k : List Group} → Gone s d l r lead k →
-    (c : Call) (v : Answer) → ((b : ℕ → Account) → noteAnswer c v b ≡ b) → (a : ℕ → Account) → answeredIn (noteAnswers c (r .answers ++ (v ∷ [])) a) ≡ answeredIn a
+    (c : Call) (v : Answer) → ((b : ℕ → Account) → noteAnswer c v b ≡ b) → (a : ℕ → Account) →
+    answeredIn (noteAnswers c (r .answers ++ (v ∷ [])) a) ≡ answeredIn a
 unfolding abort
 gone-answered s d l (nobody n) c v same a = ap answeredIn (same a)
 gone-answered s d l (somebody x g y e n) c v same a = ap answeredIn (same _) ∙ ended-answered a (g .member .id)
 
-stand-happens : (s : State) (e : Event) (a : ℕ → Account) (p : List Entry) (l : List Group) (r : Result) (lead : List Event) (k : List Group) →
-    HubOk s l → Gone s (deviceOf e) l r lead k → (c : Call) (v : Answer) → ((b : ℕ → Account) → noteAnswer c v b ≡ b) → Standing a (p ++ flat l) →
+stand-happens : (s : State) (e : Event) (a : ℕ → Account) (p : List Entry) (l : List Group) (r : Result) (lead : List Event)
+    (k : List Group) →
+    HubOk s l → Gone s (deviceOf e) l r lead k → (c : Call) (v : Answer) → ((b : ℕ → Account) → noteAnswer c v b ≡ b) →
+    Standing a (p ++ flat l) →
     let j = r .state .mark (deviceOf e) in
     let b = noteAnswers c (r .answers ++ (v ∷ [])) a in
     Each (AccountTells b) (attachEvent j e k) → Standing b (p ++ openPart (leadWith j e lead) (attachEvent j e k))
@@ -292,14 +326,16 @@ stand-happens s e a p l r lead k h g c v same w n =
 
 -- ---- every call
 
-stand-moves : (s : State) (o : Order) (a : ℕ → Account) (l : List Group) {c : Call} {r : Result} {lead : List Event} {k : List Group} → Before s o a l → Moves s l c r lead k →
+stand-moves : (s : State) (o : Order) (a : ℕ → Account) (l : List Group) {c : Call} {r : Result} {lead : List Event} {k : List Group} →
+    Before s o a l → Moves s l c r lead k →
     Each (AccountTells (noteAnswers c (r .answers) a)) k → Standing (noteAnswers c (r .answers) a) (o .settled ++ openPart lead k)
 unfolding abort commit commitTurn sendTurn skipTurn doneReport skipReport
 stand-moves s o a l f (places cs x y v e m n b) = stand-places s o a cs x y (subst (λ l. Before s o a l) e f)
 stand-moves s o a l f (commits i x g y e j r n b) =
     stand-changes s o a x g y (subst (λ l. Before s o a l) e f) (g .member .steps) true (endedAccount (a (g .member .id))) (λ h. h)
 stand-moves s o a l f (sends i x g y c e j r n b m u) =
-    stand-changes s o a x g y (subst (λ l. Before s o a l) e f) (sentMember s g c .steps) (g .member .committed) (sentAccount c (a (g .member .id))) (λ h. h)
+    stand-changes s o a x g y (subst (λ l. Before s o a l) e f) (sentMember s g c .steps) (g .member .committed)
+    (sentAccount c (a (g .member .id))) (λ h. h)
 stand-moves s o a l f (skips i x g y c e j r n b m u) =
     let w = subst (λ l. Before s o a l) e f in
     let k = skip-step (g .member) (in-turn s x g y (w .hub)) c b n in
@@ -309,12 +345,15 @@ stand-moves s o a l f (dones i code x g y v e j r n b) =
     let w = subst (λ l. Before s o a l) e f in
     let k = done-step (g .member) (in-turn s x g y (w .hub)) v n in
     let d = v .command .device in
-    stand-answers s o a x g y w (doneMember g .steps) (g .member .committed) (v .command) (leftSteps (doneMember g .steps)) reported-done (k .left-is)
-    (up-before s o a x g y w d (flight-clear s x g y v (w .hub) n) ∙ each-mid (InFlightIsUp s) x g y (w .flies) .flies-up d (k .flew d ∙ eq-eqb d d refl))
+    stand-answers s o a x g y w (doneMember g .steps) (g .member .committed) (v .command) (leftSteps (doneMember g .steps)) reported-done
+    (k .left-is)
+    (up-before s o a x g y w d (flight-clear s x g y v (w .hub) n)
+    ∙ each-mid (InFlightIsUp s) x g y (w .flies) .flies-up d (k .flew d ∙ eq-eqb d d refl))
 stand-moves s o a l f (misses i code x g y v e j r n b) =
     let w = subst (λ l. Before s o a l) e f in
     let k = fail-step (g .member) (in-turn s x g y (w .hub)) v n in
-    stand-answers s o a x g y w (failedMember g .steps) (g .member .committed) (v .command) (leftSteps (failedMember g .steps)) reported-failed (k .left-is) tt
+    stand-answers s o a x g y w (failedMember g .steps) (g .member .committed) (v .command)
+    (leftSteps (failedMember g .steps)) reported-failed (k .left-is) tt
 stand-moves s o a l f (aborts c x g y e j n) = λ _.
     subst (λ q. Stand q (o .settled ++ openPart (leadOf x g) (leaving x g y)) (λ d. true)) (sym (ended-answered a (g .member .id)))
     (stand-leaves a (o .settled) x g y (subst (λ l. Standing a (o .settled ++ flat l)) e (f .stand)))
@@ -325,7 +364,8 @@ stand-moves s o a l f (restarts d v r lead b n u g) =
     stand-happens s (restart-of d v) a (o .settled) l r lead b (f .hub) g (restart d v) (up d (r .state .mark d)) (λ b. refl) (f .stand)
 
 pub stands-moves : (s : State) (o : Order) (a : ℕ → Account) (l : List Group) {c : Call} {r : Result} {lead : List Event} {k : List Group} →
-    HubOk s l → Each (InFlightIsUp s) l → OrderOk s o [] l → Each (AccountTells a) l → CommandsStand a (entries o) allUp → Moves s l c r lead k →
+    HubOk s l → Each (InFlightIsUp s) l → OrderOk s o [] l → Each (AccountTells a) l → CommandsStand a (entries o) allUp →
+    Moves s l c r lead k →
     CommandsStand (noteAnswers c (r .answers) a) (entries (orderAfterAll c a (r .answers) o)) allUp
 stands-moves s o a l {c = c} {r = r} h f k t w m =
     let b = noteAnswers c (r .answers) a in

@@ -1,4 +1,5 @@
--- Demand 3, proved: what holds at the opening is kept by every call and by every step of a device, and gives the three parts. Assumes nothing.
+-- Demand 3, proved: what holds at the opening is kept by every call and by every step of a device, and gives the three parts. Assumes
+-- nothing.
 use mathlib.Core.Path.{_≡_, refl, sym, ap, _∙_, subst}
 use mathlib.Core.Logic.{_≢_}
 use mathlib.Core.Bool.{Bool, true, false, not, _||_, or-true}
@@ -27,14 +28,17 @@ use Rattle.rules.specs.Calls.{resultOf}
 use Rattle.rules.specs.History.{Account, noteAnswer, noteAnswers, workingAfter, workingOf}
 use Rattle.rules.specs.Order.{Event, Entry, routine, event, Order, orderAfter, orderAfterAll, beforeBar, entries, moveBar}
 use Rattle.rules.specs.Serial.{allUp, serialRun}
-use Rattle.rules.specs.World.{Message, Device, takes, World, Act, calls, takes-one, accounts, afterCall, worldAfter, worldAfterAll, taken, isAccepted, Truthful, Premised, Premise, PremiseAll, newWorld}
+use Rattle.rules.specs.World.{Message, Device, takes, World, Act, calls, takes-one, accounts, afterCall, worldAfter, worldAfterAll}
+use Rattle.rules.specs.World.{taken, isAccepted, Truthful, Premised, Premise, PremiseAll, newWorld}
 use Rattle.rules.specs.Demand3.{orderIn, NoneRuns, isBack, committedPart, EndState, Begins, CommandsStand, Statement}
 use Rattle.rules.specs.HubOrder.{entryOf, routinesIn, OrderIsHubs}
 use Rattle.rules.specs.Attach.{oneRestart, attach}
 use Rattle.rules.proofs.Lists.{byIf, t≠f, fold-++, anyOf-++}
 use Rattle.rules.proofs.Groups.{Group, members, alone, flat, stillHeld, each-held}
-use Rattle.rules.proofs.Invariant.{unmarked, HubOk, InFlightIsUp, FirstRuns, OrderOk, AccountTells, backTo, ReachesSetting, has, goes-back, OneFlightOn, DeviceAt, is-down, none-on-it, one-on-it, DeviceOk, PremiseOnCall}
-use Rattle.rules.proofs.View.{Gone, nobody, somebody, Moves, places, commits, sends, skips, dones, misses, aborts, fails, restarts, Seen, is-refused, waits, moves, see}
+use Rattle.rules.proofs.Invariant.{unmarked, HubOk, InFlightIsUp, FirstRuns, OrderOk, AccountTells, backTo, ReachesSetting, has}
+use Rattle.rules.proofs.Invariant.{goes-back, OneFlightOn, DeviceAt, is-down, none-on-it, one-on-it, DeviceOk, PremiseOnCall}
+use Rattle.rules.proofs.View.{Gone, nobody, somebody, Moves, places, commits, sends, skips, dones, misses, aborts, fails, restarts}
+use Rattle.rules.proofs.View.{Seen, is-refused, waits, moves, see}
 use Rattle.rules.proofs.Fields.{Fixed, gone-fixed, attach-fixed, settle-fixed}
 use Rattle.rules.proofs.Moved.{hub-settles}
 use Rattle.rules.proofs.Kept.{hub-moves, flies-moves, flies-settles}
@@ -86,7 +90,8 @@ premise-told w (failure d) t = t
 premise-told w (restart d v) t = t
 premise-told w (cancel i) t = t
 
-gone-accepted : (s : State) (d : ℕ) (l : List Group) (x : Answer) {r : Result} {lead : List Event} {k : List Group} → isAccepted (x ∷ []) ≡ true →
+gone-accepted : (s : State) (d : ℕ) (l : List Group) (x : Answer) {r : Result} {lead : List Event} {k : List Group} →
+    isAccepted (x ∷ []) ≡ true →
     Gone s d l r lead k → isAccepted (r .answers ++ (x ∷ [])) ≡ true
 unfolding abort
 gone-accepted s d l x e (nobody q) = e
@@ -104,8 +109,11 @@ moves-same s l (dones i code a g b x e n r f q) = (refl, refl)
 moves-same s l (misses i code a g b x e n r f q) = (refl, refl)
 moves-same s l (aborts c a g b e r q) = (refl, refl)
 moves-same s l (fails d r lead k n u g) = (gone-accepted _ d l _ refl g, ap (λ (x : Fixed). x .devices) (gone-fixed _ d l g))
-moves-same s l (restarts d v r lead k n u g) =
-    (gone-accepted s d l _ refl g, ap (λ (x : Fixed). x .devices) (attach-fixed (r .state .mark d) (oneRestart d v) (r .state) ∙ gone-fixed s d l g))
+moves-same s l (restarts d v r lead k n u g) = (
+  gone-accepted s d l _ refl g,
+  ap (λ (x : Fixed). x .devices)
+      (attach-fixed (r .state .mark d) (oneRestart d v) (r .state) ∙ gone-fixed s d l g),
+)
 
 members-alone : (l : List Member) → members (map alone l) ≡ l
 members-alone [] = refl
@@ -127,8 +135,10 @@ record Next (P : Type 0) (w t : World) : Type 0 where
   same-devices : t .state .devices ≡ w .state .devices
 
 -- a call whose answer, x, tells nothing
-untold : (P Q : Type 0) (w : World) (c : Call) (x : Answer) → Holds P w → noteAnswer c x (accounts w) ≡ accounts w → workingAfter x (workingOf (w .history)) ≡ workingOf (w .history) →
-    orderAfter c (accounts w) x (orderIn w) ≡ orderIn w → Next (P × Q) w (record { state = w .state; history = record { call = c; answers = x ∷ [] } ∷ w .history; devices = w .devices })
+untold : (P Q : Type 0) (w : World) (c : Call) (x : Answer) → Holds P w → noteAnswer c x (accounts w) ≡ accounts w →
+    workingAfter x (workingOf (w .history)) ≡ workingOf (w .history) →
+    orderAfter c (accounts w) x (orderIn w) ≡ orderIn w →
+    Next (P × Q) w (record { state = w .state; history = record { call = c; answers = x ∷ [] } ∷ w .history; devices = w .devices })
 untold P Q w c x h a k o = record {
   next = record {
     groups = h .groups;
@@ -145,7 +155,8 @@ untold P Q w c x h a k o = record {
     same = ap moveBar o ∙ bar-stays (w .state) (orderIn w) (h .groups) (h .known .order) (h .known .first)
 
 -- a call that changes something
-told : (P : Type 0) (w : World) (c : Call) (v : ℤ) (h : Holds P w) {r : Result} {lead : List Event} {k : List Group} → Moves (w .state) (h .groups) c r lead k →
+told : (P : Type 0) (w : World) (c : Call) (v : ℤ) (h : Holds P w) {r : Result} {lead : List Event} {k : List Group} →
+    Moves (w .state) (h .groups) c r lead k →
     Next (P × Premised w c (r .answers)) w (afterCall w c v (settling r))
 told P w c v h {r = r} {lead = lead} {k = k} m = record {
   next = record {
@@ -158,12 +169,14 @@ told P w c v h {r = r} {lead = lead} {k = k} m = record {
       tells = each-held (AccountTells (noteAnswers c (r .answers) a)) k (accounts-moves s a l (j .hub) (j .tells) m);
       unsent = λ i e. unsent-moves s a l (j .hub) (j .unsent) m i (subst (λ (q : Fixed). q .nextId ≤ i) (settle-fixed (r .state)) e);
       works = λ d. working-moves s (workingOf (w .history)) l (j .works) m d ∙ ap (λ (q : Fixed). q .up d) (sym (settle-fixed (r .state)));
-      stands = subst (λ q. CommandsStand (noteAnswers c (r .answers) a) q allUp) (sym (bar-entries (orderAfterAll c a (r .answers) (orderIn w))))
+      stands = subst (λ q. CommandsStand (noteAnswers c (r .answers) a) q allUp)
+          (sym (bar-entries (orderAfterAll c a (r .answers) (orderIn w))))
           (stands-moves s (orderIn w) a l (j .hub) (j .flies) (j .order) (j .tells) (j .stands) m);
     };
     devices = λ p d n. device-settles d (r .state) _ k _ hub
         (device-moves d s a l (w .devices) v (subst (λ q. d < q) same n) (j .hub) (j .order .events-ok) (j .tells)
-        (h .devices (p .0) d (subst (λ q. d < q) same n)) (j .unsent (s .nextId) (omega arith)) (j .flies) (premise-told w c (p .1 (moves-same s l m .0))) m);
+        (h .devices (p .0) d (subst (λ q. d < q) same n)) (j .unsent (s .nextId) (omega arith)) (j .flies)
+        (premise-told w c (p .1 (moves-same s l m .0))) m);
   };
   grows = subst (λ q. Begins q (moveBar (orderAfterAll c a (r .answers) (orderIn w)) .settled)) (moved .1) (settled .1);
   same-devices = same;
@@ -187,14 +200,16 @@ told P w c v h {r = r} {lead = lead} {k = k} m = record {
     hub : HubOk (r .state) k
     hub = hub-moves s l (j .hub) m
 
-    moved : OrderOk (r .state) (orderAfterAll c a (r .answers) (orderIn w)) lead k × (orderAfterAll c a (r .answers) (orderIn w) .settled ≡ orderIn w .settled)
+    moved : OrderOk (r .state) (orderAfterAll c a (r .answers) (orderIn w)) lead k
+        × (orderAfterAll c a (r .answers) (orderIn w) .settled ≡ orderIn w .settled)
     moved = order-moves s (orderIn w) a l (j .hub) (j .order) (j .tells) m
 
     settled : OrderOk (settle (r .state)) (moveBar (orderAfterAll c a (r .answers) (orderIn w))) [] (stillHeld k)
         × Begins (orderAfterAll c a (r .answers) (orderIn w) .settled) (moveBar (orderAfterAll c a (r .answers) (orderIn w)) .settled)
     settled = order-settles (r .state) (orderAfterAll c a (r .answers) (orderIn w)) lead k hub (moved .0)
 
-seen : (P : Type 0) (w : World) (c : Call) (v : ℤ) (h : Holds P w) {r : Result} → Seen (w .state) (h .groups) c r → Next (P × Premised w c (r .answers)) w (afterCall w c v r)
+seen : (P : Type 0) (w : World) (c : Call) (v : ℤ) (h : Holds P w) {r : Result} → Seen (w .state) (h .groups) c r →
+    Next (P × Premised w c (r .answers)) w (afterCall w c v r)
 seen P w c v h (is-refused r) = untold P _ w c (refused r) h refl refl refl
 seen P w c v h (waits i j) = untold P _ w c (wait i j) h refl refl refl
 seen P w c v h (moves m) = told P w c v h m
@@ -208,8 +223,10 @@ acted P w (takes-one d k) h = record {
     groups = h .groups;
     known = h .known;
     devices = λ p e n. byIf (DeviceOk e (w .state) (accounts w) (h .groups)) (eqb e d)
-        (λ t. subst (λ x. DeviceOk x (w .state) (accounts w) (h .groups) (takes k (w .devices d .sent) (w .devices d))) (sym (eqb-true e d t))
-        (device-takes d (w .state) (accounts w) (h .groups) (w .devices d) k (h .devices (p .0) d (subst (λ x. x < w .state .devices) (eqb-true e d t) n))))
+        (λ t. subst (λ x. DeviceOk x (w .state) (accounts w) (h .groups) (takes k (w .devices d .sent) (w .devices d)))
+        (sym (eqb-true e d t))
+        (device-takes d (w .state) (accounts w) (h .groups) (w .devices d) k
+        (h .devices (p .0) d (subst (λ x. x < w .state .devices) (eqb-true e d t) n))))
         (λ _. h .devices (p .0) e n);
   };
   grows = begins-refl (orderIn w .settled);
@@ -222,13 +239,16 @@ stronger P Q w f h = record { groups = h .groups; known = h .known; devices = λ
 
 -- a list of acts
 acts-hold : (P : Type 0) (w : World) (l : List Act) → Holds P w → Next (P × PremiseAll w l) w (worldAfterAll w l)
-acts-hold P w [] h = record { next = stronger P (P × Unit {0}) w (λ q. q .0) h; grows = begins-refl (orderIn w .settled); same-devices = refl }
+acts-hold P w [] h =
+    record { next = stronger P (P × Unit {0}) w (λ q. q .0) h; grows = begins-refl (orderIn w .settled); same-devices = refl }
 acts-hold P w (x ∷ l) h =
     let n = acted P w x h in
     let m = acts-hold (P × Premise w x) (worldAfter w x) l (n .next) in
     record {
-      next = stronger ((P × Premise w x) × PremiseAll (worldAfter w x) l) (P × PremiseAll w (x ∷ l)) (worldAfterAll (worldAfter w x) l) (λ q. ((q .0, q .1 .0), q .1 .1)) (m .next);
-      grows = begins-trans (orderIn w .settled) (orderIn (worldAfter w x) .settled) (orderIn (worldAfterAll (worldAfter w x) l) .settled) (n .grows) (m .grows);
+      next = stronger ((P × Premise w x) × PremiseAll (worldAfter w x) l) (P × PremiseAll w (x ∷ l)) (worldAfterAll (worldAfter w x) l)
+          (λ q. ((q .0, q .1 .0), q .1 .1)) (m .next);
+      grows = begins-trans (orderIn w .settled) (orderIn (worldAfter w x) .settled) (orderIn (worldAfterAll (worldAfter w x) l) .settled)
+          (n .grows) (m .grows);
       same-devices = m .same-devices ∙ n .same-devices;
     }
 
@@ -278,7 +298,8 @@ reaches-to : (u v : ℤ) (l : List Message) → anyOf isBack l ≡ false → Rea
 reaches-to u v l n (has e f) = f
 reaches-to u v l n (goes-back k e) = t≠f (sym (ap (anyOf isBack) e ∙ anyOf-++ isBack k (backTo v ∷ []) ∙ or-true (anyOf isBack k)) ∙ n)
 
-settles-at : (d : ℕ) (s : State) (a : ℕ → Account) (w : Device) → s .up d ≡ true → anyOf isBack (w .sent) ≡ false → DeviceAt d (s .up d) (due s d) a [] w → due s d ≡ w .setting
+settles-at : (d : ℕ) (s : State) (a : ℕ → Account) (w : Device) → s .up d ≡ true → anyOf isBack (w .sent) ≡ false →
+    DeviceAt d (s .up d) (due s d) a [] w → due s d ≡ w .setting
 settles-at d s a w u n (is-down e f) = t≠f (sym u ∙ e)
 settles-at d s a w u n (none-on-it e f k) = sym (reaches-to (w .setting) (due s d) (w .sent) n k)
 settles-at d s a w u n (one-on-it e f) = absurd (nobody-flies f)
@@ -287,11 +308,14 @@ settles-at d s a w u n (one-on-it e f) = absurd (nobody-flies f)
     nobody-flies = elim [ ]
 
 -- the serial run gives what the hub has of d
-serial-is : (P : Type 0) (w : World) → Holds P w → (d : ℕ) → serialRun (entries (orderIn w)) allUp d ≡ record { up = w .state .up d; setting = due (w .state) d }
+serial-is : (P : Type 0) (w : World) → Holds P w → (d : ℕ) →
+    serialRun (entries (orderIn w)) allUp d ≡ record { up = w .state .up d; setting = due (w .state) d }
 serial-is P w h d =
     let k = h .known in
-    ap (λ u. record { up = u; setting = serialRun (entries (orderIn w)) allUp d .setting }) (serial-up d (entries (orderIn w)) allUp ∙ k .order .up-is d)
-    ∙ ap (λ v. record { up = w .state .up d; setting = v }) (serial-setting d (entries (orderIn w)) allUp ∙ order-due (w .state) (orderIn w) (h .groups) (k .hub) (k .order) d)
+    ap (λ u. record { up = u; setting = serialRun (entries (orderIn w)) allUp d .setting })
+    (serial-up d (entries (orderIn w)) allUp ∙ k .order .up-is d)
+    ∙ ap (λ v. record { up = w .state .up d; setting = v })
+    (serial-setting d (entries (orderIn w)) allUp ∙ order-due (w .state) (orderIn w) (h .groups) (k .hub) (k .order) d)
 
 -- what stands before the bar is committed
 all-committed : (l : List Entry) → beforeBar l ≡ l → committedPart l ≡ l
@@ -334,9 +358,11 @@ demand-3 n k first s e acts = record {
       let b = acts-hold (Unit {0}) o before start in
       let t = worldAfterAll o before in
       let r = acts-hold (Unit {0} × PremiseAll o before) t rest (b .next) in
-      let same : w ≡ worldAfterAll t rest = ap (worldAfterAll o) q ∙ fold-++ (λ l v. worldAfterAll v l) (λ v. refl) (λ x l v. refl) before rest o in
+      let same : w ≡ worldAfterAll t rest = ap (worldAfterAll o) q
+      ∙ fold-++ (λ l v. worldAfterAll v l) (λ v. refl) (λ x l v. refl) before rest o in
       subst (λ z. Begins (orderIn t .settled) (entries (orderIn z))) (sym same)
-      (begins-trans (orderIn t .settled) (orderIn (worldAfterAll t rest) .settled) (entries (orderIn (worldAfterAll t rest))) (r .grows) (orderIn (worldAfterAll t rest) .unsettled, refl));
+      (begins-trans (orderIn t .settled) (orderIn (worldAfterAll t rest) .settled) (entries (orderIn (worldAfterAll t rest))) (r .grows)
+      (orderIn (worldAfterAll t rest) .unsettled, refl));
   commands-stand = all .next .known .stands;
 }
   where
@@ -365,7 +391,8 @@ pub hub-order : OrderIsHubs
 hub-order n k first s e acts =
     let h = acts-hold (Unit {0}) (newWorld s) acts (started n k first s e) .next in
     record {
-      routines-are = ap routinesIn (h .known .order .unsettled-is) ∙ routines-flat (h .groups) ∙ ap (map entryOf) (sym (h .known .hub .sequence-is));
+      routines-are = ap routinesIn (h .known .order .unsettled-is) ∙ routines-flat (h .groups)
+          ∙ ap (map entryOf) (sym (h .known .hub .sequence-is));
       devices-are = serial-is (Unit {0} × PremiseAll (newWorld s) acts) (worldAfterAll (newWorld s) acts) h;
     }
 
@@ -399,4 +426,5 @@ ids-differ n k first s e acts a m b w =
     let id : Member → ℕ = λ x. x .id in
     let same = ids-members (h .groups) ∙ ap (map id) (sym (h .known .hub .sequence-is) ∙ w) ∙ map-append id a (m ∷ b) in
     none-has (m .id) (a ++ b)
-    (subst (NotIn (m .id)) (sym (map-append id a b)) (ids-other _ (map id a) (m .id) (map id b) (subst (IdsOk _) same (h .known .hub .ids-ok))))
+    (subst (NotIn (m .id)) (sym (map-append id a b))
+    (ids-other _ (map id a) (m .id) (map id b) (subst (IdsOk _) same (h .known .hub .ids-ok))))

@@ -15,7 +15,8 @@ use Rattle.routine.specs.declared.Verdict.{Verdict}
 use Rattle.routine.specs.declared.Verdict.the-variants.{Accepted, Refused}
 use Rattle.rules.specs.Tables.{anyOf, put, Each}
 use Rattle.rules.specs.State.{in-flight, was-done, was-skipped, Member, State}
-use Rattle.rules.specs.Answers.{Call, submit, turn, report, failure, restart, cancel, refused, placed, wait, down, up, Result, unlessRefused}
+use Rattle.rules.specs.Answers.{Call, submit, turn, report, failure, restart, cancel, refused, placed, wait, down, up, Result}
+use Rattle.rules.specs.Answers.{unlessRefused}
 use Rattle.rules.specs.Progress.{isMust, next, Flight, flight, advance, answerFlight, withSteps}
 use Rattle.rules.specs.Due.{due}
 use Rattle.rules.specs.Sequence.{Found, onto, find, isRunning, runs, lastIdOr, withUp}
@@ -49,33 +50,43 @@ failedMember g = withSteps (g .member) (answerFlight was-skipped (g .member .ste
 -- why a routine aborts at a call of its own
 pub data Aborts (g : Group) : Call → Type 0 where
   by-turn : (i : ℕ) → g .member .id ≡ i → flight (g .member .steps) ≡ none → Aborts g (turn i)
-  by-report : (i code : ℕ) (x : Flight) → g .member .id ≡ i → flight (g .member .steps) ≡ some x → eqb code codeDone ≡ false → Aborts g (report i code)
+  by-report : (i code : ℕ) (x : Flight) → g .member .id ≡ i → flight (g .member .steps) ≡ some x → eqb code codeDone ≡ false →
+      Aborts g (report i code)
   by-cancel : (i : ℕ) → g .member .id ≡ i → Aborts g (cancel i)
 
 -- the abort ahead of an event of d
 pub data Gone (s : State) (d : ℕ) (l : List Group) : Result → List Event → List Group → Type 0 where
   nobody : Each (NotHalfway d) l → Gone s d l (record { state = s; answers = [] }) [] l
-  somebody : (a : List Group) (g : Group) (b : List Group) → l ≡ a ++ (g ∷ b) → isHalfway d (g .member) ≡ true → Gone s d l (abort s (foundAt a g b)) (leadOf a g) (leaving a g b)
+  somebody : (a : List Group) (g : Group) (b : List Group) → l ≡ a ++ (g ∷ b) → isHalfway d (g .member) ≡ true →
+      Gone s d l (abort s (foundAt a g b)) (leadOf a g) (leaving a g b)
 
 -- a call that changes something, before it settles: the result, the events attached to 0, the groups
 pub data Moves (s : State) (l : List Group) : Call → Result → List Event → List Group → Type 0 where
   places : (cs : List Command) (a b : List Group) → submitCheck s cs ≡ Accepted → l ≡ a ++ b →
-      upToLast (blocks s cs) (s .sequence) ≡ members a → pastLast (blocks s cs) (s .sequence) ≡ members b → anyOf (blocks s cs) (members b) ≡ false →
-      Moves s l (submit cs) (record { state = place s cs; answers = placed (s .nextId) (lastIdOr 0 (upToLast (blocks s cs) (s .sequence))) ∷ [] }) []
+      upToLast (blocks s cs) (s .sequence) ≡ members a → pastLast (blocks s cs) (s .sequence) ≡ members b →
+      anyOf (blocks s cs) (members b) ≡ false →
+      Moves s l (submit cs)
+      (record { state = place s cs; answers = placed (s .nextId) (lastIdOr 0 (upToLast (blocks s cs) (s .sequence))) ∷ [] }) []
       (a ++ (alone (newcomer (s .nextId) cs) ∷ passAll b))
   commits : (i : ℕ) (a : List Group) (g : Group) (b : List Group) → l ≡ a ++ (g ∷ b) → g .member .id ≡ i → g .member .committed ≡ false →
       flight (g .member .steps) ≡ none → next (g .member .steps) ≡ none →
       Moves s l (turn i) (commitTurn s (foundAt a g b)) [] (a ++ (with g (commit (g .member)) ∷ b))
-  sends : (i : ℕ) (a : List Group) (g : Group) (b : List Group) (c : Command) → l ≡ a ++ (g ∷ b) → g .member .id ≡ i → g .member .committed ≡ false →
-      flight (g .member .steps) ≡ none → next (g .member .steps) ≡ some c → firstHolding (c .device) (members a) ≡ none → s .up (c .device) ≡ true →
+  sends : (i : ℕ) (a : List Group) (g : Group) (b : List Group) (c : Command) → l ≡ a ++ (g ∷ b) → g .member .id ≡ i →
+      g .member .committed ≡ false →
+      flight (g .member .steps) ≡ none → next (g .member .steps) ≡ some c → firstHolding (c .device) (members a) ≡ none →
+      s .up (c .device) ≡ true →
       Moves s l (turn i) (sendTurn s (foundAt a g b) c) [] (a ++ (with g (sentMember s g c) ∷ b))
-  skips : (i : ℕ) (a : List Group) (g : Group) (b : List Group) (c : Command) → l ≡ a ++ (g ∷ b) → g .member .id ≡ i → g .member .committed ≡ false →
-      flight (g .member .steps) ≡ none → next (g .member .steps) ≡ some c → firstHolding (c .device) (members a) ≡ none → s .up (c .device) ≡ false →
+  skips : (i : ℕ) (a : List Group) (g : Group) (b : List Group) (c : Command) → l ≡ a ++ (g ∷ b) → g .member .id ≡ i →
+      g .member .committed ≡ false →
+      flight (g .member .steps) ≡ none → next (g .member .steps) ≡ some c → firstHolding (c .device) (members a) ≡ none →
+      s .up (c .device) ≡ false →
       Moves s l (turn i) (skipTurn s (foundAt a g b) c) [] (a ++ (with g (skippedMember g) ∷ b))
-  dones : (i code : ℕ) (a : List Group) (g : Group) (b : List Group) (x : Flight) → l ≡ a ++ (g ∷ b) → g .member .id ≡ i → g .member .committed ≡ false →
+  dones : (i code : ℕ) (a : List Group) (g : Group) (b : List Group) (x : Flight) → l ≡ a ++ (g ∷ b) → g .member .id ≡ i →
+      g .member .committed ≡ false →
       flight (g .member .steps) ≡ some x → eqb code codeDone ≡ true →
       Moves s l (report i code) (doneReport s (foundAt a g b)) [] (a ++ (with g (doneMember g) ∷ b))
-  misses : (i code : ℕ) (a : List Group) (g : Group) (b : List Group) (x : Flight) → l ≡ a ++ (g ∷ b) → g .member .id ≡ i → g .member .committed ≡ false →
+  misses : (i code : ℕ) (a : List Group) (g : Group) (b : List Group) (x : Flight) → l ≡ a ++ (g ∷ b) → g .member .id ≡ i →
+      g .member .committed ≡ false →
       flight (g .member .steps) ≡ some x → eqb code codeDone ≡ false →
       Moves s l (report i code) (skipReport s (foundAt a g b) x) [] (a ++ (with g (failedMember g) ∷ b))
   aborts : (c : Call) (a : List Group) (g : Group) (b : List Group) → l ≡ a ++ (g ∷ b) → g .member .committed ≡ false → Aborts g c →
@@ -87,7 +98,8 @@ pub data Moves (s : State) (l : List Group) : Call → Result → List Event →
   restarts : (d : ℕ) (v : ℤ) (r : Result) (lead : List Event) (k : List Group) → leb (s .devices) d ≡ false → s .up d ≡ false →
       Gone s d l r lead k →
       Moves s l (restart d v)
-      (let t = attach (r .state .mark d) (oneRestart d v) (r .state) in record { state = withUp t (put (t .up) d true); answers = r .answers ++ (up d (r .state .mark d) ∷ []) })
+      (let t = attach (r .state .mark d) (oneRestart d v) (r .state) in
+      record { state = withUp t (put (t .up) d true); answers = r .answers ++ (up d (r .state .mark d) ∷ []) })
       (leadWith (r .state .mark d) (restart-of d v) lead) (attachEvent (r .state .mark d) (restart-of d v) k)
 
 pub data Seen (s : State) (l : List Group) (c : Call) : Result → Type 0 where
@@ -115,7 +127,8 @@ find-group p s l e = subst (λ q. Finding p l (find p q)) (sym e) (find-members 
 
 -- the running routine with an id, should there be one
 running : (i : ℕ) (s : State) (l : List Group) → s .sequence ≡ members l → (P : Option Found → Type 0) → P none →
-    ((a : List Group) (g : Group) (b : List Group) → l ≡ a ++ (g ∷ b) → g .member .id ≡ i → g .member .committed ≡ false → P (some (foundAt a g b))) →
+    ((a : List Group) (g : Group) (b : List Group) → l ≡ a ++ (g ∷ b) → g .member .id ≡ i → g .member .committed ≡ false →
+    P (some (foundAt a g b))) →
     P (find (runs i) (s .sequence))
 unfolding runs isRunning
 running i s l e P otherwise found = go (find-group (runs i) s l e)
@@ -124,7 +137,8 @@ running i s l e P otherwise found = go (find-group (runs i) s l e)
     go (missing n) = otherwise
     go (located a g b w t) =
         let m = g .member in
-        found a g b w (eqb-true (m .id) i (and-left (eqb (m .id) i) (isRunning m) t)) (not-true (m .committed) (and-right (eqb (m .id) i) (isRunning m) t))
+        found a g b w (eqb-true (m .id) i (and-left (eqb (m .id) i) (isRunning m) t))
+        (not-true (m .committed) (and-right (eqb (m .id) i) (isRunning m) t))
 
 -- the groups up to the last that passes the test, and those behind it
 record Divided (p : Member → Bool) (l : List Group) : Type 0 where
@@ -151,7 +165,8 @@ divide p (g ∷ l) = go (divide p l) (anyOf p (members (g ∷ l))) refl
     go h false e = record { ahead = []; behind = g ∷ l; whole = refl; ahead-is = rw e refl; behind-is = rw e refl; none-behind = e }
 
 -- the abort ahead of an event
-gone : (d : ℕ) (s : State) (l : List Group) → s .sequence ≡ members l → (lead : List Event) × (k : List Group) × Gone s d l (abortHalfway d s) lead k
+gone : (d : ℕ) (s : State) (l : List Group) → s .sequence ≡ members l → (lead : List Event) × (k : List Group)
+    × Gone s d l (abortHalfway d s) lead k
 unfolding abortHalfway
 gone d s l e = go (find-group (isHalfway d) s l e)
   where
@@ -162,13 +177,16 @@ gone d s l e = go (find-group (isHalfway d) s l e)
 -- ---- the calls
 
 -- a call is refused, or its checks accept it
-unless : (s : State) (l : List Group) (c : Call) (v : Verdict) {r : Result} → (v ≡ Accepted → Seen s l c r) → Seen s l c (unlessRefused v s r)
+unless : (s : State) (l : List Group) (c : Call) (v : Verdict) {r : Result} → (v ≡ Accepted → Seen s l c r) →
+    Seen s l c (unlessRefused v s r)
 unless s l c Accepted f = f refl
 unless s l c (Refused x) f = is-refused x
 
 -- a turn of the running routine g, and a report on it
-module _ (s : State) {l : List Group} (i : ℕ) (a : List Group) (g : Group) (b : List Group) (w : l ≡ a ++ (g ∷ b)) (n : g .member .id ≡ i) (u : g .member .committed ≡ false) where
-  idle : flight (g .member .steps) ≡ none → (o : Option Command) → next (g .member .steps) ≡ o → Seen s l (turn i) (turnNext s (foundAt a g b) o)
+module _ (s : State) {l : List Group} (i : ℕ) (a : List Group) (g : Group) (b : List Group) (w : l ≡ a ++ (g ∷ b)) (n : g .member .id ≡ i)
+    (u : g .member .committed ≡ false) where
+  idle : flight (g .member .steps) ≡ none → (o : Option Command) → next (g .member .steps) ≡ o →
+      Seen s l (turn i) (turnNext s (foundAt a g b) o)
   idle f none e = moves (commits i a g b w n u f e)
   idle f (some c) e = unheld (firstHolding (c .device) (members a)) refl
     where
@@ -176,7 +194,8 @@ module _ (s : State) {l : List Group} (i : ℕ) (a : List Group) (g : Group) (b 
       unheld (some j) h = waits (g .member .id) j
       unheld none h =
           byIf (Seen s l (turn i)) (s .up (c .device)) (λ t. moves (sends i a g b c w n u f e h t))
-          (λ t. byIf (Seen s l (turn i)) (isMust c) (λ _. moves (aborts (turn i) a g b w u (by-turn i n f))) (λ _. moves (skips i a g b c w n u f e h t)))
+          (λ t. byIf (Seen s l (turn i)) (isMust c) (λ _. moves (aborts (turn i) a g b w u (by-turn i n f)))
+          (λ _. moves (skips i a g b c w n u f e h t)))
 
   turned : (o : Option Flight) → flight (g .member .steps) ≡ o → Seen s l (turn i) (turnFlight s (foundAt a g b) o)
   turned (some x) f = is-refused _
@@ -187,7 +206,8 @@ module _ (s : State) {l : List Group} (i : ℕ) (a : List Group) (g : Group) (b 
   told code (some x) e =
       unless s l (report i code) (refuse report-code-out-of-range when ltb codeFailed code)
       (λ _. byIf (Seen s l (report i code)) (eqb code codeDone) (λ t. moves (dones i code a g b x w n u e t))
-      (λ t. byIf (Seen s l (report i code)) (isMust (x .command)) (λ _. moves (aborts (report i code) a g b w u (by-report i code x n e t))) (λ _. moves (misses i code a g b x w n u e t))))
+      (λ t. byIf (Seen s l (report i code)) (isMust (x .command)) (λ _. moves (aborts (report i code) a g b w u (by-report i code x n e t)))
+      (λ _. moves (misses i code a g b x w n u e t))))
 
 module _ (s : State) (l : List Group) (e : s .sequence ≡ members l) where
   see-submit : (cs : List Command) → Seen s l (submit cs) (submitOf s cs)
@@ -195,7 +215,8 @@ module _ (s : State) (l : List Group) (e : s .sequence ≡ members l) where
   see-submit cs =
       let h = divide (blocks s cs) l in
       unless s l (submit cs) (submitCheck s cs)
-      (λ v. moves (places cs (h .ahead) (h .behind) v (h .whole) (ap (upToLast (blocks s cs)) e ∙ h .ahead-is) (ap (pastLast (blocks s cs)) e ∙ h .behind-is) (h .none-behind)))
+      (λ v. moves (places cs (h .ahead) (h .behind) v (h .whole) (ap (upToLast (blocks s cs)) e ∙ h .ahead-is)
+      (ap (pastLast (blocks s cs)) e ∙ h .behind-is) (h .none-behind)))
 
   see-turn : (i : ℕ) → Seen s l (turn i) (turnOf s i)
   unfolding turnOf
@@ -206,7 +227,8 @@ module _ (s : State) (l : List Group) (e : s .sequence ≡ members l) where
   see-report : (i code : ℕ) → Seen s l (report i code) (reportOf s i code)
   unfolding reportOf
   see-report i code =
-      running i s l e (λ o. Seen s l (report i code) (reportFound s code o)) (is-refused _) (λ a g b w n u. told s i a g b w n u code (flight (g .member .steps)) refl)
+      running i s l e (λ o. Seen s l (report i code) (reportFound s code o)) (is-refused _)
+      (λ a g b w n u. told s i a g b w n u code (flight (g .member .steps)) refl)
 
   see-failure : (d : ℕ) → Seen s l (failure d) (failureOf s d)
   unfolding failureOf failureResult
@@ -233,7 +255,8 @@ module _ (s : State) (l : List Group) (e : s .sequence ≡ members l) where
   see-cancel : (i : ℕ) → Seen s l (cancel i) (cancelOf s i)
   unfolding cancelOf
   see-cancel i =
-      running i s l e (λ o. Seen s l (cancel i) (cancelFound s o)) (is-refused _) (λ a g b w n u. moves (aborts (cancel i) a g b w u (by-cancel i n)))
+      running i s l e (λ o. Seen s l (cancel i) (cancelFound s o)) (is-refused _)
+      (λ a g b w n u. moves (aborts (cancel i) a g b w u (by-cancel i n)))
 
 pub see : (s : State) (l : List Group) → s .sequence ≡ members l → (c : Call) → Seen s l c (resultOf s c)
 see s l e (submit cs) = see-submit s l e cs

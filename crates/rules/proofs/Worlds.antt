@@ -1,5 +1,5 @@
--- The theorem is not empty: worlds that meet the premise, end with no routine running and nothing left to put back, and pass through what is hard.
--- Each is computed; the theorem is not used. Assumes nothing.
+-- The theorem is not empty: worlds that meet the premise, end with no routine running and nothing left to put back, and pass through what
+-- is hard. Each is computed; the theorem is not used. Assumes nothing.
 use mathlib.Core.Path.{_≡_, refl, sym}
 use mathlib.Core.Bool.{Bool, true, false, not, _&&_}
 use mathlib.Core.List.{List, [], _∷_}
@@ -95,7 +95,8 @@ abbrev pub overtaken : Passage
 overtaken = record {
   devices = 2;
   passLimit = 8;
-  acts = call (submit (must 0 (pos 50) ∷ must 1 (pos 20) ∷ [])) ∷ call (turn 1) ∷ takes-one 0 0 ∷ call (report 1 0) ∷ call (cancel 1) ∷ call (submit (must 0 (pos 70) ∷ [])) ∷ call (turn 2)
+  acts = call (submit (must 0 (pos 50) ∷ must 1 (pos 20) ∷ [])) ∷ call (turn 1) ∷ takes-one 0 0 ∷ call (report 1 0) ∷ call (cancel 1) ∷ call
+      (submit (must 0 (pos 70) ∷ [])) ∷ call (turn 2)
       ∷ takes-one 0 1 ∷ call (report 2 0) ∷ call (turn 2) ∷ [];
   settings = pos 70 ∷ pos 0 ∷ [];
 }
@@ -105,7 +106,8 @@ unfolding calcWorld
 overtaken-passes = record {
   accepted = refl;
   premise = ((λ _. tt), ((λ _. tt), (tt, ((λ _. refl), ((λ _. tt), ((λ _. tt), ((λ _. tt), (tt, ((λ _. refl), ((λ _. tt), tt))))))))));
-  none-runs = λ i. elsewhere (accounts (endOf overtaken)) 1 refl i (λ n. elsewhere (accounts (endOf overtaken)) 2 refl i (λ m. rw (n, m) refl));
+  none-runs = λ i. elsewhere (accounts (endOf overtaken)) 1 refl i
+      (λ n. elsewhere (accounts (endOf overtaken)) 2 refl i (λ m. rw (n, m) refl));
   ready = refl;
   settings-are = refl;
   serial-is = refl;
@@ -133,12 +135,14 @@ failed-in-flight = record {
   stands = tt;
 }
 
--- A restart at a setting that no command gave, behind a committed routine and ahead of another; refused calls in between, whatever they say.
+-- A restart at a setting that no command gave, behind a committed routine and ahead of another; refused calls in between, whatever they
+-- say.
 abbrev pub restartedElsewhere : Passage
 restartedElsewhere = record {
   devices = 1;
   passLimit = 0;
-  acts = call (submit (must 0 (pos 50) ∷ [])) ∷ call (turn 1) ∷ takes-one 0 0 ∷ call (report 1 0) ∷ call (report 1 0) ∷ call (restart 0 (pos 9)) ∷ calls (failure 0) (negsuc 6)
+  acts = call (submit (must 0 (pos 50) ∷ [])) ∷ call (turn 1) ∷ takes-one 0 0 ∷ call (report 1 0) ∷ call (report 1 0) ∷ call
+      (restart 0 (pos 9)) ∷ calls (failure 0) (negsuc 6)
       ∷ call (turn 1) ∷ call (failure 0) ∷ call (restart 0 (negsuc 6)) ∷ [];
   settings = negsuc 6 ∷ [];
 }
@@ -147,7 +151,16 @@ pub restarted-elsewhere : Passes restartedElsewhere
 unfolding calcWorld
 restarted-elsewhere = record {
   accepted = refl;
-  premise = ((λ _. tt), ((λ _. tt), (tt, ((λ _. refl), ((λ e. t≠f (sym e)), ((λ e. t≠f (sym e)), ((λ _. tt), ((λ _. tt), ((λ _. tt), ((λ _. refl), tt))))))))));
+  premise = (
+    (λ _. tt),
+    (
+      (λ _. tt),
+      (
+        tt,
+        ((λ _. refl), ((λ e. t≠f (sym e)), ((λ e. t≠f (sym e)), ((λ _. tt), ((λ _. tt), ((λ _. tt), ((λ _. refl), tt))))))),
+      ),
+    ),
+  );
   none-runs = λ i. elsewhere (accounts (endOf restartedElsewhere)) 1 refl i (λ n. rw n refl);
   ready = refl;
   settings-are = refl;
@@ -160,7 +173,8 @@ abbrev pub failedAfterChange : Passage
 failedAfterChange = record {
   devices = 2;
   passLimit = 8;
-  acts = call (submit (must 0 (pos 50) ∷ must 1 (pos 20) ∷ [])) ∷ call (turn 1) ∷ takes-one 0 0 ∷ call (report 1 0) ∷ call (submit (best 0 (pos 70) ∷ [])) ∷ call (turn 2) ∷ call (cancel 1)
+  acts = call (submit (must 0 (pos 50) ∷ must 1 (pos 20) ∷ [])) ∷ call (turn 1) ∷ takes-one 0 0 ∷ call (report 1 0) ∷ call
+      (submit (best 0 (pos 70) ∷ [])) ∷ call (turn 2) ∷ call (cancel 1)
       ∷ call (report 2 1) ∷ takes-one 0 0 ∷ call (turn 2) ∷ [];
   settings = pos 0 ∷ pos 0 ∷ [];
 }
@@ -170,7 +184,8 @@ unfolding calcWorld
 failed-after-change = record {
   accepted = refl;
   premise = ((λ _. tt), ((λ _. tt), (tt, ((λ _. refl), ((λ _. tt), ((λ _. tt), ((λ _. tt), ((λ _. refl), (tt, ((λ _. tt), tt))))))))));
-  none-runs = λ i. elsewhere (accounts (endOf failedAfterChange)) 1 refl i (λ n. elsewhere (accounts (endOf failedAfterChange)) 2 refl i (λ m. rw (n, m) refl));
+  none-runs = λ i. elsewhere (accounts (endOf failedAfterChange)) 1 refl i
+      (λ n. elsewhere (accounts (endOf failedAfterChange)) 2 refl i (λ m. rw (n, m) refl));
   ready = refl;
   settings-are = refl;
   serial-is = refl;
@@ -185,12 +200,16 @@ abbrev lastAnswers : List Told → List Answer
 lastAnswers [] = []
 lastAnswers (t ∷ l) = t .answers
 
--- What is claimed of the five on their way: 50 is taken after `aborted`, with the put-back behind it; 70 is taken past a put-back; 50 is on its
--- way when the failure leaves 33; the restart reports −7; the report finds the due setting changed.
+-- What is claimed of the five on their way: 50 is taken after `aborted`, with the put-back behind it; 70 is taken past a put-back; 50 is on
+-- its way when the failure leaves 33; the restart reports −7; the report finds the due setting changed.
 pub midways :
     (lastAnswers (after 3 takenLate .history) ≡ aborted 1 (back 0 (pos 0) ∷ []) ∷ []) × (after 4 takenLate .devices 0 .setting ≡ pos 50)
     × (after 4 takenLate .devices 0 .sent ≡ record { setting = pos 0; origin = put-back } ∷ [])
-    × (after 7 overtaken .devices 0 .sent ≡ record { setting = pos 0; origin = put-back } ∷ record { setting = pos 70; origin = sent-for 2 1 } ∷ [])
+    × (after 7 overtaken .devices 0 .sent ≡ record { setting = pos 0; origin = put-back } ∷ record {
+      setting = pos 70;
+      origin =
+          sent-for 2 1;
+    } ∷ [])
     × (after 8 overtaken .devices 0 .sent ≡ []) × (lastAnswers (after 9 overtaken .history) ≡ done 2 ∷ [])
     × (after 2 failedInFlight .devices 0 .sent ≡ record { setting = pos 50; origin = sent-for 1 1 } ∷ [])
     × (lastAnswers (after 3 failedInFlight .history) ≡ aborted 1 [] ∷ down 0 0 ∷ []) × (after 3 failedInFlight .devices 0 .setting ≡ pos 33)

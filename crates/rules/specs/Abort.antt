@@ -11,15 +11,15 @@ use Rattle.rules.specs.Due.{due}
 use Rattle.rules.specs.Sequence.{Found, lastIdOr, withSequence, withMark, moveMarks}
 use Rattle.rules.specs.Attach.{attach}
 
--- "R leaves the sequence. Marks that were R become the routine before it in the sequence, or 0; events attached to R move there, in their order, behind
--- those already there."
+-- "R leaves the sequence. Marks that were R become the routine before it in the sequence, or 0; events attached to R move there, in their
+-- order, behind those already there."
 unfoldable pub leave : State → Found → State
 leave s f =
     let before = lastIdOr 0 (f .ahead) in
     attach before (f .it .restarts) (withMark (withSequence s (f .ahead ++ f .behind)) (moveMarks (f .it .id) before (s .mark)))
 
--- Is D put back by the abort of m, which took the hub from s to t? "A device that is up, with no command of another routine in flight on it, is
--- sent its due setting exactly if that changed by the abort or R had a command in flight on it".
+-- Is D put back by the abort of m, which took the hub from s to t? "A device that is up, with no command of another routine in flight on
+-- it, is sent its due setting exactly if that changed by the abort or R had a command in flight on it".
 unfoldable pub isPutBack : State → Member → State → ℕ → Bool
 isPutBack s m t d =
     t .up d && not (anyOf (inFlightOn d) (t .sequence)) && (not (sameSetting (due s d) (due t d)) || inFlightOn d m)

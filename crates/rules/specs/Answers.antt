@@ -35,8 +35,8 @@ pub data Answer : Type 0 where
   down : ℕ → ℕ → Answer  -- device, the id that the failure follows
   up : ℕ → ℕ → Answer  -- device, the id that the restart follows
 
--- What a call gives: the next state and the answers, one for each line that document 01 prints. There are two only where a failure or a restart
--- aborts a routine: the abort, then its own.
+-- What a call gives: the next state and the answers, one for each line that document 01 prints. There are two only where a failure or a
+-- restart aborts a routine: the abort, then its own.
 pub record Result : Type 0 where
   pub state : State
   pub answers : List Answer

@@ -1,5 +1,5 @@
--- Events attached to a routine or to the settled part: document 01, "Failure or restart of D", "Abort of R" and "Settling". A failure changes no due
--- setting, so that what is kept of events is the last restart of each device. Assumes nothing.
+-- Events attached to a routine or to the settled part: document 01, "Failure or restart of D", "Abort of R" and "Settling". A failure
+-- changes no due setting, so that what is kept of events is the last restart of each device. Assumes nothing.
 use mathlib.Core.List.{List, [], _∷_}
 use mathlib.Core.Option.{Option, none, some}
 use Prim.Native.Nat.{ℕ}
@@ -22,7 +22,8 @@ later o (some v) = some v
 
 -- Restarts attached to a routine, "behind the events already attached there".
 unfoldable pub attachTo : (ℕ → Option ℤ) → Member → Member
-attachTo e m = record { id = m .id; steps = m .steps; passed = m .passed; committed = m .committed; restarts = λ d. later (m .restarts d) (e d) }
+attachTo e m =
+    record { id = m .id; steps = m .steps; passed = m .passed; committed = m .committed; restarts = λ d. later (m .restarts d) (e d) }
 
 -- The routine with this id gets the restarts.
 abbrev pub attachAt : ℕ → (ℕ → Option ℤ) → List Member → List Member
@@ -36,4 +37,5 @@ settleRestarts e settled d = afterRestart (e d) (settled d)
 -- Restarts attached to an id: to 0, the settled part, or to the routine that has it.
 unfoldable pub attach : ℕ → (ℕ → Option ℤ) → State → State
 attach i e s =
-    withSettled (withSequence s (if eqb i 0 then s .sequence else attachAt i e (s .sequence))) (if eqb i 0 then settleRestarts e (s .settled) else s .settled)
+    withSettled (withSequence s (if eqb i 0 then s .sequence else attachAt i e (s .sequence)))
+    (if eqb i 0 then settleRestarts e (s .settled) else s .settled)

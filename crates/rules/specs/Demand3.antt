@@ -31,22 +31,25 @@ committedPart (routine i cs true ∷ l) = routine i cs true ∷ committedPart l
 committedPart (routine i cs false ∷ l) = committedPart l
 committedPart (event e ∷ l) = event e ∷ committedPart l
 
--- Each working device, nothing that puts it back being left to take, is up in the serial run of these and has its setting. They run "one after another
--- from the opening, in the hub's order".
+-- Each working device, nothing that puts it back being left to take, is up in the serial run of these and has its setting. They run "one
+-- after another from the opening, in the hub's order".
 abbrev pub EndState : ℕ → World → Type 0
 EndState n w =
     NoneRuns w → (d : ℕ) → d < n → workingOf (w .history) d ≡ true → anyOf isBack (w .devices d .sent) ≡ false →
     serialRun (committedPart (entries (orderIn w))) allUp d ≡ record { up = true; setting = w .devices d .setting }
 
--- Part 2, settled part. The demand: "what was settled after any first part of the list stands unchanged and unmoved at the beginning of that order"
+-- Part 2, settled part. The demand: "what was settled after any first part of the list stands unchanged and unmoved at the beginning of
+-- that order"
 abbrev pub Begins : List Entry → List Entry → Type 0
 Begins first whole = (rest : List Entry) × (whole ≡ first ++ rest)
 
 abbrev pub SettledStands : World → List Act → Type 0
 SettledStands w acts =
-    (before rest : List Act) → acts ≡ before ++ rest → Begins (orderIn (worldAfterAll w before) .settled) (entries (orderIn (worldAfterAll w acts)))
+    (before rest : List Act) → acts ≡ before ++ rest →
+    Begins (orderIn (worldAfterAll w before) .settled) (entries (orderIn (worldAfterAll w acts)))
 
--- Part 3, where commands stand. Document 01, The hub's order: "In it every done command finds its device up; every skipped one was reported failed or finds it down."
+-- Part 3, where commands stand. Document 01, The hub's order: "In it every done command finds its device up; every skipped one was reported
+-- failed or finds it down."
 abbrev pub Finds : Bool → Outcome → Type 0
 Finds isUp reported-done = isUp ≡ true
 Finds isUp reported-failed = Unit {0}
@@ -73,10 +76,12 @@ doneOnes (x ∷ l) = ifDone (x .outcome) (x .command) (doneOnes l)
     ifDone reported-failed c cs = cs
     ifDone not-sent c cs = cs
 
--- The routines of an order, run from t: each one's done commands are those that were answered done, and its answered commands find what they should.
+-- The routines of an order, run from t: each one's done commands are those that were answered done, and its answered commands find what
+-- they should.
 abbrev pub CommandsStand : (ℕ → Account) → List Entry → (ℕ → DeviceState) → Type 0
 CommandsStand a [] t = Unit {0}
-CommandsStand a (routine i cs b ∷ l) t = (cs ≡ doneOnes (a i .answered)) × AllFind (a i .answered) t × CommandsStand a l (runEntry (routine i cs b) t)
+CommandsStand a (routine i cs b ∷ l) t = (cs ≡ doneOnes (a i .answered)) × AllFind (a i .answered) t
+    × CommandsStand a l (runEntry (routine i cs b) t)
 CommandsStand a (event e ∷ l) t = CommandsStand a l (runEntry (event e) t)
 
 -- The three parts, for a list of calls and device steps from the hub s, just opened. Only the first needs the premise on the devices.

@@ -1,5 +1,5 @@
--- Document 01, "Abort of R": "The due setting of D is that of the last, in the hub's order, of the done commands on D and the restarts of D,
--- running routines included; 0 if there is none." Assumes nothing.
+-- Document 01, "Abort of R": "The due setting of D is that of the last, in the hub's order, of the done commands on D and the restarts of
+-- D, running routines included; 0 if there is none." Assumes nothing.
 use mathlib.Core.Bool.{_&&_}
 use mathlib.Core.List.{List, [], _∷_}
 use mathlib.Core.Option.{Option, none, some}

@@ -49,5 +49,7 @@ failureOf s d =
 
 unfoldable pub restartOf : State → ℕ → ℤ → Result
 restartOf s d v =
-    unlessRefused (refuse event-device when leb (s .devices) d andThen refuse restart-of-up when s .up d andThen refuse restart-setting when not (inRange v)) s
+    unlessRefused
+    (refuse event-device when leb (s .devices) d andThen refuse restart-of-up when s .up d andThen refuse restart-setting when not
+    (inRange v)) s
     (settling (restartResult s d v))

@@ -1,5 +1,5 @@
--- Document 01, "Examples from the exam hall": those that concern the hub, each through its last settings. (The ★ examples of hub and book are one
--- list in crate `starred`.) Assumes nothing.
+-- Document 01, "Examples from the exam hall": those that concern the hub, each through its last settings. (The ★ examples of hub and book
+-- are one list in crate `starred`.) Assumes nothing.
 use mathlib.Core.Path.{_≡_, refl}
 use mathlib.Core.List.{List, [], _∷_, _++_}
 use mathlib.Core.Option.{Option, none, some}
@@ -13,7 +13,8 @@ use Rattle.routine.specs.Routine.{commandCheck, commandsCheck, routineCheck}
 use Rattle.routine.specs.declared.Command.{Command}
 use Rattle.routine.specs.declared.Refusal.the-variants.{Number, Indexed}
 use Rattle.rules.specs.State.{State}
-use Rattle.rules.specs.Answers.{Call, submit, turn, report, failure, restart, cancel, Back, Answer, refused, placed, wait, send, done, skipped, committed, aborted, down, up}
+use Rattle.rules.specs.Answers.{Call, submit, turn, report, failure, restart, cancel, Back, Answer, refused, placed, wait, send}
+use Rattle.rules.specs.Answers.{done, skipped, committed, aborted, down, up}
 use Rattle.rules.specs.Progress.{begun, finished, inFlightOn}
 use Rattle.rules.specs.Due.{afterMember, due}
 use Rattle.rules.specs.Sequence.{isRunning, runs, moveMarks}
@@ -30,7 +31,10 @@ use Rattle.rules.specs.Calls.{resultOf}
 
 -- All that a computation with the rules opens.
 unfoldable pub calc : Unit {0}
-unfolding inRange refusalOf commandCheck commandsCheck routineCheck begun finished inFlightOn afterMember due isRunning runs joinSettled settle attachTo settleRestarts moveMarks leave isPutBack putBacks abort openCheck newHub openOf submitCheck blocks pass newcomer place submitOf holds markBegun commit commitTurn sendTurn skipTurn turnOf doneReport backIfChanged skippedState skipReport reportOf isHalfway abortHalfway attach oneRestart failureResult restartResult failureOf restartOf cancelOf
+unfolding inRange refusalOf commandCheck commandsCheck routineCheck begun finished inFlightOn afterMember due isRunning runs joinSettled
+    settle attachTo settleRestarts moveMarks leave isPutBack putBacks abort openCheck newHub openOf submitCheck blocks pass newcomer place
+    submitOf holds markBegun commit commitTurn sendTurn skipTurn turnOf doneReport backIfChanged skippedState skipReport reportOf isHalfway
+    abortHalfway attach oneRestart failureResult restartResult failureOf restartOf cancelOf
 calc = tt
 
 -- An opening, calls, what each answers, and the device lines at the end: the due setting of a device that is up, none of one that is down.
@@ -80,9 +84,11 @@ listing = record {
   devices = 3;
   passLimit = 2;
   firstId = 1;
-  calls = submit (must 0 (pos 50) ∷ must 1 (pos 20) ∷ []) ∷ submit (must 0 (pos 70) ∷ []) ∷ turn 2 ∷ report 2 0 ∷ turn 2 ∷ turn 1 ∷ report 1 0 ∷ failure 0 ∷ cancel 1
+  calls = submit (must 0 (pos 50) ∷ must 1 (pos 20) ∷ []) ∷ submit
+      (must 0 (pos 70) ∷ []) ∷ turn 2 ∷ report 2 0 ∷ turn 2 ∷ turn 1 ∷ report 1 0 ∷ failure 0 ∷ cancel 1
       ∷ restart 0 (pos 15) ∷ [];
-  answers = (placed 1 0 ∷ []) ∷ (placed 2 0 ∷ []) ∷ (send 2 (must 0 (pos 70)) ∷ []) ∷ (done 2 ∷ []) ∷ (committed 2 ∷ []) ∷ (send 1 (must 0 (pos 50)) ∷ [])
+  answers = (placed 1 0 ∷ []) ∷ (placed 2 0 ∷ []) ∷ (send 2 (must 0 (pos 70)) ∷ []) ∷ (done 2 ∷ []) ∷ (committed 2 ∷ []) ∷
+      (send 1 (must 0 (pos 50)) ∷ [])
       ∷ (done 1 ∷ []) ∷ (down 0 1 ∷ []) ∷ (aborted 1 [] ∷ []) ∷ (up 0 0 ∷ []) ∷ [];
   settings = some (pos 15) ∷ some (pos 0) ∷ some (pos 0) ∷ [];
 }
@@ -104,7 +110,8 @@ ring = record {
   devices = 3;
   passLimit = 0;
   firstId = 1;
-  calls = submit (must 0 (pos 1) ∷ must 1 (pos 1) ∷ []) ∷ submit (must 1 (pos 2) ∷ must 2 (pos 2) ∷ []) ∷ submit (must 2 (pos 3) ∷ must 0 (pos 3) ∷ []) ∷ turn 3 ∷ [];
+  calls = submit (must 0 (pos 1) ∷ must 1 (pos 1) ∷ []) ∷ submit (must 1 (pos 2) ∷ must 2 (pos 2) ∷ []) ∷ submit
+      (must 2 (pos 3) ∷ must 0 (pos 3) ∷ []) ∷ turn 3 ∷ [];
   answers = (placed 1 0 ∷ []) ∷ (placed 2 1 ∷ []) ∷ (placed 3 2 ∷ []) ∷ (wait 3 2 ∷ []) ∷ [];
   settings = some (pos 0) ∷ some (pos 0) ∷ some (pos 0) ∷ [];
 }
@@ -134,7 +141,8 @@ backTwice = record {
   passLimit = 8;
   firstId = 1;
   calls = followed (must 0 (pos 70)) ++ (report 2 0 ∷ cancel 2 ∷ cancel 1 ∷ []);
-  answers = followedAnswers (must 0 (pos 70)) ++ ((done 2 ∷ []) ∷ (aborted 2 (back 0 (pos 50) ∷ []) ∷ []) ∷ (aborted 1 (back 0 (pos 0) ∷ []) ∷ []) ∷ []);
+  answers = followedAnswers (must 0 (pos 70))
+      ++ ((done 2 ∷ []) ∷ (aborted 2 (back 0 (pos 50) ∷ []) ∷ []) ∷ (aborted 1 (back 0 (pos 0) ∷ []) ∷ []) ∷ []);
   settings = some (pos 0) ∷ some (pos 0) ∷ [];
 }
 
@@ -166,7 +174,8 @@ limits = record {
   devices = 1;
   passLimit = 0;
   firstId = 1;
-  calls = submit (must 0 (pos 1000) ∷ []) ∷ submit (must 0 (pos 1001) ∷ []) ∷ submit (must 0 (negsuc 999) ∷ []) ∷ submit (must 0 (negsuc 1000) ∷ []) ∷ [];
+  calls = submit (must 0 (pos 1000) ∷ []) ∷ submit (must 0 (pos 1001) ∷ []) ∷ submit (must 0 (negsuc 999) ∷ []) ∷ submit
+      (must 0 (negsuc 1000) ∷ []) ∷ [];
   answers = (placed 1 0 ∷ []) ∷ (refused (Indexed 6 0) ∷ []) ∷ (placed 2 1 ∷ []) ∷ (refused (Indexed 6 0) ∷ []) ∷ [];
   settings = some (pos 0) ∷ [];
 }
@@ -193,7 +202,19 @@ hubExamples = listing ∷ passing ∷ ring ∷ laterStands ∷ backTwice ∷ inF
 
 pub hub-examples-hold : AllHold hubExamples
 unfolding calc
-hub-examples-hold = ((refl, refl, refl), ((refl, refl, refl), ((refl, refl, refl), ((refl, refl, refl), ((refl, refl, refl), ((refl, refl, refl), ((refl, refl, refl), ((refl, refl, refl), ((refl, refl, refl), tt)))))))))
+hub-examples-hold = (
+  (refl, refl, refl),
+  (
+    (refl, refl, refl),
+    (
+      (refl, refl, refl),
+      (
+        (refl, refl, refl),
+        ((refl, refl, refl), ((refl, refl, refl), ((refl, refl, refl), ((refl, refl, refl), ((refl, refl, refl), tt))))),
+      ),
+    ),
+  ),
+)
 
 -- "First id 4,294,967,295: one routine placed, the next refused (9)."
 abbrev pub lastIds : Example

@@ -1,11 +1,13 @@
--- What the calls and their answers tell, without a look at the hub. A history is the calls with their answers, the latest first. Assumes nothing.
+-- What the calls and their answers tell, without a look at the hub. A history is the calls with their answers, the latest first. Assumes
+-- nothing.
 use mathlib.Core.Bool.{Bool, true, false}
 use mathlib.Core.List.{List, [], _∷_, _++_}
 use Prim.Native.Nat.{ℕ, suc}
 use Rattle.routine.specs.Routine.{zeroCommand}
 use Rattle.routine.specs.declared.Command.{Command}
 use Rattle.rules.specs.Tables.{put}
-use Rattle.rules.specs.Answers.{Call, submit, turn, report, failure, restart, cancel, Answer, refused, placed, wait, send, done, skipped, committed, aborted, down, up}
+use Rattle.rules.specs.Answers.{Call, submit, turn, report, failure, restart, cancel, Answer, refused, placed, wait, send, done}
+use Rattle.rules.specs.Answers.{skipped, committed, aborted, down, up}
 
 pub record Told : Type 0 where
   pub call : Call
@@ -21,8 +23,8 @@ pub record Answered : Type 0 where
   pub command : Command
   pub outcome : Outcome
 
--- What is told of one id: does it run ("a routine runs until committed or aborted"); its commands that are not answered yet; the command last sent
--- for it, and how many were sent; its answered commands in turn.
+-- What is told of one id: does it run ("a routine runs until committed or aborted"); its commands that are not answered yet; the command
+-- last sent for it, and how many were sent; its answered commands in turn.
 pub record Account : Type 0 where
   pub running : Bool
   pub left : List Command

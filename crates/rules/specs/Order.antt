@@ -1,5 +1,5 @@
--- Document 01, "The hub's order": "Built from the accepted calls and their answers alone, it is a list, empty at first, with a bar that ends the
--- settled part." Assumes nothing.
+-- Document 01, "The hub's order": "Built from the accepted calls and their answers alone, it is a list, empty at first, with a bar that
+-- ends the settled part." Assumes nothing.
 use mathlib.Core.Bool.{Bool, true, false, _||_}
 use mathlib.Core.List.{List, [], _∷_, _++_}
 use Prim.Native.Nat.{ℕ}
@@ -7,7 +7,8 @@ use lib.Dec.{eqb}
 use lib.IntN.{ℤ, pos}
 use Rattle.routine.specs.Choice.{if_then_else_}
 use Rattle.routine.specs.declared.Command.{Command}
-use Rattle.rules.specs.Answers.{Call, submit, turn, report, failure, restart, cancel, Answer, refused, placed, wait, send, done, skipped, committed, aborted, down, up}
+use Rattle.rules.specs.Answers.{Call, submit, turn, report, failure, restart, cancel, Answer, refused, placed, wait, send, done}
+use Rattle.rules.specs.Answers.{skipped, committed, aborted, down, up}
 use Rattle.rules.specs.History.{Told, Account, accountsOf}
 
 pub data Event : Type 0 where
@@ -44,8 +45,8 @@ hasRoutine j [] = false
 hasRoutine j (routine i cs b ∷ l) = eqb i j || hasRoutine j l
 hasRoutine j (event e ∷ l) = hasRoutine j l
 
--- "Placed, or an event, after X: it goes before the next routine behind X, or last; after 0, before the first routine behind the bar, or last."
--- Where X stands before the bar, so does what is put after it.
+-- "Placed, or an event, after X: it goes before the next routine behind X, or last; after 0, before the first routine behind the bar, or
+-- last." Where X stands before the bar, so does what is put after it.
 unfoldable pub putAfter : Entry → ℕ → Order → Order
 putAfter x j o =
     if eqb j 0 then record { settled = o .settled; unsettled = beforeNext x (o .unsettled) }

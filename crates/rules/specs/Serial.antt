@@ -1,5 +1,5 @@
--- Document 01, "The hub's order": "It runs from all devices up at 0: a routine sets its done commands in turn, a failure makes its device down, a
--- restart up at the setting it reports." Neither the hub nor its due settings are mentioned. Assumes nothing.
+-- Document 01, "The hub's order": "It runs from all devices up at 0: a routine sets its done commands in turn, a failure makes its device
+-- down, a restart up at the setting it reports." Neither the hub nor its due settings are mentioned. Assumes nothing.
 use mathlib.Core.Bool.{Bool, true, false}
 use mathlib.Core.List.{List, [], _∷_}
 use Prim.Native.Nat.{ℕ}

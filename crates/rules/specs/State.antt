@@ -30,8 +30,8 @@ pub record Step : Type 0 where
   pub command : Command
   pub status : Status
 
--- A routine of the sequence, running or committed but not settled. `passed`: how often a newcomer was placed ahead of it while it ran. Of the
--- events attached to it, what later answers depend on: for each device the setting of the last restart, if there is one.
+-- A routine of the sequence, running or committed but not settled. `passed`: how often a newcomer was placed ahead of it while it ran. Of
+-- the events attached to it, what later answers depend on: for each device the setting of the last restart, if there is one.
 pub record Member : Type 0 where
   pub id : ℕ
   pub steps : List Step

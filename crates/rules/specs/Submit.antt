@@ -26,8 +26,8 @@ submitCheck s cs =
 unfoldable pub blocks : State → List Command → Member → Bool
 blocks s cs m = anyOf (λ c. eqb (s .mark (c .device)) (m .id)) cs || (isRunning m && leb (s .passLimit) (m .passed))
 
--- "directly after the latest, in the sequence, of": the part of the sequence up to the last that passes the test. It is empty if none does: the
--- newcomer then follows the settled part.
+-- "directly after the latest, in the sequence, of": the part of the sequence up to the last that passes the test. It is empty if none does:
+-- the newcomer then follows the settled part.
 abbrev pub upToLast : (Member → Bool) → List Member → List Member
 upToLast p [] = []
 upToLast p (m ∷ l) = if anyOf p (m ∷ l) then m ∷ upToLast p l else []
@@ -39,7 +39,14 @@ pastLast p (m ∷ l) = if anyOf p (m ∷ l) then pastLast p l else m ∷ l
 
 -- "Every running routine now behind it has been passed once more."
 unfoldable pub pass : Member → Member
-pass m = record { id = m .id; steps = m .steps; passed = if isRunning m then suc (m .passed) else m .passed; committed = m .committed; restarts = m .restarts }
+pass m = record {
+  id = m .id;
+  steps = m .steps;
+  passed = if isRunning m then suc (m .passed) else m .passed;
+  committed =
+      m .committed;
+  restarts = m .restarts;
+}
 
 abbrev pub stepOf : Command → Step
 stepOf c = record { command = c; status = to-do }

@@ -1,5 +1,5 @@
--- Document 01, "The devices", and the premise of demand 3: the hub, what it was told, and all devices, which take what was sent to them at any
--- time. Assumes nothing.
+-- Document 01, "The devices", and the premise of demand 3: the hub, what it was told, and all devices, which take what was sent to them at
+-- any time. Assumes nothing.
 use mathlib.Core.Path.{_≡_}
 use mathlib.Core.Bool.{Bool, true, false, _&&_}
 use mathlib.Core.List.{List, [], _∷_, _++_}
@@ -9,7 +9,8 @@ use lib.IntN.{ℤ, pos}
 use Rattle.routine.specs.Choice.{if_then_else_}
 use Rattle.rules.specs.Tables.{anyOf, put}
 use Rattle.rules.specs.State.{State}
-use Rattle.rules.specs.Answers.{Call, submit, turn, report, failure, restart, cancel, Back, Answer, refused, placed, wait, send, done, skipped, committed, aborted, down, up, Result}
+use Rattle.rules.specs.Answers.{Call, submit, turn, report, failure, restart, cancel, Back, Answer, refused, placed, wait, send}
+use Rattle.rules.specs.Answers.{done, skipped, committed, aborted, down, up, Result}
 use Rattle.rules.specs.Report.{codeDone}
 use Rattle.rules.specs.Calls.{resultOf}
 use Rattle.rules.specs.History.{Told, Account, accountsOf}
@@ -68,8 +69,8 @@ dropReported (failure d) a ds = ds
 dropReported (restart d v) a ds = ds
 dropReported (cancel i) a ds = ds
 
--- What an answer does to the devices. "an accepted failure ends what was sent before and may leave any setting": v. A report that was answered by
--- `skipped` or `aborted` reported failed. "Refused calls tell nothing."
+-- What an answer does to the devices. "an accepted failure ends what was sent before and may leave any setting": v. A report that was
+-- answered by `skipped` or `aborted` reported failed. "Refused calls tell nothing."
 abbrev pub devicesAfter : Call → (ℕ → Account) → ℤ → Answer → (ℕ → Device) → ℕ → Device
 devicesAfter c a v (refused r) ds = ds
 devicesAfter c a v (placed i j) ds = ds
@@ -92,8 +93,8 @@ pub record World : Type 0 where
   pub history : List Told
   pub devices : ℕ → Device
 
--- What happens: a call, any call; should it be an accepted failure, it leaves its device at the setting given here. Or a device takes one of what was
--- sent to it.
+-- What happens: a call, any call; should it be an accepted failure, it leaves its device at the setting given here. Or a device takes one
+-- of what was sent to it.
 pub data Act : Type 0 where
   calls : Call → ℤ → Act
   takes-one : ℕ → ℕ → Act  -- device, how many it passes over
@@ -143,8 +144,8 @@ isAccepted (aborted i b ∷ l) = true
 isAccepted (down d j ∷ l) = true
 isAccepted (up d j ∷ l) = true
 
--- The premise on an accepted call. The demand: "a done report means the setting was taken, a failed report means it was not", "a restart reports the setting it
--- then has".
+-- The premise on an accepted call. The demand: "a done report means the setting was taken, a failed report means it was not", "a restart
+-- reports the setting it then has".
 abbrev pub Truthful : World → Call → Type 0
 Truthful w (submit cs) = Unit {0}
 Truthful w (turn i) = Unit {0}

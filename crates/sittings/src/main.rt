@@ -1,5 +1,5 @@
-// Runs sittings through the line program: standard input is a row of records (crate records), each the input of a sitting. For each it prints the key,
-// and then a line `end`. tests/reference makes the records and what is printed.
+// Runs sittings through the line program: standard input is a row of records (crate records), each the input of a sitting. For each it
+// prints the key, and then a line `end`. tests/reference makes the records and what is printed.
 use libc::STDOUT_FILENO;
 ghost use mathlib.Core.Path.{_≡_};
 ghost use lib.ListN.{length};

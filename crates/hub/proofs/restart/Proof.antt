@@ -22,11 +22,13 @@ settled-requires c κs = (c .before .before .restart .ensures .valid, sym (c .be
 
 -- what the step gives, of the setting as it was handed over
 stepped : (c : tie.After-restart) →
-    StepGives (c .before .before .args .hub .state) (c .restart .result) (restartOf (stateOf (c .before .before .args .hub .state)) (c .before .before .args .device) (c .before .before .args .setting))
+    StepGives (c .before .before .args .hub .state) (c .restart .result)
+    (restartOf (stateOf (c .before .before .args .hub .state)) (c .before .before .args .device) (c .before .before .args .setting))
 stepped c =
     let a = c .before .before .args in
     let e : toZ w16 (ofZ w16 (a .setting)) ≡ a .setting = search needs in
-    subst (λ (z : ℤ). StepGives (a .hub .state) (c .restart .result) (restartOf (stateOf (a .hub .state)) (a .device) z)) e (c .restart .ensures)
+    subst (λ (z : ℤ). StepGives (a .hub .state) (c .restart .result) (restartOf (stateOf (a .hub .state)) (a .device) z)) e
+    (c .restart .ensures)
 
 returns : tie.Need-returns
 returns c = settled-gives _ _ _ _ (stepped (c .before .before .before)) (c .settled .ensures)

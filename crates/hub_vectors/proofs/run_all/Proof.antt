@@ -31,7 +31,8 @@ run-record-requires : tie.Need-run-record-requires Inv-loop μ-loop
 run-record-requires c κs = search needs
 
 loop-less : tie.Need-loop-less Inv-loop μ-loop
-loop-less c = let w = c .before .before .part-at .ensures in omega (arith, w .further (c .before .before .before .loop-test .taken), w .inside)
+loop-less c = let w = c .before .before .part-at .ensures in
+    omega (arith, w .further (c .before .before .before .loop-test .taken), w .inside)
 
 loop-again : tie.Need-loop-again Inv-loop μ-loop
 loop-again c = c .before .before .part-at .ensures .inside

@@ -38,7 +38,7 @@ run-last-requires c κs = search needs
 
 -- src/lib.rt:65:5
 cast-result : tie.Need-cast-result
-cast-result c =     let l = c .before .before .before .before in
+cast-result c = let l = c .before .before .before .before in
     let e : toZ w64 (ofZ w64 (l .run-last .result .result)) ≡ l .run-last .result .result = search needs in
     rw e (length-fits (l .run-last .ensures) (room c) (small (l .before .before .before)))
 
@@ -48,7 +48,7 @@ same-length c = search needs
 
 -- src/lib.rt:60:1
 returns : tie.Need-returns
-returns c =     let s = start c in
+returns c = let s = start c in
     let l = c .before .before .before .before in
     let e : toZ w64 (ofZ w64 (l .run-last .result .result)) ≡ l .run-last .result .result = search needs in
     rw (e, length-written (l .run-last .ensures) (room c)) (takes-end (s .args .hub) (s .args .held) (s .args .input .now) (l .run-last .ensures) (room c))

@@ -88,13 +88,13 @@ run-part-requires c κs = search needs
 
 -- src/lib.rt:50:18
 cast-length : tie.Need-cast-length
-cast-length c =     let l = c .before .before .before .before .before in
+cast-length c = let l = c .before .before .before .before .before in
     let e : toZ w64 (ofZ w64 (l .run-part .result .result)) ≡ l .run-part .result .result = search needs in
     rw e (length-fits (whole-ran l) (room l) (small l))
 
 -- src/lib.rt:51:9
 keep-requires : tie.Need-keep-requires
-keep-requires c κs =     let w = c .before .before .before .before .before .before .before .before .before in
+keep-requires c κs = let w = c .before .before .before .before .before .before .before .before .before in
     let s = w .before .before .before .before in
     (omega (arith, w .whole-length .ensures, whole-near (s .args .hub) (s .args .held) (s .args .got) (s .args .input .now)), s .pre .1)
 
@@ -108,7 +108,7 @@ same-length-2 c = search needs
 
 -- src/lib.rt:42:1
 returns : tie.Need-returns
-returns c =     let l = c .before .before .before .before .before .before .before .before .before in
+returns c = let l = c .before .before .before .before .before .before .before .before .before in
     let k = c .before .before .keep .ensures in
     let s = start l in
     let bytes = filled (s .args .hub) (s .args .held) (s .args .got) (s .args .input .now) in

@@ -21,11 +21,13 @@ returns-3 c = sym (open-pass-limit _ _ _ (omega (arith, c .before .before .if1 .
 returns-4 : tie.Need-returns-4
 unfolding refusalOf
 returns-4 c =
-    sym (open-first-id _ _ _ (omega (arith, c .before .before .before .if1 .left)) (c .before .before .if2 .left) (c .before .if3 .left) (c .if4 .taken))
+    sym (open-first-id _ _ _ (omega (arith, c .before .before .before .if1 .left)) (c .before .before .if2 .left) (c .before .if3 .left)
+    (c .if4 .taken))
 
 returns-5 : tie.Need-returns-5
 returns-5 c =
-    sym (open-fine _ _ _ (omega (arith, c .before .before .before .if1 .left)) (c .before .before .if2 .left) (c .before .if3 .left) (omega (arith, c .if4 .left)))
+    sym (open-fine _ _ _ (omega (arith, c .before .before .before .if1 .left)) (c .before .before .if2 .left) (c .before .if3 .left)
+    (omega (arith, c .if4 .left)))
 
 pub check-spec : {M : Type 1} → statement M
 check-spec = tie.close (tie.spec returns returns-2 returns-3 returns-4 returns-5)

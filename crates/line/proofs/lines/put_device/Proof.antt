@@ -27,7 +27,8 @@ returns c =
     let d = p .before .before in
     let s = d .before .before .before in
     let held : toZ w16 (ofZ w16 (d .due-setting .result)) ≡ d .due-setting .result = search needs in
-    as-text (λ i. asLine (deviceTextOf (s .args .device) (d .before .is-up .ensures i) ((held ∙ d .due-setting .ensures) i))) (p .put-device .ensures)
+    as-text (λ i. asLine (deviceTextOf (s .args .device) (d .before .is-up .ensures i) ((held ∙ d .due-setting .ensures) i)))
+    (p .put-device .ensures)
 
 pub put-device-spec : {M : Type 1} → statement M
 put-device-spec =

@@ -24,13 +24,17 @@ device-count-requires c κs = search needs
 
 loop-holds : tie.Need-loop-holds Inv-loop μ-loop
 unfolding deviceLines
-loop-holds c = (omega arith, refl, record { put = put-none (c .before .before .args .out .now) (c .before .before .args .at); short = omega arith })
+loop-holds c =
+    (omega arith, refl, record { put = put-none (c .before .before .args .out .now) (c .before .before .args .at); short = omega arith })
 
 put-device-requires : tie.Need-put-device-requires Inv-loop μ-loop
 put-device-requires c κs =
     let l = c .before .before in
-    let s = l .before .before .before in
-    (s .pre .0, omega (arith, s .pre, s .pre .0 .devices-fit, devices-are (s .args .hub), l .before .device-count .ensures, reaches (l .loop .inv .2)))
+    let s = l .before .before .before in (
+      s .pre .0,
+      omega
+          (arith, s .pre, s .pre .0 .devices-fit, devices-are (s .args .hub), l .before .device-count .ensures, reaches (l .loop .inv .2)),
+    )
 
 add-device : tie.Need-add-device Inv-loop μ-loop
 add-device c = search needs
@@ -45,7 +49,8 @@ loop-again c =
     let s = l .before .before .before in (
       omega arith,
       p .put-device .kept .1 .1 .0 ∙ l .loop .inv .1,
-      as-text (sym (devices-next (view (s .args .hub)) (l .loop .device))) (within (omega arith) (short-then (l .loop .inv .2) (p .put-device .ensures))),
+      as-text (sym (devices-next (view (s .args .hub)) (l .loop .device)))
+          (within (omega arith) (short-then (l .loop .inv .2) (p .put-device .ensures))),
     )
 
 same-length : tie.Need-same-length Inv-loop μ-loop

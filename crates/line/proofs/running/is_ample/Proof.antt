@@ -14,7 +14,8 @@ use Rattle.line.proofs.running.is_ample.Statement.{statement}
 use Rattle.line.proofs.running.is_ample.Tie as tie
 
 abbrev Inv-loop : tie.InvT-loop
-Inv-loop input room most count₀ i₀ count i = (count ≤ suc i) × (count + length (pieces lineEnd (drop i input)) ≡ suc (length (pieces lineEnd input)))
+Inv-loop input room most count₀ i₀ count i = (count ≤ suc i)
+    × (count + length (pieces lineEnd (drop i input)) ≡ suc (length (pieces lineEnd input)))
 
 abbrev μ-loop : tie.MeasureT-loop
 μ-loop input room most count₀ i₀ count i = length input - i

@@ -1,4 +1,5 @@
--- `line::running::run_lines` meets its contract. The loop's invariant: the lines up to a place are done, and what is left gives the rest. Assumes nothing.
+-- `line::running::run_lines` meets its contract. The loop's invariant: the lines up to a place are done, and what is left gives the rest.
+-- Assumes nothing.
 use mathlib.Core.Path.{_≡_, sym, _∙_}
 use Prim.Native.Nat.{_+_, _-_, _≤_, _<_, _^_}
 use native.Mathlib.Omega.{arith}
@@ -23,10 +24,16 @@ abbrev μ-loop : tie.MeasureT-loop
 μ-loop input out₀ room now₀ at₀ from₀ out now at from = length input - from
 
 -- the line ends within the input
-ends : (c : tie.After-line-end Inv-loop μ-loop) → c .line-end .result ≤ length (c .before .before .before .before .before .before .args .input .now)
+ends : (c : tie.After-line-end Inv-loop μ-loop) →
+    c .line-end .result ≤ length (c .before .before .before .before .before .before .args .input .now)
 ends c =
     let o = c .before .before .before in
-    omega (arith, c .line-end .ensures, end-within (o .before .before .before .args .input .now) (o .loop .from) (c .before .before .loop-test .taken))
+    omega (
+      arith,
+      c .line-end .ensures,
+      end-within (o .before .before .before .args .input .now) (o .loop .from)
+          (c .before .before .loop-test .taken),
+    )
 
 -- there is room for a line's text
 room-left : (c : tie.Else1 Inv-loop μ-loop) → c .before .before .loop .at + maxText < 2 ^ 64
@@ -43,13 +50,15 @@ line-read c = c .read-line .ensures
 
 -- and what of it is heard
 line-heard : (c : tie.After-heard Inv-loop μ-loop) →
-    let l = c .before .before .before .before in heardOf (heldLine (says l) .line) (view (l .before .before .before .loop .now) .devices) ≡ c .heard .result
+    let l = c .before .before .before .before in
+    heardOf (heldLine (says l) .line) (view (l .before .before .before .loop .now) .devices) ≡ c .heard .result
 line-heard c = sym (c .heard .ensures ∙ (λ i. heardOf (line-read (c .before .before) i .line) (c .before .device-count .ensures i)))
 
 -- each way that it can go
 line-goes : (c : tie.At-match-came Inv-loop μ-loop) →
     let l = c .before .before .before .before .before in
-    let o = l .before .before .before in Goes (o .loop .now) (says l) (o .loop .out) (o .loop .at) (c .match .now) (c .match .out) (c .match .at)
+    let o = l .before .before .before in
+    Goes (o .loop .now) (says l) (o .loop .out) (o .loop .at) (c .match .now) (c .match .out) (c .match .at)
 line-goes c =
     let h = c .before in
     let r = h .before .before in
@@ -119,7 +128,8 @@ enum-known-verdict : tie.Need-enum-known-verdict Inv-loop μ-loop
 enum-known-verdict c = search needs
 
 put-refusal-requires : tie.Need-put-refusal-requires Inv-loop μ-loop
-put-refusal-requires c κs = room-left (c .before .before .before .before .before .before .before .before .before .before .before .before .before)
+put-refusal-requires c κs =
+    room-left (c .before .before .before .before .before .before .before .before .before .before .before .before .before)
 
 enum-known-said-2 : tie.Need-enum-known-said-2 Inv-loop μ-loop
 enum-known-said-2 c = search needs

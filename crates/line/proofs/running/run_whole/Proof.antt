@@ -23,7 +23,8 @@ fits c =
     let l = c .before .before .before .before .before in
     ⊎-elim
     (λ w. measured-fits (w .1 .ensures) (w .2 .left))
-    (λ w. whole-fits _ _ _ _ _ _ (l .run-lines .ensures) _ _ (c .put-devices .ensures) (l .before .before .before .is-ample .ensures (not-false _ (w .left))))
+    (λ w. whole-fits _ _ _ _ _ _ (l .run-lines .ensures) _ _ (c .put-devices .ensures)
+    (l .before .before .before .is-ample .ensures (not-false _ (w .left))))
     (l .before .before .if1 .came)
 
 fits-cast : (c : tie.After-put-devices) → c .put-devices .result < 2 ^ 63

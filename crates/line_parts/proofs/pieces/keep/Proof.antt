@@ -55,7 +55,7 @@ loop-less c = search needs
 
 -- src/pieces.rt:37:5
 loop-again : tie.Need-loop-again Inv-loop μ-loop
-loop-again c =     let l = c .before .before in
+loop-again c = let l = c .before .before in
     let s = l .before .before .before in
     let inside : s .args .from + l .loop .i < length (s .args .input .now) = search needs in
     let inv = l .loop .inv in (
@@ -71,7 +71,7 @@ same-length c = search needs
 
 -- src/pieces.rt:31:1
 returns : tie.Need-returns Inv-loop μ-loop
-returns c =     let l = c .before in
+returns c = let l = c .before in
     let k = l .before in
     let all : l .loop .i ≡ k .least .result = search needs in (
       search needs,

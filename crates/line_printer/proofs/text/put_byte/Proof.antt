@@ -15,7 +15,8 @@ add-result c = search needs
 
 -- past the end a store changes nothing
 stored : (c : tie.Joined1) → c .if1 .out ≡ set (c .before .args .out .now) (c .before .args .at) (c .before .args .byte)
-stored c = ⊎-elim (λ w. w .1) (λ w. w .1 ∙ sym (set-out (c .before .args .out .now) (c .before .args .at) (c .before .args .byte) (w .0 .left))) (c .if1 .came)
+stored c = ⊎-elim (λ w. w .1)
+    (λ w. w .1 ∙ sym (set-out (c .before .args .out .now) (c .before .args .at) (c .before .args .byte) (w .0 .left))) (c .if1 .came)
 
 same-length : tie.Need-same-length
 same-length c = ap length (stored c) ∙ length-set (c .before .args .out .now) (c .before .args .at) (c .before .args .byte)

@@ -44,8 +44,12 @@ loop-again c =
     let i = l .loop .i in
     let h : i < length (a .word .now) = search needs in
     let e : take (i + 1) (a .word .now) ≡ take i (a .word .now) ++ (getD (a .word .now) i 0 ∷ []) =
-    ap (λ (k : ℕ). take k (a .word .now)) (add-one i) ∙ take-suc (a .word .now) i 0 h in
-    (omega arith, c .before .before .put-byte .kept .0 ∙ l .loop .inv .1, rw e (put-then (l .loop .inv .2) (c .before .before .put-byte .ensures)))
+    ap (λ (k : ℕ). take k (a .word .now)) (add-one i) ∙ take-suc (a .word .now) i 0 h in (
+      omega arith,
+      c .before .before .put-byte .kept .0
+          ∙ l .loop .inv .1,
+      rw e (put-then (l .loop .inv .2) (c .before .before .put-byte .ensures)),
+    )
 
 same-length : tie.Need-same-length Inv-loop μ-loop
 same-length c = c .before .loop .inv .1

@@ -15,7 +15,8 @@ same-length : tie.Need-same-length
 same-length c = search needs
 
 returns : tie.Need-returns
-returns c = short-then (c .before .before .before .before .before .before .put-words .ensures) (exactly (c .before .before .put-end .ensures))
+returns c = short-then (c .before .before .before .before .before .before .put-words .ensures)
+    (exactly (c .before .before .put-end .ensures))
 
 pub put-answer-spec : {M : Type 1} → statement M
 put-answer-spec = tie.close (tie.spec put-words-requires put-end-requires same-length returns)

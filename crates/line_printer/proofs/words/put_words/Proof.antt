@@ -14,7 +14,8 @@ use Rattle.line_printer.proofs.words.put_words.Statement.{statement}
 use Rattle.line_printer.proofs.words.put_words.Tie as tie
 
 -- the text of the case that the answer is
-answered : {k : ℕ} {a b : List ℕ} {at e : ℕ} (x y : Answer) (l : List Back) → x ≡ y → k ≤ maxAnswer → PutShort k a b at e (answerText (answerOf y l)) →
+answered : {k : ℕ} {a b : List ℕ} {at e : ℕ} (x y : Answer) (l : List Back) → x ≡ y → k ≤ maxAnswer →
+    PutShort k a b at e (answerText (answerOf y l)) →
     PutShort maxAnswer a b at e (answerText (answerOf x l))
 answered x y l h n p = as-text (ap (λ (z : Answer). answerText (answerOf z l)) (sym h)) (within n p)
 
@@ -161,7 +162,8 @@ same-length-3 c = search needs
 returns-3 : tie.Need-returns-3
 unfolding answerText
 returns-3 c =
-    answered _ _ _ (c .before .before .before .before .before .before .before .answer3 .given .1) (omega arith) (c .before .before .put-two2 .ensures)
+    answered _ _ _ (c .before .before .before .before .before .before .before .answer3 .given .1) (omega arith)
+    (c .before .before .put-two2 .ensures)
 
 same-length-4 : tie.Need-same-length-4
 same-length-4 c = search needs
@@ -177,7 +179,8 @@ same-length-5 c = search needs
 returns-5 : tie.Need-returns-5
 unfolding answerText
 returns-5 c =
-    answered _ _ _ (c .before .before .before .before .before .before .answer5 .given .1) (omega arith) (c .before .before .put-one .ensures)
+    answered _ _ _ (c .before .before .before .before .before .before .answer5 .given .1) (omega arith)
+    (c .before .before .put-one .ensures)
 
 same-length-6 : tie.Need-same-length-6
 same-length-6 c = search needs
@@ -193,7 +196,8 @@ same-length-7 c = search needs
 returns-7 : tie.Need-returns-7
 unfolding answerText
 returns-7 c =
-    answered _ _ _ (c .before .before .before .before .before .before .answer7 .given .1) (omega arith) (c .before .before .put-one2 .ensures)
+    answered _ _ _ (c .before .before .before .before .before .before .answer7 .given .1) (omega arith)
+    (c .before .before .put-one2 .ensures)
 
 same-length-8 : tie.Need-same-length-8
 same-length-8 c = search needs
@@ -209,7 +213,8 @@ same-length-9 c = search needs
 returns-9 : tie.Need-returns-9
 unfolding answerText
 returns-9 c =
-    answered _ _ _ (c .before .before .before .before .before .before .before .answer9 .given .1) (omega arith) (c .before .before .put-two3 .ensures)
+    answered _ _ _ (c .before .before .before .before .before .before .before .answer9 .given .1) (omega arith)
+    (c .before .before .put-two3 .ensures)
 
 same-length-10 : tie.Need-same-length-10
 same-length-10 c = search needs
@@ -217,7 +222,8 @@ same-length-10 c = search needs
 returns-10 : tie.Need-returns-10
 unfolding answerText
 returns-10 c =
-    answered _ _ _ (c .before .before .before .before .before .before .before .answer10 .given .1) (omega arith) (c .before .before .put-two4 .ensures)
+    answered _ _ _ (c .before .before .before .before .before .before .before .answer10 .given .1) (omega arith)
+    (c .before .before .put-two4 .ensures)
 
 pub put-words-spec : {M : Type 1} → statement M
 put-words-spec =

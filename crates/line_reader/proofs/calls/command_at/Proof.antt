@@ -31,7 +31,8 @@ device c = number-says highest8 _ _ _ _ (sym (c .before .before .before .number-
 
 tag : (c : tie.After-known-told2) → let g = c .before .tag .given .0 in
     let d = c .before .before .before .before in
-    WordSays (numberUpTo highest8) (d .before .before .before .before .before .args .line .now) (d .before .device .given .0 .1 .0 + 1) (g .0) (g .1 .0)
+    WordSays (numberUpTo highest8) (d .before .before .before .before .before .args .line .now) (d .before .device .given .0 .1 .0 + 1)
+    (g .0) (g .1 .0)
 tag c = number-says highest8 _ _ _ _ (sym (c .before .before .before .number-at2 .ensures) ∙ c .before .tag .given .1)
 
 value : (c : tie.After-known-told3) → let g = c .before .setting .given .0 in
@@ -42,7 +43,8 @@ value c = setting-says _ _ _ _ (sym (c .before .before .before .setting-at .ensu
 
 returns : tie.Need-returns
 returns c = let n = c .before .before .before in
-    none-at _ _ _ (c .no-command .ensures) (λ h. command-none _ _ h (no-number highest8 _ _ (sym (n .number-at .ensures) ∙ c .before .enum-told .given .1)))
+    none-at _ _ _ (c .no-command .ensures)
+    (λ h. command-none _ _ h (no-number highest8 _ _ (sym (n .number-at .ensures) ∙ c .before .enum-told .given .1)))
 
 add-number-at : tie.Need-add-number-at
 add-number-at c = let d = device c in search needs
@@ -98,7 +100,8 @@ returns-4 c = let t = c .before .before .before .before in
     let d = device (t .before .before .before .before) in
     let v = c .before .setting .given .0 .0 in
     let e : toZ w16 (ofZ w16 v) ≡ v = search needs in
-    rw e (one-at _ _ _ refl (omega (arith, d .begins, tag t .begins, value c .begins)) (value c .ends) (command-all _ _ d (tag t) (value c)))
+    rw e (one-at _ _ _ refl (omega (arith, d .begins, tag t .begins, value c .begins)) (value c .ends)
+    (command-all _ _ d (tag t) (value c)))
 
 pub command-at-spec : {M : Type 1} → statement M
 command-at-spec =

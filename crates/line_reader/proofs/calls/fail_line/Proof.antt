@@ -26,7 +26,9 @@ device c = number-says highest8 _ _ _ _ (sym (c .before .before .before .number-
 
 returns : tie.Need-returns
 returns c =
-    sym (ap heldAs (one-none highest8 (callWith failure) refl _ _ (no-number highest8 _ _ (sym (c .before .before .number-at .ensures) ∙ c .enum-told .given .1))))
+    sym (ap heldAs
+    (one-none highest8 (callWith failure) refl _ _
+    (no-number highest8 _ _ (sym (c .before .before .number-at .ensures) ∙ c .enum-told .given .1))))
 
 returns-2 : tie.Need-returns-2
 returns-2 c = sym (ap heldAs (one-more highest8 (callWith failure) refl _ _ (device (c .before)) (c .if1 .taken)))

@@ -27,7 +27,8 @@ id c = number-says highest32 _ _ _ _ (sym (c .before .before .before .number-at 
 returns : tie.Need-returns
 returns c = let n = c .before .before in
     let letter = n .before .before .args .letter in
-    sym (ap heldAs (one-none highest32 (idCallWith letter) refl _ _ (no-number highest32 _ _ (sym (n .number-at .ensures) ∙ c .enum-told .given .1))))
+    sym (ap heldAs
+    (one-none highest32 (idCallWith letter) refl _ _ (no-number highest32 _ _ (sym (n .number-at .ensures) ∙ c .enum-told .given .1))))
 
 returns-2 : tie.Need-returns-2
 returns-2 c = let letter = c .before .before .before .before .before .before .args .letter in

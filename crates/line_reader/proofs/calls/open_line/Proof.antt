@@ -26,13 +26,15 @@ devices c = number-says highest8 _ _ _ _ (sym (c .before .before .before .number
 
 limit : (c : tie.After-known-told2) → let g = c .before .pass-limit .given .0 in
     let d = c .before .before .before .before in
-    WordSays (numberUpTo highest8) (d .before .before .before .before .before .args .line .now) (d .before .devices .given .0 .1 .0 + 1) (g .0) (g .1 .0)
+    WordSays (numberUpTo highest8) (d .before .before .before .before .before .args .line .now) (d .before .devices .given .0 .1 .0 + 1)
+    (g .0) (g .1 .0)
 limit c = number-says highest8 _ _ _ _ (sym (c .before .before .before .number-at2 .ensures) ∙ c .before .pass-limit .given .1)
 
 first : (c : tie.After-known-told3) → let g = c .before .first .given .0 in
     let k = c .before .before .before .before in
     let d = k .before .before .before .before in
-    WordSays (numberUpTo highest32) (d .before .before .before .before .before .args .line .now) (k .before .pass-limit .given .0 .1 .0 + 1) (g .0) (g .1 .0)
+    WordSays (numberUpTo highest32) (d .before .before .before .before .before .args .line .now) (k .before .pass-limit .given .0 .1 .0 + 1)
+    (g .0) (g .1 .0)
 first c = number-says highest32 _ _ _ _ (sym (c .before .before .before .number-at3 .ensures) ∙ c .before .first .given .1)
 
 returns : tie.Need-returns

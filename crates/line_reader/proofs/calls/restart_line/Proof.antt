@@ -32,7 +32,8 @@ value : (c : tie.After-known-told2) → let g = c .before .setting .given .0 in
 value c = setting-says _ _ _ _ (sym (c .before .before .before .setting-at .ensures) ∙ c .before .setting .given .1)
 
 returns : tie.Need-returns
-returns c = sym (ap heldAs (restart-none _ _ (no-number highest8 _ _ (sym (c .before .before .number-at .ensures) ∙ c .enum-told .given .1))))
+returns c = sym
+    (ap heldAs (restart-none _ _ (no-number highest8 _ _ (sym (c .before .before .number-at .ensures) ∙ c .enum-told .given .1))))
 
 add-setting-at : tie.Need-add-setting-at
 add-setting-at c = let d = device c in search needs

@@ -15,7 +15,8 @@ use Rattle.line_reader.proofs.calls.submit_line.Tie as tie
 
 -- what is left: the commands of the words from a place on, behind those that the routine has
 abbrev Inv-loop : tie.InvT-loop
-Inv-loop line routine₀ at₀ routine at = submitFrom routine (commands (wordsFrom line at)) ≡ heldLine (submitLine (wordsFrom line behindLetter))
+Inv-loop line routine₀ at₀ routine at =
+    submitFrom routine (commands (wordsFrom line at)) ≡ heldLine (submitLine (wordsFrom line behindLetter))
 
 abbrev μ-loop : tie.MeasureT-loop
 μ-loop line routine₀ at₀ routine at = suc (length line) - at
@@ -44,7 +45,8 @@ read-one : (c : tie.Else1 Inv-loop μ-loop) → let k = c .before .before in
     let line = l .before .before .before .args .line .now in
     (l .loop .at ≤ k .command-at .result .end)
     × (k .command-at .result .end ≤ length line)
-    × (commands (wordsFrom line (l .loop .at)) ≡ commandBehind (k .command-at .result .command) (commands (wordsFrom line (k .command-at .result .end + 1))))
+    × (commands (wordsFrom line (l .loop .at)) ≡ commandBehind (k .command-at .result .command)
+    (commands (wordsFrom line (k .command-at .result .end + 1))))
 read-one c = c .before .before .command-at .ensures .found-one (not-false _ (c .if1 .left))
 
 with-command-requires : tie.Need-with-command-requires Inv-loop μ-loop

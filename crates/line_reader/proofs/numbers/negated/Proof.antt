@@ -1,4 +1,5 @@
--- `line_reader::numbers::negated` meets its contract: 16 bits hold the difference, and it is the number with a minus before it. Assumes nothing.
+-- `line_reader::numbers::negated` meets its contract: 16 bits hold the difference, and it is the number with a minus before it. Assumes
+-- nothing.
 use Prim.Native.Nat.{_<_, _^_}
 use mathlib.Core.Path.{_≡_, ap, _∙_}
 use native.Mathlib.Omega.{arith}

@@ -5,7 +5,8 @@ use native.Mathlib.Numerals.{add-one}
 use native.Mathlib.Omega.{arith}
 use lib.ListN.{length, getD}
 use Rattle.line_rules.specs.Reading.{within}
-use Rattle.line_reader.proofs.Laws.{Left, word-past, word-none, digits-large, number-ended, number-missing, left-below, left-above, left-more}
+use Rattle.line_reader.proofs.Laws.{Left, word-past, word-none, digits-large, number-ended, number-missing, left-below, left-above}
+use Rattle.line_reader.proofs.Laws.{left-more}
 use borrow.Author.Needs.{needs}
 use Rattle.line_reader.proofs.numbers.number_at.Statement.{statement}
 use Rattle.line_reader.proofs.numbers.number_at.Tie as tie
@@ -42,13 +43,15 @@ returns-2 : tie.Need-returns-2 Inv-loop μ-loop
 returns-2 c = let i = c .before .before .before in
     let l = i .before in
     let h = l .before .before .args .highest in
-    sym (number-missing h _ _ _ _ (l .loop .inv .0) (ap (within h) (left-below _ _ _ (i .loop-test .taken) (c .before .if1 .left) (c .if2 .taken))))
+    sym (number-missing h _ _ _ _ (l .loop .inv .0)
+    (ap (within h) (left-below _ _ _ (i .loop-test .taken) (c .before .if1 .left) (c .if2 .taken))))
 
 returns-3 : tie.Need-returns-3 Inv-loop μ-loop
 returns-3 c = let i = c .before .before .before .before in
     let l = i .before in
     let h = l .before .before .args .highest in
-    sym (number-missing h _ _ _ _ (l .loop .inv .0) (ap (within h) (left-above _ _ _ (i .loop-test .taken) (c .before .before .if1 .left) (omega arith))))
+    sym (number-missing h _ _ _ _ (l .loop .inv .0)
+    (ap (within h) (left-above _ _ _ (i .loop-test .taken) (c .before .before .if1 .left) (omega arith))))
 
 mul-value : tie.Need-mul-value Inv-loop μ-loop
 mul-value c = search needs
