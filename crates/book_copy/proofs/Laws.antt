@@ -32,14 +32,16 @@ use Rattle.layout.proofs.Lending.{first-there, rest-there}
 use Rattle.layout.proofs.RoundTrip.{Makes, hands-make}
 use Rattle.layout.proofs.Theorems.{read-then-write, lent-again}
 use Rattle.book_copy.specs.Copy.{copyCheck, copiedOf, copyAfter}
-use Rattle.book_copy.specs.Rows.{mostCommands, padded, rowsWith, rowsOf, RowsOfBook, withCommand, withCommands, withCount, withRoutine}
+use Rattle.book_copy.specs.Rows.{mostCommands, padded, rowsWith, rowsOf, RowsOfBook, withCommand, withCommands, withCount}
+use Rattle.book_copy.specs.Rows.{withRoutine}
 use Rattle.book_copy.specs.declared.Rows.{Rows}
 use Rattle.book_copy.specs.declared.RowsRead.{RowsRead}
 
 -- ---- rows with more in them
 
 -- a list with one value more
-padded-more : {A : Type 0} (most n : ℕ) (l : List A) (a z : A) → length l ≡ n → n < most → set (padded most l z) n a ≡ padded most (l ++ (a ∷ [])) z
+padded-more : {A : Type 0} (most n : ℕ) (l : List A) (a z : A) → length l ≡ n → n < most →
+    set (padded most l z) n a ≡ padded most (l ++ (a ∷ [])) z
 padded-more most n l a z e h =
     let rest = replicate (most - length (l ++ (a ∷ []))) z in
     let left : most - length l ≡ suc (most - length (l ++ (a ∷ []))) = omega (arith, length-append l (a ∷ [])) in
@@ -68,7 +70,8 @@ with-command ns cs c h = λ i. record {
   commands = one-more mostCommands cs c h i;
 }
 
-with-commands : (ns : List ℕ) (cs r : List Command) → length cs + length r ≤ mostCommands → withCommands (rowsWith ns cs) r ≡ rowsWith ns (cs ++ r)
+with-commands : (ns : List ℕ) (cs r : List Command) → length cs + length r ≤ mostCommands →
+    withCommands (rowsWith ns cs) r ≡ rowsWith ns (cs ++ r)
 unfolding withCommands
 with-commands ns cs [] h = ap (rowsWith ns) (sym (append-nil cs))
 with-commands ns cs (c ∷ r) h =
@@ -87,7 +90,8 @@ module _ (r : Rows) (cs : List Command) (i n : ℕ) where
   unfolding withCommands
   commands-over h k = let e : i ≡ n = omega arith in rw (e, slice-empty n cs)
 
-with-count : (ns : List ℕ) (cs : List Command) (n : ℕ) → length ns < maxRoutines → withCount (rowsWith ns cs) n ≡ rowsWith (ns ++ (n ∷ [])) cs
+with-count : (ns : List ℕ) (cs : List Command) (n : ℕ) → length ns < maxRoutines →
+    withCount (rowsWith ns cs) n ≡ rowsWith (ns ++ (n ∷ [])) cs
 unfolding withCount rowsWith
 with-count ns cs n h = λ i. record {
   counts = padded-more maxRoutines (length ns) ns n 0 refl h i;

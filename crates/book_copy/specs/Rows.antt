@@ -40,8 +40,8 @@ rowsWith ns cs = record {
 abbrev pub rowsOf : List (List Command) → Rows
 rowsOf rs = rowsWith (countsOf rs) (rowOf rs)
 
--- What `rows_of` gives of book b: of an accepted one (which has such routines: `ReadThenWrite`) the rows of the routines that reading hands out,
--- of a refused one its refusal and no rows.
+-- What `rows_of` gives of book b: of an accepted one (which has such routines: `ReadThenWrite`) the rows of the routines that reading hands
+-- out, of a refused one its refusal and no rows.
 pub record RowsOfBook (b : List ℕ) (r : RowsRead) : Type 0 where
   pub accepted : (rs : List (List Command)) → Hands b 0 rs → r ≡ record { verdict = Accepted; rows = rowsOf rs }
   pub refused : (x : Refusal) → bookCheck b ≡ Refused x → r ≡ record { verdict = Refused x; rows = rowsOf [] }

@@ -65,7 +65,8 @@ module _ (ds ts : List ℕ) (ss : List ℤ) where
   pub lent-more : (at n : ℕ) → commandsLent ds ts ss at (n + 1) ≡ commandsLent ds ts ss at n ++ (commandLent ds ts ss (at + n) ∷ [])
   lent-more at n = lent-both at n 1
 
-  pub lent-first : (i n : ℕ) → i < n → commandsLent ds ts ss i (n - i) ≡ commandLent ds ts ss i ∷ commandsLent ds ts ss (i + 1) (n - (i + 1))
+  pub lent-first : (i n : ℕ) → i < n →
+      commandsLent ds ts ss i (n - i) ≡ commandLent ds ts ss i ∷ commandsLent ds ts ss (i + 1) (n - (i + 1))
   lent-first i n h =
       let k : n - i ≡ suc (n - (i + 1)) = omega arith in
       ap (commandsLent ds ts ss i) k ∙ ap (λ (p : ℕ). commandLent ds ts ss i ∷ commandsLent ds ts ss p (n - (i + 1))) (sym (add-one i))
@@ -134,7 +135,8 @@ module _ (ds ts : List ℕ) (ss : List ℤ) where
       commands-append : (a b : List Command) → commandsBytes (a ++ b) ≡ commandsBytes a ++ commandsBytes b
       commands-append [] b = refl
       commands-append (c ∷ a) b =
-          ap (λ (l : List ℕ). commandBytes c ++ l) (commands-append a b) ∙ sym (append-assoc (commandBytes c) (commandsBytes a) (commandsBytes b))
+          ap (λ (l : List ℕ). commandBytes c ++ l) (commands-append a b)
+          ∙ sym (append-assoc (commandBytes c) (commandsBytes a) (commandsBytes b))
 
   -- how long the book is
   pub length-book : (ns : List ℕ) → length (bookBytes (routinesLent ns ds ts ss)) ≡ pairsEnd (length ns) + commandSize * commandsCounted ns
@@ -193,7 +195,8 @@ module _ (ds ts : List ℕ) (ss : List ℤ) where
   -- one command of those that are left
   pub commands-put : (out : List ℕ) (p i n : ℕ) → i < n →
       sets out p (commandsBytes (commandsLent ds ts ss i (n - i)))
-      ≡ sets (sets out p (commandBytes (commandLent ds ts ss i))) (p + commandSize) (commandsBytes (commandsLent ds ts ss (i + 1) (n - (i + 1))))
+      ≡ sets (sets out p (commandBytes (commandLent ds ts ss i))) (p + commandSize)
+      (commandsBytes (commandsLent ds ts ss (i + 1) (n - (i + 1))))
   commands-put out p i n h =
       let c = commandLent ds ts ss i in
       let rest = commandsBytes (commandsLent ds ts ss (i + 1) (n - (i + 1))) in
@@ -238,7 +241,8 @@ module _ (rs : List (List Command)) (room : ℕ) where
   unfolding writeCheck
   write-many e h = simp (e, lt-ltb maxRoutines (length rs) h)
 
-  pub write-short : routinesCheck rs ≡ Accepted → length rs ≤ maxRoutines → room < length (bookBytes rs) → writeCheck rs room ≡ Refused (refusalOf no-room)
+  pub write-short : routinesCheck rs ≡ Accepted → length rs ≤ maxRoutines → room < length (bookBytes rs) →
+      writeCheck rs room ≡ Refused (refusalOf no-room)
   unfolding writeCheck
   write-short e h k = simp (e, le-ltb maxRoutines (length rs) h, lt-ltb room (length (bookBytes rs)) k)
 
@@ -247,11 +251,13 @@ module _ (rs : List (List Command)) (room : ℕ) where
   write-fits e h k = simp (e, le-ltb maxRoutines (length rs) h, le-ltb room (length (bookBytes rs)) k)
 
 module _ (rs : List (List Command)) (out : List ℕ) where
-  pub turned-down : (x : Refusal) → writeCheck rs (length out) ≡ Refused x → (NotWritten x ≡ writtenOf rs (length out)) × (out ≡ bufferAfter rs out)
+  pub turned-down : (x : Refusal) → writeCheck rs (length out) ≡ Refused x →
+      (NotWritten x ≡ writtenOf rs (length out)) × (out ≡ bufferAfter rs out)
   unfolding writtenOf bufferAfter
   turned-down x e = (rw e, rw e)
 
-  pub written : writeCheck rs (length out) ≡ Accepted → length (bookBytes rs) ≤ length out → (n : ℕ) (o : List ℕ) → n ≡ length (bookBytes rs) → o ≡ sets out 0 (bookBytes rs) →
+  pub written : writeCheck rs (length out) ≡ Accepted → length (bookBytes rs) ≤ length out → (n : ℕ) (o : List ℕ) →
+      n ≡ length (bookBytes rs) → o ≡ sets out 0 (bookBytes rs) →
       (Length n ≡ writtenOf rs (length out)) × (o ≡ bufferAfter rs out)
   unfolding writtenOf bufferAfter
   written e h n o m w =

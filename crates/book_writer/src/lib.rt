@@ -13,9 +13,9 @@ ghost use mathlib.Core.Path.{_≡_};
 ghost use lib.ListN.{length};
 ghost use Rattle.layout.specs.Writing.{routinesLent, writtenOf, bufferAfter};
 
-// Routines written into a lent buffer: the routines in turn (4, then commands), then 21. `counts` has a number of commands for each routine; the
-// three other slices hold the parts of all commands in a row. Each routine has as many of the next as its count says: one that is not all there is
-// turned down (5, 6 or 7 with the command's index). What is lent behind the last routine is not looked at.
+// Routines written into a lent buffer: the routines in turn (4, then commands), then 21. `counts` has a number of commands for each
+// routine; the three other slices hold the parts of all commands in a row. Each routine has as many of the next as its count says: one that
+// is not all there is turned down (5, 6 or 7 with the command's index). What is lent behind the last routine is not looked at.
 pub fn write(
     counts: &[u8],
     devices: &[u8],

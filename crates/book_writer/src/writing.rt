@@ -77,7 +77,8 @@ fn routine_in(devices: &[u8], tags: &[u8], settings: &[i16], at: usize, count: u
 // One routine of the row: 4, whatever is lent; then its commands.
 fn check_one(devices: &[u8], tags: &[u8], settings: &[i16], at: usize, count: usize) -> Verdict
     requires { ⌜ at ≤ length (now devices) ⌝ }
-    ensures { λ r. ⌜ r ≡ routineCheck bookDevices (commandsLent (now (devices .entry)) (now (tags .entry)) (now (settings .entry)) at count) ⌝ }
+    ensures { λ r. ⌜ r ≡ routineCheck bookDevices
+        (commandsLent (now (devices .entry)) (now (tags .entry)) (now (settings .entry)) at count) ⌝ }
 {
     if MAX_COMMANDS < count {
         return Verdict::Refused(Refusal::Number(COMMAND_COUNT));
@@ -88,7 +89,8 @@ fn check_one(devices: &[u8], tags: &[u8], settings: &[i16], at: usize, count: us
 
 // The routines in turn. Where one is accepted all its commands are there, so that the next begins inside the row or at its end.
 pub fn check_routines(counts: &[u8], devices: &[u8], tags: &[u8], settings: &[i16]) -> Verdict
-    ensures { λ r. ⌜ r ≡ routinesCheck (routinesLent (now (counts .entry)) (now (devices .entry)) (now (tags .entry)) (now (settings .entry))) ⌝ }
+    ensures { λ r. ⌜ r ≡ routinesCheck
+        (routinesLent (now (counts .entry)) (now (devices .entry)) (now (tags .entry)) (now (settings .entry))) ⌝ }
 {
     let mut at = 0;
     let mut i = 0;
@@ -140,7 +142,8 @@ fn put_four(out: &mut [u8], at: usize, n: u32)
 // The pairs, behind the count.
 fn put_pairs(counts: &[u8], out: &mut [u8])
     requires { ⌜ (length (now counts) ≤ maxRoutines) × (pairsEnd (length (now counts)) ≤ length (now out)) ⌝ }
-    ensures { λ _. ⌜ now (out .exit) ≡ sets (now (out .entry)) countSize (pairsCounted (pairsEnd (length (now (counts .entry)))) (now (counts .entry))) ⌝ }
+    ensures { λ _. ⌜ now (out .exit) ≡ sets (now (out .entry)) countSize
+        (pairsCounted (pairsEnd (length (now (counts .entry)))) (now (counts .entry))) ⌝ }
 {
     let mut at = COUNT_SIZE + PAIR_SIZE * counts.len();
     let mut i = 0;

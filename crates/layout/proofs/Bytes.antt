@@ -39,7 +39,8 @@ pub setting-written : (n : ℕ) → n < 65536 → bitsOf (settingOf n) ≡ n
 setting-written n h =
     byTest (λ (_ : Bool). bitsOf (settingOf n) ≡ n) (ltb n 32768)
     (λ e. let l = ltb-true n 32768 e in rw (setting-low n l) (bits-pos n))
-    (λ e. let l = ltb-false n 32768 e in let k : 65535 - (65535 - n) ≡ n = omega arith in rw (setting-high n l h) (bits-negsuc (65535 - n) ∙ k))
+    (λ e. let l = ltb-false n 32768 e in let k : 65535 - (65535 - n) ≡ n = omega arith in
+    rw (setting-high n l h) (bits-negsuc (65535 - n) ∙ k))
 
 -- ---- reading at a place what stands there
 
@@ -92,7 +93,8 @@ unfolding commandAt commandBytes
 command-read b rest p c h e =
     let x = first-read b _ p e in
     let y = byte-read b _ p 1 e in
-    let z = ap settingOf (two-read b rest (p + 2) (bitsOf (c .setting)) (behind b (c .device ∷ c .tag ∷ []) _ p 2 e refl)) ∙ setting-read (c .setting) h in
+    let z = ap settingOf (two-read b rest (p + 2) (bitsOf (c .setting)) (behind b (c .device ∷ c .tag ∷ []) _ p 2 e refl))
+    ∙ setting-read (c .setting) h in
     λ i. record { device = x i; tag = y i; setting = z i }
 
 -- the setting of an accepted command is in range

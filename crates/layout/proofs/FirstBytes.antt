@@ -14,7 +14,8 @@ use Rattle.routine.specs.declared.Verdict.{Verdict}
 use Rattle.routine.specs.declared.Verdict.the-variants.{Accepted, Refused}
 use Rattle.routine.proofs.Laws.{byTest, not-refused}
 use Rattle.layout.specs.Numbers.{byteAt, twoAt, fourAt, settingOf}
-use Rattle.layout.specs.Layout.{offsetSize, commandSize, maxRoutines, pairsEnd, countOf, pairPlace, offsetAt, lengthAt, commandAt, commandsAt}
+use Rattle.layout.specs.Layout.{offsetSize, commandSize, maxRoutines, pairsEnd, countOf, pairPlace, offsetAt, lengthAt, commandAt}
+use Rattle.layout.specs.Layout.{commandsAt}
 use Rattle.layout.specs.Reading.{lengthFits, placedCheck, placedChecks, bookCheck}
 use Rattle.layout.specs.Claims.{longestBook, JudgedByFirstBytes}
 use Rattle.layout.proofs.Laws.{fits-in-fours, placed, checks-left-over, head-many, head-fine, book-refused, book-placed}
@@ -78,7 +79,8 @@ module _ (a b : List ℕ) (la : longestBook < length a) (lb : longestBook < leng
       )))
 
   -- and all in turn; behind the last, both have bytes left over.
-  checks-same : (i n at : ℕ) → i + n ≤ maxRoutines → at + commandSize * maxCommands * n ≤ longestBook → placedChecks a i n at ≡ placedChecks b i n at
+  checks-same : (i n at : ℕ) → i + n ≤ maxRoutines → at + commandSize * maxCommands * n ≤ longestBook →
+      placedChecks a i n at ≡ placedChecks b i n at
   unfolding placedChecks
   checks-same i zero at h k = checks-left-over a i at (omega arith) ∙ sym (checks-left-over b i at (omega arith))
   checks-same i (suc n) at h k =

@@ -109,13 +109,21 @@ length-commandBytes c = refl
 
 pub length-commandsBytes : (cs : List Command) → length (commandsBytes cs) ≡ commandSize * length cs
 length-commandsBytes [] = refl
-length-commandsBytes (c ∷ cs) = omega (arith, length-append (commandBytes c) (commandsBytes cs), length-commandBytes c, length-commandsBytes cs)
+length-commandsBytes (c ∷ cs) =
+    omega (arith, length-append (commandBytes c) (commandsBytes cs), length-commandBytes c, length-commandsBytes cs)
 
 pub length-pairsBytes : (at : ℕ) (rs : List (List Command)) → length (pairsBytes at rs) ≡ pairSize * length rs
 length-pairsBytes at [] = refl
 length-pairsBytes at (r ∷ rs) =
     let p = pairsBytes (at + lengthIn r) rs in
-    omega (arith, length-append (fourBytes at) (fourBytes (lengthIn r) ++ p), length-append (fourBytes (lengthIn r)) p, length-fourBytes at, length-fourBytes (lengthIn r), length-pairsBytes (at + lengthIn r) rs)
+    omega (
+      arith,
+      length-append (fourBytes at) (fourBytes (lengthIn r) ++ p),
+      length-append (fourBytes (lengthIn r)) p,
+      length-fourBytes at,
+      length-fourBytes (lengthIn r),
+      length-pairsBytes (at + lengthIn r) rs,
+    )
 
 pub length-commandsAt : (b : List ℕ) (at n : ℕ) → length (commandsAt b at n) ≡ n
 length-commandsAt b at zero = refl
@@ -132,7 +140,8 @@ module _ (b : List ℕ) (i at : ℕ) where
   unfolding placedCheck
   placed-offset e o = simp (e, ne-eqb (offsetAt b i) at o)
 
-  pub placed-end : lengthFits (lengthAt b i) ≡ true → offsetAt b i ≡ at → length b < at + lengthAt b i → placedCheck b i at ≡ Refused (refusalOf book-misplaced)
+  pub placed-end : lengthFits (lengthAt b i) ≡ true → offsetAt b i ≡ at → length b < at + lengthAt b i →
+      placedCheck b i at ≡ Refused (refusalOf book-misplaced)
   unfolding placedCheck
   placed-end e o l = simp (e, eq-eqb (offsetAt b i) at o, lt-ltb (length b) (at + lengthAt b i) l)
 
@@ -205,7 +214,8 @@ module _ (b : List ℕ) where
   unfolding headCheck
   head-many h k = simp (le-ltb (length b) countSize h, lt-ltb maxRoutines (countOf b) k)
 
-  pub head-pairs : countSize ≤ length b → countOf b ≤ maxRoutines → length b < pairsEnd (countOf b) → headCheck b ≡ Refused (refusalOf book-cut-short)
+  pub head-pairs : countSize ≤ length b → countOf b ≤ maxRoutines → length b < pairsEnd (countOf b) →
+      headCheck b ≡ Refused (refusalOf book-cut-short)
   unfolding headCheck
   head-pairs h k l = simp (le-ltb (length b) countSize h, le-ltb maxRoutines (countOf b) k, lt-ltb (length b) (pairsEnd (countOf b)) l)
 

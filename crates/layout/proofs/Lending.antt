@@ -62,4 +62,8 @@ module _ (ds ts x y : List ℕ) (ss z : List ℤ) where
 
 pub lent-again : LentAgain
 lent-again rs x y z =
-    routines-again (devicesOf rs ++ x) (tagsOf rs ++ y) x y (settingsOf rs ++ z) z 0 rs (record { devices = refl; tags = refl; settings = refl })
+    routines-again (devicesOf rs ++ x) (tagsOf rs ++ y) x y (settingsOf rs ++ z) z 0 rs (record {
+      devices = refl;
+      tags = refl;
+      settings = refl;
+    })

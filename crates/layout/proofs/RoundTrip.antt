@@ -44,7 +44,8 @@ record Stands (b : List ℕ) (i at : ℕ) (r : List Command) : Type 0 where
 
 -- It does if its pair and its commands are written there.
 stands : (b x y z : List ℕ) (i at : ℕ) (r : List Command) → routineCheck bookDevices r ≡ Accepted →
-    drop (pairPlace i) b ≡ fourBytes at ++ x → drop (pairPlace i + offsetSize) b ≡ fourBytes (lengthIn r) ++ y → drop at b ≡ commandsBytes r ++ z → Stands b i at r
+    drop (pairPlace i) b ≡ fourBytes at ++ x → drop (pairPlace i + offsetSize) b ≡ fourBytes (lengthIn r) ++ y →
+    drop at b ≡ commandsBytes r ++ z → Stands b i at r
 unfolding routineCheck offsetAt lengthAt
 stands b x y z i at r h offset size body =
     let a = both-accept (refuse command-count when (eqb (length r) 0 || ltb maxCommands (length r))) _ h in
@@ -192,7 +193,8 @@ holds b bytes i at l p f =
     let z = commands-written b bytes at (f .commands) (omega arith) in
     record {
       routine = r;
-      fine = check-counted bookDevices r (omega arith) (omega arith) ∙ ap (λ (q : ℕ). commandsCheck bookDevices 0 (commandsAt b at q)) c ∙ p .fine;
+      fine = check-counted bookDevices r (omega arith) (omega arith) ∙ ap (λ (q : ℕ). commandsCheck bookDevices 0 (commandsAt b at q)) c
+          ∙ p .fine;
       size = s;
       pair = cc;
       body = cc;

@@ -6,13 +6,13 @@ use mathlib.Core.List.{List, [], _∷_, _++_}
 use Prim.Native.Nat.{ℕ, zero, suc, _+_, _*_, _<_, _≤_}
 use lib.IntN.{ℤ}
 use lib.ListN.{length, take}
-use Rattle.routine.specs.Range.{lowestSetting, highestSetting}
 use Rattle.routine.specs.Refusals.{Cause, device-not-below, setting-out-of-range, tag-out-of-range, book-cut-short, book-misplaced}
 use Rattle.routine.specs.Refusals.{book-length}
 use Rattle.routine.specs.Causes.{Exactly}
 use Rattle.routine.specs.Routine.{maxCommands, highestTag, commandsOf}
 use Rattle.routine.specs.declared.Command.{Command}
 use Rattle.routine.specs.declared.Verdict.the-variants.{Accepted, Refused}
+use Rattle.routine.specs.Range.{lowestSetting, highestSetting}
 use Rattle.layout.specs.Numbers.{byteAt, twoAt, bitsOf}
 use Rattle.layout.specs.Layout.{countSize, commandSize, maxRoutines, bookDevices, pairsEnd, countOf, offsetAt, lengthAt}
 use Rattle.layout.specs.Reading.{bookCheck, nextOf}
@@ -97,7 +97,8 @@ place b zero = pairsEnd (countOf b)
 place b (suc i) = place b i + lengthAt b i
 
 -- Book b breaks a test: said of its bytes, each test by itself. A routine is there if its index is below the count, and a command if
--- it begins before its routine's length is over. The 16 bits of a setting out of range lie between those of the highest and those of the lowest.
+-- it begins before its routine's length is over. The 16 bits of a setting out of range lie between those of the highest and those of the
+-- lowest.
 abbrev pub Breaks : List ℕ → Test → Type 0
 Breaks b head = (length b < countSize) ⊎ ((maxRoutines < countOf b) ⊎ (length b < pairsEnd (countOf b)))
 Breaks b (routine-length i) = (i < countOf b) × ((k : ℕ) → 1 ≤ k → k ≤ maxCommands → lengthAt b i ≢ commandSize * k)
@@ -105,7 +106,8 @@ Breaks b (routine-place i) = (i < countOf b) × ((offsetAt b i ≢ place b i) �
 Breaks b (command-device i j) = (i < countOf b) × (commandSize * j < lengthAt b i) × (bookDevices ≤ byteAt b (place b i + commandSize * j))
 Breaks b (command-setting i j) =
     (i < countOf b) × (commandSize * j < lengthAt b i)
-    × (bitsOf highestSetting < twoAt b (place b i + commandSize * j + 2)) × (twoAt b (place b i + commandSize * j + 2) < bitsOf lowestSetting)
+    × (bitsOf highestSetting < twoAt b (place b i + commandSize * j + 2))
+    × (twoAt b (place b i + commandSize * j + 2) < bitsOf lowestSetting)
 Breaks b (command-tag i j) = (i < countOf b) × (commandSize * j < lengthAt b i) × (highestTag < byteAt b (place b i + commandSize * j + 1))
 Breaks b left-over = place b (countOf b) < length b
 

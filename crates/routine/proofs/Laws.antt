@@ -14,8 +14,10 @@ use lib.ListN.{length, take, getD, set, replicate, length-append, length-replica
 use lib.Seq.{sets, set-at, take-append-seam, slice, slice-cons, slice-empty, take-append-le, length-take-le}
 use Rattle.routine.specs.Choice.{if_then_else_}
 use Rattle.routine.specs.Range.{lowestSetting, highestSetting, inRange}
-use Rattle.routine.specs.Refusals.{Cause, command-count, device-not-below, setting-out-of-range, tag-out-of-range, refusalOf, refuse_when_, _andThen_}
-use Rattle.routine.specs.Routine.{maxCommands, highestTag, zeroCommand, commandsOf, routineOf, withCommand, commandCheck, commandsCheck, routineCheck}
+use Rattle.routine.specs.Refusals.{Cause, command-count, device-not-below, setting-out-of-range, tag-out-of-range, refusalOf}
+use Rattle.routine.specs.Refusals.{refuse_when_, _andThen_}
+use Rattle.routine.specs.Routine.{maxCommands, highestTag, zeroCommand, commandsOf, routineOf, withCommand, commandCheck}
+use Rattle.routine.specs.Routine.{commandsCheck, routineCheck}
 use Rattle.routine.specs.declared.Command.{Command}
 use Rattle.routine.specs.declared.Refusal.{Refusal}
 use Rattle.routine.specs.declared.Routine.{Routine}
@@ -76,7 +78,8 @@ any-default (a ∷ l) (suc i) x y h = any-default l i x y (omega arith)
 -- values stored from a place on, then others behind them
 pub sets-append : (vs ws l : List ℕ) (i : ℕ) → sets l i (vs ++ ws) ≡ sets (sets l i vs) (i + length vs) ws
 sets-append [] ws l i = ap (λ (k : ℕ). sets l k ws) (sym (add-zero i))
-sets-append (v ∷ vs) ws l i = sets-append vs ws (set l i v) (suc i) ∙ ap (λ (k : ℕ). sets (sets (set l i v) (suc i) vs) k ws) (suc-add i (length vs) ∙ sym (add-suc i (length vs)))
+sets-append (v ∷ vs) ws l i = sets-append vs ws (set l i v) (suc i)
+    ∙ ap (λ (k : ℕ). sets (sets (set l i v) (suc i) vs) k ws) (suc-add i (length vs) ∙ sym (add-suc i (length vs)))
 
 -- ---- the commands of a routine
 
@@ -131,11 +134,13 @@ module _ (limit i : ℕ) (c : Command) where
   unfolding commandCheck
   command-device h = simp (le-leb limit (c .device) h)
 
-  pub command-setting : c .device < limit → inRange (c .setting) ≡ false → commandCheck limit i c ≡ Refused (refusalOf (setting-out-of-range i))
+  pub command-setting : c .device < limit → inRange (c .setting) ≡ false →
+      commandCheck limit i c ≡ Refused (refusalOf (setting-out-of-range i))
   unfolding commandCheck
   command-setting h e = simp (lt-leb limit (c .device) h, e)
 
-  pub command-tag : c .device < limit → inRange (c .setting) ≡ true → highestTag < c .tag → commandCheck limit i c ≡ Refused (refusalOf (tag-out-of-range i))
+  pub command-tag : c .device < limit → inRange (c .setting) ≡ true → highestTag < c .tag →
+      commandCheck limit i c ≡ Refused (refusalOf (tag-out-of-range i))
   unfolding commandCheck
   command-tag h e t = simp (lt-leb limit (c .device) h, e, lt-ltb highestTag (c .tag) t)
 
@@ -145,7 +150,8 @@ module _ (limit i : ℕ) (c : Command) where
 
 -- ---- the check of a routine
 
-pub check-counted : (limit : ℕ) (cs : List Command) → 0 < length cs → length cs ≤ maxCommands → routineCheck limit cs ≡ commandsCheck limit 0 cs
+pub check-counted : (limit : ℕ) (cs : List Command) → 0 < length cs → length cs ≤ maxCommands →
+    routineCheck limit cs ≡ commandsCheck limit 0 cs
 unfolding routineCheck
 check-counted limit cs h k = simp (ne-eqb (length cs) 0 (λ e. omega arith), le-ltb maxCommands (length cs) k)
 
@@ -158,19 +164,23 @@ unfolding routineCheck
 check-long limit cs h = simp (ne-eqb (length cs) 0 (λ e. omega arith), lt-ltb maxCommands (length cs) h)
 
 -- a routine that its struct holds
-pub check-held : (limit : ℕ) (r : Routine) → length (r .commands) ≡ maxCommands → 0 < r .count → r .count ≤ maxCommands → routineCheck limit (commandsOf r) ≡ commandsCheck limit 0 (take (r .count) (r .commands))
+pub check-held : (limit : ℕ) (r : Routine) → length (r .commands) ≡ maxCommands → 0 < r .count → r .count ≤ maxCommands →
+    routineCheck limit (commandsOf r) ≡ commandsCheck limit 0 (take (r .count) (r .commands))
 check-held limit r l h k =
     let e = length-commandsOf r in
-    check-counted limit (commandsOf r) (omega arith) (omega arith) ∙ ap (λ (cs : List Command). commandsCheck limit 0 cs) (commandsOf-held r (omega arith))
+    check-counted limit (commandsOf r) (omega arith) (omega arith)
+    ∙ ap (λ (cs : List Command). commandsCheck limit 0 cs) (commandsOf-held r (omega arith))
 
 -- ---- the commands in turn: what is left from index i
 
 module _ (limit : ℕ) (cs : List Command) (i n : ℕ) (h : i < n) (k : n ≤ length cs) where
-  pub commands-more : commandCheck limit i (getD cs i zeroCommand) ≡ Accepted → commandsCheck limit i (slice i n cs) ≡ commandsCheck limit (i + 1) (slice (i + 1) n cs)
+  pub commands-more : commandCheck limit i (getD cs i zeroCommand) ≡ Accepted →
+      commandsCheck limit i (slice i n cs) ≡ commandsCheck limit (i + 1) (slice (i + 1) n cs)
   unfolding commandsCheck
   commands-more e = rw (slice-cons i n cs zeroCommand h k, e, add-one i)
 
-  pub commands-refused : (r : Refusal) → commandCheck limit i (getD cs i zeroCommand) ≡ Refused r → commandsCheck limit i (slice i n cs) ≡ Refused r
+  pub commands-refused : (r : Refusal) → commandCheck limit i (getD cs i zeroCommand) ≡ Refused r →
+      commandsCheck limit i (slice i n cs) ≡ Refused r
   unfolding commandsCheck
   commands-refused r e = rw (slice-cons i n cs zeroCommand h k, e)
 

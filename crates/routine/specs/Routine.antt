@@ -42,7 +42,11 @@ noRoutine = routineOf []
 
 -- A routine with one command more. Past the eighth it is counted and not held; a count that no number holds one more of stays.
 unfoldable pub withCommand : Routine → Command → Routine
-withCommand r c = record { commands = set (r .commands) (r .count) c; count = if ltb (r .count) (2 ^ 64 - 1) then r .count + 1 else r .count }
+withCommand r c = record {
+  commands = set (r .commands) (r .count) c;
+  count =
+      if ltb (r .count) (2 ^ 64 - 1) then r .count + 1 else r .count;
+}
 
 -- A command, the one at index i of its routine, against a device limit: 5, 6, 7.
 unfoldable pub commandCheck : ℕ → ℕ → Command → Verdict

@@ -4,14 +4,18 @@ use libc::STDOUT_FILENO;
 ghost use mathlib.Core.Path.{_≡_};
 ghost use Prim.Native.Nat.{_<_, _≤_};
 ghost use lib.ListN.{length};
+ghost use Rattle.write_vectors.specs.Lent.{mostSettings};
 
-// The settings of their bytes; at most 2,048.
-fn settings_of(bytes: &[u8]) -> [i16; 2048]
-    ensures { λ r. ⌜ length r ≡ 2048 ⌝ }
+// A record lends at most this many settings.
+const MOST_SETTINGS: usize = 2048;
+
+// The settings of their bytes.
+fn settings_of(bytes: &[u8]) -> [i16; MOST_SETTINGS]
+    ensures { λ r. ⌜ length r ≡ mostSettings ⌝ }
 {
-    let mut settings = [0i16; 2048];
+    let mut settings = [0i16; MOST_SETTINGS];
     let n = bytes.len() / 2;
-    for i in 0..2048 {
+    for i in 0..MOST_SETTINGS {
         if n <= i {
             return settings;
         }
@@ -84,10 +88,10 @@ fn write_one(
     write_over(counts, devices, tags, settings, first, &mut out[..room]);
 }
 
-fn at_most_2048(n: usize) -> usize
-    ensures { λ r. ⌜ r ≤ 2048 ⌝ }
+fn settings_lent(n: usize) -> usize
+    ensures { λ r. ⌜ r ≤ mostSettings ⌝ }
 {
-    if n < 2048 { n } else { 2048 }
+    if n < MOST_SETTINGS { n } else { MOST_SETTINGS }
 }
 
 // The parts of a record in turn: counts, devices, tags, the bytes of the settings; then the buffer's length and its first byte.
@@ -105,7 +109,7 @@ pub fn write_lent(record: &[u8]) {
     let g = signed.from;
     let h = signed.to;
     let settings = settings_of(&record[g..h]);
-    let n = at_most_2048((h - g) / 2);
+    let n = settings_lent((h - g) / 2);
     let room = records::number_at(record, h);
     let first = records::byte_at(record, h + 2);
     write_one(

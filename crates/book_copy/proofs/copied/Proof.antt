@@ -7,7 +7,8 @@ use Rattle.routine.specs.declared.Command.{Command}
 use Rattle.layout.specs.Claims.{Bytes}
 use Rattle.layout.specs.Writing.{writtenOf, bufferAfter}
 use Rattle.book_copy.specs.declared.Rows.{Rows}
-use Rattle.book_copy.proofs.Laws.{rows-count, rows-lent, written-copied, after-copied, refused-copied, Read, read-refused, read-accepted}
+use Rattle.book_copy.proofs.Laws.{rows-count, rows-lent, written-copied, after-copied, refused-copied, Read, read-refused}
+use Rattle.book_copy.proofs.Laws.{read-accepted}
 use borrow.Author.Needs.{needs}
 use Rattle.book_copy.proofs.copied.Statement.{statement}
 use Rattle.book_copy.proofs.copied.Tie as tie
@@ -48,7 +49,8 @@ returns-2 c = let d = read (c .before .before .before .before .before) in
     let a = s .before .before .before .args in
     let r = rows-lent (d .routines) (s .rows-of .result .rows) (d .rows) in
     let b = a .book .now in (
-      w .0 ∙ ap (λ (rs : List (List Command)). writtenOf rs (length (a .out .now))) r ∙ written-copied b (d .routines) (d .accepted) (d .makes) _,
+      w .0 ∙ ap (λ (rs : List (List Command)). writtenOf rs (length (a .out .now))) r
+          ∙ written-copied b (d .routines) (d .accepted) (d .makes) _,
       w .1 ∙ ap (λ (rs : List (List Command)). bufferAfter rs (a .out .now)) r ∙ after-copied b (d .routines) (d .accepted) (d .makes) _,
     )
 

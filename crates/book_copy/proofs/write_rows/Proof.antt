@@ -13,10 +13,12 @@ long : (c : tie.Start) → length (c .args .rows .counts) ≡ maxRoutines
 long c = search (needs, length-mapped)
 
 array-share-prefix-counts : tie.Need-array-share-prefix-counts
-array-share-prefix-counts c = let n = long (c .before .before .before .before .before) in omega (arith, c .before .before .before .before .before .pre)
+array-share-prefix-counts c = let n = long (c .before .before .before .before .before) in
+    omega (arith, c .before .before .before .before .before .pre)
 
 slice-aggregate-write : tie.Need-slice-aggregate-write
-slice-aggregate-write c = let n = long (c .before .before .before .before .before .before) in simp length-take (omega (arith, c .before .before .before .before .before .before .pre))
+slice-aggregate-write c = let n = long (c .before .before .before .before .before .before) in
+    simp length-take (omega (arith, c .before .before .before .before .before .before .pre))
 
 slice-aggregate-write-2 : tie.Need-slice-aggregate-write-2
 slice-aggregate-write-2 c = search needs

@@ -34,13 +34,17 @@ sub-result-2 : tie.Need-sub-result-2
 sub-result-2 c = rw (toZ-ofZ (c .before .fits .setting), flip c, toZ-pos w16 (small c)) (omega (arith, small c))
 
 cast-result-2 : tie.Need-cast-result-2
-cast-result-2 c = rw (toZ-ofZ (c .before .fits .setting), not-negative (c .before .args .setting) (up c)) (tt, record { fits = omega (arith, c .before .fits .setting .sfits) })
+cast-result-2 c = rw (toZ-ofZ (c .before .fits .setting), not-negative (c .before .args .setting) (up c)) (
+  tt,
+  record { fits = omega (arith, c .before .fits .setting .sfits) },
+)
 
 returns : tie.Need-returns
 returns c = rw (toZ-ofZ (c .before .fits .setting), flip c, toZ-pos w16 (small c)) (bits-negative (c .before .args .setting) (down c))
 
 returns-2 : tie.Need-returns-2
-returns-2 c = rw (toZ-ofZ (c .before .fits .setting)) (ap natAbs (not-negative (c .before .args .setting) (up c)) ∙ bits-not-negative (c .before .args .setting) (up c))
+returns-2 c = rw (toZ-ofZ (c .before .fits .setting)) (ap natAbs (not-negative (c .before .args .setting) (up c))
+    ∙ bits-not-negative (c .before .args .setting) (up c))
 
 pub bits-of-spec : {M : Type 1} → statement M
 bits-of-spec =

@@ -8,12 +8,14 @@ use lib.ListN.{length, take}
 use lib.Seq.{slice}
 use Rattle.routine.specs.Refusals.{refusalOf}
 use Rattle.routine.specs.Routine.{maxCommands, commandsOf, commandsCheck, routineCheck}
-use Rattle.routine.proofs.Laws.{length-commandsOf, length-mapped, check-empty, check-long, check-held, commands-more, commands-refused, commands-end}
+use Rattle.routine.proofs.Laws.{length-commandsOf, length-mapped, check-empty, check-long, check-held, commands-more}
+use Rattle.routine.proofs.Laws.{commands-refused, commands-end}
 use Rattle.routine.proofs.check.Statement.{statement}
 use Rattle.routine.proofs.check.Tie as tie
 
 abbrev Inv-loop : tie.InvT-loop
-Inv-loop limit routine count i₀ i = (i ≤ count) × (commandsCheck limit i (slice i count (routine .commands)) ≡ commandsCheck limit 0 (take count (routine .commands)))
+Inv-loop limit routine count i₀ i = (i ≤ count)
+    × (commandsCheck limit i (slice i count (routine .commands)) ≡ commandsCheck limit 0 (take count (routine .commands)))
 
 abbrev μ-loop : tie.MeasureT-loop
 μ-loop limit routine count i₀ i = count - i
@@ -23,7 +25,9 @@ long : (c : tie.Else2 Inv-loop μ-loop) → length (c .before .before .args .t1 
 long c = search (needs, length-mapped)
 
 -- after the two tests of the count
-whole : (c : tie.Else2 Inv-loop μ-loop) → routineCheck (c .before .before .args .limit) (commandsOf (c .before .before .args .t1)) ≡ commandsCheck (c .before .before .args .limit) 0 (take (c .before .before .args .t1 .count) (c .before .before .args .t1 .commands))
+whole : (c : tie.Else2 Inv-loop μ-loop) →
+    routineCheck (c .before .before .args .limit) (commandsOf (c .before .before .args .t1))
+    ≡ commandsCheck (c .before .before .args .limit) 0 (take (c .before .before .args .t1 .count) (c .before .before .args .t1 .commands))
 whole c = check-held _ _ (long c) (omega arith) (c .if2 .left)
 
 returns : tie.Need-returns Inv-loop μ-loop
@@ -57,7 +61,8 @@ returns-3 c =
     let l = c .before .before .before .before in
     let n = long (l .before .before) in
     c .enum-told2 .given .1
-    ∙ sym (commands-refused _ _ _ _ (l .loop-test .taken) (omega arith) _ (sym (c .before .before .check-command .ensures) ∙ c .enum-told2 .given .1))
+    ∙ sym (commands-refused _ _ _ _ (l .loop-test .taken) (omega arith) _ (sym (c .before .before .check-command .ensures)
+    ∙ c .enum-told2 .given .1))
     ∙ l .before .loop .inv .1
     ∙ sym (whole (l .before .before))
 
@@ -70,12 +75,16 @@ loop-less c = search needs
 loop-again : tie.Need-loop-again Inv-loop μ-loop
 loop-again c =
     let l = c .before .before .before .before in
-    let n = long (l .before .before) in
-    (search needs, sym (commands-more _ _ _ _ (l .loop-test .taken) (omega arith) (sym (c .before .before .check-command .ensures) ∙ c .enum-told .given .1)) ∙ l .before .loop .inv .1)
+    let n = long (l .before .before) in (
+      search needs,
+      sym (commands-more _ _ _ _ (l .loop-test .taken) (omega arith) (sym (c .before .before .check-command .ensures)
+          ∙ c .enum-told .given .1)) ∙ l .before .loop .inv .1,
+    )
 
 returns-4 : tie.Need-returns-4 Inv-loop μ-loop
 unfolding refusalOf
-returns-4 c = sym (whole (c .before .before) ∙ sym (c .before .loop .inv .1) ∙ commands-end _ _ _ _ (c .before .loop .inv .0) (c .loop-test .left))
+returns-4 c = sym (whole (c .before .before) ∙ sym (c .before .loop .inv .1)
+    ∙ commands-end _ _ _ _ (c .before .loop .inv .0) (c .loop-test .left))
 
 pub check-spec : {M : Type 1} → statement M
 check-spec =

@@ -31,7 +31,8 @@ write-lent-requires : tie.Need-write-lent-requires Inv-loop μ-loop
 write-lent-requires c κs = search needs
 
 loop-less : tie.Need-loop-less Inv-loop μ-loop
-loop-less c = let w = c .before .before .part-at .ensures in omega (arith, w .further (c .before .before .before .loop-test .taken), w .inside)
+loop-less c = let w = c .before .before .part-at .ensures in
+    omega (arith, w .further (c .before .before .before .loop-test .taken), w .inside)
 
 loop-again : tie.Need-loop-again Inv-loop μ-loop
 loop-again c = c .before .before .part-at .ensures .inside

@@ -1,5 +1,5 @@
--- `book_copy::reading::read_all` meets its contract. The loop's invariant: the rows are those of the first i routines, and the others are still to be handed
--- out. Assumes nothing.
+-- `book_copy::reading::read_all` meets its contract. The loop's invariant: the rows are those of the first i routines, and the others are
+-- still to be handed out. Assumes nothing.
 use borrow.Author.Needs.{needs}
 use borrow.Author.Needs.{needs}
 use Prim.Native.Nat.{ℕ, _+_, _-_, _≤_}
@@ -71,7 +71,13 @@ with-routine-requires c κs = let l = c .before .before .before .before .before 
     let m = hands-make b (bytes s) (w .0) (w .1) in
     let t = step (c .before) (w .0) (w .1) in
     let r = nextOf b (l .loop .position) .routine in
-    omega (arith, routines-short (w .0) (l .loop .i) (m .fine), ap length (t .same), length-commandsOf r, ap (λ (x : Next). x .routine .count) (c .before .before .before .next .ensures))
+    omega (
+      arith,
+      routines-short (w .0) (l .loop .i) (m .fine),
+      ap length (t .same),
+      length-commandsOf r,
+      ap (λ (x : Next). x .routine .count) (c .before .before .before .next .ensures),
+    )
 
 add-i : tie.Need-add-i Inv-loop μ-loop
 add-i c = search needs

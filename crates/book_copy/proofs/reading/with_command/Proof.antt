@@ -19,7 +19,12 @@ returns c = let r = c .before .args .rows in
     let y : length (r .tags) ≡ mostCommands = search (needs, length-mapped) in
     let z : length (r .settings) ≡ mostCommands = search (needs, length-mapped) in
     let a = c .before .args .command in
-    rw (le-ltb (r .commands) mostCommands (c .if1 .taken), set-out (r .devices) (r .commands) (a .device) (omega arith), set-out (r .tags) (r .commands) (a .tag) (omega arith), set-out (r .settings) (r .commands) (a .setting) (omega arith))
+    rw (
+      le-ltb (r .commands) mostCommands (c .if1 .taken),
+      set-out (r .devices) (r .commands) (a .device) (omega arith),
+      set-out (r .tags) (r .commands) (a .tag) (omega arith),
+      set-out (r .settings) (r .commands) (a .setting) (omega arith),
+    )
 
 element-write-longer : tie.Need-element-write-longer
 element-write-longer c = search needs

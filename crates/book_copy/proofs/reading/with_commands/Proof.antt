@@ -1,5 +1,5 @@
--- `book_copy::reading::with_commands` meets its contract. The loop's invariant: with the commands that are left, the rows are those with all of them.
--- Assumes nothing.
+-- `book_copy::reading::with_commands` meets its contract. The loop's invariant: with the commands that are left, the rows are those with
+-- all of them. Assumes nothing.
 use borrow.Author.Needs.{needs}
 use borrow.Author.Needs.{needs}
 use Prim.Native.Nat.{_+_, _-_, _≤_}
@@ -17,7 +17,8 @@ use Rattle.book_copy.proofs.reading.with_commands.Tie as tie
 
 abbrev Inv-loop : tie.InvT-loop
 Inv-loop routine longer₀ i₀ longer i = (i ≤ routine .count)
-    × (withCommands longer (slice i (routine .count) (routine .commands)) ≡ withCommands longer₀ (take (routine .count) (routine .commands)))
+    × (withCommands longer (slice i (routine .count) (routine .commands))
+    ≡ withCommands longer₀ (take (routine .count) (routine .commands)))
 
 abbrev μ-loop : tie.MeasureT-loop
 μ-loop routine longer₀ i₀ longer i = routine .count - i
@@ -51,7 +52,7 @@ loop-again c = let l = c .before .before .before in
     let few = l .before .pre in (
       omega arith,
       ap (λ (r : Rows). withCommands r (slice (l .loop .i + 1) (a .t2 .count) (a .t2 .commands))) (c .with-command .ensures)
-          ∙ sym (commands-step (l .loop .longer) (a .t2 .commands) (l .loop .i) (a .t2 .count) (c .before .before .loop-test .taken) (omega arith))
+          ∙ sym (commands-step (l .loop .longer) (a .t2 .commands) (l .loop .i) _ (c .before .before .loop-test .taken) (omega arith))
           ∙ l .loop .inv .1,
     )
 

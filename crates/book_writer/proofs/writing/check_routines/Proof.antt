@@ -1,9 +1,10 @@
--- `book_writer::writing::check_routines` meets its contract. The loop's invariant: the check of the routines from the i-th on, which begin at `at` in the
--- row, is the check of all of them. Assumes nothing.
+-- `book_writer::writing::check_routines` meets its contract. The loop's invariant: the check of the routines from the i-th on, which begin
+-- at `at` in the row, is the check of all of them. Assumes nothing.
 use borrow.Author.Needs.{needs}
 use borrow.Author.Needs.{needs}
 use Prim.Native.Nat.{_+_, _-_, _≤_}
 use mathlib.Core.Path.{_≡_, refl, sym, ap, _∙_}
+use mathlib.Core.List.{_∷_}
 use native.Mathlib.Omega.{arith}
 use lib.ListN.{length, drop, getD}
 use Rattle.routine.specs.Routine.{routineCheck}
@@ -15,7 +16,8 @@ use Rattle.book_writer.proofs.writing.check_routines.Statement.{stateme
 use Rattle.book_writer.proofs.writing.check_routines.Tie as tie
 
 abbrev Inv-loop : tie.InvT-loop
-Inv-loop counts devices tags settings at₀ i₀ at i = (at ≤ length devices) × (routinesCheck (routinesFrom devices tags settings at (drop i counts)) ≡ routinesCheck (routinesLent counts devices tags settings))
+Inv-loop counts devices tags settings at₀ i₀ at i = (at ≤ length devices)
+    × (routinesCheck (routinesFrom devices tags settings at (drop i counts)) ≡ routinesCheck (routinesLent counts devices tags settings))
 
 abbrev μ-loop : tie.MeasureT-loop
 μ-loop counts devices tags settings at₀ i₀ at i = length counts - i
@@ -38,19 +40,34 @@ enum-told c = search needs
 enum-told-2 : tie.Need-enum-told-2 Inv-loop μ-loop
 enum-told-2 c = search needs
 
+-- the next routine
+next : (c : tie.After-check-one Inv-loop μ-loop) →
+    let l = c .before .before .before in
+    let a = l .before .before .before .before .args in
+    let count = getD (a .counts .now) (l .loop .i) 0 in
+    routinesFrom (a .devices .now) (a .tags .now) (a .settings .now) (l .loop .at) (drop (l .loop .i) (a .counts .now))
+    ≡ commandsLent (a .devices .now) (a .tags .now) (a .settings .now) (l .loop .at) count
+    ∷ routinesFrom (a .devices .now) (a .tags .now) (a .settings .now) (l .loop .at + count) (drop (l .loop .i + 1) (a .counts .now))
+next c =
+    let l = c .before .before .before in
+    let a = l .before .before .before .before .args in
+    routines-more (a .devices .now) (a .tags .now) (a .settings .now) (a .counts .now) (l .loop .i) (l .loop .at)
+    (c .before .before .loop-test .taken)
+
 returns : tie.Need-returns Inv-loop μ-loop
 returns c = let l = c .before .before .before .before .before in
     let a = l .before .before .before .before .args in
     c .enum-told2 .given .1
     ∙ sym (check-stops _ _ _ (sym (c .before .before .check-one .ensures) ∙ c .enum-told2 .given .1))
-    ∙ ap routinesCheck (sym (routines-more (a .devices .now) (a .tags .now) (a .settings .now) (a .counts .now) (l .loop .i) (l .loop .at) (c .before .before .before .before .loop-test .taken)))
+    ∙ ap routinesCheck (sym (next (c .before .before)))
     ∙ l .loop .inv .1
 
 -- the routine passes, so that all its commands are there
 accepted : (c : tie.After-enum-told Inv-loop μ-loop) →
     let l = c .before .before .before .before .before in
     let a = l .before .before .before .before .args in
-    routineCheck bookDevices (commandsLent (a .devices .now) (a .tags .now) (a .settings .now) (l .loop .at) (getD (a .counts .now) (l .loop .i) 0)) ≡ Accepted
+    let count = getD (a .counts .now) (l .loop .i) 0 in
+    routineCheck bookDevices (commandsLent (a .devices .now) (a .tags .now) (a .settings .now) (l .loop .at) count) ≡ Accepted
 accepted c = sym (c .before .before .check-one .ensures) ∙ c .enum-told .given .1
 
 there : (c : tie.After-enum-told Inv-loop μ-loop) →
@@ -76,14 +93,18 @@ loop-again c = let l = c .before .before .before .before .before in
     let a = l .before .before .before .before .args in (
       there c,
       sym (check-more _ _ (accepted c))
-          ∙ ap routinesCheck (sym (routines-more (a .devices .now) (a .tags .now) (a .settings .now) (a .counts .now) (l .loop .i) (l .loop .at) (c .before .before .before .before .loop-test .taken)))
+          ∙ ap routinesCheck (sym (next (c .before .before)))
           ∙ l .loop .inv .1,
     )
 
 returns-2 : tie.Need-returns-2 Inv-loop μ-loop
 returns-2 c = let l = c .before in
     let a = l .before .before .before .before .args in
-    sym check-none ∙ ap routinesCheck (sym (routines-end (a .devices .now) (a .tags .now) (a .settings .now) (a .counts .now) (l .loop .i) (l .loop .at) (c .loop-test .left))) ∙ l .loop .inv .1
+    sym check-none
+    ∙ ap routinesCheck
+    (sym (routines-end (a .devices .now) (a .tags .now) (a .settings .now) (a .counts .now) (l .loop .i) (l .loop .at)
+    (c .loop-test .left)))
+    ∙ l .loop .inv .1
 
 pub check-routines-spec : {M : Type 1} → statement M
 check-routines-spec =

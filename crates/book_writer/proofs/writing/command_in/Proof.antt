@@ -17,7 +17,11 @@ byte-in-requires-2 c κs = search needs
 
 returns : tie.Need-returns
 returns c = let e : toZ w16 (ofZ w16 (c .before .before .setting-in .result)) ≡ c .before .before .setting-in .result = search needs in
-    λ i. record { device = c .before .byte-in .ensures i; tag = c .byte-in2 .ensures i; setting = (e ∙ c .before .before .setting-in .ensures) i }
+    λ i. record {
+      device = c .before .byte-in .ensures i;
+      tag = c .byte-in2 .ensures i;
+      setting = (e ∙ c .before .before .setting-in .ensures) i;
+    }
 
 pub command-in-spec : {M : Type 1} → statement M
 command-in-spec =

@@ -1,5 +1,5 @@
--- `book_writer::writing::count_commands` meets its contract. The loop's invariant: the commands counted and those of the routines from the i-th on are
--- all. Assumes nothing.
+-- `book_writer::writing::count_commands` meets its contract. The loop's invariant: the commands counted and those of the routines from the
+-- i-th on are all. Assumes nothing.
 use borrow.Author.Needs.{needs}
 use borrow.Author.Needs.{needs}
 use Prim.Native.Nat.{_+_, _*_, _-_, _≤_}

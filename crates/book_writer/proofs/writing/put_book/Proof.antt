@@ -59,7 +59,8 @@ returns c = let q = c .before .before in
     let pairs = pairsCounted first (a .counts .now) in
     let row : ℕ → List ℕ = λ k. commandsBytes (commandsLent (a .devices .now) (a .tags .now) (a .settings .now) 0 k) in
     q .put-commands .ensures
-    ∙ ap (λ (o : List ℕ). sets o first (row (a .commands))) (p .put-pairs .ensures ∙ ap (λ (o : List ℕ). sets o countSize pairs) (t .put-two .ensures))
+    ∙ ap (λ (o : List ℕ). sets o first (row (a .commands))) (p .put-pairs .ensures
+    ∙ ap (λ (o : List ℕ). sets o countSize pairs) (t .put-two .ensures))
     ∙ ap (λ (k : ℕ). sets (sets (sets (a .out .now) 0 (twoBytes (length (a .counts .now)))) countSize pairs) first (row k)) (s .pre .1)
     ∙ book-put (a .devices .now) (a .tags .now) (a .settings .now) (a .counts .now) (a .out .now)
 

@@ -1,5 +1,5 @@
--- `book_writer::writing::put_commands` meets its contract. The loop's invariant: what is left to write, written into the buffer as it is, gives what all
--- of it gives. Assumes nothing.
+-- `book_writer::writing::put_commands` meets its contract. The loop's invariant: what is left to write, written into the buffer as it is,
+-- gives what all of it gives. Assumes nothing.
 use borrow.Author.Needs.{needs}
 use borrow.Author.Needs.{needs}
 use Prim.Native.Nat.{ℕ, _+_, _*_, _-_, _≤_}
@@ -27,7 +27,9 @@ loop-holds : tie.Need-loop-holds Inv-loop μ-loop
 loop-holds c = let a = c .before .before .before .args in
     let e : a .from + 0 ≡ a .from = omega arith in
     let k : a .count - 0 ≡ a .count = omega arith in
-    (search needs, refl, ap₂ (λ (p n : ℕ). sets (a .out .now) p (commandsBytes (commandsLent (a .devices .now) (a .tags .now) (a .settings .now) 0 n))) e k)
+    let put : ℕ → ℕ → List ℕ =
+    λ p n. sets (a .out .now) p (commandsBytes (commandsLent (a .devices .now) (a .tags .now) (a .settings .now) 0 n)) in
+    (search needs, refl, ap₂ put e k)
 
 command-in-requires : tie.Need-command-in-requires Inv-loop μ-loop
 command-in-requires c κs = search needs
@@ -55,12 +57,13 @@ loop-again c = let x = c .before .before .before .before in
     let rest = commandsBytes (commandsLent (a .devices .now) (a .tags .now) (a .settings .now) (i + 1) (a .count - (i + 1))) in
     let p = a .from + commandSize * i in
     let q : a .from + commandSize * (i + 1) ≡ p + commandSize = omega arith in
-    let w : c .before .before .put-command .last .0 ≡ sets (l .loop .out) p (commandBytes (commandLent (a .devices .now) (a .tags .now) (a .settings .now) i)) =
+    let w : c .before .before .put-command .last .0
+    ≡ sets (l .loop .out) p (commandBytes (commandLent (a .devices .now) (a .tags .now) (a .settings .now) i)) =
     c .before .before .put-command .ensures ∙ ap (λ (y : Command). sets (l .loop .out) p (commandBytes y)) (x .command-in .ensures) in (
       omega arith,
       c .before .before .put-command .kept .0 ∙ l .loop .inv .1,
       ap₂ (λ (o : List ℕ) (k : ℕ). sets o k rest) w q
-          ∙ sym (commands-put (a .devices .now) (a .tags .now) (a .settings .now) (l .loop .out) p i (a .count) (x .before .loop-test .taken))
+          ∙ sym (commands-put (a .devices .now) (a .tags .now) (a .settings .now) (l .loop .out) p i _ (x .before .loop-test .taken))
           ∙ l .loop .inv .2,
     )
 

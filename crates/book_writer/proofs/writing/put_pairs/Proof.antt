@@ -1,5 +1,5 @@
--- `book_writer::writing::put_pairs` meets its contract. The loop's invariant: the pairs of the routines from the i-th on, written into the buffer as it
--- is, give what all of them give. Assumes nothing.
+-- `book_writer::writing::put_pairs` meets its contract. The loop's invariant: the pairs of the routines from the i-th on, written into the
+-- buffer as it is, give what all of them give. Assumes nothing.
 use borrow.Author.Needs.{needs}
 use borrow.Author.Needs.{needs}
 use Prim.Native.Nat.{ℕ, _+_, _*_, _-_, _≤_}
@@ -82,8 +82,10 @@ loop-again c = let y = c .before .before .before .before .before .before in
     let at = l .loop .at in
     let size = commandSize * getD (a .counts .now) i 0 in
     let few = y .before .before .shared-slice-known2 .given i .fits in
-    let w : c .before .before .put-four2 .last .0 ≡ sets (sets (l .loop .out) (pairPlace i) (fourBytes at)) (pairPlace i + offsetSize) (fourBytes size) =
-    c .before .before .put-four2 .ensures ∙ ap (λ (o : List ℕ). sets o (pairPlace i + offsetSize) (fourBytes size)) (y .put-four .ensures) in
+    let w : c .before .before .put-four2 .last .0
+    ≡ sets (sets (l .loop .out) (pairPlace i) (fourBytes at)) (pairPlace i + offsetSize) (fourBytes size) =
+    c .before .before .put-four2 .ensures
+    ∙ ap (λ (o : List ℕ). sets o (pairPlace i + offsetSize) (fourBytes size)) (y .put-four .ensures) in
     let q : pairPlace (i + 1) ≡ pairPlace i + pairSize = omega arith in (
       omega arith,
       c .before .before .put-four2 .kept .0 ∙ y .put-four .kept .0 ∙ l .loop .inv .1,

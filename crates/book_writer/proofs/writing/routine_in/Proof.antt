@@ -1,4 +1,5 @@
--- `book_writer::writing::routine_in` meets its contract. The loop's invariant: the routine holds the first i of its commands. Assumes nothing.
+-- `book_writer::writing::routine_in` meets its contract. The loop's invariant: the routine holds the first i of its commands. Assumes
+-- nothing.
 use borrow.Author.Needs.{needs}
 use borrow.Author.Needs.{needs}
 use Prim.Native.Nat.{ℕ, _-_, _≤_}
@@ -15,7 +16,8 @@ use Rattle.book_writer.proofs.writing.routine_in.Statement.{statement}
 use Rattle.book_writer.proofs.writing.routine_in.Tie as tie
 
 abbrev Inv-loop : tie.InvT-loop
-Inv-loop devices tags settings at count routine₀ i₀ routine i = (i ≤ count) × (routine ≡ routineOf (commandsLent devices tags settings at i))
+Inv-loop devices tags settings at count routine₀ i₀ routine i = (i ≤ count)
+    × (routine ≡ routineOf (commandsLent devices tags settings at i))
 
 abbrev μ-loop : tie.MeasureT-loop
 μ-loop devices tags settings at count routine₀ i₀ routine i = count - i
@@ -44,13 +46,14 @@ loop-less c = search needs
 loop-again : tie.Need-loop-again Inv-loop μ-loop
 loop-again c = let l = c .before .before .before in
     let a = l .before .before .before .before .args in
+    let cs = commandsLent (a .devices .now) (a .tags .now) (a .settings .now) (a .at) (l .loop .i) in
     let n = length-lent (a .devices .now) (a .tags .now) (a .settings .now) (a .at) (l .loop .i) in
     let few = l .before .before .before .before .pre .0 in (
       search needs,
       c .with-command .ensures
           ∙ ap (λ (r : Routine). withCommand r (c .before .command-in .result)) (l .loop .inv .1)
           ∙ with-more _ _ (omega arith)
-          ∙ ap (λ (x : Command). routineOf (commandsLent (a .devices .now) (a .tags .now) (a .settings .now) (a .at) (l .loop .i) ++ (x ∷ []))) (c .before .command-in .ensures)
+          ∙ ap (λ (x : Command). routineOf (cs ++ (x ∷ []))) (c .before .command-in .ensures)
           ∙ ap routineOf (sym (lent-more (a .devices .now) (a .tags .now) (a .settings .now) (a .at) (l .loop .i))),
     )
 

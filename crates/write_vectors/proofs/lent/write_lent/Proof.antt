@@ -29,11 +29,11 @@ part-settings-of-end c = search needs
 settings-of-requires : tie.Need-settings-of-requires
 settings-of-requires c κs = search needs
 
-sub-at-most-2048 : tie.Need-sub-at-most-2048
-sub-at-most-2048 c = search needs
+sub-settings-lent : tie.Need-sub-settings-lent
+sub-settings-lent c = search needs
 
-at-most-2048-requires : tie.Need-at-most-2048-requires
-at-most-2048-requires c κs = search needs
+settings-lent-requires : tie.Need-settings-lent-requires
+settings-lent-requires c κs = search needs
 
 number-at-requires : tie.Need-number-at-requires
 number-at-requires c κs = search needs
@@ -75,7 +75,9 @@ array-share-prefix-settings : tie.Need-array-share-prefix-settings
 array-share-prefix-settings c = search needs
 
 slice-aggregate-write-one : tie.Need-slice-aggregate-write-one
-slice-aggregate-write-one c = simp length-take (omega (arith, c .before .before .before .before .before .before .at-most-2048 .ensures, c .before .before .before .before .before .before .before .settings-of .ensures))
+slice-aggregate-write-one c =
+    let s = c .before .before .before .before .before .before in
+    simp length-take (omega (arith, s .settings-lent .ensures, s .before .settings-of .ensures))
 
 write-one-requires : tie.Need-write-one-requires
 write-one-requires c κs = search needs
@@ -95,8 +97,8 @@ write-lent-spec =
     part-settings-of-start
     part-settings-of-end
     settings-of-requires
-    sub-at-most-2048
-    at-most-2048-requires
+    sub-settings-lent
+    settings-lent-requires
     number-at-requires
     add-byte-at
     byte-at-requires
