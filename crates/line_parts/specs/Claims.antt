@@ -20,4 +20,4 @@ PartedAtTheLastEnd =
 abbrev pub PrintsTheWhole : Type 0
 PrintsTheWhole =
     (read text : List ℕ) (h : Hub) (held : ℕ) (input out′ : List ℕ) (long : ℕ) →
-    Taken read text h held input → TakesEnd h held input out′ long → programText read ≡ text ++ take long out′
+    Taken read text h (take held input) → TakesEnd h held input out′ long → programText read ≡ text ++ take long out′

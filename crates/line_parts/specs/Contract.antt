@@ -55,18 +55,17 @@ pub record TakesEnd (h : Hub) (held : ℕ) (input out′ : List ℕ) (long : ℕ
 
 -- ---- steps in turn
 
--- These bytes were taken piece by piece, from no hub on, and these texts handed out one behind the other; hub and held bytes are what the last step left. What is
--- read changes the buffer, but not the held bytes.
-pub data Taken : List ℕ → List ℕ → Hub → ℕ → List ℕ → Type 0 where
-  start : {h : Hub} {input : List ℕ} → hubIn h ≡ none → Taken [] [] h 0 input
-  next : {read text : List ℕ} {h : Hub} {held got : ℕ} {last input input′ out′ : List ℕ} {s : Step} →
-      Taken read text h held last → take held input ≡ take held last → TakesPiece h held got input input′ out′ s →
-      Taken (read ++ pieceOf held got input) (text ++ take (s .length) out′) (s .hub) (s .held) input′
+-- These bytes were taken piece by piece, from no hub on, and these texts handed out one behind the other; hub and held bytes are what the last step left.
+pub data Taken : List ℕ → List ℕ → Hub → List ℕ → Type 0 where
+  start : {h : Hub} → hubIn h ≡ none → Taken [] [] h []
+  next : {read text : List ℕ} {h : Hub} {held got : ℕ} {input input′ out′ : List ℕ} {s : Step} →
+      Taken read text h (take held input) → TakesPiece h held got input input′ out′ s →
+      Taken (read ++ pieceOf held got input) (text ++ take (s .length) out′) (s .hub) (take (s .held) input′)
 
 -- Hub and held bytes are what the steps over some input leave.
 pub record Reached (h : Hub) (held : ℕ) (input : List ℕ) : Type 0 where
   pub read : List ℕ
   pub text : List ℕ
-  pub taken : Taken read text h held input
+  pub taken : Taken read text h (take held input)
   pub valid : Valid h
   pub short : held ≤ suc maxLine
