@@ -36,7 +36,8 @@ pub reached-none : {h : Hub} {input : List ℕ} → Valid h → hubIn h ≡ none
 reached-none v e = record { read = []; text = []; taken = start e; valid = v; short = omega arith }
 
 -- what is read behind the held bytes leaves them as they are
-pub reached-still : {h : Hub} {held : ℕ} {input input′ : List ℕ} → Reached h held input → take held input′ ≡ take held input → Reached h held input′
+pub reached-still : {h : Hub} {held : ℕ} {input input′ : List ℕ} → Reached h held input → take held input′ ≡ take held input →
+    Reached h held input′
 reached-still {h} r same = record {
   read = r .read;
   text = r .text;

@@ -1,5 +1,5 @@
-// The line program from standard input to standard output: document 01, "The line program". The input may have any length: a piece is read, crate `line_parts` takes it,
-// and what it prints is written before the next is read.
+// The line program from standard input to standard output: document 01, "The line program". The input may have any length: a piece is read,
+// crate `line_parts` takes it, and what it prints is written before the next is read.
 mod streams;
 
 use hub::Hub;
