@@ -1,17 +1,15 @@
 -- Bytes parted at their last byte 10, and what more bytes behind them change. Assumes nothing.
-use mathlib.Core.Path.{_≡_, refl, sym, ap, ap₂, subst, _∙_}
-use mathlib.Core.Bool.{Bool}
-use mathlib.Core.Logic.{_≢_, _⊎_, inl, inr, ⊎-elim}
+use mathlib.Core.Path.{_≡_, refl, sym, ap, subst, _∙_}
+use mathlib.Core.Bool.{Bool, true, false}
+use mathlib.Core.Logic.{_⊎_, inl, inr, ⊎-elim}
 use mathlib.Core.List.{List, [], _∷_, _++_, append-nil, append-assoc}
 use mathlib.Core.Option.{Option, none}
-use Prim.Native.Nat.{ℕ, zero, suc, _+_, _-_, _<_, _≤_, min}
-use native.Mathlib.Numerals.{add-one}
+use Prim.Native.Nat.{ℕ, zero, suc, _+_, _-_, _≤_}
 use native.Mathlib.Omega.{arith}
-use borrow.Author.Tests.{eqb-true, ne-eqb, ltb-true, ltb-false}
+use borrow.Author.Tests.{eqb-true, ltb-true, ltb-false}
 use lib.Dec.{eqb, ltb}
-use lib.ListN.{length, take, drop, getD, set, length-append, length-take, length-drop, take-append-drop}
-use lib.Seq.{length-take-le, take-all, take-nil, drop-length, take-suc, drop-cons, append-snoc, take-append-seam, drop-append-seam}
-use lib.Seq.{drop-set-lt, take-suc-set, getD-drop, take-take, drop-drop}
+use lib.ListN.{length, take, drop, length-append}
+use lib.Seq.{take-all, append-snoc, take-append-seam, drop-append-seam}
 use Rattle.routine.specs.Choice.{if_then_else_}
 use Rattle.routine.proofs.Laws.{byTest}
 use Rattle.rules.specs.State.{State}
@@ -44,10 +42,12 @@ parted [] = inl refl
 parted (b ∷ bs) = go (parted bs)
   where
     go : NoEnd bs ⊎ LastEnd bs → NoEnd (b ∷ bs) ⊎ LastEnd (b ∷ bs)
-    go (inr p) = inr (record { front = b ∷ p .front; back = p .back; is = ap (λ (l : List ℕ). b ∷ l) (p .is); behind = p .behind })
+    go (inr p) =
+        inr (record { front = b ∷ p .front; back = p .back; is = ap (λ (l : List ℕ). b ∷ l) (p .is); behind = p .behind })
     go (inl e) =
         byTest (λ (t : Bool). ((if t then 0 else suc (reach lineEnd bs)) ≡ suc (length bs)) ⊎ LastEnd (b ∷ bs)) (eqb b lineEnd)
-        (λ is. inr (record { front = []; back = bs; is = ap (λ (k : ℕ). k ∷ bs) (eqb-true b lineEnd is); behind = e })) (λ _. inl (ap suc e))
+        (λ is. inr (record { front = []; back = bs; is = ap (λ (k : ℕ). k ∷ bs) (eqb-true b lineEnd is); behind = e }))
+        (λ _. inl (ap suc e))
 
 from-none : (held bs : List ℕ) → NoEnd bs → unendedFrom held bs ≡ held ++ bs
 unfolding unendedFrom
@@ -60,9 +60,10 @@ from-last : (held front back : List ℕ) → NoEnd back → unendedFrom held (fr
 unfolding unendedFrom
 from-last held [] back e = from-none [] back e
 from-last held (b ∷ front) back e =
+    let all = front ++ lineEnd ∷ back in
     byTest
-    (λ (t : Bool). (if t then unendedFrom [] (front ++ lineEnd ∷ back) else unendedFrom (held ++ (b ∷ [])) (front ++ lineEnd ∷ back)) ≡ back)
-    (eqb b lineEnd) (λ _. from-last [] front back e) (λ _. from-last (held ++ (b ∷ [])) front back e)
+    (λ (t : Bool). (if t then unendedFrom [] all else unendedFrom (held ++ (b ∷ [])) all) ≡ back) (eqb b lineEnd)
+    (λ _. from-last [] front back e) (λ _. from-last (held ++ (b ∷ [])) front back e)
 
 unended-none : (bs : List ℕ) → NoEnd bs → unended bs ≡ bs
 unfolding unended
@@ -72,7 +73,7 @@ unended-last : (front back : List ℕ) → NoEnd back → unended (front ++ line
 unfolding unended
 unended-last front back e = from-last [] front back e
 
-whole-none : (bs : List ℕ) → NoEnd bs → wholeLines bs ≡ []
+pub whole-none : (bs : List ℕ) → NoEnd bs → wholeLines bs ≡ []
 unfolding wholeLines
 whole-none bs e =
     let n : length bs - length (unended bs) ≡ 0 = let k = ap length (unended-none bs e) in omega arith in
@@ -89,20 +90,16 @@ whole-last front back e =
 
 pub parted-at-the-last-end : PartedAtTheLastEnd
 parted-at-the-last-end bs = ⊎-elim
-    (λ e. (
-      rw (whole-none bs e, unended-none bs e),
-      inl (whole-none bs e),
-      rw (unended-none bs e) e,
-    ))
-    (λ p. rw (p .is) (
-      rw (whole-last (p .front) (p .back) (p .behind), unended-last (p .front) (p .back) (p .behind)) (append-snoc (p .front) lineEnd (p .back)),
-      inr (p .front, whole-last (p .front) (p .back) (p .behind)),
-      rw (unended-last (p .front) (p .back) (p .behind)) (p .behind),
-    ))
+    (λ e. (rw (whole-none bs e, unended-none bs e), inl (whole-none bs e), rw (unended-none bs e) e))
+    (λ p.
+    let w = whole-last (p .front) (p .back) (p .behind) in
+    let u = unended-last (p .front) (p .back) (p .behind) in
+    rw (p .is) (rw (w, u) (append-snoc (p .front) lineEnd (p .back)), inr (p .front, w), rw u (p .behind)))
     (parted bs)
 
 -- whole lines, and then bytes without a byte 10: so bytes are parted
-pub parted-so : (whole line : List ℕ) → WholeLines whole → NoEnd line → (wholeLines (whole ++ line) ≡ whole) × (unended (whole ++ line) ≡ line)
+pub parted-so : (whole line : List ℕ) → WholeLines whole → NoEnd line →
+    (wholeLines (whole ++ line) ≡ whole) × (unended (whole ++ line) ≡ line)
 parted-so whole line (inl w) e = rw w (whole-none line e, unended-none line e)
 parted-so whole line (inr (front, w)) e = rw (w, append-snoc front lineEnd line) (whole-last front line e, unended-last front line e)
 
@@ -171,13 +168,17 @@ module _ (line : List ℕ) (no-end : NoEnd line) where
     -- the whole lines print the same
     whole-cut : (h : Option State) → steps h (linesOf (wholeLines (cut line ++ piece))) ≡ steps h (linesOf (wholeLines (line ++ piece)))
     whole-cut h = ⊎-elim
-        (λ e. rw (whole-none (cut line ++ piece) (more-no-end (cut line) piece cut-no-end e), whole-none (line ++ piece) (more-no-end line piece no-end e)))
+        (λ e.
+        let short = whole-none (cut line ++ piece) (more-no-end (cut line) piece cut-no-end e) in
+        let long = whole-none (line ++ piece) (more-no-end line piece no-end e) in
+        rw (short, long))
         (λ p.
         let end = p .front ++ lineEnd ∷ [] in
+        let printed : List ℕ → Printed = λ l. steps h (linesOf l) in
         let so : (l : List ℕ) → wholeLines (l ++ piece) ≡ l ++ end =
         λ l. ap wholeLines (ap (λ (k : List ℕ). l ++ k) (p .is) ∙ sym (append-assoc l (p .front) (lineEnd ∷ p .back)))
         ∙ whole-last (l ++ p .front) (p .back) (p .behind) ∙ append-assoc l (p .front) (lineEnd ∷ []) in
-        ap (λ (l : List ℕ). steps h (linesOf l)) (so (cut line)) ∙ steps-cut h end ∙ sym (ap (λ (l : List ℕ). steps h (linesOf l)) (so line)))
+        ap printed (so (cut line)) ∙ steps-cut h end ∙ sym (ap printed (so line)))
         (parted piece)
 
     -- and the same is held
@@ -213,10 +214,11 @@ module _ (read : List ℕ) where
   run-cut : (h : Option State) → runFrom h (cut (unended read)) ≡ runFrom h (unended read)
   unfolding runFrom
   run-cut h =
-      let e = steps-cut (unended read) none-held h [] in
-      let f : steps h (linesOf (cut (unended read))) ≡ steps h (linesOf (unended read)) =
-      ap (λ (l : List ℕ). steps h (linesOf l)) (sym (append-nil (cut (unended read)))) ∙ e ∙ ap (λ (l : List ℕ). steps h (linesOf l)) (append-nil (unended read)) in
-      ap (λ (p : Printed). record { hub = p .hub; text = p .text ++ endText (p .hub) }) f
+      let line = unended read in
+      let printed : List ℕ → Printed = λ l. steps h (linesOf l) in
+      let same : printed (cut line) ≡ printed line =
+      ap printed (sym (append-nil (cut line))) ∙ steps-cut line none-held h [] ∙ ap printed (append-nil line) in
+      ap (λ (p : Printed). record { hub = p .hub; text = p .text ++ endText (p .hub) }) same
 
   pub whole-text : programText read ≡ printedAfter read ++ runFrom (hubAfter read) (heldAfter read) .text
   unfolding programText after
@@ -232,83 +234,10 @@ pieces-few : (byte : ℕ) (held bs : List ℕ) → length (piecesFrom byte held 
 unfolding piecesFrom
 pieces-few byte held [] = omega arith
 pieces-few byte held (b ∷ bs) =
-    byTest (λ (t : Bool). length (if t then held ∷ piecesFrom byte [] bs else piecesFrom byte (held ++ (b ∷ [])) bs) ≤ suc (suc (length bs))) (eqb b byte)
-    (λ _. let k = pieces-few byte [] bs in omega arith) (λ _. let k = pieces-few byte (held ++ (b ∷ [])) bs in omega arith)
+    byTest
+    (λ (t : Bool). length (if t then held ∷ piecesFrom byte [] bs else piecesFrom byte (held ++ (b ∷ [])) bs) ≤ suc (suc (length bs)))
+    (eqb b byte) (λ _. let k = pieces-few byte [] bs in omega arith) (λ _. let k = pieces-few byte (held ++ (b ∷ [])) bs in omega arith)
 
 pub lines-few : (bs : List ℕ) → length (linesOf bs) ≤ suc (length bs)
 unfolding pieces
 lines-few bs = omega (arith, lines-counted bs, pieces-few lineEnd [] bs)
-
--- ---- for the code
-
--- the search for the last byte 10: none behind a place
-pub none-at-end : (bs : List ℕ) → NoEnd (drop (length bs) bs)
-unfolding reach
-none-at-end bs = rw (drop-length bs)
-
--- it is none
-pub none-before : (bs : List ℕ) (at : ℕ) → 0 < at → at ≤ length bs → getD bs (at - 1) 0 ≢ lineEnd → NoEnd (drop at bs) → NoEnd (drop (at - 1) bs)
-unfolding reach
-none-before bs zero some h e clear = absurd (omega arith)
-none-before bs (suc at) some h e clear =
-    let n : suc at - 1 ≡ at = omega arith in
-    let other = ne-eqb (getD bs at 0) lineEnd (λ (is : getD bs at 0 ≡ lineEnd). e (ap (λ (k : ℕ). getD bs k 0) n ∙ is)) in
-    rw (n, drop-cons bs at 0 (omega arith), other) (ap suc clear)
-
--- it is the last
-pub last-here : (bs : List ℕ) (at : ℕ) → 0 < at → at ≤ length bs → getD bs (at - 1) 0 ≡ lineEnd → NoEnd (drop at bs) → at ≡ length (wholeLines bs)
-last-here bs zero some h e clear = absurd (omega arith)
-last-here bs (suc at) some h e clear =
-    let n : at ≡ suc at - 1 = omega arith in
-    let whole : take (suc at) bs ≡ take at bs ++ lineEnd ∷ [] =
-    take-suc bs at 0 (omega arith) ∙ ap (λ (b : ℕ). take at bs ++ b ∷ []) (ap (λ (k : ℕ). getD bs k 0) n ∙ e) in
-    let p = parted-so (take (suc at) bs) (drop (suc at) bs) (inr (take at bs, whole)) clear in
-    let is : wholeLines bs ≡ take (suc at) bs = ap wholeLines (sym (take-append-drop (suc at) bs)) ∙ p .0 in
-    sym (ap length is ∙ length-take-le (suc at) bs h)
-
--- there is none
-pub none-here : (bs : List ℕ) (at : ℕ) → at ≤ 0 → NoEnd (drop at bs) → 0 ≡ length (wholeLines bs)
-none-here bs zero h clear = sym (ap length (whole-none bs clear))
-none-here bs (suc at) h clear = absurd (omega arith)
-
--- bytes moved to the front, one more
-module _ (now first : List ℕ) (from i : ℕ) (long : length now ≡ length first) (inside : from + i < length first)
-    (moved : take i now ≡ take i (drop from first)) (still : drop i now ≡ drop i first) where
-  abbrev next : List ℕ
-  next = set now i (getD now (from + i) 0)
-
-  byte-is : getD now (from + i) 0 ≡ getD (drop from first) i 0
-  byte-is =
-      let e : from + i ≡ i + from = omega arith in
-      ap (λ (k : ℕ). getD now k 0) e ∙ sym (getD-drop i now from 0) ∙ ap (λ (l : List ℕ). getD l from 0) still ∙ getD-drop i first from 0
-      ∙ sym (ap (λ (k : ℕ). getD first k 0) e) ∙ sym (getD-drop from first i 0)
-
-  pub one-moved : take (i + 1) next ≡ take (i + 1) (drop from first)
-  one-moved =
-      let left : i < length (drop from first) = omega (arith, length-drop from first) in
-      ap (λ (k : ℕ). take k next) (add-one i) ∙ take-suc-set now i (getD now (from + i) 0) (omega arith)
-      ∙ ap₂ (λ (l : List ℕ) (b : ℕ). l ++ b ∷ []) moved byte-is
-      ∙ sym (ap (λ (k : ℕ). take k (drop from first)) (add-one i) ∙ take-suc (drop from first) i 0 left)
-
-  pub others-still : drop (i + 1) next ≡ drop (i + 1) first
-  others-still =
-      drop-set-lt (i + 1) now i (getD now (from + i) 0) (omega arith) ∙ sym (drop-drop 1 i now) ∙ ap (drop 1) still ∙ drop-drop 1 i first
-
-drop-taken : (n m : ℕ) (l : List ℕ) → drop n (take m l) ≡ take (m - n) (drop n l)
-drop-taken zero m l = let e : m - 0 ≡ m = omega arith in rw e
-drop-taken (suc n) zero l = let e : 0 - suc n ≡ 0 = omega arith in rw e
-drop-taken (suc n) (suc m) [] = sym (take-nil (suc m - suc n))
-drop-taken (suc n) (suc m) (b ∷ l) = let e : suc m - suc n ≡ m - n = omega arith in rw e (drop-taken n m l)
-
-take-least : (a b : ℕ) (l : List ℕ) → take a (take b l) ≡ take (min b a) l
-take-least a b l =
-    byTest (λ (_ : Bool). take a (take b l) ≡ take (min b a) l) (ltb b a)
-    (λ e. let h = ltb-true b a e in let m : min b a ≡ b = omega arith in take-all a (take b l) (omega (arith, length-take b l)) ∙ sym (ap (λ (k : ℕ). take k l) m))
-    (λ e. let h = ltb-false b a e in let m : min b a ≡ a = omega arith in take-take a b l h ∙ sym (ap (λ (k : ℕ). take k l) m))
-
--- all that are held
-pub all-moved : (now first : List ℕ) (from filled kept i : ℕ) → kept ≡ min (filled - from) (suc maxLine) → i ≡ kept → take i now ≡ take i (drop from first) →
-    take kept now ≡ cut (drop from (take filled first))
-all-moved now first from filled kept i least all moved =
-    ap (λ (k : ℕ). take k now) (sym all) ∙ moved ∙ ap (λ (k : ℕ). take k (drop from first)) (all ∙ least)
-    ∙ sym (ap cut (drop-taken from filled first) ∙ take-least (suc maxLine) (filled - from) (drop from first))

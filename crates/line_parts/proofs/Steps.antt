@@ -91,19 +91,23 @@ module _ (h : Hub) (held got : ℕ) (input : List ℕ) where
     pub takes-piece : TakesPiece h held got input input′ out′ (record { hub = next; held = kept; length = length (ran .text) })
     takes-piece = record {
       valid = r .wrote .valid;
-      short = omega (arith, ap length keeps, length-take kept input′, length-take (suc maxLine) (drop (length (wholeLines filled)) filled));
+      short =
+          let behind = drop (length (wholeLines filled)) filled in
+          omega (arith, ap length keeps, length-take kept input′, length-take (suc maxLine) behind);
       within = text-within r room;
       holds = λ read k. record {
         hub = hub-written r room ∙ sym (ap (λ (p : Printed). p .hub) (after-is read k));
         bytes = keeps ∙ ap cut (unended-others filled) ∙ sym (held-is read k);
       };
-      prints = λ read k. ap (λ (p : Printed). p .text) (after-is read k) ∙ sym (ap (λ (t : List ℕ). printedAfter read ++ t) (text-written r room));
+      prints = λ read k.
+          ap (λ (p : Printed). p .text) (after-is read k) ∙ sym (ap (λ (t : List ℕ). printedAfter read ++ t) (text-written r room));
     }
 
 -- ---- the end
 
 module _ (h : Hub) (held : ℕ) (input : List ℕ) {out out′ : List ℕ} {next : Hub} {result : ℤ}
-    (r : Runs (runFrom (hubIn h) (take held input)) (take held input) h next out out′ result) (room : Ample (take held input) (length out)) where
+    (r : Runs (runFrom (hubIn h) (take held input)) (take held input) h next out out′ result)
+    (room : Ample (take held input) (length out)) where
   pub takes-end : TakesEnd h held input out′ (length (runFrom (hubIn h) (take held input) .text))
   takes-end = record {
     within = text-within r room;

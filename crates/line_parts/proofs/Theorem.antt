@@ -1,5 +1,5 @@
 -- The steps in turn print what the line program prints of the whole input: the theorem of specs/Claims.antt. Assumes nothing.
-use mathlib.Core.Path.{_≡_, refl, sym, ap, _∙_}
+use mathlib.Core.Path.{_≡_, refl, sym, ap, subst, _∙_}
 use mathlib.Core.List.{List, [], _++_}
 use mathlib.Core.Option.{none}
 use Prim.Native.Nat.{ℕ}
@@ -11,36 +11,41 @@ use Rattle.hub.specs.Valid.{Valid}
 use Rattle.hub.specs.declared.Hub.{Hub}
 use Rattle.line.specs.View.{hubIn}
 use Rattle.line_parts.specs.declared.Step.{Step}
-use Rattle.line_parts.specs.Parts.{unendedFrom, unended, wholeLines, after, printedAfter}
+use Rattle.line_parts.specs.Parts.{unendedFrom, unended, wholeLines, after, hubAfter, printedAfter, heldAfter}
 use Rattle.line_parts.specs.Contract.{Holds, TakesPiece, Taken, start, next, Reached}
 use Rattle.line_parts.specs.Claims.{PrintsTheWhole}
 
--- what is read leaves the held bytes as they are
-holds-still : {read : List ℕ} {h : Hub} {held : ℕ} {input input′ : List ℕ} → Holds read h held input → take held input′ ≡ take held input →
-    Holds read h held input′
-holds-still k same = record { hub = k .hub; bytes = same ∙ k .bytes }
-
-pub taken-holds : {read text : List ℕ} {h : Hub} {held : ℕ} {input : List ℕ} → Taken read text h held input →
-    Holds read h held input × (text ≡ printedAfter read)
+taken-holds : {read text : List ℕ} {h : Hub} {bytes : List ℕ} → Taken read text h bytes →
+    (hubIn h ≡ hubAfter read) × (bytes ≡ heldAfter read) × (text ≡ printedAfter read)
 unfolding unendedFrom unended wholeLines after piecesFrom pieces withoutEmptyLast linesOf steps
-taken-holds (start e) = (record { hub = e; bytes = refl }, refl)
-taken-holds (next {read = read} {out′ = out′} {s = s} t same p) =
+taken-holds (start e) = (e, refl, refl)
+taken-holds (next {read = read} {held = held} {input = input} {out′ = out′} {s = s} t p) =
     let k = taken-holds t in
-    let still = holds-still (k .0) same in
-    (p .holds read still, ap (λ (l : List ℕ). l ++ take (s .length) out′) (k .1) ∙ sym (p .prints read still))
-
--- ---- hubs and held bytes that the steps leave
-
-pub reached-none : {h : Hub} {input : List ℕ} → Valid h → hubIn h ≡ none → Reached h 0 input
-reached-none v e = record { read = []; text = []; taken = start e; valid = v; short = omega arith }
-
-pub reached-more : {h : Hub} {held got : ℕ} {last input input′ out′ : List ℕ} {s : Step} →
-    Reached h held last → take held input ≡ take held last → TakesPiece h held got input input′ out′ s → Reached (s .hub) (s .held) input′
-reached-more r same p = record { read = _; text = _; taken = next (r .taken) same p; valid = p .valid; short = p .short }
-
--- ---- the whole
+    let is : Holds read _ held input = record { hub = k .0; bytes = k .1 } in
+    let then = p .holds read is in
+    (then .hub, then .bytes, ap (λ (l : List ℕ). l ++ take (s .length) out′) (k .2) ∙ sym (p .prints read is))
 
 pub prints-the-whole : PrintsTheWhole
 prints-the-whole read text h held input out′ long t e =
     let k = taken-holds t in
-    e .prints read (k .0) ∙ sym (ap (λ (l : List ℕ). l ++ take long out′) (k .1))
+    e .prints read (record { hub = k .0; bytes = k .1 }) ∙ sym (ap (λ (l : List ℕ). l ++ take long out′) (k .2))
+
+-- ---- for a loop over the steps
+
+pub reached-none : {h : Hub} {input : List ℕ} → Valid h → hubIn h ≡ none → Reached h 0 input
+reached-none v e = record { read = []; text = []; taken = start e; valid = v; short = omega arith }
+
+-- what is read behind the held bytes leaves them as they are
+pub reached-still : {h : Hub} {held : ℕ} {input input′ : List ℕ} → Reached h held input → take held input′ ≡ take held input →
+    Reached h held input′
+reached-still {h} r same = record {
+  read = r .read;
+  text = r .text;
+  taken = subst (λ (l : List ℕ). Taken (r .read) (r .text) h l) (sym same) (r .taken);
+  valid = r .valid;
+  short = r .short;
+}
+
+pub reached-more : {h : Hub} {held got : ℕ} {input input′ out′ : List ℕ} {s : Step} →
+    Reached h held input → TakesPiece h held got input input′ out′ s → Reached (s .hub) (s .held) input′
+reached-more r p = record { read = _; text = _; taken = next (r .taken) p; valid = p .valid; short = p .short }

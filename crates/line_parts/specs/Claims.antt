@@ -1,4 +1,4 @@
--- What is claimed of the line program over an input that comes in pieces; proved in proofs/Theorem.antt. Assumes nothing.
+-- What is claimed of the line program over an input that comes in pieces; proved in proofs/Laws.antt and Theorem.antt. Assumes nothing.
 use mathlib.Core.Path.{_≡_}
 use mathlib.Core.List.{List, _++_}
 use Prim.Native.Nat.{ℕ}
@@ -14,10 +14,12 @@ use Rattle.line_parts.specs.Contract.{TakesEnd, Taken}
 -- Bytes are their whole lines and then the line whose end has not come, which has no byte 10.
 abbrev pub PartedAtTheLastEnd : Type 0
 PartedAtTheLastEnd =
-    (read : List ℕ) → (wholeLines read ++ unended read ≡ read) × WholeLines (wholeLines read) × (reach lineEnd (unended read) ≡ length (unended read))
+    (read : List ℕ) →
+    (wholeLines read ++ unended read ≡ read) × WholeLines (wholeLines read) × (reach lineEnd (unended read) ≡ length (unended read))
 
--- However an input is cut into pieces: the texts that the steps hand out, one behind the other, are what the line program prints of the whole.
+-- However an input is cut into pieces: the texts that the steps hand out, one behind the other, are what the line program prints of the
+-- whole.
 abbrev pub PrintsTheWhole : Type 0
 PrintsTheWhole =
     (read text : List ℕ) (h : Hub) (held : ℕ) (input out′ : List ℕ) (long : ℕ) →
-    Taken read text h held input → TakesEnd h held input out′ long → programText read ≡ text ++ take long out′
+    Taken read text h (take held input) → TakesEnd h held input out′ long → programText read ≡ text ++ take long out′

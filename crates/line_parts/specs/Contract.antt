@@ -23,7 +23,7 @@ maxPiece = 2048
 abbrev pub inputRoom : ℕ
 inputRoom = suc maxLine + maxPiece
 
--- Room for what any lines of an input's buffer print, and for the device lines.
+-- Room for what the lines of so many bytes print at most, and for the device lines.
 abbrev pub roomFor : ℕ → ℕ
 roomFor bytes = maxText * (bytes + 2)
 
@@ -38,8 +38,8 @@ pub record Holds (read : List ℕ) (h : Hub) (held : ℕ) (input : List ℕ) : T
 abbrev pub pieceOf : ℕ → ℕ → List ℕ → List ℕ
 pieceOf held got input = take got (drop held input)
 
--- A piece is taken. Whatever was read before it: hub and held bytes afterwards are those of all bytes read so far, the piece with them; and the text at the start
--- of the buffer `out` is what the piece adds to what is printed.
+-- A piece is taken. Whatever was read before it: hub and held bytes afterwards are those of all bytes read so far, the piece with them; and
+-- the text at the start of the buffer `out` is what the piece adds to what is printed.
 pub record TakesPiece (h : Hub) (held got : ℕ) (input input′ out′ : List ℕ) (s : Step) : Type 0 where
   pub valid : Valid (s .hub)
   pub short : s .held ≤ suc maxLine
@@ -48,25 +48,26 @@ pub record TakesPiece (h : Hub) (held got : ℕ) (input input′ out′ : List �
   pub prints :
       (read : List ℕ) → Holds read h held input → printedAfter (read ++ pieceOf held got input) ≡ printedAfter read ++ take (s .length) out′
 
--- The input has ended. Whatever was read: the text at the start of the buffer `out` is what is still to be printed of it, the device lines with it.
+-- The input has ended. Whatever was read: the text at the start of the buffer `out` is what is still to be printed of it, and the device
+-- lines.
 pub record TakesEnd (h : Hub) (held : ℕ) (input out′ : List ℕ) (long : ℕ) : Type 0 where
   pub within : long ≤ length out′
   pub prints : (read : List ℕ) → Holds read h held input → programText read ≡ printedAfter read ++ take long out′
 
 -- ---- steps in turn
 
--- These bytes were taken piece by piece, from no hub on, and these texts handed out one behind the other; hub and held bytes are what the last step left. What is
--- read changes the buffer, but not the held bytes.
-pub data Taken : List ℕ → List ℕ → Hub → ℕ → List ℕ → Type 0 where
-  start : {h : Hub} {input : List ℕ} → hubIn h ≡ none → Taken [] [] h 0 input
-  next : {read text : List ℕ} {h : Hub} {held got : ℕ} {last input input′ out′ : List ℕ} {s : Step} →
-      Taken read text h held last → take held input ≡ take held last → TakesPiece h held got input input′ out′ s →
-      Taken (read ++ pieceOf held got input) (text ++ take (s .length) out′) (s .hub) (s .held) input′
+-- These bytes were taken piece by piece, from no hub on, and these texts handed out one behind the other; hub and held bytes are what the
+-- last step left.
+pub data Taken : List ℕ → List ℕ → Hub → List ℕ → Type 0 where
+  start : {h : Hub} → hubIn h ≡ none → Taken [] [] h []
+  next : {read text : List ℕ} {h : Hub} {held got : ℕ} {input input′ out′ : List ℕ} {s : Step} →
+      Taken read text h (take held input) → TakesPiece h held got input input′ out′ s →
+      Taken (read ++ pieceOf held got input) (text ++ take (s .length) out′) (s .hub) (take (s .held) input′)
 
 -- Hub and held bytes are what the steps over some input leave.
 pub record Reached (h : Hub) (held : ℕ) (input : List ℕ) : Type 0 where
   pub read : List ℕ
   pub text : List ℕ
-  pub taken : Taken read text h held input
+  pub taken : Taken read text h (take held input)
   pub valid : Valid h
   pub short : held ≤ suc maxLine

@@ -17,11 +17,12 @@ calc = tt
 -- A line that two reads share: it is held, and prints nothing before its end has come.
 pub shared-line :
     (heldAfter (bytes "O 1 0 1\nN ") ≡ bytes "N ") × (printedAfter (bytes "O 1 0 1\nN ") ≡ bytes "opened\n")
-    × (heldAfter (bytes "O 1 0 1\nN " ++ bytes "7\n") ≡ []) × (printedAfter (bytes "O 1 0 1\nN " ++ bytes "7\n") ≡ bytes "opened\nrefused 10\n")
+    × (heldAfter (bytes "O 1 0 1\nN " ++ bytes "7\n") ≡ [])
+    × (printedAfter (bytes "O 1 0 1\nN " ++ bytes "7\n") ≡ bytes "opened\nrefused 10\n")
 unfolding calc
 shared-line = (refl, refl, refl, refl)
 
--- A line longer than the longest that three reads share: of its 202 bytes up to now 129 are held, and it stays unread.
+-- A line that three reads share, longer than the longest: of its 202 bytes up to now one more than the longest has are held; it is unread.
 abbrev two : List ℕ
 two = (bytes "O 1 0 1\nN " ++ replicate 100 digit0) ++ replicate 100 digit0
 
@@ -36,6 +37,7 @@ long-line = (refl, refl, refl, refl, refl)
 
 -- No byte 10 at the end: the last line is held, and printed when the input ends.
 pub no-last-end :
-    (heldAfter (bytes "?\n?") ≡ bytes "?") × (printedAfter (bytes "?\n?") ≡ bytes "unread\n") × (programText (bytes "?\n?") ≡ bytes "unread\nunread\n")
+    (heldAfter (bytes "?\n?") ≡ bytes "?") × (printedAfter (bytes "?\n?") ≡ bytes "unread\n")
+    × (programText (bytes "?\n?") ≡ bytes "unread\nunread\n")
 unfolding calc
 no-last-end = (refl, refl, refl)

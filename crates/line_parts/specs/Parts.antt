@@ -1,4 +1,5 @@
--- The line program of an input that is still being read: what its bytes up to now print, and what is held of the line whose end has not come. Assumes nothing.
+-- The line program of an input that is still being read: what all bytes read so far print, and what is held of the line whose end has not
+-- come. Assumes nothing.
 use mathlib.Core.List.{List, [], _∷_, _++_}
 use mathlib.Core.Option.{Option, none}
 use Prim.Native.Nat.{ℕ, _-_}
@@ -34,6 +35,7 @@ hubAfter read = after read .hub
 abbrev pub printedAfter : List ℕ → List ℕ
 printedAfter read = after read .text
 
--- What is held of the line whose end has not come: of one that is too long already, one byte more than the longest has.
+-- What is held of the line whose end has not come: of one that is too long already, one byte more than the longest has, so that it stays
+-- too long.
 abbrev pub heldAfter : List ℕ → List ℕ
 heldAfter read = cut (unended read)

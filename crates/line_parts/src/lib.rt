@@ -1,5 +1,5 @@
-// The line program over an input that comes in pieces, as a program reads it: document 01, "The line program". The steps are code on byte slices: nothing here reads
-// or writes. specs/Claims.antt says what the steps in turn print.
+// The line program over an input that comes in pieces, as a program reads it: document 01, "The line program". The steps are code on byte
+// slices: nothing here reads or writes. specs/Claims.antt says what the steps in turn print.
 mod pieces;
 
 use hub::Hub;
@@ -11,7 +11,8 @@ ghost use lib.ListN.{length};
 ghost use Rattle.hub.specs.Valid.{Valid};
 ghost use Rattle.line_parts.specs.Contract.{inputRoom, roomFor, TakesPiece, TakesEnd};
 
-// At most so many bytes are read at a time. What they print is handed out at once, so the buffer for it has room for the most that they can print.
+// At most so many bytes are read at a time. What they print is handed out at once, so the buffer for it has room for the most that they can
+// print.
 pub const MAX_PIECE: usize = 2048;
 
 // The held bytes, and a piece behind them.

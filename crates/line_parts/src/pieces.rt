@@ -30,7 +30,8 @@ pub fn whole_length(bytes: &[u8]) -> usize
 // Moves the bytes from a place on to the front, as many as are held of a line, and says how many.
 pub fn keep(input: &mut [u8], from: usize, filled: usize) -> usize
     requires { ⌜ (from ≤ filled) × (filled ≤ length (now input)) ⌝ }
-    ensures { λ r. ⌜ (r ≤ length (now (input .exit))) × (take r (now (input .exit)) ≡ cut (drop from (take filled (now (input .entry))))) ⌝ }
+    ensures { λ r. ⌜ (r ≤ length (now (input .exit)))
+        × (take r (now (input .exit)) ≡ cut (drop from (take filled (now (input .entry))))) ⌝ }
 {
     let kept = least(filled - from, MAX_LINE + 1);
     let mut i = 0;

@@ -1,6 +1,6 @@
-// The line program from standard input to standard output: document 01, "The line program". The input may have any length: a piece is read, crate `line_parts` takes it,
-// and what it prints is written before the next is read.
-mod streams;
+// The line program from standard input to standard output: document 01, "The line program". The input may have any length: a piece is read,
+// crate `line_parts` takes it, and what it prints is written before the next is read.
+mod standard;
 
 use hub::Hub;
 ghost use Prim.Native.Nat.{suc, _<_, _≤_};
@@ -24,7 +24,7 @@ fn read_all(input: &mut [u8], out: &mut [u8]) -> Read
     let mut held = 0usize;
     let mut turns = u64::MAX;
     while turns > 0 {
-        let got = streams::read_behind(input, held);
+        let got = standard::read_behind(input, held);
         if got.count == 0 {
             return Read {
                 hub,
@@ -36,7 +36,7 @@ fn read_all(input: &mut [u8], out: &mut [u8]) -> Read
         hub = step.hub;
         held = step.held;
         let length = step.length;
-        if !streams::write_out(&out[..length]) {
+        if !standard::write_out(&out[..length]) {
             return Read {
                 hub,
                 held,
@@ -59,6 +59,6 @@ fn main() {
     if read.good {
         let hub = read.hub;
         let length = line_parts::take_end(hub, read.held, &input, &mut out);
-        streams::write_out(&out[..length]);
+        standard::write_out(&out[..length]);
     }
 }

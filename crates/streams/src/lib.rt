@@ -4,7 +4,8 @@ use libc::STDERR_FILENO;
 use libc::STDIN_FILENO;
 use libc::STDOUT_FILENO;
 ghost use Prim.Native.Nat.{_+_, _≤_};
-ghost use lib.ListN.{length};
+ghost use mathlib.Core.Path.{_≡_};
+ghost use lib.ListN.{length, take};
 
 fn say(program: &[u8], message: &[u8]) {
     io::write_all(STDERR_FILENO, program);
@@ -23,10 +24,10 @@ pub struct Got {
     pub good: bool,
 }
 
-// Reads into the input behind the held bytes.
+// Reads into the input behind the held bytes, which stay.
 pub fn read_behind(program: &[u8], input: &mut [u8], held: usize) -> Got
     requires { ⌜ held ≤ length (now input) ⌝ }
-    ensures { λ r. ⌜ held + r .count ≤ length (now (input .entry)) ⌝ }
+    ensures { λ r. ⌜ (held + r .count ≤ length (now (input .entry))) × (take held (now (input .exit)) ≡ take held (now (input .entry))) ⌝ }
 {
     let answer = libc::read(STDIN_FILENO, &mut input[held..]);
     let count = io::count(answer, &input[held..]);
@@ -60,14 +61,9 @@ pub fn read_full(program: &[u8], input: &mut [u8]) -> Got
     }
 }
 
-// Writes the text whose length the line program answered; whether all of it could be written.
-pub fn write_out(program: &[u8], out: &[u8], result: i64) -> bool {
-    if result < 0 {
-        say(program, b"a text is longer than the buffer");
-        return false;
-    }
-    let count = io::count(result as isize, out);
-    let good = io::write_all(STDOUT_FILENO, &out[..count]);
+// Whether all of a text could be written.
+pub fn write_out(program: &[u8], text: &[u8]) -> bool {
+    let good = io::write_all(STDOUT_FILENO, text);
     if !good {
         say_not_written(program);
     }

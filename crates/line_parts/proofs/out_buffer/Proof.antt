@@ -5,10 +5,7 @@ use lib.ListN.{length-replicate}
 use Rattle.line_parts.specs.Contract.{inputRoom, roomFor}
 use Rattle.line_parts.proofs.out_buffer.Statement.{statement}
 use Rattle.line_parts.proofs.out_buffer.Tie as tie
-use Rattle.line_parts.proofs.out_buffer.Reads as reads
-use Rattle.line_parts.proofs.out_buffer.Lts as lts
 
--- src/lib.rt:28:1
 returns : tie.Need-returns
 returns c = sym (length-replicate {0} {A = ℕ} (roomFor inputRoom) 0)
 

@@ -11,9 +11,6 @@ use lib.ListN.{length-take}
 use borrow.Author.Needs.{needs}
 use Rattle.line_parts.proofs.take_end.Statement.{statement}
 use Rattle.line_parts.proofs.take_end.Tie as tie
-use Rattle.line_parts.proofs.take_end.Reads as reads
-use Rattle.line_parts.proofs.take_end.Lts as lts
-use Rattle.line.proofs.run_last.Reads as run-last-reads
 
 abbrev start : tie.After-struct-told → tie.Start
 start c = c .before .before .before .before .before .before .before .before .before
@@ -28,30 +25,26 @@ room c =
     ample (s .args .input .now) (take (s .args .held) (s .args .input .now)) (s .args .out .now)
     (omega (arith, length-take (s .args .held) (s .args .input .now))) (s .pre .2)
 
--- src/lib.rt:64:39
 slice-aggregate-run-last : tie.Need-slice-aggregate-run-last
 slice-aggregate-run-last c = simp length-take (omega arith)
 
--- src/lib.rt:64:9
 run-last-requires : tie.Need-run-last-requires
 run-last-requires c κs = search needs
 
--- src/lib.rt:65:5
 cast-result : tie.Need-cast-result
 cast-result c = let l = c .before .before .before .before in
     let e : toZ w64 (ofZ w64 (l .run-last .result .result)) ≡ l .run-last .result .result = search needs in
     rw e (length-fits (l .run-last .ensures) (room c) (small (l .before .before .before)))
 
--- src/lib.rt:60:1
 same-length : tie.Need-same-length
 same-length c = search needs
 
--- src/lib.rt:60:1
 returns : tie.Need-returns
 returns c = let s = start c in
     let l = c .before .before .before .before in
     let e : toZ w64 (ofZ w64 (l .run-last .result .result)) ≡ l .run-last .result .result = search needs in
-    rw (e, length-written (l .run-last .ensures) (room c)) (takes-end (s .args .hub) (s .args .held) (s .args .input .now) (l .run-last .ensures) (room c))
+    rw (e, length-written (l .run-last .ensures) (room c))
+    (takes-end (s .args .hub) (s .args .held) (s .args .input .now) (l .run-last .ensures) (room c))
 
 pub take-end-spec : {M : Type 1} → statement M
 take-end-spec =

@@ -16,11 +16,6 @@ use Rattle.line_parts.proofs.Steps.{filled, ran, ample, length-written,
 use borrow.Author.Needs.{needs}
 use Rattle.line_parts.proofs.take_piece.Statement.{statement}
 use Rattle.line_parts.proofs.take_piece.Tie as tie
-use Rattle.line_parts.proofs.take_piece.Reads as reads
-use Rattle.line_parts.proofs.take_piece.Lts as lts
-use Rattle.line.proofs.run_part.Reads as run-part-reads
-use Rattle.line_parts.proofs.pieces.keep.Reads as keep-reads
-use Rattle.line_parts.proofs.pieces.whole_length.Reads as whole-length-reads
 
 abbrev start : tie.After-run-part → tie.Start
 start c = c .before .before .before .before .before .before .before
@@ -37,16 +32,17 @@ small c = search needs
 -- what was run are the whole lines
 whole-ran : (c : tie.After-run-part) →
     let a = start c .args in
+    let r = c .run-part .result in
     let whole = wholeLines (filled (a .hub) (a .held) (a .got) (a .input .now)) in
-    Runs (ran (a .hub) (a .held) (a .got) (a .input .now)) whole (a .hub) (c .run-part .result .hub) (a .out .now) (c .run-part .last .1 .1 .0)
-    (c .run-part .result .result)
+    Runs (ran (a .hub) (a .held) (a .got) (a .input .now)) whole (a .hub) (r .hub) (a .out .now) (c .run-part .last .1 .1 .0) (r .result)
 whole-ran c =
     let a = start c .args in
+    let r = c .run-part .result in
     let w = c .before .before .before .whole-length in
+    let are = ap (λ (n : ℕ). take n (a .input .now)) (w .ensures) ∙ whole-taken (a .hub) (a .held) (a .got) (a .input .now) in
     subst
-    (λ (l : List ℕ). Runs (steps (hubIn (a .hub)) (linesOf l)) l (a .hub) (c .run-part .result .hub) (a .out .now) (c .run-part .last .1 .1 .0)
-    (c .run-part .result .result))
-    (ap (λ (n : ℕ). take n (a .input .now)) (w .ensures) ∙ whole-taken (a .hub) (a .held) (a .got) (a .input .now)) (c .run-part .ensures)
+    (λ (l : List ℕ). Runs (steps (hubIn (a .hub)) (linesOf l)) l (a .hub) (r .hub) (a .out .now) (c .run-part .last .1 .1 .0) (r .result))
+    are (c .run-part .ensures)
 
 -- the buffer has ample room
 room : (c : tie.After-run-part) →
@@ -58,63 +54,51 @@ room c =
     ample (a .input .now) (wholeLines (filled (a .hub) (a .held) (a .got) (a .input .now))) (a .out .now)
     (omega (arith, whole-near (a .hub) (a .held) (a .got) (a .input .now), s .pre .1)) (s .pre .2)
 
--- src/lib.rt:46:18
 add-filled : tie.Need-add-filled
 add-filled c = search needs
 
--- src/lib.rt:47:38
 slice-reshare-prefix-whole-length : tie.Need-slice-reshare-prefix-whole-length
 slice-reshare-prefix-whole-length c = search needs
 
--- src/lib.rt:47:38
 slice-aggregate-whole-length : tie.Need-slice-aggregate-whole-length
 slice-aggregate-whole-length c = simp length-take (omega arith)
 
--- src/lib.rt:47:9
 whole-length-requires : tie.Need-whole-length-requires
 whole-length-requires c κs = search needs
 
--- src/lib.rt:48:39
 slice-reshare-prefix-run-part : tie.Need-slice-reshare-prefix-run-part
 slice-reshare-prefix-run-part c = let h = whole-inside c in search needs
 
--- src/lib.rt:48:39
 slice-aggregate-run-part : tie.Need-slice-aggregate-run-part
 slice-aggregate-run-part c = let h = whole-inside (c .before) in simp length-take (omega arith)
 
--- src/lib.rt:48:9
 run-part-requires : tie.Need-run-part-requires
 run-part-requires c κs = search needs
 
--- src/lib.rt:50:18
 cast-length : tie.Need-cast-length
 cast-length c = let l = c .before .before .before .before .before in
     let e : toZ w64 (ofZ w64 (l .run-part .result .result)) ≡ l .run-part .result .result = search needs in
     rw e (length-fits (whole-ran l) (room l) (small l))
 
--- src/lib.rt:51:9
 keep-requires : tie.Need-keep-requires
 keep-requires c κs = let w = c .before .before .before .before .before .before .before .before .before in
     let s = w .before .before .before .before in
     (omega (arith, w .whole-length .ensures, whole-near (s .args .hub) (s .args .held) (s .args .got) (s .args .input .now)), s .pre .1)
 
--- src/lib.rt:42:1
 same-length : tie.Need-same-length
 same-length c = search needs
 
--- src/lib.rt:42:1
 same-length-2 : tie.Need-same-length-2
 same-length-2 c = search needs
 
--- src/lib.rt:42:1
 returns : tie.Need-returns
 returns c = let l = c .before .before .before .before .before .before .before .before .before in
     let k = c .before .before .keep .ensures in
-    let s = start l in
-    let bytes = filled (s .args .hub) (s .args .held) (s .args .got) (s .args .input .now) in
+    let a = start l .args in
+    let bytes = filled (a .hub) (a .held) (a .got) (a .input .now) in
     let e : toZ w64 (ofZ w64 (l .run-part .result .result)) ≡ l .run-part .result .result = search needs in
     rw (e, length-written (whole-ran l) (room l))
-    (takes-piece (s .args .hub) (s .args .held) (s .args .got) (s .args .input .now) (whole-ran l) (room l) (c .before .before .keep .result) (k .0)
+    (takes-piece (a .hub) (a .held) (a .got) (a .input .now) (whole-ran l) (room l) (c .before .before .keep .result) (k .0)
     (k .1 ∙ ap (λ (n : ℕ). cut (drop n bytes)) (l .before .before .before .whole-length .ensures)))
 
 pub take-piece-spec : {M : Type 1} → statement M
