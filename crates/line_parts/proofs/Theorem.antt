@@ -12,7 +12,7 @@ use Rattle.hub.specs.declared.Hub.{Hub}
 use Rattle.line.specs.View.{hubIn}
 use Rattle.line_parts.specs.declared.Step.{Step}
 use Rattle.line_parts.specs.Parts.{unendedFrom, unended, wholeLines, after, hubAfter, printedAfter, heldAfter}
-use Rattle.line_parts.specs.Contract.{Holds, TakesPiece, Taken, start, next, Reached}
+use Rattle.line_parts.specs.Contract.{Holds, TakesPiece, TakesEnd, Taken, start, next, Reached, Adds, by-piece, by-end}
 use Rattle.line_parts.specs.Claims.{PrintsTheWhole}
 
 taken-holds : {read text : List ℕ} {h : Hub} {bytes : List ℕ} → Taken read text h bytes →
@@ -46,6 +46,18 @@ reached-still {h} r same = record {
   short = r .short;
 }
 
+-- what some input read so far leaves
+reached-holds : {h : Hub} {held : ℕ} {input : List ℕ} (r : Reached h held input) → Holds (r .read) h held input
+reached-holds r = let k = taken-holds (r .taken) in record { hub = k .0; bytes = k .1 }
+
 pub reached-more : {h : Hub} {held got : ℕ} {input input′ out′ : List ℕ} {s : Step} →
     Reached h held input → TakesPiece h held got input input′ out′ s → Reached (s .hub) (s .held) input′
 reached-more r p = record { read = _; text = _; taken = next (r .taken) p; valid = p .valid; short = p .short }
+
+pub adds-piece : {h : Hub} {held got : ℕ} {input input′ out′ : List ℕ} {s : Step} →
+    Reached h held input → TakesPiece h held got input input′ out′ s → Adds (take (s .length) out′)
+adds-piece r p = by-piece (r .read) _ _ (p .prints (r .read) (reached-holds r))
+
+pub adds-end : {h : Hub} {held : ℕ} {input out′ : List ℕ} {long : ℕ} → Reached h held input → TakesEnd h held input out′ long →
+    Adds (take long out′)
+adds-end r e = by-end (r .read) _ (e .prints (r .read) (reached-holds r))

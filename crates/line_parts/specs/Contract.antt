@@ -71,3 +71,8 @@ pub record Reached (h : Hub) (held : ℕ) (input : List ℕ) : Type 0 where
   pub taken : Taken read text h (take held input)
   pub valid : Valid h
   pub short : held ≤ suc maxLine
+
+-- What may be printed next: what a piece adds to what is printed of the bytes read before it; or what the end of the input adds.
+pub data Adds : List ℕ → Type 0 where
+  by-piece : (read piece text : List ℕ) → printedAfter (read ++ piece) ≡ printedAfter read ++ text → Adds text
+  by-end : (read text : List ℕ) → programText read ≡ printedAfter read ++ text → Adds text

@@ -6,13 +6,20 @@ use hub::Hub;
 ghost use Prim.Native.Nat.{suc, _<_, _≤_};
 ghost use lib.ListN.{length};
 ghost use Rattle.line_rules.specs.Reading.{maxLine};
-ghost use Rattle.line_parts.specs.Contract.{roomFor, Reached};
+ghost use Rattle.line_parts.specs.Contract.{roomFor, Reached, Adds};
 
 // How far the reading came: the hub, how many bytes are held of a line whose end has not come, and whether all went well.
 struct Read {
     hub: Hub,
     held: usize,
     good: bool,
+}
+
+// Writes what a piece, or the end of the input, adds to what is printed.
+fn print(text: &[u8]) -> bool
+    requires { ⌜ Adds (now text) ⌝ }
+{
+    standard::write_out(text)
 }
 
 // Piece by piece to the end of the input. Nothing says that an input ends, so the loop counts its turns down.
@@ -36,7 +43,7 @@ fn read_all(input: &mut [u8], out: &mut [u8]) -> Read
         hub = step.hub;
         held = step.held;
         let length = step.length;
-        if !standard::write_out(&out[..length]) {
+        if !print(&out[..length]) {
             return Read {
                 hub,
                 held,
@@ -59,6 +66,6 @@ fn main() {
     if read.good {
         let hub = read.hub;
         let length = line_parts::take_end(hub, read.held, &input, &mut out);
-        standard::write_out(&out[..length]);
+        print(&out[..length]);
     }
 }

@@ -1,6 +1,7 @@
--- `plot_hub::main` is safe and ends. Assumes nothing.
+-- `plot_hub::main` is safe and ends, and prints what the end of the input adds. Assumes nothing.
 use native.Mathlib.Omega.{arith}
 use lib.ListN.{length-take}
+use Rattle.line_parts.proofs.Theorem.{adds-end}
 use borrow.Author.Needs.{needs}
 use Rattle.plot_hub.proofs.main.Statement.{statement}
 use Rattle.plot_hub.proofs.main.Tie as tie
@@ -32,11 +33,13 @@ take-end-requires c κs = search needs
 array-share-prefix-out : tie.Need-array-share-prefix-out
 array-share-prefix-out c = search needs
 
-slice-aggregate-write-out : tie.Need-slice-aggregate-write-out
-slice-aggregate-write-out c = simp length-take (omega arith)
+slice-aggregate-print : tie.Need-slice-aggregate-print
+slice-aggregate-print c = simp length-take (omega arith)
 
-write-out-requires : tie.Need-write-out-requires
-write-out-requires c κs = search needs
+print-requires : tie.Need-print-requires
+print-requires c κs =
+    let t = c .before .before in
+    adds-end (t .before .before .before .before .before .before .before .read-all .ensures) (t .take-end .ensures)
 
 returns : tie.Need-returns
 returns c = search needs
@@ -57,7 +60,7 @@ main-spec =
     slice-aggregate-take-end-2
     take-end-requires
     array-share-prefix-out
-    slice-aggregate-write-out
-    write-out-requires
+    slice-aggregate-print
+    print-requires
     returns
     returns-2)

@@ -6,7 +6,7 @@ use borrow.Author.Needs.{needs}
 use lib.ListN.{length, length-take}
 use Rattle.line.proofs.Laws.{hub-none}
 use Rattle.line_parts.specs.Contract.{Reached}
-use Rattle.line_parts.proofs.Theorem.{reached-none, reached-still, reached-more}
+use Rattle.line_parts.proofs.Theorem.{reached-none, reached-still, reached-more, adds-piece}
 use Rattle.plot_hub.proofs.read_all.Statement.{statement}
 use Rattle.plot_hub.proofs.read_all.Tie as tie
 
@@ -17,12 +17,18 @@ Inv-loop input₀ out₀ hub₀ held₀ turns₀ input out hub held turns =
 abbrev μ-loop : tie.MeasureT-loop
 μ-loop input₀ out₀ hub₀ held₀ turns₀ input out hub held turns = turns
 
+-- the bytes read so far, before the piece is taken
+reached : (c : tie.After-take-piece Inv-loop μ-loop) →
+    let r = c .before .before .before .before .before .before .before in
+    Reached (r .before .before .before .loop .hub) (r .before .before .before .loop .held) (r .read-behind .last .0)
+reached c =
+    let r = c .before .before .before .before .before .before .before in
+    reached-still (r .before .before .before .loop .inv .0) (r .read-behind .ensures .1)
+
 -- one piece more
 more : (c : tie.After-take-piece Inv-loop μ-loop) →
     Reached (c .take-piece .result .hub) (c .take-piece .result .held) (c .take-piece .last .1 .1 .1 .0)
-more c =
-    let r = c .before .before .before .before .before .before .before in
-    reached-more (reached-still (r .before .before .before .loop .inv .0) (r .read-behind .ensures .1)) (c .take-piece .ensures)
+more c = reached-more (reached c) (c .take-piece .ensures)
 
 no-hub-requires : tie.Need-no-hub-requires Inv-loop μ-loop
 no-hub-requires c κs = search needs
@@ -47,16 +53,18 @@ returns c =
 take-piece-requires : tie.Need-take-piece-requires Inv-loop μ-loop
 take-piece-requires c κs = search needs
 
-slice-reshare-prefix-write-out : tie.Need-slice-reshare-prefix-write-out Inv-loop μ-loop
-slice-reshare-prefix-write-out c = search needs
+slice-reshare-prefix-print : tie.Need-slice-reshare-prefix-print Inv-loop μ-loop
+slice-reshare-prefix-print c = search needs
 
-slice-aggregate-write-out : tie.Need-slice-aggregate-write-out Inv-loop μ-loop
-slice-aggregate-write-out c =
+slice-aggregate-print : tie.Need-slice-aggregate-print Inv-loop μ-loop
+slice-aggregate-print c =
     let h = c .before .before .before .before .before .before .take-piece .ensures .within in
     simp length-take (omega arith)
 
-write-out-requires : tie.Need-write-out-requires Inv-loop μ-loop
-write-out-requires c κs = search needs
+print-requires : tie.Need-print-requires Inv-loop μ-loop
+print-requires c κs =
+    let t = c .before .before .before .before .before .before in
+    adds-piece (reached t) (t .take-piece .ensures)
 
 same-length-3 : tie.Need-same-length-3 Inv-loop μ-loop
 same-length-3 c = search needs
@@ -98,9 +106,9 @@ read-all-spec =
     same-length-2
     returns
     take-piece-requires
-    slice-reshare-prefix-write-out
-    slice-aggregate-write-out
-    write-out-requires
+    slice-reshare-prefix-print
+    slice-aggregate-print
+    print-requires
     same-length-3
     same-length-4
     returns-2
