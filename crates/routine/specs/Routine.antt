@@ -21,8 +21,15 @@ maxDevices = 32
 abbrev pub maxCommands : ℕ
 maxCommands = 8
 
+-- "tag (0 must, 1 best-effort)"
+abbrev pub mustTag : ℕ
+mustTag = 0
+
+abbrev pub bestEffortTag : ℕ
+bestEffortTag = 1
+
 abbrev pub highestTag : ℕ
-highestTag = 1
+highestTag = bestEffortTag
 
 -- What an array holds past its end.
 abbrev pub zeroCommand : Command

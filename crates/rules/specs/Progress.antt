@@ -6,13 +6,14 @@ use Prim.Native.Nat.{ℕ}
 use lib.Dec.{eqb}
 use lib.IntN.{ℤ}
 use Rattle.routine.specs.Choice.{if_then_else_}
+use Rattle.routine.specs.Routine.{mustTag}
 use Rattle.routine.specs.declared.Command.{Command}
 use Rattle.rules.specs.Tables.{anyOf}
 use Rattle.rules.specs.State.{Status, to-do, in-flight, was-done, was-skipped, Step, Member}
 
 -- "tag (0 must, 1 best-effort)"
 abbrev pub isMust : Command → Bool
-isMust c = eqb (c .tag) 0
+isMust c = eqb (c .tag) mustTag
 
 abbrev pub isOn : ℕ → Step → Bool
 isOn d x = eqb (x .command .device) d
