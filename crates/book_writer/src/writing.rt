@@ -15,7 +15,7 @@ ghost use Prim.Native.Nat.{_+_, _*_, _≤_};
 ghost use lib.ListN.{length, getD};
 ghost use lib.Seq.{sets};
 ghost use Rattle.routine.specs.Routine.{maxCommands, routineOf, routineCheck};
-ghost use Rattle.layout.specs.Layout.{countSize, offsetSize, commandSize, maxRoutines, bookDevices, pairsEnd};
+ghost use Rattle.layout.specs.Layout.{countSize, commandSize, maxRoutines, bookDevices, pairsEnd};
 ghost use Rattle.layout.specs.Layout.{commandBytes, commandsBytes, bookBytes};
 ghost use Rattle.layout.specs.Numbers.{twoBytes, fourBytes};
 ghost use Rattle.layout.specs.Writing.{missingSetting, commandLent, commandsLent, routinesLent, routinesCheck};

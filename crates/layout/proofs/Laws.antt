@@ -6,13 +6,13 @@ use mathlib.Core.List.{List, [], _∷_, _++_}
 use native.Mathlib.Nat.{zero-add}
 use native.Mathlib.Numerals.{add-one}
 use native.Mathlib.Omega.{arith}
-use borrow.Author.Tests.{lt-ltb, le-ltb, le-leb, lt-leb, eq-eqb, ne-eqb, ltb-true, ltb-false, leb-true, eqb-true, not-false}
+use borrow.Author.Tests.{lt-ltb, le-ltb, le-leb, eq-eqb, ne-eqb, ltb-true, ltb-false, leb-true, eqb-true, not-false}
 use lib.Dec.{leb, eqb}
 use lib.IntN.{ℤ, pos, negsuc, _-ℤ_}
 use lib.Signed.{ltZ, mag}
 use lib.ListN.{length, length-append}
 use Rattle.routine.specs.Refusals.{book-cut-short, book-misplaced, book-length, refusalOf}
-use Rattle.routine.specs.Routine.{maxCommands, routineOf, noRoutine, commandsCheck}
+use Rattle.routine.specs.Routine.{maxCommands, routineOf, commandsCheck}
 use Rattle.routine.specs.declared.Command.{Command}
 use Rattle.routine.specs.declared.Refusal.{Refusal}
 use Rattle.routine.specs.declared.Verdict.the-variants.{Accepted, Refused}
@@ -21,7 +21,7 @@ use Rattle.layout.specs.Numbers.{twoBytes, fourBytes, fourAt, bitsOf, se
 use Rattle.layout.specs.Layout.{countSize, pairSize, offsetSize, commandSize, maxRoutines, bookDevices, pairsEnd, lengthIn}
 use Rattle.layout.specs.Layout.{commandBytes, commandsBytes, pairsBytes, countOf, offsetAt, lengthAt, commandsAt}
 use Rattle.layout.specs.Reading.{headCheck, lengthFits, placedCheck, placedChecks, bookCheck, endAt, pairNext, turnsDown, nextOf}
-use Rattle.layout.specs.declared.Item.the-variants.{Handed, Refused as RefusedBook}
+use Rattle.layout.specs.declared.Item.the-variants.{Handed}
 
 -- ---- lengths that fit: 4 to 32 in fours
 
