@@ -121,7 +121,11 @@ module _ (ds ts : List ℕ) (ss : List ℤ) where
   lends-both : (at mid to : ℕ) (cs more : List Command) → LendsTo at mid cs → LendsTo mid to more → LendsTo at to (cs ++ more)
   lends-both at mid to cs more h k =
       let hd = h .devices in let kd = k .devices in let ht = h .tags in let kt = k .tags in let hs = h .settings in let ks = k .settings in
-      record { devices = simp (map-append, append-assoc) (cc); tags = simp (map-append, append-assoc) (cc); settings = simp (map-append, append-assoc) (cc) }
+      record {
+        devices = simp (map-append, append-assoc) (cc);
+        tags = simp (map-append, append-assoc) (cc);
+        settings = simp (map-append, append-assoc) (cc);
+      }
 
   commands-whole : (j at n : ℕ) → commandsCheck bookDevices j (commandsLent ds ts ss at n) ≡ Accepted →
       LendsTo at (at + n) (commandsLent ds ts ss at n)
@@ -134,7 +138,8 @@ module _ (ds ts : List ℕ) (ss : List ℤ) where
       (subst (λ (q : ℕ). LendsTo (suc at) q (commandsLent ds ts ss (suc at) n)) p (commands-whole (suc j) (suc at) n (a .1)))
 
   -- So for a routine that passes, and for routines.
-  pub routine-whole : (at n : ℕ) → routineCheck bookDevices (commandsLent ds ts ss at n) ≡ Accepted → LendsTo at (at + n) (commandsLent ds ts ss at n)
+  pub routine-whole : (at n : ℕ) → routineCheck bookDevices (commandsLent ds ts ss at n) ≡ Accepted →
+      LendsTo at (at + n) (commandsLent ds ts ss at n)
   routine-whole at n e = commands-whole 0 at n (check-accepted bookDevices (commandsLent ds ts ss at n) e .2)
 
   pub length-lent : (at n : ℕ) → length (commandsLent ds ts ss at n) ≡ n
