@@ -1,25 +1,23 @@
 -- Laws of rows, of the steps that read them, and of the copy. Assumes nothing.
 use Prim.Native.Nat.{ℕ, zero, suc, _+_, _-_, _*_, _≤_, _<_}
 use mathlib.Core.Path.{_≡_, refl, sym, ap, ap₂, subst, _∙_}
-use mathlib.Core.Bool.{_||_}
 use mathlib.Core.List.{List, [], _∷_, _++_, map, append-assoc, append-nil, map-append}
 use native.Mathlib.Numerals.{add-one}
 use native.Mathlib.Omega.{arith}
-use borrow.Author.Tests.{lt-ltb, le-ltb, ltb-false}
+use borrow.Author.Tests.{lt-ltb, le-ltb}
 use denote.Enum.Declared.{tagOf}
 use types.Run.{OneOf, miss}
-use lib.Dec.{ltb, eqb}
+use lib.Dec.{ltb}
 use lib.IntN.{pos}
 use lib.ListN.{length, take, drop, getD, set, replicate, length-append, length-map, length-take, length-drop}
 use lib.Seq.{set-at, slice, slice-cons, slice-empty, take-append-seam, take-suc}
 use Rattle.routine.specs.Choice.{if_then_else_}
-use Rattle.routine.specs.Refusals.{command-count, refuse_when_}
 use Rattle.routine.specs.Routine.{maxCommands, zeroCommand, commandsOf, routineCheck}
 use Rattle.routine.specs.declared.Command.{Command}
 use Rattle.routine.specs.declared.Refusal.{Refusal}
 use Rattle.routine.specs.declared.Verdict.{Verdict}
 use Rattle.routine.specs.declared.Verdict.the-variants.{Accepted, Refused}
-use Rattle.routine.proofs.Laws.{both-accept, not-refused, or-false}
+use Rattle.routine.proofs.Laws.{both-accept, check-accepted}
 use Rattle.layout.specs.Claims.{Hands, ends, hands, Bytes}
 use Rattle.layout.specs.Layout.{maxRoutines, bookDevices}
 use Rattle.layout.specs.Reading.{bookCheck, nextOf}
@@ -117,16 +115,10 @@ with-routine rs r h k =
 
 -- ---- routines that may be written are few and short
 
-routine-short : (r : List Command) → routineCheck bookDevices r ≡ Accepted → length r ≤ maxCommands
-unfolding routineCheck
-routine-short r e =
-    let a = both-accept (refuse command-count when (eqb (length r) 0 || ltb maxCommands (length r))) _ e in
-    ltb-false maxCommands (length r) (or-false (eqb (length r) 0) _ (not-refused command-count _ (a .0)) .1)
-
 pub routines-short : (rs : List (List Command)) (i : ℕ) → routinesCheck rs ≡ Accepted → length (getD rs i []) ≤ maxCommands
 unfolding routinesCheck
 routines-short [] i e = omega arith
-routines-short (r ∷ rs) zero e = routine-short r (both-accept (routineCheck bookDevices r) _ e .0)
+routines-short (r ∷ rs) zero e = check-accepted bookDevices r (both-accept (routineCheck bookDevices r) _ e .0) .1
 routines-short (r ∷ rs) (suc i) e = routines-short rs i (both-accept (routineCheck bookDevices r) _ e .1)
 
 row-short : (rs : List (List Command)) (i : ℕ) → routinesCheck rs ≡ Accepted → length (rowOf (take i rs)) ≤ maxCommands * i
@@ -135,7 +127,7 @@ row-short rs zero e = omega arith
 row-short [] (suc i) e = omega arith
 row-short (r ∷ rs) (suc i) e =
     let a = both-accept (routineCheck bookDevices r) _ e in
-    let s = routine-short r (a .0) in
+    let s = check-accepted bookDevices r (a .0) .1 in
     let k = row-short rs i (a .1) in
     omega (arith, length-append r (rowOf (take i rs)))
 

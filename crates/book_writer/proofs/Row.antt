@@ -1,28 +1,27 @@
 -- Laws of the routines as they are lent, of what their counts say, and of bytes that are written one after another. Assumes nothing.
 use Prim.Native.Nat.{ℕ, zero, suc, _+_, _-_, _*_, _≤_, _<_}
 use mathlib.Core.Path.{_≡_, refl, sym, ap, ap₂, _∙_}
-use mathlib.Core.Bool.{Bool, _||_}
-use mathlib.Core.List.{List, [], _∷_, _++_, append-assoc}
+use mathlib.Core.List.{List, [], _∷_, _++_, map, append-assoc}
 use native.Mathlib.Nat.{suc-add}
 use native.Mathlib.Numerals.{add-one}
 use native.Mathlib.Omega.{arith}
-use borrow.Author.Tests.{lt-ltb, le-ltb, ltb-true, ltb-false, leb-false}
+use borrow.Author.Tests.{lt-ltb, le-ltb}
 use lib.IntN.{ℤ}
-use lib.Dec.{ltb, eqb}
-use lib.ListN.{length, drop, getD, length-append, drop-of-length-le, List·getD-eq-default}
+use lib.ListN.{length, drop, getD, length-append, length-map, length-drop, drop-of-length-le}
 use lib.Seq.{sets, sets-eq, drop-cons}
-use Rattle.routine.specs.Refusals.{command-count, device-not-below, no-room, refusalOf, refuse_when_}
-use Rattle.routine.specs.Routine.{maxCommands, commandCheck, commandsCheck, routineCheck}
+use Rattle.routine.specs.Refusals.{no-room, refusalOf}
+use Rattle.routine.specs.Routine.{routineCheck}
 use Rattle.routine.specs.declared.Command.{Command}
 use Rattle.routine.specs.declared.Refusal.{Refusal}
 use Rattle.routine.specs.declared.Verdict.the-variants.{Accepted, Refused}
-use Rattle.routine.proofs.Laws.{both-accept, not-refused, byTest, sets-append}
+use Rattle.routine.proofs.Laws.{sets-append}
 use Rattle.layout.specs.Layout.{countSize, pairSize, offsetSize, commandSize, maxRoutines, bookDevices, pairsEnd}
 use Rattle.layout.specs.Layout.{commandBytes, commandsBytes, pairsBytes, bodyBytes, bookBytes}
 use Rattle.layout.specs.Numbers.{twoBytes, fourBytes}
-use Rattle.layout.specs.Writing.{missingDevice, commandLent, commandsLent, routinesFrom, routinesLent}
+use Rattle.layout.specs.Writing.{commandLent, commandsLent, routinesFrom, routinesLent}
 use Rattle.layout.specs.Writing.{routinesCheck, writeCheck, writtenOf, bufferAfter}
 use Rattle.layout.specs.declared.Written.the-variants.{Length, Refused as NotWritten}
+use Rattle.layout.proofs.Lending.{length-lent, routine-whole}
 use Rattle.layout.proofs.Laws.{length-twoBytes, length-fourBytes, length-commandBytes, length-commandsBytes, length-pairsBytes}
 use Rattle.book_writer.specs.Count.{commandsCounted, pairsCounted}
 
@@ -46,11 +45,6 @@ commands-few (n ∷ ns) h = let k = commands-few ns (λ i. h (suc i)) in omega (
 -- ---- commands of the row
 
 module _ (ds ts : List ℕ) (ss : List ℤ) where
-  -- there are as many as were asked for
-  pub length-lent : (at n : ℕ) → length (commandsLent ds ts ss at n) ≡ n
-  length-lent at zero = refl
-  length-lent at (suc n) = ap suc (length-lent (suc at) n)
-
   -- some, and then others behind them
   pub lent-both : (at n m : ℕ) → commandsLent ds ts ss at (n + m) ≡ commandsLent ds ts ss at n ++ commandsLent ds ts ss (at + n) m
   lent-both at zero m = let z : 0 + m ≡ m = omega arith in let a : at ≡ at + 0 = omega arith in
@@ -71,32 +65,19 @@ module _ (ds ts : List ℕ) (ss : List ℤ) where
       let k : n - i ≡ suc (n - (i + 1)) = omega arith in
       ap (commandsLent ds ts ss i) k ∙ ap (λ (p : ℕ). commandLent ds ts ss i ∷ commandsLent ds ts ss p (n - (i + 1))) (sym (add-one i))
 
-  -- what passes the check is there: no device of a book is the missing one
-  device-there : (j at : ℕ) → commandCheck bookDevices j (commandLent ds ts ss at) ≡ Accepted → at < length ds
-  unfolding commandCheck
-  device-there j at e =
-      let d = leb-false bookDevices (getD ds at missingDevice) (not-refused (device-not-below j) _ (both-accept _ _ e .0)) in
-      byTest (λ (t : Bool). ltb at (length ds) ≡ t → at < length ds) (ltb at (length ds)) (λ _ f. ltb-true at (length ds) f)
-      (λ _ f.
-      let p = List·getD-eq-default ds missingDevice (ltb-false at (length ds) f) in
-      absurd (omega arith))
-      refl
-
-  commands-there : (j at n : ℕ) → at ≤ length ds → commandsCheck bookDevices j (commandsLent ds ts ss at n) ≡ Accepted → at + n ≤ length ds
-  unfolding commandsCheck
-  commands-there j at zero h e = omega arith
-  commands-there j at (suc n) h e =
-      let a = both-accept (commandCheck bookDevices j (commandLent ds ts ss at)) _ e in
-      let d = device-there j at (a .0) in
-      let r = commands-there (suc j) (suc at) n (omega arith) (a .1) in
-      omega arith
-
+  -- what passes the check is there
   pub routine-there : (at n : ℕ) → at ≤ length ds → routineCheck bookDevices (commandsLent ds ts ss at n) ≡ Accepted → at + n ≤ length ds
-  unfolding routineCheck
   routine-there at n h e =
       let cs = commandsLent ds ts ss at n in
-      let a = both-accept (refuse command-count when (eqb (length cs) 0 || ltb maxCommands (length cs))) _ e in
-      commands-there 0 at n h (a .1)
+      let parts = map (λ (c : Command). c .device) cs in
+      let l = ap length (routine-whole ds ts ss at n e .devices) in
+      omega (
+        arith,
+        length-drop at ds,
+        length-append parts (drop (at + n) ds),
+        length-map cs (λ (c : Command). c .device),
+        length-lent ds ts ss at n,
+      )
 
 -- ---- routines of the row
 

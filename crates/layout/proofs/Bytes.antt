@@ -2,22 +2,21 @@
 -- Assumes nothing.
 use Prim.Native.Nat.{ℕ, zero, suc, _+_, _-_, _*_, _/_, _%_, _≤_, _<_}
 use mathlib.Core.Path.{_≡_, refl, sym, ap, ap₂, _∙_}
-use mathlib.Core.Bool.{Bool, true, not}
+use mathlib.Core.Bool.{Bool, true}
 use mathlib.Core.List.{List, [], _∷_, _++_, append-assoc}
 use native.Mathlib.Numerals.{add-one}
 use native.Mathlib.Omega.{arith}
-use borrow.Author.Tests.{leb-true, ltb-true, ltb-false, not-false}
-use lib.Dec.{leb, ltb}
+use borrow.Author.Tests.{leb-true, ltb-true, ltb-false}
+use lib.Dec.{ltb}
 use lib.IntN.{ℤ, pos, negsuc}
 use lib.Signed.{mag}
 use lib.ListN.{length, drop}
 use lib.Seq.{drop-at, drop-drop, drop-cons, getD-drop}
 use Rattle.routine.specs.Range.{lowestSetting, highestSetting, inRange}
-use Rattle.routine.specs.Refusals.{device-not-below, setting-out-of-range, refuse_when_}
-use Rattle.routine.specs.Routine.{commandCheck, commandsCheck}
+use Rattle.routine.specs.Routine.{commandsCheck}
 use Rattle.routine.specs.declared.Command.{Command}
 use Rattle.routine.specs.declared.Verdict.the-variants.{Accepted}
-use Rattle.routine.proofs.Laws.{byTest, both-accept, not-refused, in-range-pos, in-range-negsuc}
+use Rattle.routine.proofs.Laws.{byTest, both-accept, in-range-pos, in-range-negsuc, command-accepted}
 use Rattle.layout.specs.Numbers.{twoBytes, fourBytes, byteAt, twoAt, fourAt, bitsOf, settingOf}
 use Rattle.layout.specs.Layout.{commandSize, commandBytes, commandsBytes, commandAt, commandsAt}
 use Rattle.layout.specs.Claims.{Bytes}
@@ -97,14 +96,6 @@ command-read b rest p c h e =
     ∙ setting-read (c .setting) h in
     λ i. record { device = x i; tag = y i; setting = z i }
 
--- the setting of an accepted command is in range
-in-range : (limit k : ℕ) (c : Command) → commandCheck limit k c ≡ Accepted → inRange (c .setting) ≡ true
-unfolding commandCheck
-in-range limit k c e =
-    let x = both-accept (refuse (device-not-below k) when leb limit (c .device)) _ e in
-    let y = both-accept (refuse (setting-out-of-range k) when not (inRange (c .setting))) _ (x .1) in
-    not-false _ (not-refused (setting-out-of-range k) _ (y .0))
-
 -- accepted commands in a row are read as they were
 pub commands-read : (limit k : ℕ) (b rest : List ℕ) (p : ℕ) (cs : List Command) → commandsCheck limit k cs ≡ Accepted →
     drop p b ≡ commandsBytes cs ++ rest → commandsAt b p (length cs) ≡ cs
@@ -113,7 +104,7 @@ commands-read limit k b rest p [] h e = refl
 commands-read limit k b rest p (c ∷ cs) h e =
     let a = both-accept _ _ h in
     let f = e ∙ append-assoc (commandBytes c) (commandsBytes cs) rest in
-    ap₂ _∷_ (command-read b _ p c (in-range limit k c (a .0)) f)
+    ap₂ _∷_ (command-read b _ p c (command-accepted limit k c (a .0) .1) f)
     (commands-read limit (suc k) b rest (p + commandSize) cs (a .1) (behind b (commandBytes c) _ p commandSize f (length-commandBytes c)))
 
 -- ---- what was read at a place, written again, is what stands there

@@ -1,5 +1,5 @@
 -- The theorems of the routine book, by name. What each says stands in specs/Claims.antt and WritingCauses.antt. Assumes nothing.
-use Rattle.layout.specs.Claims.{WriteThenRead, ReadThenWrite, LentAgain, ExactRefusals, JudgedByFirstBytes}
+use Rattle.layout.specs.Claims.{WriteThenRead, ReadThenWrite, LentAgain, WrittenWhole, ExactRefusals, JudgedByFirstBytes}
 use Rattle.layout.specs.WritingCauses.{ExactWriting}
 use Rattle.layout.proofs.RoundTrip as RoundTrip
 use Rattle.layout.proofs.Lending as Lending
@@ -30,3 +30,7 @@ judged-by-first-bytes = FirstBytes.judged-by-first-bytes
 -- What is lent of routines is those routines again.
 pub lent-again : LentAgain
 lent-again = Lending.lent-again
+
+-- What is written was lent whole.
+pub written-whole : WrittenWhole
+written-whole = Lending.written-whole

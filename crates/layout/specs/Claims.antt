@@ -16,7 +16,7 @@ use Rattle.routine.specs.Range.{lowestSetting, highestSetting}
 use Rattle.layout.specs.Numbers.{byteAt, twoAt, bitsOf}
 use Rattle.layout.specs.Layout.{countSize, commandSize, maxRoutines, bookDevices, pairsEnd, countOf, offsetAt, lengthAt}
 use Rattle.layout.specs.Reading.{bookCheck, nextOf}
-use Rattle.layout.specs.Writing.{routinesLent, countsOf, devicesOf, tagsOf, settingsOf, writtenOf, bufferAfter}
+use Rattle.layout.specs.Writing.{routinesLent, rowOf, countsOf, devicesOf, tagsOf, settingsOf, writtenOf, bufferAfter}
 use Rattle.layout.specs.declared.Item.the-variants.{Handed, End}
 use Rattle.layout.specs.declared.Written.the-variants.{Length}
 
@@ -54,6 +54,16 @@ abbrev pub LentAgain : Type 0
 LentAgain =
     (rs : List (List Command)) (x y : List ℕ) (z : List ℤ) →
     routinesLent (countsOf rs) (devicesOf rs ++ x) (tagsOf rs ++ y) (settingsOf rs ++ z) ≡ rs
+
+-- Each routine has as many commands as its count says; and where they are written, all their parts were lent: nothing is written shorter.
+abbrev pub WrittenWhole : Type 0
+WrittenWhole =
+    (ns ds ts : List ℕ) (ss : List ℤ) →
+    let rs = routinesLent ns ds ts ss in
+    let all = length (rowOf rs) in
+    (countsOf rs ≡ ns)
+    × ((room n : ℕ) → writtenOf rs room ≡ Length n →
+    (devicesOf rs ≡ take all ds) × (tagsOf rs ≡ take all ts) × (settingsOf rs ≡ take all ss))
 
 -- ---- when a book is turned down
 

@@ -1,13 +1,13 @@
 -- Laws of the definitions that callers cite, so that no caller opens them. Assumes nothing.
 use Prim.Native.Nat.{ℕ, zero, suc, _+_, _-_, _≤_, _<_, _^_}
 use mathlib.Core.Path.{_≡_, refl, sym, ap, _∙_}
-use mathlib.Core.Bool.{Bool, true, false, _&&_, _||_}
+use mathlib.Core.Bool.{Bool, true, false, not, _&&_, _||_}
 use mathlib.Core.List.{List, [], _∷_, _++_, map, append-assoc}
 use native.Mathlib.Nat.{suc-add, add-suc, add-zero}
 use native.Mathlib.Numerals.{add-one}
 use native.Mathlib.Omega.{arith}
-use borrow.Author.Tests.{lt-ltb, le-ltb, le-leb, lt-leb, eq-eqb, ne-eqb}
-use lib.Dec.{leb, ltb}
+use borrow.Author.Tests.{lt-ltb, le-ltb, le-leb, lt-leb, eq-eqb, ne-eqb, ltb-false, leb-false, eqb-false, not-false}
+use lib.Dec.{leb, ltb, eqb}
 use lib.IntN.{pos, negsuc}
 use lib.Signed.{mag}
 use lib.ListN.{length, take, getD, set, replicate, length-append, length-replicate, length-map}
@@ -148,6 +148,17 @@ module _ (limit i : ℕ) (c : Command) where
   unfolding commandCheck
   command-fine h e t = simp (lt-leb limit (c .device) h, e, le-ltb highestTag (c .tag) t)
 
+  -- the other way round
+  pub command-accepted : commandCheck limit i c ≡ Accepted → (c .device < limit) × (inRange (c .setting) ≡ true) × (c .tag ≤ highestTag)
+  unfolding commandCheck
+  command-accepted e =
+      let x = both-accept (refuse (device-not-below i) when leb limit (c .device)) _ e in
+      let y = both-accept (refuse (setting-out-of-range i) when not (inRange (c .setting))) _ (x .1) in (
+        leb-false limit (c .device) (not-refused (device-not-below i) _ (x .0)),
+        not-false _ (not-refused (setting-out-of-range i) _ (y .0)),
+        ltb-false highestTag (c .tag) (not-refused (tag-out-of-range i) _ (y .1)),
+      )
+
 -- ---- the check of a routine
 
 pub check-counted : (limit : ℕ) (cs : List Command) → 0 < length cs → length cs ≤ maxCommands →
@@ -162,6 +173,16 @@ check-empty limit cs h = simp (eq-eqb (length cs) 0 h)
 pub check-long : (limit : ℕ) (cs : List Command) → maxCommands < length cs → routineCheck limit cs ≡ Refused (refusalOf command-count)
 unfolding routineCheck
 check-long limit cs h = simp (ne-eqb (length cs) 0 (λ e. omega arith), lt-ltb maxCommands (length cs) h)
+
+-- the other way round
+pub check-accepted : (limit : ℕ) (cs : List Command) → routineCheck limit cs ≡ Accepted →
+    (0 < length cs) × (length cs ≤ maxCommands) × (commandsCheck limit 0 cs ≡ Accepted)
+unfolding routineCheck
+check-accepted limit cs e =
+    let a = both-accept (refuse command-count when (eqb (length cs) 0 || ltb maxCommands (length cs))) _ e in
+    let t = or-false _ _ (not-refused command-count _ (a .0)) in
+    let n = eqb-false (length cs) 0 (t .0) in
+    (omega arith, ltb-false maxCommands (length cs) (t .1), a .1)
 
 -- a routine that its struct holds
 pub check-held : (limit : ℕ) (r : Routine) → length (r .commands) ≡ maxCommands → 0 < r .count → r .count ≤ maxCommands →

@@ -99,7 +99,7 @@ loop-again c = let l = c .before .before .before .before .before .before in
             subst (λ (p : ℕ). Hands b p (drop (i + 1) rs)) (sym (ap (λ (x : Next). x .position) n)) (t .left),
             c .with-routine .ensures
                 ∙ ap₂ withRoutine (k .1) (ap (λ (x : Next). commandsOf (x .routine)) n ∙ t .same)
-                ∙ rows-more rs i (m .fine) (t .there) (c .before .before .before .before .before .loop-test .taken),
+                ∙ rows-more rs i (m .fine) (t .there) (omega (arith, c .before .before .before .before .before .loop-test .taken)),
           ),
     )
 

@@ -7,7 +7,7 @@ use Rattle.routine.specs.declared.Routine.{Routine}
 use Rattle.routine.proofs.Laws.{check-long, routineOf-commands}
 use Rattle.layout.specs.Layout.{bookDevices}
 use Rattle.layout.specs.Writing.{commandsLent}
-use Rattle.book_writer.proofs.Row.{length-lent}
+use Rattle.layout.proofs.Lending.{length-lent}
 use borrow.Author.Needs.{needs}
 use Rattle.book_writer.proofs.writing.check_one.Statement.{statement}
 use Rattle.book_writer.proofs.writing.check_one.Tie as tie

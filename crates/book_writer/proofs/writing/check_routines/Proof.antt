@@ -51,8 +51,7 @@ next : (c : tie.After-check-one Inv-loop μ-loop) →
 next c =
     let l = c .before .before .before in
     let a = l .before .before .before .before .args in
-    routines-more (a .devices .now) (a .tags .now) (a .settings .now) (a .counts .now) (l .loop .i) (l .loop .at)
-    (c .before .before .loop-test .taken)
+    routines-more (a .devices .now) (a .tags .now) (a .settings .now) (a .counts .now) (l .loop .i) _ (c .before .before .loop-test .taken)
 
 returns : tie.Need-returns Inv-loop μ-loop
 returns c = let l = c .before .before .before .before .before in
@@ -101,9 +100,7 @@ returns-2 : tie.Need-returns-2 Inv-loop μ-loop
 returns-2 c = let l = c .before in
     let a = l .before .before .before .before .args in
     sym check-none
-    ∙ ap routinesCheck
-    (sym (routines-end (a .devices .now) (a .tags .now) (a .settings .now) (a .counts .now) (l .loop .i) (l .loop .at)
-    (c .loop-test .left)))
+    ∙ ap routinesCheck (sym (routines-end (a .devices .now) (a .tags .now) (a .settings .now) (a .counts .now) _ _ (c .loop-test .left)))
     ∙ l .loop .inv .1
 
 pub check-routines-spec : {M : Type 1} → statement M

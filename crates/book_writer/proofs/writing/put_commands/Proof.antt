@@ -27,9 +27,8 @@ loop-holds : tie.Need-loop-holds Inv-loop μ-loop
 loop-holds c = let a = c .before .before .before .args in
     let e : a .from + 0 ≡ a .from = omega arith in
     let k : a .count - 0 ≡ a .count = omega arith in
-    let put : ℕ → ℕ → List ℕ =
-    λ p n. sets (a .out .now) p (commandsBytes (commandsLent (a .devices .now) (a .tags .now) (a .settings .now) 0 n)) in
-    (search needs, refl, ap₂ put e k)
+    let first : ℕ → List ℕ = λ n. commandsBytes (commandsLent (a .devices .now) (a .tags .now) (a .settings .now) 0 n) in
+    (search needs, refl, ap₂ (λ (p n : ℕ). sets (a .out .now) p (first n)) e k)
 
 command-in-requires : tie.Need-command-in-requires Inv-loop μ-loop
 command-in-requires c κs = search needs

@@ -11,7 +11,8 @@ use Rattle.routine.specs.declared.Routine.{Routine}
 use Rattle.routine.specs.Routine.{routineOf, withCommand}
 use Rattle.routine.proofs.Laws.{with-more}
 use Rattle.layout.specs.Writing.{commandsLent}
-use Rattle.book_writer.proofs.Row.{length-lent, lent-more}
+use Rattle.book_writer.proofs.Row.{lent-more}
+use Rattle.layout.proofs.Lending.{length-lent}
 use Rattle.book_writer.proofs.writing.routine_in.Statement.{statement}
 use Rattle.book_writer.proofs.writing.routine_in.Tie as tie
 
