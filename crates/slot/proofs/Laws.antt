@@ -50,12 +50,6 @@ each-at P [] i z h k = absurd (omega (arith, h))
 each-at P (x ∷ l) zero z h k = k .0
 each-at P (x ∷ l) (suc i) z h k = each-at P l i z (omega arith) (k .1)
 
--- an element does not depend on what stands past the end
-pub any-default : {A : Type 0} (l : List A) (i : ℕ) (y z : A) → i < length l → getD l i y ≡ getD l i z
-any-default [] i y z h = absurd (omega (arith, h))
-any-default (x ∷ l) zero y z h = refl
-any-default (x ∷ l) (suc i) y z h = any-default l i y z (omega arith)
-
 -- what holds of each of the first n holds at an index below n
 pub each-within : {A : Type 0} (P : A → Type 0) (n : ℕ) (l : List A) (i : ℕ) (z : A) → n ≤ length l → i < n → Each P (take n l) → P (getD l i z)
 each-within P n l i z h k e = subst P (getD-take n l i z k) (each-at P (take n l) i z (omega (arith, k, length-take-le n l h)) e)

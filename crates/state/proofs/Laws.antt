@@ -3,12 +3,12 @@ use mathlib.Core.Path.{_≡_, refl, sym, ap, _∙_, subst}
 use mathlib.Core.Bool.{Bool, true}
 use mathlib.Core.List.{List, [], _∷_, _++_}
 use mathlib.Core.Option.{Option}
-use Prim.Native.Nat.{ℕ, zero, suc, _+_, _<_, _≤_}
-use native.Mathlib.Omega.{arith}
+use Prim.Native.Nat.{ℕ, suc, _+_, _<_, _≤_}
 use borrow.Author.Tests.{eq-eqb, ne-eqb}
 use lib.IntN.{ℤ, pos}
 use lib.ListN.{length, getD, List·getD-eq-default}
 use Rattle.routine.specs.declared.Refusal.{Refusal}
+use Rattle.routine.proofs.Laws.{any-default}
 use Rattle.rules.specs.State.{highestId, Member, State}
 use Rattle.rules.specs.Answers.{Result, turnedDown}
 use Rattle.rules.specs.Sequence.{find, withSequence, withSettled, withMark, change}
@@ -102,12 +102,6 @@ unfolding stateOf settle
 settled-view h q settled mark e = sym (e (stateOf h))
 
 -- ---- what is read off a state
-
--- below an array's end it does not matter what is read past it
-pub any-default {ℓ} : {A : Type ℓ} (l : List A) (i : ℕ) (x y : A) → i < length l → getD l i x ≡ getD l i y
-any-default [] i x y h = absurd (omega (arith, h))
-any-default (a ∷ l) zero x y h = refl
-any-default (a ∷ l) (suc i) x y h = any-default l i x y (omega arith)
 
 -- whether a device is up, past the array and in it
 pub up-past : (h : HubState) (d : ℕ) → length (h .up) ≤ d → stateOf h .up d ≡ true

@@ -10,12 +10,11 @@ use Prim.Native.Nat.{_+_, _-_, _≤_, _<_}
 use lib.ListN.{length}
 use mir.Val.{toZ, ofZ}
 use mir.Syntax.{w16}
-use Rattle.routine.proofs.Laws.{length-mapped}
+use Rattle.routine.proofs.Laws.{any-default, length-mapped}
 use Rattle.rules.specs.Answers.{Back}
 use Rattle.slot.specs.View.{settingsOf}
 use Rattle.answers.specs.View.{backsOf}
 use Rattle.answers.specs.declared.PutBacks.{PutBacks}
-use Rattle.state.proofs.Laws.{any-default}
 use Rattle.abort.specs.PutBacks.{isBackBy, backsBy}
 use Rattle.abort.proofs.Laws.{test-read, backs-more, backs-same, backs-end}
 use Rattle.abort.proofs.put_backs.Statement.{statement}

@@ -12,7 +12,8 @@ use mir.Val.{toZ, ofZ}
 use mir.Syntax.{w16}
 use Rattle.rules.specs.Attach.{later}
 use Rattle.slot.specs.View.{isRestart, restartsOf, restartOf, noRestart}
-use Rattle.slot.proofs.Laws.{fun-ext, set-put, any-default}
+use Rattle.routine.proofs.Laws.{any-default}
+use Rattle.slot.proofs.Laws.{fun-ext, set-put}
 use Rattle.slot.proofs.DueLaws.{restart-set, restart-unset, restart-past, newBelow, below-none, below-put, below-same, below-all}
 use Rattle.slot.proofs.attach.later_restarts.Statement.{statement}
 use Rattle.slot.proofs.attach.later_restarts.Tie as tie

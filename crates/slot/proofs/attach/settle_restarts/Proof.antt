@@ -13,7 +13,8 @@ use mir.Syntax.{w16}
 use Rattle.rules.specs.Due.{afterRestart}
 use Rattle.rules.specs.Attach.{settleRestarts}
 use Rattle.slot.specs.View.{settingsOf, isRestart, restartOf, restartsOf, noRestart}
-use Rattle.slot.proofs.Laws.{fun-ext, set-put, any-default}
+use Rattle.routine.proofs.Laws.{any-default}
+use Rattle.slot.proofs.Laws.{fun-ext, set-put}
 use Rattle.slot.proofs.DueLaws.{restart-set, restart-unset, restart-past, newBelow, below-none, below-put, below-same, below-all}
 use Rattle.slot.proofs.attach.settle_restarts.Statement.{statement}
 use Rattle.slot.proofs.attach.settle_restarts.Tie as tie

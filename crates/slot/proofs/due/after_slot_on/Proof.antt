@@ -10,10 +10,9 @@ use lib.IntN.{ℤ, pos}
 use lib.ListN.{length, getD}
 use mir.Val.{toZ, ofZ}
 use mir.Syntax.{w16}
-use Rattle.routine.proofs.Laws.{length-mapped}
+use Rattle.routine.proofs.Laws.{any-default, length-mapped}
 use Rattle.rules.specs.Due.{afterSteps, afterRestart, afterMember}
 use Rattle.slot.specs.View.{noRestart, isRestart, restartOf, restartsOf, stepsOf, memberOf}
-use Rattle.slot.proofs.Laws.{any-default}
 use Rattle.slot.proofs.DueLaws.{restart-set, restart-unset, restart-past}
 use Rattle.slot.proofs.due.after_slot_on.Statement.{statement}
 use Rattle.slot.proofs.due.after_slot_on.Tie as tie
