@@ -1,5 +1,6 @@
-// The plot hub, by value: document 01, "The steps". Here stand the public calls with their contracts. Each call is a step, in the crate of
-// its name, and then settling; `specs/` reads a hub as the state of the rules, and an outcome as their answers.
+// The plot hub, by value: document 01, "The steps". Here stand the public calls with their contracts. Each call is a step, of crate
+// `submit`, `turn`, `report`, `events` or, the cancel, `abort`, and then settling; `specs/` reads a hub as the state of the rules, and an
+// outcome as their answers.
 mod opening;
 mod settling;
 

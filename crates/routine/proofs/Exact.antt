@@ -285,31 +285,40 @@ exact-routine limit cs =
 
 -- ---- a refusal tells its cause
 
+abbrev numberIn : Refusal → ℕ
+numberIn (Number n) = n
+numberIn (Indexed n i) = n
+
+-- is n the number of this cause?
+abbrev isOf : ℕ → Cause → Bool
+isOf n cause = eqb n (numberIn (refusalOf cause))
+
+-- the cause that has a number, and the one that has a number and an index
 abbrev numbered : ℕ → Cause
 numbered n =
-    if eqb n 1 then devices-out-of-range
-    else if eqb n 2 then pass-limit-out-of-range
-    else if eqb n 3 then first-id-0
-    else if eqb n 4 then command-count
-    else if eqb n 8 then sequence-full
-    else if eqb n 9 then ids-used-up
-    else if eqb n 10 then not-running
-    else if eqb n 11 then turn-in-flight
-    else if eqb n 12 then none-in-flight
-    else if eqb n 13 then report-code-out-of-range
-    else if eqb n 14 then event-device
-    else if eqb n 15 then failure-of-down
-    else if eqb n 16 then restart-of-up
-    else if eqb n 17 then restart-setting
-    else if eqb n 18 then book-cut-short
-    else if eqb n 19 then book-misplaced
+    if isOf n devices-out-of-range then devices-out-of-range
+    else if isOf n pass-limit-out-of-range then pass-limit-out-of-range
+    else if isOf n first-id-0 then first-id-0
+    else if isOf n command-count then command-count
+    else if isOf n sequence-full then sequence-full
+    else if isOf n ids-used-up then ids-used-up
+    else if isOf n not-running then not-running
+    else if isOf n turn-in-flight then turn-in-flight
+    else if isOf n none-in-flight then none-in-flight
+    else if isOf n report-code-out-of-range then report-code-out-of-range
+    else if isOf n event-device then event-device
+    else if isOf n failure-of-down then failure-of-down
+    else if isOf n restart-of-up then restart-of-up
+    else if isOf n restart-setting then restart-setting
+    else if isOf n book-cut-short then book-cut-short
+    else if isOf n book-misplaced then book-misplaced
     else no-room
 
 abbrev indexed : ℕ → ℕ → Cause
 indexed n i =
-    if eqb n 5 then device-not-below i
-    else if eqb n 6 then setting-out-of-range i
-    else if eqb n 7 then tag-out-of-range i
+    if isOf n (device-not-below i) then device-not-below i
+    else if isOf n (setting-out-of-range i) then setting-out-of-range i
+    else if isOf n (tag-out-of-range i) then tag-out-of-range i
     else book-length i
 
 abbrev told : Refusal → Cause

@@ -51,8 +51,7 @@ noRoutine = routineOf []
 unfoldable pub withCommand : Routine → Command → Routine
 withCommand r c = record {
   commands = set (r .commands) (r .count) c;
-  count =
-      if ltb (r .count) (2 ^ 64 - 1) then r .count + 1 else r .count;
+  count = if ltb (r .count) (2 ^ 64 - 1) then r .count + 1 else r .count;
 }
 
 -- A command, the one at index i of its routine, against a device limit: 5, 6, 7.

@@ -205,11 +205,8 @@ lastAnswers (t ∷ l) = t .answers
 pub midways :
     (lastAnswers (after 3 takenLate .history) ≡ aborted 1 (back 0 (pos 0) ∷ []) ∷ []) × (after 4 takenLate .devices 0 .setting ≡ pos 50)
     × (after 4 takenLate .devices 0 .sent ≡ record { setting = pos 0; origin = put-back } ∷ [])
-    × (after 7 overtaken .devices 0 .sent ≡ record { setting = pos 0; origin = put-back } ∷ record {
-      setting = pos 70;
-      origin =
-          sent-for 2 1;
-    } ∷ [])
+    × (after 7 overtaken .devices 0 .sent ≡ record { setting = pos 0; origin = put-back }
+    ∷ record { setting = pos 70; origin = sent-for 2 1 } ∷ [])
     × (after 8 overtaken .devices 0 .sent ≡ []) × (lastAnswers (after 9 overtaken .history) ≡ done 2 ∷ [])
     × (after 2 failedInFlight .devices 0 .sent ≡ record { setting = pos 50; origin = sent-for 1 1 } ∷ [])
     × (lastAnswers (after 3 failedInFlight .history) ≡ aborted 1 [] ∷ down 0 0 ∷ []) × (after 3 failedInFlight .devices 0 .setting ≡ pos 33)

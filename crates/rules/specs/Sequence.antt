@@ -37,30 +37,26 @@ lastIdOr i [] = i
 lastIdOr i (m ∷ l) = lastIdOr (m .id) l
 
 abbrev pub withSequence : State → List Member → State
-withSequence s l =
-    record {
-      devices = s .devices;
-      passLimit = s .passLimit;
-      nextId = s .nextId;
-      sequence = l;
-      settled = s .settled;
-      up = s .up;
-      mark =
-          s .mark;
-    }
+withSequence s l = record {
+  devices = s .devices;
+  passLimit = s .passLimit;
+  nextId = s .nextId;
+  sequence = l;
+  settled = s .settled;
+  up = s .up;
+  mark = s .mark;
+}
 
 abbrev pub withSettled : State → (ℕ → ℤ) → State
-withSettled s b =
-    record {
-      devices = s .devices;
-      passLimit = s .passLimit;
-      nextId = s .nextId;
-      sequence = s .sequence;
-      settled = b;
-      up = s .up;
-      mark =
-          s .mark;
-    }
+withSettled s b = record {
+  devices = s .devices;
+  passLimit = s .passLimit;
+  nextId = s .nextId;
+  sequence = s .sequence;
+  settled = b;
+  up = s .up;
+  mark = s .mark;
+}
 
 abbrev pub withUp : State → (ℕ → Bool) → State
 withUp s u = record {
@@ -69,23 +65,20 @@ withUp s u = record {
   nextId = s .nextId;
   sequence = s .sequence;
   settled = s .settled;
-  up =
-      u;
+  up = u;
   mark = s .mark;
 }
 
 abbrev pub withMark : State → (ℕ → ℕ) → State
-withMark s m =
-    record {
-      devices = s .devices;
-      passLimit = s .passLimit;
-      nextId = s .nextId;
-      sequence = s .sequence;
-      settled = s .settled;
-      up =
-          s .up;
-      mark = m;
-    }
+withMark s m = record {
+  devices = s .devices;
+  passLimit = s .passLimit;
+  nextId = s .nextId;
+  sequence = s .sequence;
+  settled = s .settled;
+  up = s .up;
+  mark = m;
+}
 
 -- Marks that were i become j.
 unfoldable pub moveMarks : ℕ → ℕ → (ℕ → ℕ) → ℕ → ℕ

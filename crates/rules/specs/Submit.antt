@@ -43,8 +43,7 @@ pass m = record {
   id = m .id;
   steps = m .steps;
   passed = if isRunning m then suc (m .passed) else m .passed;
-  committed =
-      m .committed;
+  committed = m .committed;
   restarts = m .restarts;
 }
 
