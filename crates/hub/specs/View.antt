@@ -1,5 +1,5 @@
--- A hub read as the state of the rules, and an outcome as their answers. `specs/View.antt` of crate `state` sets out, for each case of each
--- enum, which answer of document 01 it is, and with which values. Assumes nothing.
+-- A hub read as the state of the rules, and an outcome as their answers. `specs/View.antt` of crate `answers` sets out, for each case of
+-- each enum, which answer of document 01 it is, and with which values. Assumes nothing.
 use mathlib.Core.List.{List}
 use Rattle.rules.specs.State.{State}
 use Rattle.rules.specs.Answers.{Answer as Told, Result}
