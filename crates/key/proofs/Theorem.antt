@@ -14,7 +14,7 @@ use Rattle.rules.specs.Order.{Entry, entries, orderOf}
 use Rattle.rules.specs.Serial.{DeviceState, allUp, serialRun}
 use Rattle.rules.specs.World.{World, Act, worldAfterAll, PremiseAll, newWorld}
 use Rattle.rules.specs.Demand3.{orderIn, committedPart, Begins, CommandsStand, Demand3}
-use Rattle.rules.specs.Examples.{stateAfter}
+use Rattle.rules.specs.Calls.{stateAfter}
 use Rattle.rules.proofs.Lists.{or-left, anyOf-++}
 use Rattle.rules.proofs.Theorem.{opening, demand-3, hub-order, order-committed, working-up}
 use Rattle.line_rules.specs.Text.{bytes}

@@ -123,9 +123,9 @@ members-alone (m ∷ l) = ap (λ k. m ∷ k) (members-alone l)
 pub devices-kept : (s : State) (c : Call) → resultOf s c .state .devices ≡ s .devices
 devices-kept s c = go (see s (map alone (s .sequence)) (sym (members-alone (s .sequence))) c)
   where
-    go : {r : Result} → Seen s (map alone (s .sequence)) c r → r .state .devices ≡ s .devices
+    go : {c : Call} {r : Result} → Seen s (map alone (s .sequence)) c r → r .state .devices ≡ s .devices
     go (is-refused r) = refl
-    go (waits i j) = refl
+    go (waits i a g b d j w n f) = refl
     go (moves {r = r} m) = ap (λ (q : Fixed). q .devices) (settle-fixed (r .state)) ∙ moves-same s (map alone (s .sequence)) m .1
 
 -- what holds after a call, and the settled part has only grown
@@ -211,7 +211,7 @@ told P w c v h {r = r} {lead = lead} {k = k} m = record {
 seen : (P : Type 0) (w : World) (c : Call) (v : ℤ) (h : Holds P w) {r : Result} → Seen (w .state) (h .groups) c r →
     Next (P × Premised w c (r .answers)) w (afterCall w c v r)
 seen P w c v h (is-refused r) = untold P _ w c (refused r) h refl refl refl
-seen P w c v h (waits i j) = untold P _ w c (wait i j) h refl refl refl
+seen P w _ v h (waits i a g b d j e n f) = untold P _ w (turn i) (wait (g .member .id) j) h refl refl refl
 seen P w c v h (moves m) = told P w c v h m
 
 -- ---- any act

@@ -102,10 +102,13 @@ pub data Moves (s : State) (l : List Group) : Call → Result → List Event →
       record { state = withUp t (put (t .up) d true); answers = r .answers ++ (up d (r .state .mark d) ∷ []) })
       (leadWith (r .state .mark d) (restart-of d v) lead) (attachEvent (r .state .mark d) (restart-of d v) k)
 
-pub data Seen (s : State) (l : List Group) (c : Call) : Result → Type 0 where
-  is-refused : (r : Refusal) → Seen s l c (record { state = s; answers = refused r ∷ [] })
-  waits : (i j : ℕ) → Seen s l c (record { state = s; answers = wait i j ∷ [] })
-  moves : {r : Result} {lead : List Event} {k : List Group} → Moves s l c r lead k → Seen s l c (settling r)
+-- a turn waits for a routine ahead of its own
+pub data Seen (s : State) (l : List Group) : Call → Result → Type 0 where
+  is-refused : {c : Call} (r : Refusal) → Seen s l c (record { state = s; answers = refused r ∷ [] })
+  waits : (i : ℕ) (a : List Group) (g : Group) (b : List Group) (d j : ℕ) → l ≡ a ++ (g ∷ b) → g .member .id ≡ i →
+      firstHolding d (members a) ≡ some j →
+      Seen s l (turn i) (record { state = s; answers = wait (g .member .id) j ∷ [] })
+  moves : {c : Call} {r : Result} {lead : List Event} {k : List Group} → Moves s l c r lead k → Seen s l c (settling r)
 
 -- ---- the groups that a call is about
 
@@ -191,7 +194,7 @@ module _ (s : State) {l : List Group} (i : ℕ) (a : List Group) (g : Group) (b 
   idle f (some c) e = unheld (firstHolding (c .device) (members a)) refl
     where
       unheld : (o : Option ℕ) → firstHolding (c .device) (members a) ≡ o → Seen s l (turn i) (waitOr s (foundAt a g b) c o)
-      unheld (some j) h = waits (g .member .id) j
+      unheld (some j) h = waits i a g b (c .device) j w n h
       unheld none h =
           byIf (Seen s l (turn i)) (s .up (c .device)) (λ t. moves (sends i a g b c w n u f e h t))
           (λ t. byIf (Seen s l (turn i)) (isMust c) (λ _. moves (aborts (turn i) a g b w u (by-turn i n f)))

@@ -1,5 +1,6 @@
 -- All calls: from a state and a call to the answers and the next state. Assumes nothing.
 use mathlib.Core.Path.{_≡_}
+use mathlib.Core.List.{List, [], _∷_}
 use Rattle.routine.specs.declared.Refusal.{Refusal}
 use Rattle.rules.specs.State.{State}
 use Rattle.rules.specs.Answers.{Call, submit, turn, report, failure, restart, cancel, Result, turnedDown}
@@ -16,6 +17,11 @@ resultOf s (report i code) = reportOf s i code
 resultOf s (failure d) = failureOf s d
 resultOf s (restart d v) = restartOf s d v
 resultOf s (cancel i) = cancelOf s i
+
+-- The state after a list of calls, each on the state that the one before left.
+abbrev pub stateAfter : State → List Call → State
+stateAfter s [] = s
+stateAfter s (c ∷ l) = stateAfter (resultOf s c .state) l
 
 -- A hub on which every call is turned down. That `closedHub` is one is `closed-turns-all-down` of `proofs/Closed.antt`.
 abbrev pub TurnsAllDown : State → Type 0

@@ -27,7 +27,7 @@ use Rattle.rules.specs.Turn.{holds, markBegun, commit, commitTurn, sendT
 use Rattle.rules.specs.Report.{doneReport, backIfChanged, skippedState, skipReport, reportOf}
 use Rattle.rules.specs.Events.{isHalfway, abortHalfway, failureResult, restartResult, failureOf, restartOf}
 use Rattle.rules.specs.Cancel.{cancelOf}
-use Rattle.rules.specs.Calls.{resultOf}
+use Rattle.rules.specs.Calls.{resultOf, stateAfter}
 
 -- All that a computation with the rules opens.
 unfoldable pub calc : Unit {0}
@@ -49,10 +49,6 @@ pub record Example : Type 0 where
 abbrev pub answersOf : State → List Call → List (List Answer)
 answersOf s [] = []
 answersOf s (c ∷ l) = resultOf s c .answers ∷ answersOf (resultOf s c .state) l
-
-abbrev pub stateAfter : State → List Call → State
-stateAfter s [] = s
-stateAfter s (c ∷ l) = stateAfter (resultOf s c .state) l
 
 -- The lines of the `left` devices from d on.
 abbrev pub deviceLines : State → ℕ → ℕ → List (Option ℤ)

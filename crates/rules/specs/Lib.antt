@@ -22,3 +22,4 @@ pub mod World
 pub mod Demand3
 pub mod Examples
 pub mod HubOrder
+pub mod Rounds

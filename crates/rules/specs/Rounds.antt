@@ -1,0 +1,126 @@
+-- Document 02, item 1, "Nobody waits for ever": rounds, schedules and the waiting promise. Which routines run, what is in flight and what
+-- has ended is told by calls and answers, without a look at the hub. The proof is `ended-in-time` of `proofs/Waiting.antt`;
+-- `docs/WAITING.md` walks through it. Assumes nothing.
+use mathlib.Core.Path.{_≡_}
+use mathlib.Core.Bool.{Bool, true, false, not, _&&_}
+use mathlib.Core.List.{List, [], _∷_, _++_, map}
+use Prim.Native.Nat.{ℕ, suc, _+_, _*_, _≤_}
+use lib.Dec.{eqb}
+use Rattle.routine.specs.Choice.{if_then_else_}
+use Rattle.routine.specs.Routine.{maxCommands}
+use Rattle.routine.specs.declared.Command.{Command}
+use Rattle.rules.specs.Tables.{put}
+use Rattle.rules.specs.State.{maxHeld, State}
+use Rattle.rules.specs.Answers.{Call, submit, turn, report, Answer, refused, placed, wait, send, done, skipped, committed, aborted}
+use Rattle.rules.specs.Answers.{down, up}
+use Rattle.rules.specs.Open.{opened, openOf}
+use Rattle.rules.specs.Report.{codeFailed}
+use Rattle.rules.specs.Calls.{resultOf, stateAfter}
+use Rattle.rules.specs.History.{Told, accountsOf}
+use Rattle.rules.specs.World.{isAccepted}
+
+-- ---- what is told
+
+-- Calls, one after another from the state s, each with its answers; in time's order.
+abbrev pub callsTold : State → List Call → List Told
+callsTold s [] = []
+callsTold s (c ∷ l) = record { call = c; answers = resultOf s c .answers } ∷ callsTold (resultOf s c .state) l
+
+-- A history, which has the latest first, and behind it what is then told, in time's order.
+abbrev pub toldThen : List Told → List Told → List Told
+toldThen history [] = history
+toldThen history (t ∷ l) = toldThen (t ∷ history) l
+
+-- Has the routine a command in flight? It was sent, and neither answered nor ended with its routine since.
+abbrev pub flyingAfter : Answer → (ℕ → Bool) → ℕ → Bool
+flyingAfter (refused r) f = f
+flyingAfter (placed i j) f = f
+flyingAfter (wait i j) f = f
+flyingAfter (send i c) f = put f i true
+flyingAfter (done i) f = put f i false
+flyingAfter (skipped i l) f = put f i false
+flyingAfter (committed i) f = f
+flyingAfter (aborted i l) f = put f i false
+flyingAfter (down d j) f = f
+flyingAfter (up d j) f = f
+
+abbrev pub flyingAfterAll : List Answer → (ℕ → Bool) → ℕ → Bool
+flyingAfterAll [] f = f
+flyingAfterAll (x ∷ l) f = flyingAfterAll l (flyingAfter x f)
+
+abbrev pub flyingOf : List Told → ℕ → Bool
+flyingOf [] = λ i. false
+flyingOf (t ∷ earlier) = flyingAfterAll (t .answers) (flyingOf earlier)
+
+-- Is it a "running routine that has nothing in flight"?
+abbrev pub idleOf : List Told → ℕ → Bool
+idleOf history i = accountsOf history i .running && not (flyingOf history i)
+
+-- "a routine is ended": it was committed or aborted, by the answers.
+abbrev pub Ended : ℕ → List Told → Type 0
+Ended i history = accountsOf history i .running ≡ false
+
+-- ---- rounds
+
+-- The calls among these that were accepted. The others were refused: they change nothing, and may stand anywhere.
+abbrev pub acceptedIn : List Told → List Call
+acceptedIn [] = []
+acceptedIn (t ∷ l) = if isAccepted (t .answers) then t .call ∷ acceptedIn l else acceptedIn l
+
+-- How often i stands in a list.
+abbrev pub times : ℕ → List ℕ → ℕ
+times i [] = 0
+times i (j ∷ l) = if eqb j i then suc (times i l) else times i l
+
+-- These ids are those that pass the test, each once, in any order.
+abbrev pub EachOnce : (ℕ → Bool) → List ℕ → Type 0
+EachOnce test ids = (i : ℕ) → times i ids ≡ (if test i then 1 else 0)
+
+-- A round (document 02, item 1), after a history: "one turn for each running routine that has nothing in flight, and then a done or failed
+-- report for each command in flight". Nothing else is accepted in it. A routine has at most one command in flight.
+pub record Round (history turns reports : List Told) : Type 0 where
+  pub turned : List ℕ
+  pub turns-are : acceptedIn turns ≡ map turn turned
+  pub one-turn-each : EachOnce (idleOf history) turned
+  pub reported : List ℕ
+  pub codes : ℕ → ℕ
+  pub reports-are : acceptedIn reports ≡ map (λ i. report i (codes i)) reported
+  pub one-report-each : EachOnce (flyingOf (toldThen history turns)) reported
+
+-- What may be told between rounds: "submissions fall between rounds"; and refused calls.
+pub data Between : Told → Type 0 where
+  a-submission : (cs : List Command) (answers : List Answer) → Between (record { call = submit cs; answers = answers })
+  a-refusal : (t : Told) → isAccepted (t .answers) ≡ false → Between t
+
+-- A schedule after a history: what is told then, and how many rounds that is.
+pub data Schedule : List Told → List Told → ℕ → Type 0 where
+  no-more : {history : List Told} → Schedule history [] 0
+  between : {history l : List Told} {n : ℕ} (t : Told) → Between t → Schedule (t ∷ history) l n → Schedule history (t ∷ l) n
+  a-round : {history l : List Told} {n : ℕ} (turns reports : List Told) → Round history turns reports →
+      Schedule (toldThen history (turns ++ reports)) l n → Schedule history ((turns ++ reports) ++ l) (suc n)
+
+-- ---- the promise
+
+-- "9 × (16 + K) rounds"
+abbrev pub enoughRounds : ℕ → ℕ
+enoughRounds k = (maxCommands + 1) * (maxHeld + k)
+
+-- The waiting promise, for every accepted opening, every list of calls, every submission then accepted, with id i, and every schedule from
+-- there: after so many rounds the routine is ended.
+abbrev pub EndedInTime : Type 0
+EndedInTime =
+    (n k first : ℕ) (s : State) → openOf n k first ≡ opened s →
+    (before : List Call) (cs : List Command) (i j : ℕ) → resultOf (stateAfter s before) (submit cs) .answers ≡ placed i j ∷ [] →
+    (later : List Call) (rounds : ℕ) →
+    let first-part = before ++ (submit cs ∷ []) in
+    let history = toldThen [] (callsTold s first-part) in
+    let then-told = callsTold (stateAfter s first-part) later in
+    Schedule history then-told rounds → enoughRounds k ≤ rounds → Ended i (toldThen history then-told)
+
+-- A schedule can always go on: after every list of calls there is a round, whatever the reports are to say.
+abbrev pub RoundsExist : Type 0
+RoundsExist =
+    (n k first : ℕ) (s : State) → openOf n k first ≡ opened s →
+    (calls : List Call) (codes : ℕ → ℕ) → ((i : ℕ) → codes i ≤ codeFailed) →
+    (turns reports : List Call)
+    × Round (toldThen [] (callsTold s calls)) (callsTold (stateAfter s calls) turns) (callsTold (stateAfter s (calls ++ turns)) reports)
