@@ -29,8 +29,11 @@ pub mod Devices
 pub mod DeviceAborts
 pub mod DeviceKept
 -- The hub of no devices; demand 3; each number under its cause alone; worlds that meet the premise, and worlds in which a wrong rule shows.
+pub mod Told
+pub mod Burden
 pub mod Closed
 pub mod Theorem
 pub mod Exact
+pub mod Waiting
 pub mod Worlds
 pub mod Controls

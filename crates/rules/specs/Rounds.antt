@@ -97,7 +97,7 @@ pub data Schedule : List Told → List Told → ℕ → Type 0 where
   no-more : {history : List Told} → Schedule history [] 0
   between : {history l : List Told} {n : ℕ} (t : Told) → Between t → Schedule (t ∷ history) l n → Schedule history (t ∷ l) n
   a-round : {history l : List Told} {n : ℕ} (turns reports : List Told) → Round history turns reports →
-      Schedule (toldThen history (turns ++ reports)) l n → Schedule history ((turns ++ reports) ++ l) (suc n)
+      Schedule (toldThen (toldThen history turns) reports) l n → Schedule history (turns ++ (reports ++ l)) (suc n)
 
 -- ---- the promise
 
