@@ -31,12 +31,12 @@ use Rattle.rules.specs.Report.{doneReport, skippedState, skipReport}
 use Rattle.rules.specs.Calls.{resultOf, stateAfter}
 use Rattle.rules.specs.History.{Told, noteAnswers, accountsOf}
 use Rattle.rules.specs.Order.{Event, failure-of, restart-of}
-use Rattle.rules.specs.Attach.{attach, oneRestart}
+use Rattle.rules.specs.Attach.{attachTo, attach, oneRestart}
 use Rattle.rules.specs.World.{isAccepted}
 use Rattle.rules.specs.Rounds.{callsTold, toldThen, flyingAfterAll, flyingOf, idleOf, Ended, acceptedIn, times, EachOnce, Round, Between, a-submission}
 use Rattle.rules.specs.Rounds.{a-refusal, Schedule, no-more, between, a-round, enoughRounds, EndedInTime}
 use Rattle.rules.proofs.Lists.{byIf, t≠f, anyOf-++, each-left, each-mid, each-drop, each-insert, each-swap, NotIn, IdsOk}
-use Rattle.rules.proofs.Groups.{Group, members, ids, alone, with, passAll, foundAt, leaving, attachEvent, stillHeld, each-held, other-ids}
+use Rattle.rules.proofs.Groups.{Group, members, ids, alone, with, passAll, addEvents, addToLast, leaving, attachEvent, stillHeld, each-held, other-ids}
 use Rattle.rules.proofs.Same.{Same, same-placed, same-leaving, same-attached, same-each}
 use Rattle.rules.proofs.Steps.{leftSteps, send-step, skip-step, done-step, fail-step, fresh-newcomer}
 use Rattle.rules.proofs.Invariant.{unmarked, HubOk, FirstRuns}
@@ -281,3 +281,138 @@ module _ (k i : ℕ) (s : State) (h : List Told) (l : List Group) (y : Ready k s
       (left-lighter (s .nextId) k i a g b (subst (HubOk s) e (y .hub) .ids-ok))
   moves-lighter (fails d r lead m n u g) calm = absurd calm
   moves-lighter (restarts d v r lead m n u g) calm = absurd calm
+
+-- ---- the first of the sequence
+
+-- the first of the list runs under this id and has these commands
+data HeadIs (j : ℕ) (steps : List Step) : List Group → Type 0 where
+  head-is : (g : Group) (l : List Group) → g .member .id ≡ j → g .member .steps ≡ steps → g .member .committed ≡ false →
+      HeadIs j steps (g ∷ l)
+
+module _ (j : ℕ) (steps : List Step) where
+  head-held : (l : List Group) → HeadIs j steps l → HeadIs j steps (stillHeld l)
+  head-held _ (head-is g l e q c) = byIf (HeadIs j steps) (g .member .committed) (λ t. t≠f (sym t ∙ c)) (λ _. head-is g l e q c)
+
+  -- another changes, or leaves
+  head-kept : (a : List Group) (g h : Group) (b : List Group) → g .member .id ≢ j → HeadIs j steps (a ++ (g ∷ b)) →
+      HeadIs j steps (a ++ (h ∷ b))
+  head-kept [] g h b n (head-is _ _ e q c) = absurd (n e)
+  head-kept (x ∷ a) g h b n (head-is _ _ e q c) = head-is x (a ++ (h ∷ b)) e q c
+
+  head-left : (a : List Group) (g : Group) (b : List Group) → g .member .id ≢ j → HeadIs j steps (a ++ (g ∷ b)) →
+      HeadIs j steps (leaving a g b)
+  unfolding attachTo
+  head-left [] g b n (head-is _ _ e q c) = absurd (n e)
+  head-left (x ∷ []) g b n (head-is _ _ e q c) = head-is (addEvents (g .events) (g .member .restarts) x) b e q c
+  head-left (x ∷ (z ∷ a)) g b n (head-is _ _ e q c) = head-is x (addToLast (g .events) (g .member .restarts) (z ∷ a) ++ b) e q c
+
+  -- it is the one with its id
+  head-own : (n : ℕ) (a : List Group) (g : Group) (b : List Group) → IdsOk n (ids (a ++ (g ∷ b))) → g .member .id ≡ j →
+      HeadIs j steps (a ++ (g ∷ b)) → a ≡ []
+  head-own n [] g b d e (head-is _ _ f q c) = refl
+  head-own n (x ∷ a) g b d e (head-is _ _ f q c) = absurd (other-ids n (x ∷ a) g b d .0 (f ∙ sym e))
+
+-- ---- a turn or a report, seen from the first of the sequence
+
+abbrev IsTurn : Call → Type 0
+IsTurn (submit cs) = ⊥
+IsTurn (turn i) = Unit {0}
+IsTurn (report i code) = ⊥
+IsTurn (failure d) = ⊥
+IsTurn (restart d v) = ⊥
+IsTurn (cancel i) = ⊥
+
+-- it is a turn of routine j, or a report on it
+abbrev Asks : ℕ → Call → Type 0
+Asks j (submit cs) = ⊥
+Asks j (turn i) = i ≡ j
+Asks j (report i code) = i ≡ j
+Asks j (failure d) = ⊥
+Asks j (restart d v) = ⊥
+Asks j (cancel i) = ⊥
+
+asks-calm : (j : ℕ) (c : Call) → Asks j c → Calm c
+asks-calm j (submit cs) h = tt
+asks-calm j (turn i) h = tt
+asks-calm j (report i code) h = tt
+asks-calm j (failure d) h = h
+asks-calm j (restart d v) h = h
+asks-calm j (cancel i) h = h
+
+-- a command of these is in flight
+abbrev Flies : List Step → Type 0
+Flies steps = (x : Flight) × (flight steps ≡ some x)
+
+-- every sum falls; or, by a turn, a command of the first is now in flight
+data Own (k j : ℕ) (c : Call) (l m : List Group) : Type 0 where
+  falls : ((i : ℕ) → Runs i m → burden k i m < burden k i l) → Own k j c l m
+  flies : IsTurn c → (steps : List Step) → HeadIs j steps m → Flies steps → Own k j c l m
+
+module _ (k : ℕ) (s : State) (h : List Told) (l : List Group) (y : Ready k s h l) where
+  module _ (j : ℕ) (steps : List Step) (hd : HeadIs j steps l) where
+    -- about another
+    others-move : {c : Call} {r : Result} {lead : List Event} {m : List Group} (i : ℕ) → Moves s l c r lead m → Asks i c → i ≢ j →
+        HeadIs j steps m
+    others-move i (places cs a b q e u p n) o w = absurd o
+    others-move i (commits _ a g b e n r f q) o w =
+        head-kept j steps a g (with g (commit (g .member))) b (λ z. w (sym (n ∙ o) ∙ z)) (subst (HeadIs j steps) e hd)
+    others-move i (sends _ a g b c e n r f q z u) o w =
+        head-kept j steps a g (with g (sentMember s g c)) b (λ z. w (sym (n ∙ o) ∙ z)) (subst (HeadIs j steps) e hd)
+    others-move i (skips _ a g b c e n r f q z u) o w =
+        head-kept j steps a g (with g (skippedMember g)) b (λ z. w (sym (n ∙ o) ∙ z)) (subst (HeadIs j steps) e hd)
+    others-move i (dones _ code a g b x e n r f q) o w =
+        head-kept j steps a g (with g (doneMember g)) b (λ z. w (sym (n ∙ o) ∙ z)) (subst (HeadIs j steps) e hd)
+    others-move i (misses _ code a g b x e n r f q) o w =
+        head-kept j steps a g (with g (failedMember g)) b (λ z. w (sym (n ∙ o) ∙ z)) (subst (HeadIs j steps) e hd)
+    others-move i (aborts _ a g b e r (by-turn _ n f)) o w =
+        head-left j steps a g b (λ z. w (sym (n ∙ o) ∙ z)) (subst (HeadIs j steps) e hd)
+    others-move i (aborts _ a g b e r (by-report _ code x n f q)) o w =
+        head-left j steps a g b (λ z. w (sym (n ∙ o) ∙ z)) (subst (HeadIs j steps) e hd)
+    others-move i (aborts _ a g b e r (by-cancel _ n)) o w = absurd o
+    others-move i (fails d r lead m n u g) o w = absurd o
+    others-move i (restarts d v r lead m n u g) o w = absurd o
+
+    module _ (a : List Group) (g : Group) (b : List Group) (e : l ≡ a ++ (g ∷ b)) (n : g .member .id ≡ j) where
+      none-ahead : a ≡ []
+      none-ahead = head-own j steps (s .nextId) a g b (subst (HubOk s) e (y .hub) .ids-ok) n (subst (HeadIs j steps) e hd)
+
+      own-less : (c : Call) (x : Group) → x .member .id ≡ g .member .id → x .member .passed ≡ g .member .passed →
+          weight (x .member) < weight (g .member) → Own k j c l (a ++ (x ∷ b))
+      own-less c x same passed w =
+          falls (λ i _. subst (λ z. burden k i (a ++ (x ∷ b)) < burden k i z) (sym e)
+          (subst (λ p. burden k i (p ++ (x ∷ b)) < burden k i (p ++ (g ∷ b))) (sym none-ahead) (swap-falls k i g x b same passed w)))
+
+      own-gone : (c : Call) → g .member .committed ≡ false → Own k j c l (leaving a g b)
+      own-gone c r =
+          falls (λ i z. subst (λ q. burden k i (leaving a g b) < burden k i q) (sym e)
+          (subst (λ p. burden k i (leaving p g b) < burden k i (p ++ (g ∷ b))) (sym none-ahead)
+          (leave-falls k i g b (left-others (s .nextId) i a g b (subst (HubOk s) e (y .hub) .ids-ok) z .1) r)))
+
+    -- about the first itself
+    own-moves : {c : Call} {r : Result} {lead : List Event} {m : List Group} → Moves s l c r lead m → Asks j c → Own k j c l m
+    unfolding commit
+    own-moves (places cs a b q e u p n) o = absurd o
+    own-moves (commits i a g b e n r f q) o =
+        own-less a g b e (n ∙ o) (turn i) (with g (commit (g .member))) refl refl
+        (let w : weight (g .member) ≡ suc (length (leftSteps (g .member .steps))) = rw r refl in omega arith)
+    own-moves (sends i a g b c e n r f q z u) o =
+        let x = send-step (g .member) (in-turn s a g b (subst (HubOk s) e (y .hub))) c (due s (c .device)) q f in
+        flies tt (sentMember s g c .steps)
+        (subst (λ p. HeadIs j (sentMember s g c .steps) (p ++ (with g (sentMember s g c) ∷ b))) (sym (none-ahead a g b e (n ∙ o)))
+        (head-is (with g (sentMember s g c)) b (n ∙ o) refl r)) (_, x .flight-is)
+    own-moves (skips i a g b c e n r f q z u) o =
+        let x = skip-step (g .member) (in-turn s a g b (subst (HubOk s) e (y .hub))) c q f in
+        own-less a g b e (n ∙ o) (turn i) (with g (skippedMember g)) refl refl (less-weight g (with g (skippedMember g)) c r r (x .left-is))
+    own-moves (dones i code a g b x e n r f q) o =
+        let z = done-step (g .member) (in-turn s a g b (subst (HubOk s) e (y .hub))) x f in
+        own-less a g b e (n ∙ o) (report i code) (with g (doneMember g)) refl refl
+        (less-weight g (with g (doneMember g)) (x .command) r r (z .left-is))
+    own-moves (misses i code a g b x e n r f q) o =
+        let z = fail-step (g .member) (in-turn s a g b (subst (HubOk s) e (y .hub))) x f in
+        own-less a g b e (n ∙ o) (report i code) (with g (failedMember g)) refl refl
+        (less-weight g (with g (failedMember g)) (x .command) r r (z .left-is))
+    own-moves (aborts _ a g b e r (by-turn i n f)) o = own-gone a g b e (n ∙ o) (turn i) r
+    own-moves (aborts _ a g b e r (by-report i code x n f q)) o = own-gone a g b e (n ∙ o) (report i code) r
+    own-moves (aborts _ a g b e r (by-cancel i n)) o = absurd o
+    own-moves (fails d r lead m n u g) o = absurd o
+    own-moves (restarts d v r lead m n u g) o = absurd o
