@@ -98,7 +98,7 @@ gone-accepted s d l x e (nobody q) = e
 gone-accepted s d l x e (somebody a g b q f) = refl
 
 -- it is accepted, and the devices are as many as before
-moves-same : (s : State) (l : List Group) {c : Call} {r : Result} {lead : List Event} {k : List Group} → Moves s l c r lead k →
+pub moves-same : (s : State) (l : List Group) {c : Call} {r : Result} {lead : List Event} {k : List Group} → Moves s l c r lead k →
     (isAccepted (r .answers) ≡ true) × (r .state .devices ≡ s .devices)
 unfolding place commitTurn sendTurn skipTurn doneReport skippedState skipReport abort leave attach
 moves-same s l (places cs a b q e u p n) = (refl, refl)
