@@ -35,5 +35,6 @@ pub mod Closed
 pub mod Theorem
 pub mod Exact
 pub mod Waiting
+pub mod Schedules
 pub mod Worlds
 pub mod Controls

@@ -150,7 +150,7 @@ ready-moves k s h l y {c = c} {r = r} {m = m} v = record {
 }
 
 -- a call told, with these answers
-abbrev saying : Call → List Answer → Told
+abbrev pub saying : Call → List Answer → Told
 saying c answers = record { call = c; answers = answers }
 
 -- a call that tells nothing
@@ -165,7 +165,7 @@ untold k s h l t a f y = record {
   limit = y .limit;
 }
 
-ready-seen : (k : ℕ) (s : State) (h : List Told) (l : List Group) → Ready k s h l → {c : Call} {r : Result} → Seen s l c r →
+pub ready-seen : (k : ℕ) (s : State) (h : List Told) (l : List Group) → Ready k s h l → {c : Call} {r : Result} → Seen s l c r →
     (m : List Group) × Ready k (r .state) (saying c (r .answers) ∷ h) m
 ready-seen k s h l y {c = c} (is-refused r) = (l, untold k s h l (saying c (refused r ∷ [])) refl refl y)
 ready-seen k s h l y (waits i a g b d j e n f) = (l, untold k s h l (saying (turn i) (wait (g .member .id) j ∷ [])) refl refl y)
@@ -323,7 +323,7 @@ IsTurn (restart d v) = ⊥
 IsTurn (cancel i) = ⊥
 
 -- it is a turn of routine j, or a report on it
-abbrev Asks : ℕ → Call → Type 0
+abbrev pub Asks : ℕ → Call → Type 0
 Asks j (submit cs) = ⊥
 Asks j (turn i) = i ≡ j
 Asks j (report i code) = i ≡ j

@@ -122,5 +122,5 @@ abbrev pub RoundsExist : Type 0
 RoundsExist =
     (n k first : ℕ) (s : State) → openOf n k first ≡ opened s →
     (calls : List Call) (codes : ℕ → ℕ) → ((i : ℕ) → codes i ≤ codeFailed) →
-    (turns reports : List Call)
-    × Round (toldThen [] (callsTold s calls)) (callsTold (stateAfter s calls) turns) (callsTold (stateAfter s (calls ++ turns)) reports)
+    let now = stateAfter s calls in
+    (turns reports : List Call) × Round (toldThen [] (callsTold s calls)) (callsTold now turns) (callsTold (stateAfter now turns) reports)
