@@ -17,7 +17,7 @@ use Rattle.rules.specs.State.{Member, State}
 use Rattle.rules.specs.Sequence.{isRunning}
 use Rattle.rules.specs.Submit.{blocks, pass}
 use Rattle.rules.proofs.Lists.{byIf, t≠f, or-left, or-right, NotIn, IdsOk}
-use Rattle.rules.proofs.Groups.{Group, members, ids, with, passAll, addEvents, leaving, stillHeld}
+use Rattle.rules.proofs.Groups.{Group, members, ids, with, passAll, leaving, stillHeld}
 use Rattle.rules.proofs.Same.{Pairwise, no-pair, pair, pairs-last}
 use Rattle.rules.proofs.Steps.{leftSteps}
 use Rattle.rules.proofs.Told.{has, none-has, any-held}
@@ -173,7 +173,8 @@ module _ (k i : ℕ) where
       sym (rw c refl) ∙ or-right (anyOf (λ c. eqb (s .mark (c .device)) (g .member .id)) cs) (not (g .member .committed)
       && leb (s .passLimit) (g .member .passed)) (or-left (blocks s cs (g .member)) (anyOf (blocks s cs) (members b)) f) in
       let less = leb-false (s .passLimit) (g .member .passed) free in
-      let after : further (with g (pass (g .member))) (burden k i (passAll b)) ≡ fullWeight * (k - suc (g .member .passed)) = rw (t, c) refl in
+      let after : further (with g (pass (g .member))) (burden k i (passAll b)) ≡ fullWeight * (k - suc (g .member .passed)) = rw (t, c) refl
+      in
       let before : further g (burden k i b) ≡ fullWeight * (k - g .member .passed) = rw t refl in
       omega arith)
       (λ t q. let h = passed-lighter n s cs e b (d .3) q (or-right (blocks s cs (g .member)) (anyOf (blocks s cs) (members b)) f) in

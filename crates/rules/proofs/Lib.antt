@@ -29,12 +29,17 @@ pub mod Devices
 pub mod DeviceAborts
 pub mod DeviceKept
 -- The hub of no devices; demand 3; each number under its cause alone; worlds that meet the premise, and worlds in which a wrong rule shows.
-pub mod Told
-pub mod Burden
 pub mod Closed
 pub mod Theorem
 pub mod Exact
-pub mod Waiting
-pub mod Schedules
 pub mod Worlds
 pub mod Controls
+-- The waiting promise (document 02, item 1): computed schedules; what is told is what the hub holds; the sum that falls; what holds between
+-- calls; what a call does to the sum; the promise; rounds exist.
+pub mod Schedules
+pub mod Told
+pub mod Burden
+pub mod Ready
+pub mod Lighter
+pub mod Waiting
+pub mod RoundsExist

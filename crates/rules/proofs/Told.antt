@@ -1,18 +1,18 @@
 -- Which routines run and which have a command in flight, told by the answers, is what the hub holds. Assumes nothing.
 use mathlib.Core.Path.{_≡_, refl, sym, ap, _∙_, subst}
 use mathlib.Core.Logic.{_≢_}
-use mathlib.Core.Bool.{Bool, true, false, not, _&&_, _||_, and-false, or-true}
+use mathlib.Core.Bool.{Bool, true, false, not, _&&_, _||_, and-false}
 use mathlib.Core.List.{List, [], _∷_, _++_}
-use mathlib.Core.Option.{Option, none, some}
+use mathlib.Core.Option.{none}
 use Prim.Native.Nat.{ℕ}
 use borrow.Author.Tests.{eqb-true, eq-eqb, ne-eqb}
 use lib.Dec.{eqb}
 use Rattle.routine.specs.Choice.{if_then_else_}
 use Rattle.routine.specs.declared.Command.{Command}
-use Rattle.rules.specs.Tables.{anyOf, put, Each}
-use Rattle.rules.specs.State.{Step, Member, State}
+use Rattle.rules.specs.Tables.{anyOf, put}
+use Rattle.rules.specs.State.{Member, State}
 use Rattle.rules.specs.Answers.{Call, failure, restart, Answer, down, up, Result}
-use Rattle.rules.specs.Progress.{Flight, flight}
+use Rattle.rules.specs.Progress.{flight}
 use Rattle.rules.specs.Due.{due}
 use Rattle.rules.specs.Sequence.{isRunning}
 use Rattle.rules.specs.Abort.{abort}
@@ -23,8 +23,9 @@ use Rattle.rules.specs.History.{Outcome, reported-done, reported-failed,
 use Rattle.rules.specs.History.{answeredAccount, endedAccount, noteAnswers}
 use Rattle.rules.specs.Order.{Event, failure-of, restart-of}
 use Rattle.rules.specs.Rounds.{flyingAfterAll}
-use Rattle.rules.proofs.Lists.{byIf, t≠f, fold-++, put-keeps, each-mid, anyOf-++, NotIn, ids-fresh, ids-other}
-use Rattle.rules.proofs.Groups.{Group, ids, alone, with, passAll, leaving, attachEvent, stillHeld, other-ids, ids-++}
+use Rattle.rules.proofs.Schedules.{isFlying}
+use Rattle.rules.proofs.Lists.{byIf, t≠f, fold-++, put-keeps, NotIn, ids-fresh}
+use Rattle.rules.proofs.Groups.{Group, ids, alone, with, leaving, attachEvent, stillHeld, other-ids}
 use Rattle.rules.proofs.Same.{Pairwise, no-pair, pair, Same, same-placed, same-leaving, same-attached}
 use Rattle.rules.proofs.Steps.{send-step, skip-step, done-step, fail-step, fresh-newcomer}
 use Rattle.rules.proofs.Invariant.{HubOk}
@@ -241,13 +242,6 @@ unfolding isRunning
 runs-held a k = tells-held isRunning (λ g e. ap not e) (runningIn a) k
 
 -- ---- which have a command in flight
-
-abbrev pub hasFlight : Option Flight → Bool
-hasFlight none = false
-hasFlight (some x) = true
-
-unfoldable pub isFlying : Member → Bool
-isFlying m = isRunning m && hasFlight (flight (m .steps))
 
 abbrev pub FliesTold : (ℕ → Bool) → List Group → Type 0
 FliesTold f l = Tells isFlying f l

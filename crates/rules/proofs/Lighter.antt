@@ -1,0 +1,273 @@
+-- What a call does to the sum of `Burden.antt`: no submission, turn or report raises it; a turn of the first of the sequence, or a report
+-- on it, makes it fall or sends a command of the first. Assumes nothing.
+use mathlib.Core.Path.{_≡_, refl, sym, ap, _∙_, subst}
+use mathlib.Core.Logic.{_≢_}
+use mathlib.Core.Bool.{Bool, true, false, _||_, or-true}
+use mathlib.Core.List.{List, [], _∷_, _++_}
+use mathlib.Core.Option.{some}
+use Prim.Native.Nat.{ℕ, suc, _+_, _<_, _≤_}
+use native.Mathlib.Omega.{arith}
+use lib.ListN.{length}
+use Rattle.routine.specs.declared.Command.{Command}
+use Rattle.rules.specs.Tables.{anyOf}
+use Rattle.rules.specs.State.{Step, State}
+use Rattle.rules.specs.Answers.{Call, submit, turn, report, failure, restart, cancel, Result}
+use Rattle.rules.specs.Progress.{Flight, flight}
+use Rattle.rules.specs.Due.{due}
+use Rattle.rules.specs.Sequence.{isRunning}
+use Rattle.rules.specs.Submit.{newcomer}
+use Rattle.rules.specs.Turn.{commit}
+use Rattle.rules.specs.History.{Told}
+use Rattle.rules.specs.Order.{Event}
+use Rattle.rules.specs.Attach.{attachTo}
+use Rattle.rules.proofs.Lists.{byIf, t≠f, anyOf-++, NotIn, IdsOk}
+use Rattle.rules.proofs.Groups.{Group, ids, alone, with, passAll, addEvents, addToLast, leaving, stillHeld, other-ids}
+use Rattle.rules.proofs.Same.{same-placed, same-leaving}
+use Rattle.rules.proofs.Steps.{leftSteps, send-step, skip-step, done-step, fail-step}
+use Rattle.rules.proofs.Invariant.{HubOk}
+use Rattle.rules.proofs.View.{sentMember, skippedMember, doneMember, failedMember, by-turn, by-report, by-cancel}
+use Rattle.rules.proofs.View.{Moves, places, commits, sends, skips, dones, misses, aborts, fails, restarts}
+use Rattle.rules.proofs.Marks.{in-turn}
+use Rattle.rules.proofs.Told.{has, none-has, other-has, idle-has, any-swap, any-drop, any-same, same-runs}
+use Rattle.rules.proofs.Burden.{weight, burden, Runs, most-weight, swap-lighter, swap-falls, leave-lighter}
+use Rattle.rules.proofs.Burden.{leave-falls, place-lighter}
+use Rattle.rules.proofs.Ready.{new-short, Ready}
+
+-- ---- the sum and a call
+
+-- calls of a schedule: no failure, restart or cancel
+abbrev pub Calm : Call → Type 0
+Calm (submit cs) = Unit {0}
+Calm (turn i) = Unit {0}
+Calm (report i code) = Unit {0}
+Calm (failure d) = ⊥
+Calm (restart d v) = ⊥
+Calm (cancel i) = ⊥
+
+-- who runs among some runs among more
+runs-more : (i : ℕ) (a : List Group) (g : Group) (b : List Group) → Runs i (a ++ b) → Runs i (a ++ (g ∷ b))
+runs-more i a g b r =
+    anyOf-++ (has isRunning i) a (g ∷ b)
+    ∙ go (anyOf (has isRunning i) a) (has isRunning i g) (anyOf (has isRunning i) b) (sym (anyOf-++ (has isRunning i) a b) ∙ r)
+  where
+    go : (x y z : Bool) → (x || z) ≡ true → (x || (y || z)) ≡ true
+    go true y z e = refl
+    go false y z e = rw e (or-true y)
+
+-- what a call does to the routine with id i and its sum
+abbrev pub Lighter : ℕ → ℕ → List Group → List Group → Type 0
+Lighter k i l m = Runs i m → Runs i l × (burden k i m ≤ burden k i l)
+
+pub lighter-same : (k i : ℕ) (l : List Group) → Lighter k i l l
+lighter-same k i l r = (r, omega arith)
+
+-- g becomes h, which runs as g does and has no more left
+swapped : (k i : ℕ) (a : List Group) (g h : Group) (b : List Group) → h .member .id ≡ g .member .id →
+    h .member .passed ≡ g .member .passed → h .member .committed ≡ g .member .committed → weight (h .member) ≤ weight (g .member) →
+    Lighter k i (a ++ (g ∷ b)) (a ++ (h ∷ b))
+unfolding isRunning
+swapped k i a g h b e p c w r =
+    (any-swap isRunning i a g h b (rw (e, c) refl) ∙ r, swap-lighter k i a g h b e p w)
+
+-- g leaves
+pub left-others : (n i : ℕ) (a : List Group) (g : Group) (b : List Group) → IdsOk n (ids (a ++ (g ∷ b))) → Runs i (leaving a g b) →
+    Runs i (a ++ b) × (g .member .id ≢ i)
+left-others n i a g b d r =
+    let q = any-same isRunning same-runs i (same-leaving a g b) ∙ r in
+    (q, λ e. t≠f (sym q ∙ none-has isRunning i (a ++ b) (subst (λ j. NotIn j (ids (a ++ b))) e (other-ids n a g b d))))
+
+left-lighter : (n k i : ℕ) (a : List Group) (g : Group) (b : List Group) → IdsOk n (ids (a ++ (g ∷ b))) →
+    Lighter k i (a ++ (g ∷ b)) (leaving a g b)
+left-lighter n k i a g b d r =
+    let q = left-others n i a g b d r in
+    (runs-more i a g b (q .0), leave-lighter k i a g b (q .1))
+
+-- a routine with one command less left weighs less
+less-weight : (g h : Group) (c : Command) → g .member .committed ≡ false → h .member .committed ≡ false →
+    leftSteps (g .member .steps) ≡ c ∷ leftSteps (h .member .steps) → weight (h .member) < weight (g .member)
+less-weight g h c r q e =
+    let n : length (leftSteps (g .member .steps)) ≡ suc (length (leftSteps (h .member .steps))) = ap length e in
+    let x : weight (g .member) ≡ suc (length (leftSteps (g .member .steps))) = rw r refl in
+    let y : weight (h .member) ≡ suc (length (leftSteps (h .member .steps))) = rw q refl in
+    omega arith
+
+module _ (k i : ℕ) (s : State) (h : List Told) (l : List Group) (y : Ready k s h l) (given : i < s .nextId) where
+  pub moves-lighter : {c : Call} {r : Result} {lead : List Event} {m : List Group} → Moves s l c r lead m → Calm c → Lighter k i l m
+  unfolding newcomer commit isRunning
+  moves-lighter (places cs a b q e u p n) calm = λ r.
+      let w = subst (HubOk s) e (y .hub) in
+      let new = alone (newcomer (s .nextId) cs) in
+      let other : s .nextId ≢ i = λ z. omega arith in
+      let runs : Runs i (a ++ b) =
+      sym (any-drop isRunning i a new b (other-has isRunning i new other)) ∙ any-same isRunning same-runs i (same-placed a new b) ∙ r in (
+        subst (Runs i) (sym e) runs,
+        subst (λ z. burden k i (a ++ (new ∷ passAll b)) ≤ burden k i z) (sym e)
+            (place-lighter k i (s .nextId) s cs (y .limit) a new b (w .ids-ok) runs n other (most-weight new (new-short s cs q))),
+      )
+  moves-lighter (commits j a g b e n r f q) calm =
+      subst (λ z. Lighter k i z (a ++ (with g (commit (g .member)) ∷ b))) (sym e)
+      (λ z. (
+        runs-more i a g b (sym (any-drop isRunning i a (with g (commit (g .member))) b
+            (idle-has isRunning i (with g (commit (g .member))) refl)) ∙ z),
+        swap-lighter k i a g (with g (commit (g .member))) b refl refl
+            (omega arith),
+      ))
+  moves-lighter (sends j a g b c e n r f q w u) calm =
+      let x = send-step (g .member) (in-turn s a g b (subst (HubOk s) e (y .hub))) c (due s (c .device)) q f in
+      subst (λ z. Lighter k i z (a ++ (with g (sentMember s g c) ∷ b))) (sym e)
+      (swapped k i a g (with g (sentMember s g c)) b refl refl refl (rw (x .same-left) (omega arith)))
+  moves-lighter (skips j a g b c e n r f q w u) calm =
+      let x = skip-step (g .member) (in-turn s a g b (subst (HubOk s) e (y .hub))) c q f in
+      let less = less-weight g (with g (skippedMember g)) c r r (x .left-is) in
+      subst (λ z. Lighter k i z (a ++ (with g (skippedMember g) ∷ b))) (sym e)
+      (swapped k i a g (with g (skippedMember g)) b refl refl refl (omega arith))
+  moves-lighter (dones j code a g b x e n r f q) calm =
+      let z = done-step (g .member) (in-turn s a g b (subst (HubOk s) e (y .hub))) x f in
+      let less = less-weight g (with g (doneMember g)) (x .command) r r (z .left-is) in
+      subst (λ z. Lighter k i z (a ++ (with g (doneMember g) ∷ b))) (sym e)
+      (swapped k i a g (with g (doneMember g)) b refl refl refl (omega arith))
+  moves-lighter (misses j code a g b x e n r f q) calm =
+      let z = fail-step (g .member) (in-turn s a g b (subst (HubOk s) e (y .hub))) x f in
+      let less = less-weight g (with g (failedMember g)) (x .command) r r (z .left-is) in
+      subst (λ z. Lighter k i z (a ++ (with g (failedMember g) ∷ b))) (sym e)
+      (swapped k i a g (with g (failedMember g)) b refl refl refl (omega arith))
+  moves-lighter (aborts c a g b e r q) calm =
+      subst (λ z. Lighter k i z (leaving a g b)) (sym e)
+      (left-lighter (s .nextId) k i a g b (subst (HubOk s) e (y .hub) .ids-ok))
+  moves-lighter (fails d r lead m n u g) calm = absurd calm
+  moves-lighter (restarts d v r lead m n u g) calm = absurd calm
+
+-- ---- the first of the sequence
+
+-- the first of the list runs under this id and has these commands
+pub data HeadIs (j : ℕ) (steps : List Step) : List Group → Type 0 where
+  head-is : (g : Group) (l : List Group) → g .member .id ≡ j → g .member .steps ≡ steps → g .member .committed ≡ false →
+      HeadIs j steps (g ∷ l)
+
+module _ (j : ℕ) (steps : List Step) where
+  pub head-held : (l : List Group) → HeadIs j steps l → HeadIs j steps (stillHeld l)
+  head-held _ (head-is g l e q c) = byIf (HeadIs j steps) (g .member .committed) (λ t. t≠f (sym t ∙ c)) (λ _. head-is g l e q c)
+
+  -- another changes, or leaves
+  head-kept : (a : List Group) (g h : Group) (b : List Group) → g .member .id ≢ j → HeadIs j steps (a ++ (g ∷ b)) →
+      HeadIs j steps (a ++ (h ∷ b))
+  head-kept [] g h b n (head-is _ _ e q c) = absurd (n e)
+  head-kept (x ∷ a) g h b n (head-is _ _ e q c) = head-is x (a ++ (h ∷ b)) e q c
+
+  head-left : (a : List Group) (g : Group) (b : List Group) → g .member .id ≢ j → HeadIs j steps (a ++ (g ∷ b)) →
+      HeadIs j steps (leaving a g b)
+  unfolding attachTo
+  head-left [] g b n (head-is _ _ e q c) = absurd (n e)
+  head-left (x ∷ []) g b n (head-is _ _ e q c) = head-is (addEvents (g .events) (g .member .restarts) x) b e q c
+  head-left (x ∷ (z ∷ a)) g b n (head-is _ _ e q c) = head-is x (addToLast (g .events) (g .member .restarts) (z ∷ a) ++ b) e q c
+
+  -- it is the one with its id
+  head-own : (n : ℕ) (a : List Group) (g : Group) (b : List Group) → IdsOk n (ids (a ++ (g ∷ b))) → g .member .id ≡ j →
+      HeadIs j steps (a ++ (g ∷ b)) → a ≡ []
+  head-own n [] g b d e (head-is _ _ f q c) = refl
+  head-own n (x ∷ a) g b d e (head-is _ _ f q c) = absurd (other-ids n (x ∷ a) g b d .0 (f ∙ sym e))
+
+-- ---- a turn or a report, seen from the first of the sequence
+
+abbrev pub IsTurn : Call → Type 0
+IsTurn (submit cs) = ⊥
+IsTurn (turn i) = Unit {0}
+IsTurn (report i code) = ⊥
+IsTurn (failure d) = ⊥
+IsTurn (restart d v) = ⊥
+IsTurn (cancel i) = ⊥
+
+-- it is a turn of routine j, or a report on it
+abbrev pub Asks : ℕ → Call → Type 0
+Asks j (submit cs) = ⊥
+Asks j (turn i) = i ≡ j
+Asks j (report i code) = i ≡ j
+Asks j (failure d) = ⊥
+Asks j (restart d v) = ⊥
+Asks j (cancel i) = ⊥
+
+pub asks-calm : (j : ℕ) (c : Call) → Asks j c → Calm c
+asks-calm j (submit cs) h = tt
+asks-calm j (turn i) h = tt
+asks-calm j (report i code) h = tt
+asks-calm j (failure d) h = h
+asks-calm j (restart d v) h = h
+asks-calm j (cancel i) h = h
+
+-- a command of these is in flight
+abbrev pub Flies : List Step → Type 0
+Flies steps = (x : Flight) × (flight steps ≡ some x)
+
+-- every sum falls; or, by a turn, a command of the first is now in flight
+pub data Own (k j : ℕ) (c : Call) (l m : List Group) : Type 0 where
+  falls : ((i : ℕ) → Runs i m → burden k i m < burden k i l) → Own k j c l m
+  flies : IsTurn c → (steps : List Step) → HeadIs j steps m → Flies steps → Own k j c l m
+
+module _ (k : ℕ) (s : State) (h : List Told) (l : List Group) (y : Ready k s h l) where
+  module _ (j : ℕ) (steps : List Step) (hd : HeadIs j steps l) where
+    -- about another
+    pub others-move : {c : Call} {r : Result} {lead : List Event} {m : List Group} (i : ℕ) → Moves s l c r lead m → Asks i c → i ≢ j →
+        HeadIs j steps m
+    others-move i (places cs a b q e u p n) o w = absurd o
+    others-move i (commits _ a g b e n r f q) o w =
+        head-kept j steps a g (with g (commit (g .member))) b (λ z. w (sym (n ∙ o) ∙ z)) (subst (HeadIs j steps) e hd)
+    others-move i (sends _ a g b c e n r f q z u) o w =
+        head-kept j steps a g (with g (sentMember s g c)) b (λ z. w (sym (n ∙ o) ∙ z)) (subst (HeadIs j steps) e hd)
+    others-move i (skips _ a g b c e n r f q z u) o w =
+        head-kept j steps a g (with g (skippedMember g)) b (λ z. w (sym (n ∙ o) ∙ z)) (subst (HeadIs j steps) e hd)
+    others-move i (dones _ code a g b x e n r f q) o w =
+        head-kept j steps a g (with g (doneMember g)) b (λ z. w (sym (n ∙ o) ∙ z)) (subst (HeadIs j steps) e hd)
+    others-move i (misses _ code a g b x e n r f q) o w =
+        head-kept j steps a g (with g (failedMember g)) b (λ z. w (sym (n ∙ o) ∙ z)) (subst (HeadIs j steps) e hd)
+    others-move i (aborts _ a g b e r (by-turn _ n f)) o w =
+        head-left j steps a g b (λ z. w (sym (n ∙ o) ∙ z)) (subst (HeadIs j steps) e hd)
+    others-move i (aborts _ a g b e r (by-report _ code x n f q)) o w =
+        head-left j steps a g b (λ z. w (sym (n ∙ o) ∙ z)) (subst (HeadIs j steps) e hd)
+    others-move i (aborts _ a g b e r (by-cancel _ n)) o w = absurd o
+    others-move i (fails d r lead m n u g) o w = absurd o
+    others-move i (restarts d v r lead m n u g) o w = absurd o
+
+    module _ (a : List Group) (g : Group) (b : List Group) (e : l ≡ a ++ (g ∷ b)) (n : g .member .id ≡ j) where
+      pub none-ahead : a ≡ []
+      none-ahead = head-own j steps (s .nextId) a g b (subst (HubOk s) e (y .hub) .ids-ok) n (subst (HeadIs j steps) e hd)
+
+      own-less : (c : Call) (x : Group) → x .member .id ≡ g .member .id → x .member .passed ≡ g .member .passed →
+          weight (x .member) < weight (g .member) → Own k j c l (a ++ (x ∷ b))
+      own-less c x same passed w =
+          falls (λ i _. subst (λ z. burden k i (a ++ (x ∷ b)) < burden k i z) (sym e)
+          (subst (λ p. burden k i (p ++ (x ∷ b)) < burden k i (p ++ (g ∷ b))) (sym none-ahead) (swap-falls k i g x b same passed w)))
+
+      own-gone : (c : Call) → g .member .committed ≡ false → Own k j c l (leaving a g b)
+      own-gone c r =
+          falls (λ i z. subst (λ q. burden k i (leaving a g b) < burden k i q) (sym e)
+          (subst (λ p. burden k i (leaving p g b) < burden k i (p ++ (g ∷ b))) (sym none-ahead)
+          (leave-falls k i g b (left-others (s .nextId) i a g b (subst (HubOk s) e (y .hub) .ids-ok) z .1) r)))
+
+    -- about the first itself
+    pub own-moves : {c : Call} {r : Result} {lead : List Event} {m : List Group} → Moves s l c r lead m → Asks j c → Own k j c l m
+    unfolding commit
+    own-moves (places cs a b q e u p n) o = absurd o
+    own-moves (commits i a g b e n r f q) o =
+        own-less a g b e (n ∙ o) (turn i) (with g (commit (g .member))) refl refl
+        (let w : weight (g .member) ≡ suc (length (leftSteps (g .member .steps))) = rw r refl in omega arith)
+    own-moves (sends i a g b c e n r f q z u) o =
+        let x = send-step (g .member) (in-turn s a g b (subst (HubOk s) e (y .hub))) c (due s (c .device)) q f in
+        flies tt (sentMember s g c .steps)
+        (subst (λ p. HeadIs j (sentMember s g c .steps) (p ++ (with g (sentMember s g c) ∷ b))) (sym (none-ahead a g b e (n ∙ o)))
+        (head-is (with g (sentMember s g c)) b (n ∙ o) refl r)) (_, x .flight-is)
+    own-moves (skips i a g b c e n r f q z u) o =
+        let x = skip-step (g .member) (in-turn s a g b (subst (HubOk s) e (y .hub))) c q f in
+        own-less a g b e (n ∙ o) (turn i) (with g (skippedMember g)) refl refl (less-weight g (with g (skippedMember g)) c r r (x .left-is))
+    own-moves (dones i code a g b x e n r f q) o =
+        let z = done-step (g .member) (in-turn s a g b (subst (HubOk s) e (y .hub))) x f in
+        own-less a g b e (n ∙ o) (report i code) (with g (doneMember g)) refl refl
+        (less-weight g (with g (doneMember g)) (x .command) r r (z .left-is))
+    own-moves (misses i code a g b x e n r f q) o =
+        let z = fail-step (g .member) (in-turn s a g b (subst (HubOk s) e (y .hub))) x f in
+        own-less a g b e (n ∙ o) (report i code) (with g (failedMember g)) refl refl
+        (less-weight g (with g (failedMember g)) (x .command) r r (z .left-is))
+    own-moves (aborts _ a g b e r (by-turn i n f)) o = own-gone a g b e (n ∙ o) (turn i) r
+    own-moves (aborts _ a g b e r (by-report i code x n f q)) o = own-gone a g b e (n ∙ o) (report i code) r
+    own-moves (aborts _ a g b e r (by-cancel i n)) o = absurd o
+    own-moves (fails d r lead m n u g) o = absurd o
+    own-moves (restarts d v r lead m n u g) o = absurd o

@@ -1,0 +1,182 @@
+-- What holds between calls of the hub and of what was told: the ground of the waiting promise. It is kept by every call. Assumes nothing.
+use mathlib.Core.Path.{_≡_, refl, sym, ap, _∙_, subst}
+use mathlib.Core.List.{List, [], _∷_}
+use Prim.Native.Nat.{ℕ, suc, _<_, _≤_}
+use native.Mathlib.Omega.{arith}
+use lib.ListN.{length}
+use Rattle.routine.specs.Routine.{maxCommands, routineCheck}
+use Rattle.routine.specs.declared.Command.{Command}
+use Rattle.routine.specs.declared.Verdict.the-variants.{Accepted}
+use Rattle.routine.proofs.Laws.{both-accept, check-accepted}
+use Rattle.rules.specs.Tables.{Each}
+use Rattle.rules.specs.State.{State}
+use Rattle.rules.specs.Answers.{Call, turn, Answer, refused, wait, Result}
+use Rattle.rules.specs.Due.{due}
+use Rattle.rules.specs.Settle.{settle}
+use Rattle.rules.specs.Abort.{leave, abort}
+use Rattle.rules.specs.Open.{opened, newHub, openOf}
+use Rattle.rules.specs.Submit.{submitCheck, newcomer, place}
+use Rattle.rules.specs.Turn.{commit, commitTurn, sendTurn, skipTurn}
+use Rattle.rules.specs.Report.{doneReport, skippedState, skipReport}
+use Rattle.rules.specs.Calls.{resultOf, stateAfter}
+use Rattle.rules.specs.History.{Told, noteAnswers, accountsOf}
+use Rattle.rules.specs.Order.{Event, failure-of, restart-of}
+use Rattle.rules.specs.Attach.{attach, oneRestart}
+use Rattle.rules.specs.Rounds.{callsTold, toldThen, flyingAfterAll, flyingOf}
+use Rattle.rules.proofs.Lists.{each-mid, each-drop, each-insert, each-swap}
+use Rattle.rules.proofs.Groups.{Group, alone, with, stillHeld, each-held}
+use Rattle.rules.proofs.Same.{Same, same-placed, same-leaving, same-attached, same-each}
+use Rattle.rules.proofs.Steps.{leftSteps, send-step, skip-step, done-step, fail-step, fresh-newcomer}
+use Rattle.rules.proofs.Invariant.{unmarked, HubOk, FirstRuns}
+use Rattle.rules.proofs.View.{sentMember, skippedMember, doneMember, failedMember, Gone}
+use Rattle.rules.proofs.View.{nobody, somebody, Moves, places, commits, sends, skips, dones, misses, aborts, fails, restarts}
+use Rattle.rules.proofs.View.{Seen, is-refused, waits, moves, see}
+use Rattle.rules.proofs.Fields.{Fixed, gone-fixed, attach-fixed, settle-fixed}
+use Rattle.rules.proofs.Marks.{in-turn}
+use Rattle.rules.proofs.Moved.{hub-settles}
+use Rattle.rules.proofs.Kept.{hub-moves}
+use Rattle.rules.proofs.Serial.{first-runs}
+use Rattle.rules.proofs.Told.{RunsTold}
+use Rattle.rules.proofs.Told.{runs-moves, runs-held, FliesTold, flies-told, flies-held}
+use Rattle.rules.proofs.Burden.{Short}
+use Rattle.rules.proofs.Theorem.{opening}
+
+-- ---- what holds between calls
+
+same-short : (g h : Group) → Same g h → Short g → Short h
+same-short g h e w = record { few-left = subst (λ l. length (leftSteps l) ≤ maxCommands) (sym (e .same-steps)) (w .few-left) }
+
+-- the routine with one command less left
+less-short : (g h : Group) (c : Command) → leftSteps (g .member .steps) ≡ c ∷ leftSteps (h .member .steps) → Short g → Short h
+less-short g h c e w =
+    let n : length (leftSteps (g .member .steps)) ≡ suc (length (leftSteps (h .member .steps))) = ap length e in
+    let m = w .few-left in
+    record { few-left = omega arith }
+
+short-gone : (s : State) (d : ℕ) (l : List Group) {r : Result} {lead : List Event} {k : List Group} → Each Short l → Gone s d l r lead k →
+    Each Short k
+short-gone s d l h (nobody q) = h
+short-gone s d l h (somebody a g b e q) =
+    same-each Short same-short (same-leaving a g b) (each-drop Short a g b (subst (Each Short) e h))
+
+pub new-short : (s : State) (cs : List Command) → submitCheck s cs ≡ Accepted → Short (alone (newcomer (s .nextId) cs))
+unfolding submitCheck
+new-short s cs e =
+    let a = check-accepted (s .devices) cs (both-accept (routineCheck (s .devices) cs) _ e .0) in
+    record { few-left = subst (λ l. length l ≤ maxCommands) (sym (fresh-newcomer (s .nextId) cs .left-is)) (a .1) }
+
+short-moves : (s : State) (l : List Group) {c : Call} {r : Result} {lead : List Event} {k : List Group} → HubOk s l → Each Short l →
+    Moves s l c r lead k → Each Short k
+unfolding commit
+short-moves s l h t (places cs a b q e u p n) =
+    same-each Short same-short (same-placed a _ b) (each-insert Short a _ b (subst (Each Short) e t) (new-short s cs q))
+short-moves s l h t (commits i a g b e n r f q) =
+    let w = subst (Each Short) e t in
+    each-swap Short a g (with g (commit (g .member))) b w (record { few-left = each-mid Short a g b w .few-left })
+short-moves s l h t (sends i a g b c e n r f q w u) =
+    let z = subst (Each Short) e t in
+    let y = send-step (g .member) (in-turn s a g b (subst (HubOk s) e h)) c (due s (c .device)) q f in
+    each-swap Short a g (with g (sentMember s g c)) b z
+    (record { few-left = subst (λ l. length l ≤ maxCommands) (sym (y .same-left)) (each-mid Short a g b z .few-left) })
+short-moves s l h t (skips i a g b c e n r f q w u) =
+    let z = subst (Each Short) e t in
+    let y = skip-step (g .member) (in-turn s a g b (subst (HubOk s) e h)) c q f in
+    each-swap Short a g (with g (skippedMember g)) b z (less-short g _ c (y .left-is) (each-mid Short a g b z))
+short-moves s l h t (dones i code a g b x e n r f q) =
+    let z = subst (Each Short) e t in
+    let y = done-step (g .member) (in-turn s a g b (subst (HubOk s) e h)) x f in
+    each-swap Short a g (with g (doneMember g)) b z (less-short g _ (x .command) (y .left-is) (each-mid Short a g b z))
+short-moves s l h t (misses i code a g b x e n r f q) =
+    let z = subst (Each Short) e t in
+    let y = fail-step (g .member) (in-turn s a g b (subst (HubOk s) e h)) x f in
+    each-swap Short a g (with g (failedMember g)) b z (less-short g _ (x .command) (y .left-is) (each-mid Short a g b z))
+short-moves s l h t (aborts c a g b e r k) =
+    same-each Short same-short (same-leaving a g b) (each-drop Short a g b (subst (Each Short) e t))
+short-moves s l h t (fails d r lead k n u w) =
+    same-each Short same-short (same-attached (r .state .mark d) (failure-of d) k) (short-gone _ d l t w)
+short-moves s l h t (restarts d v r lead k n u w) =
+    same-each Short same-short (same-attached (r .state .mark d) (restart-of d v) k) (short-gone s d l t w)
+
+-- the pass limit stays, and ids are given in turn
+pub fixed-moves : (s : State) (l : List Group) {c : Call} {r : Result} {lead : List Event} {k : List Group} → Moves s l c r lead k →
+    (r .state .passLimit ≡ s .passLimit) × (s .nextId ≤ r .state .nextId)
+unfolding place commitTurn sendTurn skipTurn doneReport skippedState skipReport abort leave attach
+fixed-moves s l (places cs a b q e u p n) = (refl, omega arith)
+fixed-moves s l (commits i a g b e n r f q) = (refl, omega arith)
+fixed-moves s l (sends i a g b c e n r f q w u) = (refl, omega arith)
+fixed-moves s l (skips i a g b c e n r f q w u) = (refl, omega arith)
+fixed-moves s l (dones i code a g b x e n r f q) = (refl, omega arith)
+fixed-moves s l (misses i code a g b x e n r f q) = (refl, omega arith)
+fixed-moves s l (aborts c a g b e r q) = (refl, omega arith)
+fixed-moves s l (fails d r lead k n u g) =
+    let f = gone-fixed _ d l g in
+    (ap (λ (x : Fixed). x .passLimit) f, subst (λ (x : Fixed). s .nextId ≤ x .nextId) (sym f) (omega arith))
+fixed-moves s l (restarts d v r lead k n u g) =
+    let f = attach-fixed (r .state .mark d) (oneRestart d v) (r .state) ∙ gone-fixed s d l g in
+    (ap (λ (x : Fixed). x .passLimit) f, subst (λ (x : Fixed). s .nextId ≤ x .nextId) (sym f) (omega arith))
+
+-- the hub in state s after history h, its pass limit being k
+pub record Ready (k : ℕ) (s : State) (h : List Told) (l : List Group) : Type 0 where
+  pub hub : HubOk s l
+  pub first : FirstRuns l
+  pub running-told : RunsTold (accountsOf h) l
+  pub flying-told : FliesTold (flyingOf h) l
+  pub short : Each Short l
+  pub limit : s .passLimit ≡ k
+
+pub ready-moves : (k : ℕ) (s : State) (h : List Told) (l : List Group) → Ready k s h l →
+    {c : Call} {r : Result} {lead : List Event} {m : List Group} → Moves s l c r lead m →
+    Ready k (settle (r .state)) (record { call = c; answers = r .answers } ∷ h) (stillHeld m)
+ready-moves k s h l y {c = c} {r = r} {m = m} v = record {
+  hub = hub-settles (r .state) m (hub-moves s l (y .hub) v);
+  first = first-runs m;
+  running-told = runs-held (noteAnswers c (r .answers) (accountsOf h)) m (runs-moves s (accountsOf h) l (y .hub) (y .running-told) v);
+  flying-told = flies-held (flyingAfterAll (r .answers) (flyingOf h)) m (flies-told s (flyingOf h) l (y .hub) (y .flying-told) v);
+  short = each-held Short m (short-moves s l (y .hub) (y .short) v);
+  limit = ap (λ (x : Fixed). x .passLimit) (settle-fixed (r .state)) ∙ fixed-moves s l v .0 ∙ y .limit;
+}
+
+-- a call told, with these answers
+abbrev pub saying : Call → List Answer → Told
+saying c answers = record { call = c; answers = answers }
+
+-- a call that tells nothing
+pub untold : (k : ℕ) (s : State) (h : List Told) (l : List Group) (t : Told) → accountsOf (t ∷ h) ≡ accountsOf h →
+    flyingOf (t ∷ h) ≡ flyingOf h → Ready k s h l → Ready k s (t ∷ h) l
+untold k s h l t a f y = record {
+  hub = y .hub;
+  first = y .first;
+  running-told = subst (λ x. RunsTold x l) (sym a) (y .running-told);
+  flying-told = subst (λ x. FliesTold x l) (sym f) (y .flying-told);
+  short = y .short;
+  limit = y .limit;
+}
+
+pub ready-seen : (k : ℕ) (s : State) (h : List Told) (l : List Group) → Ready k s h l → {c : Call} {r : Result} → Seen s l c r →
+    (m : List Group) × Ready k (r .state) (saying c (r .answers) ∷ h) m
+ready-seen k s h l y {c = c} (is-refused r) = (l, untold k s h l (saying c (refused r ∷ [])) refl refl y)
+ready-seen k s h l y (waits i a g b d j e n f) = (l, untold k s h l (saying (turn i) (wait (g .member .id) j ∷ [])) refl refl y)
+ready-seen k s h l y (moves {k = m} v) = (stillHeld m, ready-moves k s h l y v)
+
+-- the hub of an accepted opening
+pub ready-new : (n k first : ℕ) → 0 < first → Ready k (newHub n k first) [] []
+unfolding newHub
+ready-new n k first p = record {
+  hub = record { sequence-is = refl; ids-ok = tt; marks = λ d. unmarked refl tt; nothing-left-all = tt; turns = tt; some-id = p };
+  first = tt;
+  running-told = λ i. refl;
+  flying-told = λ i. refl;
+  short = tt;
+  limit = refl;
+}
+
+pub ready-opened : (n k first : ℕ) (s : State) → openOf n k first ≡ opened s → Ready k s [] []
+ready-opened n k first s e = let o = opening n k first s e in subst (λ x. Ready k x [] []) (o .0) (ready-new n k first (o .1))
+
+-- after any calls
+pub ready-calls : (k : ℕ) (s : State) (h : List Told) (l : List Group) → Ready k s h l → (calls : List Call) →
+    (m : List Group) × Ready k (stateAfter s calls) (toldThen h (callsTold s calls)) m
+ready-calls k s h l y [] = (l, y)
+ready-calls k s h l y (c ∷ calls) =
+    let r = ready-seen k s h l y (see s l (y .hub .sequence-is) c) in
+    ready-calls k (resultOf s c .state) (saying c (resultOf s c .answers) ∷ h) (r .0) (r .1) calls

@@ -1,0 +1,354 @@
+-- Rounds exist after every list of calls, and so a schedule can always go on; the computed schedules of `Schedules.antt` are schedules.
+-- Assumes nothing.
+use mathlib.Core.Path.{_≡_, refl, sym, ap, _∙_, subst}
+use mathlib.Core.Logic.{_≢_}
+use mathlib.Core.Bool.{Bool, true, false, not, _&&_, _||_}
+use mathlib.Core.List.{List, [], _∷_, _++_, map}
+use mathlib.Core.Option.{Option, none, some}
+use Prim.Native.Nat.{ℕ, zero, suc, _+_, _<_, _≤_}
+use native.Mathlib.Omega.{arith}
+use borrow.Author.Tests.{eqb-true, eqb-false, eq-eqb, ne-eqb, le-ltb, not-true}
+use lib.Dec.{eqb}
+use Rattle.routine.specs.Choice.{if_then_else_}
+use Rattle.routine.specs.declared.Command.{Command}
+use Rattle.routine.proofs.Laws.{byTest}
+use Rattle.rules.specs.Tables.{anyOf, put}
+use Rattle.rules.specs.State.{Member, State}
+use Rattle.rules.specs.Answers.{Call, submit, turn, report, placed, Result}
+use Rattle.rules.specs.Progress.{isMust, next, Flight, flight}
+use Rattle.rules.specs.Sequence.{Found, find, isRunning, runs}
+use Rattle.rules.specs.Abort.{abort}
+use Rattle.rules.specs.Open.{opened, openOf}
+use Rattle.rules.specs.Turn.{firstHolding, commitTurn, sendTurn, skipTurn, turnNext, waitOr, turnFound, turnOf}
+use Rattle.rules.specs.Report.{codeDone, codeFailed, doneReport, skipReport, reported, reportFound, reportOf}
+use Rattle.rules.specs.Calls.{resultOf, stateAfter}
+use Rattle.rules.specs.History.{Told, Account, accountsOf}
+use Rattle.rules.specs.World.{isAccepted}
+use Rattle.rules.specs.Rounds.{callsTold, toldThen, flyingOf, idleOf, acceptedIn, times, EachOnce, Round, a-submission}
+use Rattle.rules.specs.Rounds.{Schedule, no-more, between, a-round, enoughRounds, RoundsExist}
+use Rattle.rules.proofs.Lists.{byIf, t≠f, and-left, and-right, put-other, each-left, IsNot, NotIn, IdsOk}
+use Rattle.rules.proofs.Groups.{Group, members, ids, foundAt, ids-++, other-ids}
+use Rattle.rules.proofs.Invariant.{HubOk}
+use Rattle.rules.proofs.View.{by-turn, by-report, by-cancel, places, commits, sends, skips, dones, misses, aborts}
+use Rattle.rules.proofs.View.{fails, restarts, Seen, is-refused, waits, moves, see}
+use Rattle.rules.proofs.Schedules.{hasFlight, isFlying, isIdle, idsWith, turnsAt, reportsAt, allDone, busy, Sitting, opensAt}
+use Rattle.rules.proofs.Schedules.{placing, placedState, roundsOf, toldAfter, crowded, crowded-placed, tooFewRounds}
+use Rattle.rules.proofs.Schedules.{crowded-still-runs}
+use Rattle.rules.proofs.Schedules.{overtaken, overtaken-placed, calcRounds}
+use Rattle.rules.proofs.Told.{has, Tells, none-has}
+use Rattle.rules.proofs.Ready.{Ready, saying, ready-seen, ready-opened, ready-calls}
+use Rattle.rules.proofs.Lighter.{Asks}
+
+-- ---- the routines that a round is about
+
+-- each stands there once
+ids-once : (q : Member → Bool) (n : ℕ) (l : List Group) → IdsOk n (ids l) → (i : ℕ) →
+    times i (idsWith q (members l)) ≡ (if anyOf (has q i) l then 1 else 0)
+ids-once q n [] d i = refl
+ids-once q n (g ∷ l) d i = go (eqb (g .member .id) i) refl (q (g .member)) (ids-once q n l (d .3) i)
+  where
+    one : Bool → ℕ
+    one t = if t then 1 else 0
+
+    go : (t : Bool) → eqb (g .member .id) i ≡ t → (b : Bool) → times i (idsWith q (members l)) ≡ one (anyOf (has q i) l) →
+        times i (if b then g .member .id ∷ idsWith q (members l) else idsWith q (members l)) ≡ one ((t && b) || anyOf (has q i) l)
+    go true e true h =
+        rw e (ap suc (h ∙ ap one (none-has q i l (subst (λ j. NotIn j (ids l)) (eqb-true (g .member .id) i e) (d .2)))))
+    go true e false h = h
+    go false e true h = rw e h
+    go false e false h = h
+
+-- who runs and has nothing in flight, told by the answers
+idle-any : (n : ℕ) (l : List Group) → IdsOk n (ids l) → (i : ℕ) →
+    (anyOf (has isRunning i) l && not (anyOf (has isFlying i) l)) ≡ anyOf (has isIdle i) l
+unfolding isFlying isIdle
+idle-any n [] d i = refl
+idle-any n (g ∷ l) d i = go (eqb (g .member .id) i) refl (idle-any n l (d .3) i)
+  where
+    own : (r f : Bool) → ((r || false) && not ((r && f) || false)) ≡ ((r && not f) || false)
+    own true true = refl
+    own true false = refl
+    own false f = refl
+
+    go : (t : Bool) → eqb (g .member .id) i ≡ t → (anyOf (has isRunning i) l && not (anyOf (has isFlying i) l)) ≡ anyOf (has isIdle i) l →
+        (((t && isRunning (g .member)) || anyOf (has isRunning i) l) && not ((t && isFlying (g .member)) || anyOf (has isFlying i) l))
+        ≡ ((t && isIdle (g .member)) || anyOf (has isIdle i) l)
+    go true e h =
+        let none : (q : Member → Bool) → anyOf (has q i) l ≡ false =
+        λ q. none-has q i l (subst (λ j. NotIn j (ids l)) (eqb-true (g .member .id) i e) (d .2)) in
+        rw (none isRunning, none isFlying, none isIdle) (own (isRunning (g .member)) (hasFlight (flight (g .member .steps))))
+    go false e h = h
+
+idle-told : (k : ℕ) (s : State) (h : List Told) (l : List Group) → Ready k s h l → Tells isIdle (idleOf h) l
+idle-told k s h l y i =
+    ap (λ b. b && not (flyingOf h i)) (y .running-told i) ∙ ap (λ b. anyOf (has isRunning i) l && not b) (y .flying-told i)
+    ∙ idle-any (s .nextId) l (y .hub .ids-ok) i
+
+-- ---- calls that are accepted
+
+-- one that passes is there
+located : (q : Member → Bool) (i : ℕ) (l : List Group) → anyOf (has q i) l ≡ true →
+    (a : List Group) × (g : Group) × (b : List Group) × (l ≡ a ++ (g ∷ b)) × (g .member .id ≡ i) × (q (g .member) ≡ true)
+located q i [] e = t≠f (sym e)
+located q i (g ∷ l) e = go (eqb (g .member .id) i) refl (q (g .member)) refl e (located q i l)
+  where
+    go : (t : Bool) → eqb (g .member .id) i ≡ t → (b : Bool) → q (g .member) ≡ b → ((t && b) || anyOf (has q i) l) ≡ true →
+        (anyOf (has q i) l ≡ true →
+        (a : List Group) × (x : Group) × (b : List Group) × (l ≡ a ++ (x ∷ b)) × (x .member .id ≡ i) × (q (x .member) ≡ true)) →
+        (a : List Group) × (x : Group) × (b : List Group) × (g ∷ l ≡ a ++ (x ∷ b)) × (x .member .id ≡ i) × (q (x .member) ≡ true)
+    go true e true f z h = ([], g, l, refl, eqb-true (g .member .id) i e, f)
+    go true e false f z h = let r = h z in (g ∷ r .0, r .1, r .2, ap (λ k. g ∷ k) (r .3), r .4, r .5)
+    go false e b f z h = let r = h z in (g ∷ r .0, r .1, r .2, ap (λ k. g ∷ k) (r .3), r .4, r .5)
+
+find-it : (a : List Group) (g : Group) (b : List Group) → NotIn (g .member .id) (ids a) → isRunning (g .member) ≡ true →
+    find (runs (g .member .id)) (members (a ++ (g ∷ b))) ≡ some (foundAt a g b)
+unfolding runs
+find-it [] g b n r = rw (eq-eqb (g .member .id) (g .member .id) refl, r) refl
+find-it (x ∷ a) g b n r = rw (ne-eqb (x .member .id) (g .member .id) (n .0), find-it a g b (n .1) r) refl
+
+-- whoever has the flight
+no-flight-is : (o : Option Flight) → hasFlight o ≡ false → o ≡ none
+no-flight-is none e = refl
+no-flight-is (some x) e = t≠f e
+
+flight-is : (o : Option Flight) → hasFlight o ≡ true → (x : Flight) × (o ≡ some x)
+flight-is none e = t≠f (sym e)
+flight-is (some x) e = (x, refl)
+
+-- a turn of a running routine with nothing in flight
+turn-taken : (s : State) (f : Found) → flight (f .it .steps) ≡ none → isAccepted (turnFound s (some f) .answers) ≡ true
+unfolding commitTurn sendTurn skipTurn abort
+turn-taken s f e = rw e (command (next (f .it .steps)))
+  where
+    search : (c : Command) (o : Option ℕ) → isAccepted (waitOr s f c o .answers) ≡ true
+    search c (some j) = refl
+    search c none =
+        byIf (λ (r : Result). isAccepted (r .answers) ≡ true) (s .up (c .device)) (λ _. refl)
+        (λ _. byIf (λ (r : Result). isAccepted (r .answers) ≡ true) (isMust c) (λ _. refl) (λ _. refl))
+
+    command : (o : Option Command) → isAccepted (turnNext s f o .answers) ≡ true
+    command none = refl
+    command (some c) = search c (firstHolding (c .device) (f .ahead))
+
+-- a report on a command in flight
+report-taken : (s : State) (f : Found) (code : ℕ) (x : Flight) → flight (f .it .steps) ≡ some x → code ≤ codeFailed →
+    isAccepted (reportFound s code (some f) .answers) ≡ true
+unfolding doneReport skipReport abort
+report-taken s f code x e c =
+    rw (e, le-ltb codeFailed code c)
+    (byIf (λ (r : Result). isAccepted (r .answers) ≡ true) (eqb code codeDone) (λ _. refl)
+    (λ _. byIf (λ (r : Result). isAccepted (r .answers) ≡ true) (isMust (x .command)) (λ _. refl) (λ _. refl)))
+
+-- the routine with id i is found
+found : (q : Member → Bool) (k i : ℕ) (s : State) (h : List Told) (l : List Group) → Ready k s h l → anyOf (has q i) l ≡ true →
+    ((m : Member) → q m ≡ true → isRunning m ≡ true) →
+    (f : Found) × (find (runs i) (s .sequence) ≡ some f) × (q (f .it) ≡ true)
+found q k i s h l y e f =
+    let r = located q i l e in
+    let a = r .0 in
+    let g = r .1 in
+    let b = r .2 in
+    let o = other-ids (s .nextId) a g b (subst (HubOk s) (r .3) (y .hub) .ids-ok) in
+    let n = each-left (IsNot (g .member .id)) (ids a) (ids b) (subst (NotIn (g .member .id)) (ids-++ a b) o) in (
+      foundAt a g b,
+      ap (find (runs i)) (y .hub .sequence-is ∙ ap members (r .3))
+          ∙ ap (λ j. find (runs j) (members (a ++ (g ∷ b)))) (sym (r .4)) ∙ find-it a g b n (f (g .member) (r .5)),
+      r .5,
+    )
+
+turn-accepted : (k i : ℕ) (s : State) (h : List Told) (l : List Group) → Ready k s h l → idleOf h i ≡ true →
+    isAccepted (resultOf s (turn i) .answers) ≡ true
+unfolding turnOf isIdle
+turn-accepted k i s h l y e =
+    let r = found isIdle k i s h l y (sym (idle-told k s h l y i) ∙ e)
+    (λ m z. and-left (isRunning m) (not (hasFlight (flight (m .steps)))) z) in
+    let m = r .0 .it in
+    let z = not-true (hasFlight (flight (m .steps))) (and-right (isRunning m) (not (hasFlight (flight (m .steps)))) (r .2)) in
+    ap (λ o. isAccepted (turnFound s o .answers)) (r .1) ∙ turn-taken s (r .0) (no-flight-is (flight (m .steps)) z)
+
+report-accepted : (k i code : ℕ) (s : State) (h : List Told) (l : List Group) → Ready k s h l → flyingOf h i ≡ true → code ≤ codeFailed →
+    isAccepted (resultOf s (report i code) .answers) ≡ true
+unfolding reportOf isFlying
+report-accepted k i code s h l y e c =
+    let r = found isFlying k i s h l y (sym (y .flying-told i) ∙ e) (λ m z. and-left (isRunning m) (hasFlight (flight (m .steps))) z) in
+    let m = r .0 .it in
+    let z = flight-is (flight (m .steps)) (and-right (isRunning m) (hasFlight (flight (m .steps))) (r .2)) in
+    ap (λ o. isAccepted (reportFound s code o .answers)) (r .1) ∙ report-taken s (r .0) code (z .0) (z .1) c
+
+-- ---- what a turn or a report tells of others: nothing
+
+module _ (s : State) (h : List Told) (l : List Group) (i j : ℕ) (other : i ≢ j) where
+  -- tables changed at g
+  elsewhere {ℓ} : {A : Type ℓ} (f : ℕ → A) (g : Group) (v : A) → g .member .id ≡ j → put f (g .member .id) v i ≡ f i
+  elsewhere f g v e = put-other f (g .member .id) v i (λ z. other (z ∙ e))
+
+  others-told : {c : Call} {r : Result} → Asks j c → Seen s l c r →
+      (accountsOf (saying c (r .answers) ∷ h) i ≡ accountsOf h i) × (flyingOf (saying c (r .answers) ∷ h) i ≡ flyingOf h i)
+  unfolding commitTurn sendTurn skipTurn doneReport skipReport abort
+  others-told o (is-refused r) = (refl, refl)
+  others-told o (waits w a g b d x e n f) = (refl, refl)
+  others-told o (moves (places cs a b q e u p n)) = absurd o
+  others-told o (moves (commits w a g b e n r f q)) = (elsewhere (accountsOf h) g _ (n ∙ o), refl)
+  others-told o (moves (sends w a g b c e n r f q x u)) = (elsewhere (accountsOf h) g _ (n ∙ o), elsewhere (flyingOf h) g true (n ∙ o))
+  others-told o (moves (skips w a g b c e n r f q x u)) = (elsewhere (accountsOf h) g _ (n ∙ o), elsewhere (flyingOf h) g false (n ∙ o))
+  others-told o (moves (dones w code a g b x e n r f q)) = (elsewhere (accountsOf h) g _ (n ∙ o), elsewhere (flyingOf h) g false (n ∙ o))
+  others-told o (moves (misses w code a g b x e n r f q)) = (elsewhere (accountsOf h) g _ (n ∙ o), elsewhere (flyingOf h) g false (n ∙ o))
+  others-told o (moves (aborts _ a g b e r (by-turn w n f))) =
+      (elsewhere (accountsOf h) g _ (n ∙ o), elsewhere (flyingOf h) g false (n ∙ o))
+  others-told o (moves (aborts _ a g b e r (by-report w code x n f q))) =
+      (elsewhere (accountsOf h) g _ (n ∙ o), elsewhere (flyingOf h) g false (n ∙ o))
+  others-told o (moves (aborts _ a g b e r (by-cancel w n))) = absurd o
+  others-told o (moves (fails d r lead m n u g)) = absurd o
+  others-told o (moves (restarts d v r lead m n u g)) = absurd o
+
+-- ---- each of some routines is asked once, in the order given
+
+abbrev oneIf : Bool → ℕ
+oneIf t = if t then 1 else 0
+
+times-own : (j : ℕ) (js : List ℕ) → times j (j ∷ js) ≡ suc (times j js)
+times-own j js = ap (λ b. if b then suc (times j js) else times j js) (eq-eqb j j refl)
+
+-- the first passes, and is not asked again
+first-passes : (test : ℕ → Bool) (j : ℕ) (js : List ℕ) → ((i : ℕ) → times i (j ∷ js) ≤ oneIf (test i)) → (test j ≡ true) × (times j js ≡ 0)
+first-passes test j js once = go (test j) (subst (λ n. n ≤ oneIf (test j)) (times-own j js) (once j))
+  where
+    go : (b : Bool) → suc (times j js) ≤ oneIf b → (b ≡ true) × (times j js ≡ 0)
+    go true n = (refl, omega arith)
+    go false n = absurd (omega arith)
+
+-- the others still pass
+rest-passes : (test after : ℕ → Bool) (j : ℕ) (js : List ℕ) → ((i : ℕ) → times i (j ∷ js) ≤ oneIf (test i)) →
+    ((i : ℕ) → i ≢ j → after i ≡ test i) → (i : ℕ) → times i js ≤ oneIf (after i)
+rest-passes test after j js once same i =
+    byTest (λ _. times i js ≤ oneIf (after i)) (eqb j i)
+    (λ e. let z = subst (λ x. times x js ≡ 0) (eqb-true j i e) (first-passes test j js once .1) in omega arith)
+    (λ e.
+    let n : times i (j ∷ js) ≡ times i js = rw e refl in
+    subst (λ b. times i js ≤ oneIf b) (sym (same i (λ z. eqb-false j i e (sym z)))) (subst (λ m. m ≤ oneIf (test i)) n (once i)))
+
+module _ (k : ℕ) (make : ℕ → Call) (asks : (j : ℕ) → Asks j (make j)) (test : List Told → ℕ → Bool)
+    (ok : (s : State) (h : List Told) (l : List Group) → Ready k s h l → (j : ℕ) → test h j ≡ true →
+    isAccepted (resultOf s (make j) .answers) ≡ true)
+    (still : (h : List Told) (t : Told) (i : ℕ) → accountsOf (t ∷ h) i ≡ accountsOf h i → flyingOf (t ∷ h) i ≡ flyingOf h i →
+    test (t ∷ h) i ≡ test h i) where
+  asked-once : (s : State) (h : List Told) (l : List Group) → Ready k s h l → (js : List ℕ) →
+      ((i : ℕ) → times i js ≤ oneIf (test h i)) →
+      (acceptedIn (callsTold s (map make js)) ≡ map make js)
+      × (m : List Group) × Ready k (stateAfter s (map make js)) (toldThen h (callsTold s (map make js))) m
+  asked-once s h l y [] once = (refl, l, y)
+  asked-once s h l y (j ∷ js) once =
+      let v = see s l (y .hub .sequence-is) (make j) in
+      let n = ready-seen k s h l y v in
+      let u = resultOf s (make j) .state in
+      let t = saying (make j) (resultOf s (make j) .answers) in
+      let rest = acceptedIn (callsTold u (map make js)) in
+      let passes = first-passes (test h) j js once .0 in
+      let r = asked-once u (t ∷ h) (n .0) (n .1) js
+      (rest-passes (test h) (test (t ∷ h)) j js once
+      (λ i z. let o = others-told s h l i j z (asks j) v in still h t i (o .0) (o .1))) in
+      (ap (λ b. if b then make j ∷ rest else rest) (ok s h l y j passes) ∙ ap (λ x. make j ∷ x) (r .0), r .1, r .2)
+
+-- ---- a round
+
+once-in : (q : Member → Bool) (t : ℕ → Bool) (k : ℕ) (s : State) (h : List Told) (l : List Group) → Ready k s h l → Tells q t l →
+    EachOnce t (idsWith q (s .sequence))
+once-in q t k s h l y e i =
+    ap (λ m. times i (idsWith q m)) (y .hub .sequence-is) ∙ ids-once q (s .nextId) l (y .hub .ids-ok) i ∙ ap oneIf (sym (e i))
+
+module _ (k : ℕ) (codes : ℕ → ℕ) (fit : (i : ℕ) → codes i ≤ codeFailed) (s : State) (h : List Told) (l : List Group)
+    (y : Ready k s h l) where
+  -- what holds after the turns
+  turns-made : (acceptedIn (callsTold s (turnsAt s)) ≡ turnsAt s)
+      × (m : List Group) × Ready k (stateAfter s (turnsAt s)) (toldThen h (callsTold s (turnsAt s))) m
+  turns-made =
+      asked-once k turn (λ j. refl) idleOf (λ s h l y j. turn-accepted k j s h l y)
+      (λ h t i a f. ap (λ (x : Account). x .running && not (flyingOf (t ∷ h) i)) a ∙ ap (λ b. accountsOf h i .running && not b) f) s h l y
+      (idsWith isIdle (s .sequence)) (λ i. let e = once-in isIdle (idleOf h) k s h l y (idle-told k s h l y) i in omega arith)
+
+  reports-made : let u = stateAfter s (turnsAt s) in
+      (acceptedIn (callsTold u (reportsAt codes u)) ≡ reportsAt codes u)
+      × (m : List Group)
+      × Ready k (stateAfter u (reportsAt codes u)) (toldThen (toldThen h (callsTold s (turnsAt s))) (callsTold u (reportsAt codes u))) m
+  reports-made =
+      let u = stateAfter s (turnsAt s) in
+      let g = toldThen h (callsTold s (turnsAt s)) in
+      let r = turns-made .2 in
+      asked-once k (λ i. report i (codes i)) (λ j. refl) flyingOf (λ s h l y j e. report-accepted k j (codes j) s h l y e (fit j))
+      (λ h t i a f. f) u g (turns-made .1) r (idsWith isFlying (u .sequence))
+      (λ i. let e = once-in isFlying (flyingOf g) k u g (turns-made .1) r (r .flying-told) i in omega arith)
+
+  pub is-round : let u = stateAfter s (turnsAt s) in Round h (callsTold s (turnsAt s)) (callsTold u (reportsAt codes u))
+  is-round =
+      let u = stateAfter s (turnsAt s) in
+      let g = toldThen h (callsTold s (turnsAt s)) in
+      let r = turns-made .2 in
+      record {
+        turned = idsWith isIdle (s .sequence);
+        turns-are = turns-made .0;
+        one-turn-each = once-in isIdle (idleOf h) k s h l y (idle-told k s h l y);
+        reported = idsWith isFlying (u .sequence);
+        codes = codes;
+        reports-are = reports-made .0;
+        one-report-each = once-in isFlying (flyingOf g) k u g (turns-made .1) r (r .flying-told);
+      }
+
+-- Rounds exist after every list of calls.
+pub rounds-exist : RoundsExist
+rounds-exist n k first s e calls codes fit =
+    let r = ready-calls k s [] [] (ready-opened n k first s e) calls in
+    let u = stateAfter s calls in
+    (turnsAt u, reportsAt codes (stateAfter u (turnsAt u)), is-round k codes fit u (toldThen [] (callsTold s calls)) (r .0) (r .1))
+
+-- ---- schedules
+
+told-calls : (s : State) (a b : List Call) → callsTold s (a ++ b) ≡ callsTold s a ++ callsTold (stateAfter s a) b
+told-calls s [] b = refl
+told-calls s (c ∷ a) b = ap (λ l. saying c (resultOf s c .answers) ∷ l) (told-calls (resultOf s c .state) a b)
+
+-- the calls of `busy` are n rounds with submissions between them
+pub is-schedule : (k : ℕ) (s : State) (h : List Told) (l : List Group) → Ready k s h l → (n : ℕ) (cs : List Command) →
+    Schedule h (callsTold s (busy n cs s)) n
+is-schedule k s h l y zero cs = no-more
+is-schedule k s h l y (suc n) cs =
+    let r = ready-seen k s h l y (see s l (y .hub .sequence-is) (submit cs)) in
+    let t = resultOf s (submit cs) .state in
+    let g = saying (submit cs) (resultOf s (submit cs) .answers) ∷ h in
+    let u = stateAfter t (turnsAt t) in
+    let v = stateAfter u (reportsAt allDone u) in
+    let fit : (i : ℕ) → allDone i ≤ codeFailed = λ i. omega arith in
+    let made = reports-made k allDone fit t g (r .0) (r .1) in
+    between _ (a-submission cs _)
+    (subst (λ x. Schedule g x (suc n))
+    (sym (told-calls t (turnsAt t) (reportsAt allDone u ++ busy n cs v)
+    ∙ ap (λ x. callsTold t (turnsAt t) ++ x) (told-calls u (reportsAt allDone u) (busy n cs v))))
+    (a-round (callsTold t (turnsAt t)) (callsTold u (reportsAt allDone u)) (is-round k allDone fit t g (r .0) (r .1))
+    (is-schedule k v (toldThen (toldThen g (callsTold t (turnsAt t))) (callsTold u (reportsAt allDone u))) (made .1) (made .2) n cs)))
+
+-- all that the promise asks of a sitting, for n rounds
+pub record Promised (x : Sitting) (n : ℕ) : Type 0 where
+  pub accepted : openOf 1 (x .passLimit) 1 ≡ opened (opensAt x)
+  pub was-placed : resultOf (stateAfter (opensAt x) (x .before)) (submit (x .commands)) .answers ≡ placed (x .id) (x .follows) ∷ []
+  pub schedule : Schedule (toldThen [] (callsTold (opensAt x) (placing x))) (callsTold (placedState x) (roundsOf x n)) n
+
+promised : (x : Sitting) (n : ℕ) → openOf 1 (x .passLimit) 1 ≡ opened (opensAt x) →
+    resultOf (stateAfter (opensAt x) (x .before)) (submit (x .commands)) .answers ≡ placed (x .id) (x .follows) ∷ [] → Promised x n
+promised x n e p =
+    let r = ready-calls (x .passLimit) (opensAt x) [] [] (ready-opened 1 (x .passLimit) 1 (opensAt x) e) (placing x) in
+    record {
+      accepted = e;
+      was-placed = p;
+      schedule = is-schedule (x .passLimit) (placedState x) _ (r .0) (r .1) n (x .newcomers);
+    }
+
+-- Not weak: a routine that still runs after 8 of 9 parts of the rounds, by a schedule that the promise is about.
+pub needs-most :
+    Promised crowded tooFewRounds × (enoughRounds (crowded .passLimit) < tooFewRounds + tooFewRounds)
+    × (accountsOf (toldAfter crowded tooFewRounds) (crowded .id) .running ≡ true)
+unfolding calcRounds
+needs-most = (promised crowded tooFewRounds refl crowded-placed, omega arith, crowded-still-runs)
+
+-- And the schedule in which wrong rules show is one.
+pub wrong-rules-show : Promised overtaken (enoughRounds (overtaken .passLimit))
+unfolding calcRounds
+wrong-rules-show = promised overtaken (enoughRounds (overtaken .passLimit)) refl overtaken-placed
