@@ -1,4 +1,5 @@
 pub mod Laws
 pub mod OpenLaws
 pub mod Theorem
+pub mod Rounds
 pub mod Exact

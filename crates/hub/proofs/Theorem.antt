@@ -62,7 +62,7 @@ premises w h (called c o v ∷ l) e ch p =
 premises w h (device-takes d k ∷ l) e ch p = (tt, premises (worldAfter w (takes-one d k)) h l e ch (p .1))
 
 -- the first part of a chain
-chain-left : (h : Hub) (before rest : List HubAct) → Chain h (before ++ rest) → Chain h before
+pub chain-left : (h : Hub) (before rest : List HubAct) → Chain h (before ++ rest) → Chain h before
 chain-left h [] rest ch = tt
 chain-left h (called c o v ∷ l) rest ch = (ch .0, chain-left (o .hub) l rest (ch .1))
 chain-left h (device-takes d k ∷ l) rest ch = chain-left h l rest ch
@@ -98,7 +98,7 @@ state-then w h (called c o v ∷ l) e = state-then (afterCall w (callOf c) v (re
 state-then w h (device-takes d k ∷ l) e = state-then (worldAfter w (takes-one d k)) h l e
 
 -- an accepted opening gives the rules' hub
-opens-as : (n k first : ℕ) (o : Opened) → Opens n k first o → o .verdict ≡ Accepted → openOf n k first ≡ opened (view (o .hub))
+pub opens-as : (n k first : ℕ) (o : Opened) → Opens n k first o → o .verdict ≡ Accepted → openOf n k first ≡ opened (view (o .hub))
 opens-as n k first o op accepted = sym (op .gives) ∙ ap (λ v. openIf v (view (o .hub))) accepted
 
 -- Demand 3.

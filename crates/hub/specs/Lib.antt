@@ -3,3 +3,4 @@ pub mod Valid
 pub mod Contract
 pub mod Demand3
 pub mod Exact
+pub mod Rounds

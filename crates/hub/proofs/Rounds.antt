@@ -1,0 +1,96 @@
+-- The waiting promise of this hub: the theorem of the rules, carried along a chain of calls. Assumes nothing.
+use mathlib.Core.Path.{_≡_, refl, sym, ap, _∙_, subst}
+use mathlib.Core.List.{List, [], _∷_, _++_}
+use Prim.Native.Nat.{ℕ, _≤_}
+use lib.IntN.{ℤ}
+use Rattle.routine.specs.Routine.{commandsOf}
+use Rattle.routine.specs.declared.Command.{Command}
+use Rattle.rules.specs.State.{State}
+use Rattle.rules.specs.Answers.{Call, submit, placed, Result}
+use Rattle.rules.specs.Calls.{resultOf, stateAfter}
+use Rattle.rules.specs.History.{Told}
+use Rattle.rules.specs.Rounds.{callsTold, toldThen, Ended, Schedule, enoughRounds}
+use Rattle.rules.proofs.Waiting.{ended-in-time}
+use Rattle.hub.specs.View.{view, answersIn}
+use Rattle.hub.specs.Demand3.{HubCall, submits, callOf, HubAct, called, device-takes, Chain, hubAfter}
+use Rattle.hub.specs.Rounds.{toldIn, HubEndedInTime}
+use Rattle.hub.specs.declared.Hub.{Hub}
+use Rattle.hub.specs.declared.Outcome.{Outcome}
+use Rattle.hub.proofs.Theorem.{met, opens-as, chain-left}
+
+-- the calls of a chain
+abbrev callsIn : List HubAct → List Call
+callsIn [] = []
+callsIn (called c o v ∷ l) = callOf c ∷ callsIn l
+callsIn (device-takes d k ∷ l) = callsIn l
+
+calls-++ : (a b : List HubAct) → callsIn (a ++ b) ≡ callsIn a ++ callsIn b
+calls-++ [] b = refl
+calls-++ (called c o v ∷ a) b = ap (λ l. callOf c ∷ l) (calls-++ a b)
+calls-++ (device-takes d k ∷ a) b = calls-++ a b
+
+-- the hub that the last call left is the rules'
+state-is : (h : Hub) (acts : List HubAct) → Chain h acts → view (hubAfter h acts) ≡ stateAfter (view h) (callsIn acts)
+state-is h [] ch = refl
+state-is h (called c o v ∷ l) ch =
+    state-is (o .hub) l (ch .1) ∙ ap (λ (r : Result). stateAfter (r .state) (callsIn l)) (met h c o (ch .0) .gives)
+state-is h (device-takes d k ∷ l) ch = state-is h l ch
+
+-- and tells what the rules tell
+told-is : (h : Hub) (acts : List HubAct) → Chain h acts → toldIn acts ≡ callsTold (view h) (callsIn acts)
+told-is h [] ch = refl
+told-is h (called c o v ∷ l) ch =
+    ap (λ t. record { call = callOf c; answers = answersIn o } ∷ t) (told-is (o .hub) l (ch .1))
+    ∙ ap (λ (r : Result). record { call = callOf c; answers = r .answers } ∷ callsTold (r .state) (callsIn l)) (met h c o (ch .0) .gives)
+told-is h (device-takes d k ∷ l) ch = told-is h l ch
+
+-- the rest of a chain
+chain-right : (h : Hub) (before rest : List HubAct) → Chain h (before ++ rest) → Chain (hubAfter h before) rest
+chain-right h [] rest ch = ch
+chain-right h (called c o v ∷ l) rest ch = chain-right (o .hub) l rest (ch .1)
+chain-right h (device-takes d k ∷ l) rest ch = chain-right h l rest ch
+
+-- The waiting promise.
+pub hub-ended-in-time : HubEndedInTime
+hub-ended-in-time n k first o op accepted before r p v i j was-placed later rounds ch schedule enough =
+    subst (λ x. Promise x (toldIn later)) (sym told-first)
+    (subst (Promise (callsTold s calls)) (sym told-later)
+    (λ x. ended-in-time n k first s (opens-as n k first o op accepted) (callsIn before) cs i j answers (callsIn later) rounds x enough))
+    schedule
+  where
+    h : Hub
+    h = o .hub
+
+    s : State
+    s = view h
+
+    cs : List Command
+    cs = commandsOf r
+
+    first-part : List HubAct
+    first-part = before ++ (called (submits r) p v ∷ [])
+
+    calls : List Call
+    calls = callsIn before ++ (submit cs ∷ [])
+
+    Promise : List Told → List Told → Type 0
+    Promise a b = Schedule (toldThen [] a) b rounds → Ended i (toldThen (toldThen [] a) b)
+
+    chain-first : Chain h first-part
+    chain-first = chain-left h first-part later ch
+
+    told-first : toldIn first-part ≡ callsTold s calls
+    told-first = told-is h first-part chain-first ∙ ap (callsTold s) (calls-++ before (called (submits r) p v ∷ []))
+
+    told-later : toldIn later ≡ callsTold (stateAfter s calls) (callsIn later)
+    told-later =
+        told-is (hubAfter h first-part) later (chain-right h first-part later ch)
+        ∙ ap (λ x. callsTold x (callsIn later))
+        (state-is h first-part chain-first ∙ ap (stateAfter s) (calls-++ before (called (submits r) p v ∷ [])))
+
+    answers : resultOf (stateAfter s (callsIn before)) (submit cs) .answers ≡ placed i j ∷ []
+    answers =
+        ap (λ x. resultOf x (submit cs) .answers) (sym (state-is h before (chain-left h before (called (submits r) p v ∷ []) chain-first)))
+        ∙ ap (λ (x : Result). x .answers)
+        (sym (met (hubAfter h before) (submits r) p (chain-right h before (called (submits r) p v ∷ []) chain-first .0) .gives))
+        ∙ was-placed
