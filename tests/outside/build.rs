@@ -1,4 +1,4 @@
-//! Links the archive of the line program into `world`, and only there. PLOT_HUB_ARCHIVE names another archive than the built one.
+//! Links the archive of the line program into the test programs. PLOT_HUB_ARCHIVE names another archive than the built one.
 
 use std::path::PathBuf;
 
@@ -10,5 +10,5 @@ fn main() {
     let archive = archive.canonicalize().unwrap_or_else(|problem| {
         panic!("no archive {}: {problem}; `rt staticlib line` builds it, from the root", archive.display())
     });
-    println!("cargo:rustc-link-arg-bin=world={}", archive.display());
+    println!("cargo:rustc-link-arg-bins={}", archive.display());
 }

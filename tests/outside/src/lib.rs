@@ -1,4 +1,4 @@
-//! What the two test programs share.
+//! What the test programs share.
 
 use std::collections::HashMap;
 use std::sync::Mutex;
@@ -113,5 +113,86 @@ impl Watch {
                 std::process::exit(1);
             }
         }
+    }
+}
+
+/// The archive: `build.rs` links it in.
+pub mod archive {
+    extern "C" {
+        fn plot_hub_run(input: *const u8, input_length: usize, output: *mut u8, output_length: usize) -> i64;
+    }
+
+    /// What the line program prints for this input.
+    pub fn run(input: &[u8]) -> Result<Vec<u8>, String> {
+        let mut output = vec![0; 4096];
+        let length = run_in(input, &mut output)?;
+        output.truncate(length);
+        Ok(output)
+    }
+
+    /// The same, put into this buffer, which grows if it is too short; the length written.
+    pub fn run_in(input: &[u8], output: &mut Vec<u8>) -> Result<usize, String> {
+        loop {
+            // SAFETY: both pointers are of ranges as long as said; the ranges are apart, since one of them is lent mutably.
+            let result = unsafe { plot_hub_run(input.as_ptr(), input.len(), output.as_mut_ptr(), output.len()) };
+            match usize::try_from(result) {
+                Ok(length) if length <= output.len() => return Ok(length),
+                Err(_) if result == -21 && output.len() < 1 << 24 => *output = vec![0; output.len() * 4],
+                _ => return Err(format!("the call with a buffer of {} has the result {result}", output.len())),
+            }
+        }
+    }
+}
+
+/// A setting sent back to a device.
+pub type Back = (usize, i64);
+
+/// An answer, as the line program prints it.
+#[derive(Clone, Debug)]
+pub enum Answer {
+    Placed { id: u64, after: u64 },
+    Send { id: u64, device: usize, setting: i64 },
+    Wait { id: u64 },
+    Skipped { id: u64, back: Vec<Back> },
+    Committed { id: u64 },
+    Aborted { id: u64, back: Vec<Back> },
+    Done { id: u64 },
+    Down { device: usize, after: u64 },
+    Up { device: usize, after: u64 },
+    Refused,
+    Unread,
+}
+
+impl Answer {
+    pub fn read(line: &str) -> Option<Answer> {
+        let words: Vec<&str> = line.split(' ').collect();
+        let id = |at: usize| words.get(at)?.parse::<u64>().ok();
+        let device = |at: usize| words.get(at)?.parse::<usize>().ok();
+        let setting = |at: usize| words.get(at)?.parse::<i64>().ok();
+        let long = |count: usize| (words.len() == count).then_some(());
+        // `back`, a count, then device and setting for each, up to the line's end.
+        let back = |at: usize| {
+            let count = device(at + 1)?;
+            (words.len() == at + 2 + 2 * count && words[at] == "back").then_some(())?;
+            (0..count).map(|i| Some((device(at + 2 + 2 * i)?, setting(at + 3 + 2 * i)?))).collect::<Option<Vec<Back>>>()
+        };
+        Some(match words[0] {
+            "placed" if words.get(2) == Some(&"after") => long(4).and(Some(Answer::Placed { id: id(1)?, after: id(3)? }))?,
+            "send" => long(4).and(Some(Answer::Send { id: id(1)?, device: device(2)?, setting: setting(3)? }))?,
+            "wait" if words.get(2) == Some(&"on") => long(4).and(id(3)).and(Some(Answer::Wait { id: id(1)? }))?,
+            "skipped" if words.len() == 2 => Answer::Skipped { id: id(1)?, back: Vec::new() },
+            "skipped" => Answer::Skipped { id: id(1)?, back: back(2)? },
+            "committed" => long(2).and(Some(Answer::Committed { id: id(1)? }))?,
+            "aborted" => Answer::Aborted { id: id(1)?, back: back(2)? },
+            "done" => long(2).and(Some(Answer::Done { id: id(1)? }))?,
+            "down" if words.get(2) == Some(&"after") => long(4).and(Some(Answer::Down { device: device(1)?, after: id(3)? }))?,
+            "up" if words.get(2) == Some(&"after") => long(4).and(Some(Answer::Up { device: device(1)?, after: id(3)? }))?,
+            "refused" => {
+                id(1)?;
+                (words.len() == 2 || (words.len() == 3 && id(2).is_some())).then_some(Answer::Refused)?
+            }
+            "unread" => long(1).and(Some(Answer::Unread))?,
+            _ => return None,
+        })
     }
 }

@@ -13,37 +13,12 @@
 //!   - if no routine runs: whatever the working devices still take of what was sent to them, once every setting put back
 //!     is carried out they have the settings of the serial run.
 
-use outside::{again, number, Random, Watch, LONGEST};
+use outside::{again, archive, number, Answer, Back, Random, Watch, LONGEST};
 use std::collections::{BTreeMap, HashSet};
 use std::process::ExitCode;
 use std::sync::atomic::{AtomicU64, Ordering};
 use std::sync::Mutex;
 use std::thread;
-
-// ---- the archive
-
-mod archive {
-    extern "C" {
-        fn plot_hub_run(input: *const u8, input_length: usize, output: *mut u8, output_length: usize) -> i64;
-    }
-
-    /// What the line program prints for this input.
-    pub fn run(input: &[u8]) -> Result<Vec<u8>, String> {
-        let mut output = vec![0; 4096];
-        loop {
-            // SAFETY: both pointers are of ranges as long as said; the ranges are apart, since one of them is lent mutably.
-            let result = unsafe { plot_hub_run(input.as_ptr(), input.len(), output.as_mut_ptr(), output.len()) };
-            match usize::try_from(result) {
-                Ok(length) if length <= output.len() => {
-                    output.truncate(length);
-                    return Ok(output);
-                }
-                Err(_) if result == -21 && output.len() < 1 << 24 => output = vec![0; output.len() * 4],
-                _ => return Err(format!("the call with a buffer of {} has the result {result}", output.len())),
-            }
-        }
-    }
-}
 
 // ---- calls and answers as text
 
@@ -53,9 +28,6 @@ struct Command {
     tag: u8,
     setting: i64,
 }
-
-/// A setting sent back to a device.
-type Back = (usize, i64);
 
 #[derive(Clone, Debug)]
 enum Call {
@@ -84,55 +56,6 @@ impl Call {
             Call::Restart(device, setting) => format!("R {device} {setting}"),
             Call::Idle(line) => line.clone(),
         }
-    }
-}
-
-#[derive(Clone, Debug)]
-enum Answer {
-    Placed { id: u64, after: u64 },
-    Send { id: u64, device: usize, setting: i64 },
-    Wait { id: u64 },
-    Skipped { id: u64, back: Vec<Back> },
-    Committed { id: u64 },
-    Aborted { id: u64, back: Vec<Back> },
-    Done { id: u64 },
-    Down { device: usize, after: u64 },
-    Up { device: usize, after: u64 },
-    Refused,
-    Unread,
-}
-
-impl Answer {
-    fn read(line: &str) -> Option<Answer> {
-        let words: Vec<&str> = line.split(' ').collect();
-        let id = |at: usize| words.get(at)?.parse::<u64>().ok();
-        let device = |at: usize| words.get(at)?.parse::<usize>().ok();
-        let setting = |at: usize| words.get(at)?.parse::<i64>().ok();
-        let long = |count: usize| (words.len() == count).then_some(());
-        // `back`, a count, then device and setting for each, up to the line's end.
-        let back = |at: usize| {
-            let count = device(at + 1)?;
-            (words.len() == at + 2 + 2 * count && words[at] == "back").then_some(())?;
-            (0..count).map(|i| Some((device(at + 2 + 2 * i)?, setting(at + 3 + 2 * i)?))).collect::<Option<Vec<Back>>>()
-        };
-        Some(match words[0] {
-            "placed" if words.get(2) == Some(&"after") => long(4).and(Some(Answer::Placed { id: id(1)?, after: id(3)? }))?,
-            "send" => long(4).and(Some(Answer::Send { id: id(1)?, device: device(2)?, setting: setting(3)? }))?,
-            "wait" if words.get(2) == Some(&"on") => long(4).and(id(3)).and(Some(Answer::Wait { id: id(1)? }))?,
-            "skipped" if words.len() == 2 => Answer::Skipped { id: id(1)?, back: Vec::new() },
-            "skipped" => Answer::Skipped { id: id(1)?, back: back(2)? },
-            "committed" => long(2).and(Some(Answer::Committed { id: id(1)? }))?,
-            "aborted" => Answer::Aborted { id: id(1)?, back: back(2)? },
-            "done" => long(2).and(Some(Answer::Done { id: id(1)? }))?,
-            "down" if words.get(2) == Some(&"after") => long(4).and(Some(Answer::Down { device: device(1)?, after: id(3)? }))?,
-            "up" if words.get(2) == Some(&"after") => long(4).and(Some(Answer::Up { device: device(1)?, after: id(3)? }))?,
-            "refused" => {
-                id(1)?;
-                (words.len() == 2 || (words.len() == 3 && id(2).is_some())).then_some(Answer::Refused)?
-            }
-            "unread" => long(1).and(Some(Answer::Unread))?,
-            _ => return None,
-        })
     }
 }
 
