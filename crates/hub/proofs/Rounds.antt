@@ -1,21 +1,18 @@
 -- The waiting promise of this hub: the theorem of the rules, carried along a chain of calls. Assumes nothing.
 use mathlib.Core.Path.{_≡_, refl, sym, ap, _∙_, subst}
 use mathlib.Core.List.{List, [], _∷_, _++_}
-use Prim.Native.Nat.{ℕ, _≤_}
-use lib.IntN.{ℤ}
 use Rattle.routine.specs.Routine.{commandsOf}
 use Rattle.routine.specs.declared.Command.{Command}
 use Rattle.rules.specs.State.{State}
 use Rattle.rules.specs.Answers.{Call, submit, placed, Result}
 use Rattle.rules.specs.Calls.{resultOf, stateAfter}
 use Rattle.rules.specs.History.{Told}
-use Rattle.rules.specs.Rounds.{callsTold, toldThen, Ended, Schedule, enoughRounds}
+use Rattle.rules.specs.Rounds.{callsTold, toldThen, Ended, Schedule}
 use Rattle.rules.proofs.Waiting.{ended-in-time}
 use Rattle.hub.specs.View.{view, answersIn}
-use Rattle.hub.specs.Demand3.{HubCall, submits, callOf, HubAct, called, device-takes, Chain, hubAfter}
+use Rattle.hub.specs.Demand3.{submits, callOf, HubAct, called, device-takes, Chain, hubAfter}
 use Rattle.hub.specs.Rounds.{toldIn, HubEndedInTime}
 use Rattle.hub.specs.declared.Hub.{Hub}
-use Rattle.hub.specs.declared.Outcome.{Outcome}
 use Rattle.hub.proofs.Theorem.{met, opens-as, chain-left}
 
 -- the calls of a chain

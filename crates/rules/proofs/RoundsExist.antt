@@ -25,7 +25,7 @@ use Rattle.rules.specs.Calls.{resultOf, stateAfter}
 use Rattle.rules.specs.History.{Told, Account, accountsOf}
 use Rattle.rules.specs.World.{isAccepted}
 use Rattle.rules.specs.Rounds.{callsTold, toldThen, flyingOf, idleOf, acceptedIn, times, EachOnce, Round, a-submission}
-use Rattle.rules.specs.Rounds.{Schedule, no-more, between, a-round, enoughRounds, RoundsExist}
+use Rattle.rules.specs.Rounds.{Schedule, no-more, between, a-round, enoughRounds, AnyOrder, RoundsExist}
 use Rattle.rules.proofs.Lists.{byIf, t≠f, and-left, and-right, put-other, each-left, IsNot, NotIn, IdsOk}
 use Rattle.rules.proofs.Groups.{Group, members, ids, foundAt, ids-++, other-ids}
 use Rattle.rules.proofs.Invariant.{HubOk}
@@ -256,49 +256,71 @@ once-in : (q : Member → Bool) (t : ℕ → Bool) (k : ℕ) (s : State) (h : Li
 once-in q t k s h l y e i =
     ap (λ m. times i (idsWith q m)) (y .hub .sequence-is) ∙ ids-once q (s .nextId) l (y .hub .ids-ok) i ∙ ap oneIf (sym (e i))
 
-module _ (k : ℕ) (codes : ℕ → ℕ) (fit : (i : ℕ) → codes i ≤ codeFailed) (s : State) (h : List Told) (l : List Group)
-    (y : Ready k s h l) where
-  -- what holds after the turns
-  turns-made : (acceptedIn (callsTold s (turnsAt s)) ≡ turnsAt s)
-      × (m : List Group) × Ready k (stateAfter s (turnsAt s)) (toldThen h (callsTold s (turnsAt s))) m
-  turns-made =
-      asked-once k turn (λ j. refl) idleOf (λ s h l y j. turn-accepted k j s h l y)
-      (λ h t i a f. ap (λ (x : Account). x .running && not (flyingOf (t ∷ h) i)) a ∙ ap (λ b. accountsOf h i .running && not b) f) s h l y
-      (idsWith isIdle (s .sequence)) (λ i. let e = once-in isIdle (idleOf h) k s h l y (idle-told k s h l y) i in omega arith)
+-- each of these gets its turn, and what then holds
+turns-made : (k : ℕ) (s : State) (h : List Told) (l : List Group) → Ready k s h l → (js : List ℕ) → EachOnce (idleOf h) js →
+    (acceptedIn (callsTold s (map turn js)) ≡ map turn js)
+    × (m : List Group) × Ready k (stateAfter s (map turn js)) (toldThen h (callsTold s (map turn js))) m
+turns-made k s h l y js once =
+    asked-once k turn (λ j. refl) idleOf (λ s h l y j. turn-accepted k j s h l y)
+    (λ h t i a f. ap (λ (x : Account). x .running && not (flyingOf (t ∷ h) i)) a ∙ ap (λ b. accountsOf h i .running && not b) f) s h l y js
+    (λ i. let e = once i in omega arith)
 
-  reports-made : let u = stateAfter s (turnsAt s) in
-      (acceptedIn (callsTold u (reportsAt codes u)) ≡ reportsAt codes u)
-      × (m : List Group)
-      × Ready k (stateAfter u (reportsAt codes u)) (toldThen (toldThen h (callsTold s (turnsAt s))) (callsTold u (reportsAt codes u))) m
-  reports-made =
-      let u = stateAfter s (turnsAt s) in
-      let g = toldThen h (callsTold s (turnsAt s)) in
-      let r = turns-made .2 in
+-- then each of those gets its report
+module _ (k : ℕ) (codes : ℕ → ℕ) (fit : (i : ℕ) → codes i ≤ codeFailed) (s : State) (h : List Told) (l : List Group) (y : Ready k s h l)
+    (ts : List ℕ) (each-turn : EachOnce (idleOf h) ts) (rs : List ℕ)
+    (each-report : EachOnce (flyingOf (toldThen h (callsTold s (map turn ts)))) rs) where
+  halves-made :
+      let u = stateAfter s (map turn ts) in
+      let reports = map (λ i. report i (codes i)) rs in
+      (acceptedIn (callsTold u reports) ≡ reports)
+      × (m : List Group) × Ready k (stateAfter u reports) (toldThen (toldThen h (callsTold s (map turn ts))) (callsTold u reports)) m
+  halves-made =
+      let t = turns-made k s h l y ts each-turn in
       asked-once k (λ i. report i (codes i)) (λ j. refl) flyingOf (λ s h l y j e. report-accepted k j (codes j) s h l y e (fit j))
-      (λ h t i a f. f) u g (turns-made .1) r (idsWith isFlying (u .sequence))
-      (λ i. let e = once-in isFlying (flyingOf g) k u g (turns-made .1) r (r .flying-told) i in omega arith)
+      (λ h t i a f. f) (stateAfter s (map turn ts)) (toldThen h (callsTold s (map turn ts))) (t .1) (t .2) rs
+      (λ i. let e = each-report i in omega arith)
 
-  pub is-round : let u = stateAfter s (turnsAt s) in Round h (callsTold s (turnsAt s)) (callsTold u (reportsAt codes u))
-  is-round =
-      let u = stateAfter s (turnsAt s) in
-      let g = toldThen h (callsTold s (turnsAt s)) in
-      let r = turns-made .2 in
-      record {
-        turned = idsWith isIdle (s .sequence);
-        turns-are = turns-made .0;
-        one-turn-each = once-in isIdle (idleOf h) k s h l y (idle-told k s h l y);
-        reported = idsWith isFlying (u .sequence);
-        codes = codes;
-        reports-are = reports-made .0;
-        one-report-each = once-in isFlying (flyingOf g) k u g (turns-made .1) r (r .flying-told);
-      }
+  is-round : Round h (callsTold s (map turn ts)) (callsTold (stateAfter s (map turn ts)) (map (λ i. report i (codes i)) rs))
+  is-round = record {
+    turned = ts;
+    turns-are = turns-made k s h l y ts each-turn .0;
+    one-turn-each = each-turn;
+    reported = rs;
+    codes = codes;
+    reports-are = halves-made .0;
+    one-report-each = each-report;
+  }
+
+pub any-order : AnyOrder
+any-order n k first s e calls codes fit ts each-turn rs each-report =
+    let r = ready-calls k s [] [] (ready-opened n k first s e) calls in
+    is-round k codes fit (stateAfter s calls) (toldThen [] (callsTold s calls)) (r .0) (r .1) ts each-turn rs each-report
+
+-- in the sequence's order
+module _ (k : ℕ) (s : State) (h : List Told) (l : List Group) (y : Ready k s h l) where
+  idle-once : EachOnce (idleOf h) (idsWith isIdle (s .sequence))
+  idle-once = once-in isIdle (idleOf h) k s h l y (idle-told k s h l y)
+
+  flying-once : EachOnce (flyingOf h) (idsWith isFlying (s .sequence))
+  flying-once = once-in isFlying (flyingOf h) k s h l y (y .flying-told)
+
+flying-after : (k : ℕ) (s : State) (h : List Told) (l : List Group) → Ready k s h l →
+    EachOnce (flyingOf (toldThen h (callsTold s (turnsAt s)))) (idsWith isFlying (stateAfter s (turnsAt s) .sequence))
+flying-after k s h l y =
+    let r = ready-calls k s h l y (turnsAt s) in
+    flying-once k (stateAfter s (turnsAt s)) (toldThen h (callsTold s (turnsAt s))) (r .0) (r .1)
 
 -- Rounds exist after every list of calls.
 pub rounds-exist : RoundsExist
 rounds-exist n k first s e calls codes fit =
     let r = ready-calls k s [] [] (ready-opened n k first s e) calls in
     let u = stateAfter s calls in
-    (turnsAt u, reportsAt codes (stateAfter u (turnsAt u)), is-round k codes fit u (toldThen [] (callsTold s calls)) (r .0) (r .1))
+    let h = toldThen [] (callsTold s calls) in (
+      turnsAt u,
+      reportsAt codes (stateAfter u (turnsAt u)),
+      is-round k codes fit u h (r .0) (r .1) (idsWith isIdle (u .sequence)) (idle-once k u h (r .0) (r .1))
+          (idsWith isFlying (stateAfter u (turnsAt u) .sequence)) (flying-after k u h (r .0) (r .1)),
+    )
 
 -- ---- schedules
 
@@ -317,12 +339,17 @@ is-schedule k s h l y (suc n) cs =
     let u = stateAfter t (turnsAt t) in
     let v = stateAfter u (reportsAt allDone u) in
     let fit : (i : ℕ) → allDone i ≤ codeFailed = λ i. omega arith in
-    let made = reports-made k allDone fit t g (r .0) (r .1) in
+    let ts = idsWith isIdle (t .sequence) in
+    let rs = idsWith isFlying (u .sequence) in
+    let each-turn = idle-once k t g (r .0) (r .1) in
+    let each-report = flying-after k t g (r .0) (r .1) in
+    let made = halves-made k allDone fit t g (r .0) (r .1) ts each-turn rs each-report in
     between _ (a-submission cs _)
     (subst (λ x. Schedule g x (suc n))
     (sym (told-calls t (turnsAt t) (reportsAt allDone u ++ busy n cs v)
     ∙ ap (λ x. callsTold t (turnsAt t) ++ x) (told-calls u (reportsAt allDone u) (busy n cs v))))
-    (a-round (callsTold t (turnsAt t)) (callsTold u (reportsAt allDone u)) (is-round k allDone fit t g (r .0) (r .1))
+    (a-round (callsTold t (turnsAt t)) (callsTold u (reportsAt allDone u))
+    (is-round k allDone fit t g (r .0) (r .1) ts each-turn rs each-report)
     (is-schedule k v (toldThen (toldThen g (callsTold t (turnsAt t))) (callsTold u (reportsAt allDone u))) (made .1) (made .2) n cs)))
 
 -- all that the promise asks of a sitting, for n rounds

@@ -117,7 +117,21 @@ EndedInTime =
     let then-told = callsTold (stateAfter s first-part) later in
     Schedule history then-told rounds → enoughRounds k ≤ rounds → Ended i (toldThen history then-told)
 
--- A schedule can always go on: after every list of calls there is a round, whatever the reports are to say.
+-- ---- rounds can be made
+
+-- After every list of calls, in whatever order each of them is asked, and whatever the reports say, the calls make a round.
+abbrev pub AnyOrder : Type 0
+AnyOrder =
+    (n k first : ℕ) (s : State) → openOf n k first ≡ opened s →
+    (calls : List Call) (codes : ℕ → ℕ) → ((i : ℕ) → codes i ≤ codeFailed) →
+    let now = stateAfter s calls in
+    let history = toldThen [] (callsTold s calls) in
+    (turned : List ℕ) → EachOnce (idleOf history) turned →
+    let turns = callsTold now (map turn turned) in
+    (reported : List ℕ) → EachOnce (flyingOf (toldThen history turns)) reported →
+    Round history turns (callsTold (stateAfter now (map turn turned)) (map (λ i. report i (codes i)) reported))
+
+-- And there is a round: a schedule can always go on.
 abbrev pub RoundsExist : Type 0
 RoundsExist =
     (n k first : ℕ) (s : State) → openOf n k first ≡ opened s →
