@@ -1,6 +1,7 @@
 //! What the test programs share.
 
 use std::collections::HashMap;
+use std::sync::atomic::{AtomicU64, Ordering};
 use std::sync::Mutex;
 use std::thread;
 use std::time::{Duration, Instant};
@@ -114,6 +115,41 @@ impl Watch {
             }
         }
     }
+}
+
+/// Runs histories 0 to one below the count, by seed and index, on every processor, and hands what each gives to `add`. One that
+/// fails is shown, and how to see it again, and ends the program.
+pub fn run_all<T: Send>(
+    program: &'static str,
+    count: u64,
+    seed: u64,
+    run: impl Fn(u64, u64) -> Result<T, (String, Vec<u8>)> + Sync,
+    add: impl FnMut(T) + Send,
+) {
+    let watch = Watch::start(program, &[], LONGEST);
+    let next = AtomicU64::new(0);
+    let add = Mutex::new(add);
+    thread::scope(|scope| {
+        for _ in 0..thread::available_parallelism().map_or(2, |n| n.get()) {
+            scope.spawn(|| loop {
+                let index = next.fetch_add(1, Ordering::Relaxed);
+                if index >= count {
+                    return watch.end();
+                }
+                watch.begin(format!("{seed} {index}"));
+                let result = run(seed, index);
+                let mut add = add.lock().unwrap();
+                match result {
+                    Ok(given) => add(given),
+                    Err((how, input)) => {
+                        println!("{program}: FAILED: seed {seed}, index {index}: {how}\ninput:\n{}", String::from_utf8_lossy(&input));
+                        println!("{program}: to see it: {}", again(&[], &format!("one {seed} {index}")));
+                        std::process::exit(1);
+                    }
+                }
+            });
+        }
+    });
 }
 
 /// The archive: `build.rs` links it in.

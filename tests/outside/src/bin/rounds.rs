@@ -11,12 +11,9 @@
 //!   - each routine placed since the rounds began has ended after (8 + 1) x (16 + K) rounds.
 //! It prints the largest share of these rounds that a routine needed.
 
-use outside::{again, archive, number, Answer, Random, Watch, LONGEST};
+use outside::{archive, number, run_all, Answer, Random};
 use std::collections::BTreeMap;
 use std::process::ExitCode;
-use std::sync::atomic::{AtomicU64, Ordering};
-use std::sync::Mutex;
-use std::thread;
 
 const MOST_COMMANDS: u64 = 8;
 const MOST_HELD: u64 = 16;
@@ -435,36 +432,15 @@ fn main() -> ExitCode {
     }
     let (count, seed) = (number(words.first(), "COUNT"), number(words.get(1), "SEED"));
     println!("rounds: {count} schedules, seed {seed}");
-    let watch = Watch::start("rounds", &[], LONGEST);
-    let next = AtomicU64::new(0);
-    let total = Mutex::new(Told { counts: [0; SEEN.len()], most: Need { rounds: 0, of: 1, index: 0 } });
-    thread::scope(|scope| {
-        for _ in 0..thread::available_parallelism().map_or(2, |n| n.get()) {
-            scope.spawn(|| loop {
-                let index = next.fetch_add(1, Ordering::Relaxed);
-                if index >= count {
-                    return watch.end();
-                }
-                watch.begin(format!("{seed} {index}"));
-                let result = run(seed, index, false);
-                let mut total = total.lock().unwrap();
-                match result {
-                    Ok(told) => {
-                        total.counts.iter_mut().zip(told.counts).for_each(|(sum, more)| *sum += more);
-                        if told.most.exceeds(&total.most) {
-                            total.most = told.most;
-                        }
-                    }
-                    Err((how, input)) => {
-                        println!("rounds: FAILED: seed {seed}, index {index}: {how}\ninput:\n{}", String::from_utf8_lossy(&input));
-                        println!("rounds: to see it: {}", again(&[], &format!("one {seed} {index}")));
-                        std::process::exit(1);
-                    }
-                }
-            });
+    let mut total = Told { counts: [0; SEEN.len()], most: Need { rounds: 0, of: 1, index: 0 } };
+    let add = |told: Told| {
+        total.counts.iter_mut().zip(told.counts).for_each(|(sum, more)| *sum += more);
+        if told.most.exceeds(&total.most) {
+            total.most = told.most;
         }
-    });
-    let Told { counts, most } = total.into_inner().unwrap();
+    };
+    run_all("rounds", count, seed, |seed, index| run(seed, index, false), add);
+    let Told { counts, most } = total;
     for (what, words) in SEEN {
         println!("rounds: {:>9} {words}", counts[what as usize]);
     }

@@ -13,12 +13,9 @@
 //!   - if no routine runs: whatever the working devices still take of what was sent to them, once every setting put back
 //!     is carried out they have the settings of the serial run.
 
-use outside::{again, archive, number, Answer, Back, Random, Watch, LONGEST};
+use outside::{archive, number, run_all, Answer, Back, Random};
 use std::collections::{BTreeMap, HashSet};
 use std::process::ExitCode;
-use std::sync::atomic::{AtomicU64, Ordering};
-use std::sync::Mutex;
-use std::thread;
 
 // ---- calls and answers as text
 
@@ -812,31 +809,9 @@ fn main() -> ExitCode {
     }
     let (count, seed) = (number(words.first(), "COUNT"), number(words.get(1), "SEED"));
     println!("world: {count} histories, seed {seed}");
-    let watch = Watch::start("world", &[], LONGEST);
-    let next = AtomicU64::new(0);
-    let total = Mutex::new([0; SEEN.len()]);
-    thread::scope(|scope| {
-        for _ in 0..thread::available_parallelism().map_or(2, |n| n.get()) {
-            scope.spawn(|| loop {
-                let index = next.fetch_add(1, Ordering::Relaxed);
-                if index >= count {
-                    return watch.end();
-                }
-                watch.begin(format!("{seed} {index}"));
-                let result = run(seed, index, false);
-                let mut total = total.lock().unwrap();
-                match result {
-                    Ok(counts) => total.iter_mut().zip(counts).for_each(|(sum, more)| *sum += more),
-                    Err((how, input)) => {
-                        println!("world: FAILED: seed {seed}, index {index}: {how}\ninput:\n{}", String::from_utf8_lossy(&input));
-                        println!("world: to see it: {}", again(&[], &format!("one {seed} {index}")));
-                        std::process::exit(1);
-                    }
-                }
-            });
-        }
-    });
-    let total = total.into_inner().unwrap();
+    let mut total: Counts = [0; SEEN.len()];
+    let add = |counts: Counts| total.iter_mut().zip(counts).for_each(|(sum, more)| *sum += more);
+    run_all("world", count, seed, |seed, index| run(seed, index, false), add);
     let mut reached = true;
     for (what, words) in SEEN {
         println!("world: {:>9} {words}", total[what as usize]);
