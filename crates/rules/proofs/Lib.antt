@@ -34,12 +34,12 @@ pub mod Theorem
 pub mod Exact
 pub mod Worlds
 pub mod Controls
--- The waiting promise (document 02, item 1): computed schedules; what is told is what the hub holds; the sum that falls; what holds between
--- calls; what a call does to the sum; the promise; rounds exist.
+-- The waiting promise (document 02, item 1): computed schedules; what is told is what the hub holds; the measure that falls; what holds between
+-- calls; what a call does to the measure; the promise; rounds exist.
 pub mod Schedules
 pub mod Told
-pub mod Burden
+pub mod Measure
 pub mod Ready
-pub mod Lighter
+pub mod Measured
 pub mod Waiting
 pub mod RoundsExist

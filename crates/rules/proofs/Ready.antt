@@ -38,64 +38,65 @@ use Rattle.rules.proofs.Kept.{hub-moves}
 use Rattle.rules.proofs.Serial.{first-runs}
 use Rattle.rules.proofs.Told.{RunsTold}
 use Rattle.rules.proofs.Told.{runs-moves, runs-held, FliesTold, flies-told, flies-held}
-use Rattle.rules.proofs.Burden.{Short}
+use Rattle.rules.proofs.Measure.{FewLeft}
 use Rattle.rules.proofs.Theorem.{opening}
 
 -- ---- what holds between calls
 
-same-short : (g h : Group) → Same g h → Short g → Short h
-same-short g h e w = record { few-left = subst (λ l. length (leftSteps l) ≤ maxCommands) (sym (e .same-steps)) (w .few-left) }
+same-few-left : (g h : Group) → Same g h → FewLeft g → FewLeft h
+same-few-left g h e w = record { few-left = subst (λ l. length (leftSteps l) ≤ maxCommands) (sym (e .same-steps)) (w .few-left) }
 
 -- the routine with one command less left
-less-short : (g h : Group) (c : Command) → leftSteps (g .member .steps) ≡ c ∷ leftSteps (h .member .steps) → Short g → Short h
-less-short g h c e w =
+less-few-left : (g h : Group) (c : Command) → leftSteps (g .member .steps) ≡ c ∷ leftSteps (h .member .steps) → FewLeft g → FewLeft h
+less-few-left g h c e w =
     let n : length (leftSteps (g .member .steps)) ≡ suc (length (leftSteps (h .member .steps))) = ap length e in
     let m = w .few-left in
     record { few-left = omega arith }
 
-short-gone : (s : State) (d : ℕ) (l : List Group) {r : Result} {lead : List Event} {k : List Group} → Each Short l → Gone s d l r lead k →
-    Each Short k
-short-gone s d l h (nobody q) = h
-short-gone s d l h (somebody a g b e q) =
-    same-each Short same-short (same-leaving a g b) (each-drop Short a g b (subst (Each Short) e h))
+few-left-gone : (s : State) (d : ℕ) (l : List Group) {r : Result} {lead : List Event} {k : List Group} → Each FewLeft l →
+    Gone s d l r lead k →
+    Each FewLeft k
+few-left-gone s d l h (nobody q) = h
+few-left-gone s d l h (somebody a g b e q) =
+    same-each FewLeft same-few-left (same-leaving a g b) (each-drop FewLeft a g b (subst (Each FewLeft) e h))
 
-pub new-short : (s : State) (cs : List Command) → submitCheck s cs ≡ Accepted → Short (alone (newcomer (s .nextId) cs))
+pub new-few-left : (s : State) (cs : List Command) → submitCheck s cs ≡ Accepted → FewLeft (alone (newcomer (s .nextId) cs))
 unfolding submitCheck
-new-short s cs e =
+new-few-left s cs e =
     let a = check-accepted (s .devices) cs (both-accept (routineCheck (s .devices) cs) _ e .0) in
     record { few-left = subst (λ l. length l ≤ maxCommands) (sym (fresh-newcomer (s .nextId) cs .left-is)) (a .1) }
 
-short-moves : (s : State) (l : List Group) {c : Call} {r : Result} {lead : List Event} {k : List Group} → HubOk s l → Each Short l →
-    Moves s l c r lead k → Each Short k
+few-left-moves : (s : State) (l : List Group) {c : Call} {r : Result} {lead : List Event} {k : List Group} → HubOk s l → Each FewLeft l →
+    Moves s l c r lead k → Each FewLeft k
 unfolding commit
-short-moves s l h t (places cs a b q e u p n) =
-    same-each Short same-short (same-placed a _ b) (each-insert Short a _ b (subst (Each Short) e t) (new-short s cs q))
-short-moves s l h t (commits i a g b e n r f q) =
-    let w = subst (Each Short) e t in
-    each-swap Short a g (with g (commit (g .member))) b w (record { few-left = each-mid Short a g b w .few-left })
-short-moves s l h t (sends i a g b c e n r f q w u) =
-    let z = subst (Each Short) e t in
+few-left-moves s l h t (places cs a b q e u p n) =
+    same-each FewLeft same-few-left (same-placed a _ b) (each-insert FewLeft a _ b (subst (Each FewLeft) e t) (new-few-left s cs q))
+few-left-moves s l h t (commits i a g b e n r f q) =
+    let w = subst (Each FewLeft) e t in
+    each-swap FewLeft a g (with g (commit (g .member))) b w (record { few-left = each-mid FewLeft a g b w .few-left })
+few-left-moves s l h t (sends i a g b c e n r f q w u) =
+    let z = subst (Each FewLeft) e t in
     let y = send-step (g .member) (in-turn s a g b (subst (HubOk s) e h)) c (due s (c .device)) q f in
-    each-swap Short a g (with g (sentMember s g c)) b z
-    (record { few-left = subst (λ l. length l ≤ maxCommands) (sym (y .same-left)) (each-mid Short a g b z .few-left) })
-short-moves s l h t (skips i a g b c e n r f q w u) =
-    let z = subst (Each Short) e t in
+    each-swap FewLeft a g (with g (sentMember s g c)) b z
+    (record { few-left = subst (λ l. length l ≤ maxCommands) (sym (y .same-left)) (each-mid FewLeft a g b z .few-left) })
+few-left-moves s l h t (skips i a g b c e n r f q w u) =
+    let z = subst (Each FewLeft) e t in
     let y = skip-step (g .member) (in-turn s a g b (subst (HubOk s) e h)) c q f in
-    each-swap Short a g (with g (skippedMember g)) b z (less-short g _ c (y .left-is) (each-mid Short a g b z))
-short-moves s l h t (dones i code a g b x e n r f q) =
-    let z = subst (Each Short) e t in
+    each-swap FewLeft a g (with g (skippedMember g)) b z (less-few-left g _ c (y .left-is) (each-mid FewLeft a g b z))
+few-left-moves s l h t (dones i code a g b x e n r f q) =
+    let z = subst (Each FewLeft) e t in
     let y = done-step (g .member) (in-turn s a g b (subst (HubOk s) e h)) x f in
-    each-swap Short a g (with g (doneMember g)) b z (less-short g _ (x .command) (y .left-is) (each-mid Short a g b z))
-short-moves s l h t (misses i code a g b x e n r f q) =
-    let z = subst (Each Short) e t in
+    each-swap FewLeft a g (with g (doneMember g)) b z (less-few-left g _ (x .command) (y .left-is) (each-mid FewLeft a g b z))
+few-left-moves s l h t (misses i code a g b x e n r f q) =
+    let z = subst (Each FewLeft) e t in
     let y = fail-step (g .member) (in-turn s a g b (subst (HubOk s) e h)) x f in
-    each-swap Short a g (with g (failedMember g)) b z (less-short g _ (x .command) (y .left-is) (each-mid Short a g b z))
-short-moves s l h t (aborts c a g b e r k) =
-    same-each Short same-short (same-leaving a g b) (each-drop Short a g b (subst (Each Short) e t))
-short-moves s l h t (fails d r lead k n u w) =
-    same-each Short same-short (same-attached (r .state .mark d) (failure-of d) k) (short-gone _ d l t w)
-short-moves s l h t (restarts d v r lead k n u w) =
-    same-each Short same-short (same-attached (r .state .mark d) (restart-of d v) k) (short-gone s d l t w)
+    each-swap FewLeft a g (with g (failedMember g)) b z (less-few-left g _ (x .command) (y .left-is) (each-mid FewLeft a g b z))
+few-left-moves s l h t (aborts c a g b e r k) =
+    same-each FewLeft same-few-left (same-leaving a g b) (each-drop FewLeft a g b (subst (Each FewLeft) e t))
+few-left-moves s l h t (fails d r lead k n u w) =
+    same-each FewLeft same-few-left (same-attached (r .state .mark d) (failure-of d) k) (few-left-gone _ d l t w)
+few-left-moves s l h t (restarts d v r lead k n u w) =
+    same-each FewLeft same-few-left (same-attached (r .state .mark d) (restart-of d v) k) (few-left-gone s d l t w)
 
 -- the pass limit stays, and ids are given in turn
 pub fixed-moves : (s : State) (l : List Group) {c : Call} {r : Result} {lead : List Event} {k : List Group} → Moves s l c r lead k →
@@ -121,7 +122,7 @@ pub record Ready (k : ℕ) (s : State) (h : List Told) (l : List Group) : Type 0
   pub first : FirstRuns l
   pub running-told : RunsTold (accountsOf h) l
   pub flying-told : FliesTold (flyingOf h) l
-  pub short : Each Short l
+  pub few-left : Each FewLeft l
   pub limit : s .passLimit ≡ k
 
 pub ready-moves : (k : ℕ) (s : State) (h : List Told) (l : List Group) → Ready k s h l →
@@ -132,7 +133,7 @@ ready-moves k s h l y {c = c} {r = r} {m = m} v = record {
   first = first-runs m;
   running-told = runs-held (noteAnswers c (r .answers) (accountsOf h)) m (runs-moves s (accountsOf h) l (y .hub) (y .running-told) v);
   flying-told = flies-held (flyingAfterAll (r .answers) (flyingOf h)) m (flies-told s (flyingOf h) l (y .hub) (y .flying-told) v);
-  short = each-held Short m (short-moves s l (y .hub) (y .short) v);
+  few-left = each-held FewLeft m (few-left-moves s l (y .hub) (y .few-left) v);
   limit = ap (λ (x : Fixed). x .passLimit) (settle-fixed (r .state)) ∙ fixed-moves s l v .0 ∙ y .limit;
 }
 
@@ -148,7 +149,7 @@ untold k s h l t a f y = record {
   first = y .first;
   running-told = subst (λ x. RunsTold x l) (sym a) (y .running-told);
   flying-told = subst (λ x. FliesTold x l) (sym f) (y .flying-told);
-  short = y .short;
+  few-left = y .few-left;
   limit = y .limit;
 }
 
@@ -159,14 +160,14 @@ ready-seen k s h l y (waits i a g b d j e n f) = (l, untold k s h l (saying (tur
 ready-seen k s h l y (moves {k = m} v) = (stillHeld m, ready-moves k s h l y v)
 
 -- the hub of an accepted opening
-pub ready-new : (n k first : ℕ) → 0 < first → Ready k (newHub n k first) [] []
+ready-new : (n k first : ℕ) → 0 < first → Ready k (newHub n k first) [] []
 unfolding newHub
 ready-new n k first p = record {
   hub = record { sequence-is = refl; ids-ok = tt; marks = λ d. unmarked refl tt; nothing-left-all = tt; turns = tt; some-id = p };
   first = tt;
   running-told = λ i. refl;
   flying-told = λ i. refl;
-  short = tt;
+  few-left = tt;
   limit = refl;
 }
 

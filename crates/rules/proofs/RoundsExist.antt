@@ -37,7 +37,7 @@ use Rattle.rules.proofs.Schedules.{crowded-still-runs}
 use Rattle.rules.proofs.Schedules.{overtaken, overtaken-placed, calcRounds}
 use Rattle.rules.proofs.Told.{has, Tells, none-has}
 use Rattle.rules.proofs.Ready.{Ready, saying, ready-seen, ready-opened, ready-calls}
-use Rattle.rules.proofs.Lighter.{Asks}
+use Rattle.rules.proofs.Measured.{Asks}
 
 -- ---- the routines that a round is about
 

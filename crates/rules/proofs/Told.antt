@@ -153,7 +153,7 @@ put-part part f j v i = go (eqb i j)
 
 -- ---- which routines run
 
-abbrev pub runningIn : (ℕ → Account) → ℕ → Bool
+abbrev runningIn : (ℕ → Account) → ℕ → Bool
 runningIn a i = a i .running
 
 abbrev pub RunsTold : (ℕ → Account) → List Group → Type 0

@@ -1,5 +1,5 @@
--- The waiting promise, proved: in each round the first of the sequence has one command more answered, or ends, and so the sum of
--- `Burden.antt` falls; nothing else raises it. Assumes nothing.
+-- The waiting promise, proved: in each round the first of the sequence has one command more answered, or ends, and so the measure of
+-- `Measure.antt` falls; nothing else raises it. Assumes nothing.
 use mathlib.Core.Path.{_≡_, refl, sym, ap, _∙_, subst}
 use mathlib.Core.Logic.{_≢_}
 use mathlib.Core.Bool.{true, false, not, _&&_}
@@ -39,13 +39,14 @@ use Rattle.rules.proofs.Fields.{Fixed, settle-fixed}
 use Rattle.rules.proofs.Kept.{hub-moves}
 use Rattle.rules.proofs.Told.{any-held, told-of}
 use Rattle.rules.proofs.Schedules.{hasFlight, isFlying}
-use Rattle.rules.proofs.Burden.{Short, burden, Runs}
-use Rattle.rules.proofs.Burden.{settle-lighter, runs-heavy, first-burden}
+use Rattle.rules.proofs.Measure.{FewLeft, measure, Runs}
+use Rattle.rules.proofs.Measure.{settle-at-most, runs-positive, first-measure}
 use Rattle.rules.proofs.Theorem.{moves-same}
-use Rattle.rules.proofs.Ready.{new-short, fixed-moves, Ready, ready-moves, saying, untold, ready-seen, ready-opened}
-use Rattle.rules.proofs.Lighter.{Calm, Lighter, lighter-same, moves-lighter, HeadIs, head-is, head-held, IsTurn, Asks, asks-calm}
-use Rattle.rules.proofs.Lighter.{Flies}
-use Rattle.rules.proofs.Lighter.{Own, falls, flies, others-move, none-ahead, own-moves}
+use Rattle.rules.proofs.Ready.{new-few-left, fixed-moves, Ready, ready-moves, saying, untold, ready-seen, ready-opened}
+use Rattle.rules.proofs.Measured.{OfSchedule, NotRaised, not-raised-same, moves-at-most, HeadIs, head-is, head-held, IsTurn, Asks}
+use Rattle.rules.proofs.Measured.{asks-of-schedule}
+use Rattle.rules.proofs.Measured.{Flies}
+use Rattle.rules.proofs.Measured.{Own, falls, flies, others-move, none-ahead, own-moves}
 
 -- ---- one call of a schedule
 
@@ -55,23 +56,23 @@ record Now (k i : ℕ) (s : State) (h : List Told) : Type 0 where
   ready : Ready k s h groups
   given : i < s .nextId
 
--- while the routine with id i runs, its sum is at most n
-abbrev Owes : ℕ → ℕ → List Group → ℕ → Type 0
-Owes k i l n = Runs i l → burden k i l ≤ n
+-- while the routine with id i runs, its measure is at most n
+abbrev Bounded : ℕ → ℕ → List Group → ℕ → Type 0
+Bounded k i l n = Runs i l → measure k i l ≤ n
 
-owes-still : (k i n : ℕ) (l m : List Group) → Lighter k i l m → Owes k i l n → Owes k i m n
-owes-still k i n l m w o r =
+bounded-still : (k i n : ℕ) (l m : List Group) → NotRaised k i l m → Bounded k i l n → Bounded k i m n
+bounded-still k i n l m w o r =
     let q = w r in
     let p = o (q .0) in
     let z = q .1 in
     omega arith
 
 module _ (k i : ℕ) (s : State) (h : List Told) (now : Now k i s h) where
-  settled-lighter : {c : Call} {r : Result} {lead : List Event} {m : List Group} → Moves s (now .groups) c r lead m →
-      (Runs i (stillHeld m) → Runs i m) × (Runs i (stillHeld m) → burden k i (stillHeld m) ≤ burden k i m)
-  settled-lighter {r = r} {m = m} v = (
+  settled-at-most : {c : Call} {r : Result} {lead : List Event} {m : List Group} → Moves s (now .groups) c r lead m →
+      (Runs i (stillHeld m) → Runs i m) × (Runs i (stillHeld m) → measure k i (stillHeld m) ≤ measure k i m)
+  settled-at-most {r = r} {m = m} v = (
     λ q. any-held i m ∙ q,
-    settle-lighter k i (r .state .nextId) m (hub-moves s (now .groups) (now .ready .hub) v .ids-ok),
+    settle-at-most k i (r .state .nextId) m (hub-moves s (now .groups) (now .ready .hub) v .ids-ok),
   )
 
   given-still : {c : Call} {r : Result} {lead : List Event} {m : List Group} → Moves s (now .groups) c r lead m →
@@ -82,60 +83,60 @@ module _ (k i : ℕ) (s : State) (h : List Told) (now : Now k i s h) where
       subst (λ (x : Fixed). i < x .nextId) (sym (settle-fixed (r .state))) (omega arith)
 
   -- a submission, a turn or a report
-  calmly : {c : Call} {r : Result} → Calm c → Seen s (now .groups) c r →
-      (next : Now k i (r .state) (saying c (r .answers) ∷ h)) × Lighter k i (now .groups) (next .groups)
-  calmly {c = c} calm (is-refused r) = (
+  of-schedule : {c : Call} {r : Result} → OfSchedule c → Seen s (now .groups) c r →
+      (next : Now k i (r .state) (saying c (r .answers) ∷ h)) × NotRaised k i (now .groups) (next .groups)
+  of-schedule {c = c} of (is-refused r) = (
     record {
       groups = now .groups;
       ready = untold k s h (now .groups) (saying c (refused r ∷ [])) refl refl (now .ready);
       given =
           now .given;
     },
-    lighter-same k i (now .groups),
+    not-raised-same k i (now .groups),
   )
-  calmly calm (waits j a g b d w e n f) = (
+  of-schedule of (waits j a g b d w e n f) = (
     record {
       groups = now .groups;
       ready = untold k s h (now .groups) (saying (turn j) (wait (g .member .id) w ∷ [])) refl refl (now .ready);
       given = now .given;
     },
-    lighter-same k i (now .groups),
+    not-raised-same k i (now .groups),
   )
-  calmly calm (moves {r = r} {k = m} v) = (
+  of-schedule of (moves {r = r} {k = m} v) = (
     record { groups = stillHeld m; ready = ready-moves k s h (now .groups) (now .ready) v; given = given-still v },
     λ q.
-        let a = moves-lighter k i s h (now .groups) (now .ready) (now .given) v calm (settled-lighter v .0 q) in
+        let a = moves-at-most k i s h (now .groups) (now .ready) (now .given) v of (settled-at-most v .0 q) in
         let b = a .1 in
-        let z = settled-lighter v .1 q in
+        let z = settled-at-most v .1 q in
         (a .0, omega arith),
   )
 
 -- an accepted turn of routine j, or report on it
 record Asked (k i j : ℕ) (c : Call) (l m : List Group) : Type 0 where
-  lighter : Lighter k i l m
+  not-raised : NotRaised k i l m
   others : (f : ℕ) (steps : List Step) → j ≢ f → HeadIs f steps l → HeadIs f steps m
   own : (steps : List Step) → HeadIs j steps l → Own k j c l m
 
 asked : (k i : ℕ) (s : State) (h : List Told) (now : Now k i s h) (j : ℕ) {c : Call} {r : Result} → Asks j c → Seen s (now .groups) c r →
     isAccepted (r .answers) ≡ true →
     (next : Now k i (r .state) (saying c (r .answers) ∷ h)) × Asked k i j c (now .groups) (next .groups)
-unfolding calmly
+unfolding of-schedule
 asked k i s h now j o (is-refused r) e = t≠f (sym e)
 asked k i s h now j o (waits w a g b d x e n f) _ =
-    let v = calmly k i s h now {c = turn w} tt (waits w a g b d x e n f) in (
+    let v = of-schedule k i s h now {c = turn w} tt (waits w a g b d x e n f) in (
       v .0,
       record {
-        lighter = v .1;
+        not-raised = v .1;
         others = λ f steps n hd. hd;
         own = λ steps hd. absurd (Option·none-ne-some x
             (sym (ap (λ p. firstHolding d (members p)) (none-ahead k s h (now .groups) (now .ready) j steps hd a g b e (n ∙ o))) ∙ f));
       },
     )
 asked k i s h now j {c = c} o (moves {r = r} {k = m} v) _ =
-    let u = calmly k i s h now {c = c} (asks-calm j c o) (moves v) in (
+    let u = of-schedule k i s h now {c = c} (asks-of-schedule j c o) (moves v) in (
       u .0,
       record {
-        lighter = u .1;
+        not-raised = u .1;
         others = λ f steps n hd. head-held f steps m (others-move k s h (now .groups) (now .ready) f steps hd j v o n);
         own = λ steps hd. settles (own-moves k s h (now .groups) (now .ready) j steps hd v o);
       },
@@ -145,34 +146,34 @@ asked k i s h now j {c = c} o (moves {r = r} {k = m} v) _ =
     settles (falls f) =
         falls (λ i q.
         let p = f i (any-held i m ∙ q) in
-        let z = settle-lighter k i (r .state .nextId) m (hub-moves s (now .groups) (now .ready .hub) v .ids-ok) q in
+        let z = settle-at-most k i (r .state .nextId) m (hub-moves s (now .groups) (now .ready .hub) v .ids-ok) q in
         omega arith)
     settles (flies t steps hd x) = flies t steps (head-held j steps m hd) x
 
 -- ---- what is told, from a state on
 
 -- these are the answers of these calls
-abbrev pub Legit : State → List Told → Type 0
-Legit s [] = Unit {0}
-Legit s (t ∷ l) = (resultOf s (t .call) .answers ≡ t .answers) × Legit (resultOf s (t .call) .state) l
+abbrev AsAnswered : State → List Told → Type 0
+AsAnswered s [] = Unit {0}
+AsAnswered s (t ∷ l) = (resultOf s (t .call) .answers ≡ t .answers) × AsAnswered (resultOf s (t .call) .state) l
 
-abbrev pub stateThen : State → List Told → State
+abbrev stateThen : State → List Told → State
 stateThen s [] = s
 stateThen s (t ∷ l) = stateThen (resultOf s (t .call) .state) l
 
-legit-left : (s : State) (a b : List Told) → Legit s (a ++ b) → Legit s a
-legit-left s [] b h = tt
-legit-left s (t ∷ a) b h = (h .0, legit-left (resultOf s (t .call) .state) a b (h .1))
+answered-left : (s : State) (a b : List Told) → AsAnswered s (a ++ b) → AsAnswered s a
+answered-left s [] b h = tt
+answered-left s (t ∷ a) b h = (h .0, answered-left (resultOf s (t .call) .state) a b (h .1))
 
-legit-right : (s : State) (a b : List Told) → Legit s (a ++ b) → Legit (stateThen s a) b
-legit-right s [] b h = h
-legit-right s (t ∷ a) b h = legit-right (resultOf s (t .call) .state) a b (h .1)
+answered-right : (s : State) (a b : List Told) → AsAnswered s (a ++ b) → AsAnswered (stateThen s a) b
+answered-right s [] b h = h
+answered-right s (t ∷ a) b h = answered-right (resultOf s (t .call) .state) a b (h .1)
 
-pub legit-calls : (s : State) (cs : List Call) → Legit s (callsTold s cs)
-legit-calls s [] = tt
-legit-calls s (c ∷ cs) = (refl, legit-calls (resultOf s c .state) cs)
+answered-calls : (s : State) (cs : List Call) → AsAnswered s (callsTold s cs)
+answered-calls s [] = tt
+answered-calls s (c ∷ cs) = (refl, answered-calls (resultOf s c .state) cs)
 
-pub told-++ : (h a b : List Told) → toldThen h (a ++ b) ≡ toldThen (toldThen h a) b
+told-++ : (h a b : List Told) → toldThen h (a ++ b) ≡ toldThen (toldThen h a) b
 told-++ h [] b = refl
 told-++ h (t ∷ a) b = told-++ (t ∷ h) a b
 
@@ -212,11 +213,11 @@ refused-told k i s h now t e r P p =
 
 -- ---- a half of a round: each of some routines is asked once
 
--- the sum has fallen; or the first, f, is still to be asked; or it was, and stands so
+-- the measure has fallen; or the first, f, is still to be asked; or it was, and stands so
 data Stage (k i m f : ℕ) (After : List Step → Type 0) (l : List Group) (ids : List ℕ) : Type 0 where
-  fell : Owes k i l m → Stage k i m f After l ids
-  is-due : (steps : List Step) → HeadIs f steps l → times f ids ≡ 1 → Owes k i l (suc m) → Stage k i m f After l ids
-  had : (steps : List Step) → HeadIs f steps l → After steps → times f ids ≡ 0 → Owes k i l (suc m) → Stage k i m f After l ids
+  fell : Bounded k i l m → Stage k i m f After l ids
+  not-yet : (steps : List Step) → HeadIs f steps l → times f ids ≡ 1 → Bounded k i l (suc m) → Stage k i m f After l ids
+  was-asked : (steps : List Step) → HeadIs f steps l → After steps → times f ids ≡ 0 → Bounded k i l (suc m) → Stage k i m f After l ids
 
 -- a call that was accepted, or was not
 accepted-first : (t : Told) (l : List Told) → isAccepted (t .answers) ≡ true → acceptedIn (t ∷ l) ≡ t .call ∷ acceptedIn l
@@ -235,49 +236,51 @@ times-later f j ids n e t = sym (rw e refl) ∙ t
 module _ (k i m f : ℕ) (make : ℕ → Call) (asks : (j : ℕ) → Asks j (make j)) (After : List Step → Type 0)
     (after : (j : ℕ) (steps : List Step) → IsTurn (make j) → Flies steps → After steps) where
   one : (j : ℕ) (ids : List ℕ) (l n : List Group) → Asked k i j (make j) l n → Stage k i m f After l (j ∷ ids) → Stage k i m f After n ids
-  one j ids l n a (fell o) = fell (owes-still k i m l n (a .lighter) o)
-  one j ids l n a (is-due steps hd t o) =
+  one j ids l n a (fell o) = fell (bounded-still k i m l n (a .not-raised) o)
+  one j ids l n a (not-yet steps hd t o) =
       byTest (λ _. Stage k i m f After n ids) (eqb j f)
       (λ e. own (eqb-true j f e) (let z = times-now f j ids 1 e t in omega arith)
       (a .own steps (subst (λ p. HeadIs p steps l) (sym (eqb-true j f e)) hd)))
-      (λ e. is-due steps (a .others f steps (eqb-false j f e) hd) (times-later f j ids 1 e t) (owes-still k i (suc m) l n (a .lighter) o))
+      (λ e. not-yet steps (a .others f steps (eqb-false j f e) hd) (times-later f j ids 1 e t)
+      (bounded-still k i (suc m) l n (a .not-raised) o))
     where
       own : j ≡ f → times f ids ≡ 0 → Own k j (make j) l n → Stage k i m f After n ids
       own e z (falls w) =
           fell (λ r.
-          let q = a .lighter r in
+          let q = a .not-raised r in
           let p = o (q .0) in
           let v = w i r in
           omega arith)
       own e z (flies y steps′ hd′ x) =
-          had steps′ (subst (λ p. HeadIs p steps′ n) e hd′) (after j steps′ y x) z (owes-still k i (suc m) l n (a .lighter) o)
-  one j ids l n a (had steps hd q t o) =
+          was-asked steps′ (subst (λ p. HeadIs p steps′ n) e hd′) (after j steps′ y x) z (bounded-still k i (suc m) l n (a .not-raised) o)
+  one j ids l n a (was-asked steps hd q t o) =
       byTest (λ _. Stage k i m f After n ids) (eqb j f) (λ e. absurd (let z = times-now f j ids 0 e t in omega arith))
-      (λ e. had steps (a .others f steps (eqb-false j f e) hd) q (times-later f j ids 0 e t) (owes-still k i (suc m) l n (a .lighter) o))
+      (λ e. was-asked steps (a .others f steps (eqb-false j f e) hd) q (times-later f j ids 0 e t)
+      (bounded-still k i (suc m) l n (a .not-raised) o))
 
-  half : (s : State) (h : List Told) (now : Now k i s h) (ts : List Told) (ids : List ℕ) → Legit s ts → acceptedIn ts ≡ map make ids →
+  half : (s : State) (h : List Told) (now : Now k i s h) (ts : List Told) (ids : List ℕ) → AsAnswered s ts → acceptedIn ts ≡ map make ids →
       Stage k i m f After (now .groups) ids →
       Reached k i (stateThen s ts) (toldThen h ts) (λ l. Stage k i m f After l [])
-  half s h now [] [] legit e g = (now, g)
-  half s h now [] (j ∷ ids) legit e g = absurd (nil≢cons e)
-  half s h now (t ∷ ts) [] legit e g =
+  half s h now [] [] answered e g = (now, g)
+  half s h now [] (j ∷ ids) answered e g = absurd (nil≢cons e)
+  half s h now (t ∷ ts) [] answered e g =
       byTest (λ _. Reached k i (stateThen s (t ∷ ts)) (toldThen h (t ∷ ts)) (λ l. Stage k i m f After l [])) (isAccepted (t .answers))
       (λ y. absurd (cons≢nil (sym (accepted-first t ts y) ∙ e)))
       (λ y.
-      let r = refused-told k i s h now t (legit .0) y (λ l. Stage k i m f After l []) g in
-      half (resultOf s (t .call) .state) (t ∷ h) (r .0) ts [] (legit .1) (sym (refused-first t ts y) ∙ e) (r .1))
-  half s h now (t ∷ ts) (j ∷ ids) legit e g =
+      let r = refused-told k i s h now t (answered .0) y (λ l. Stage k i m f After l []) g in
+      half (resultOf s (t .call) .state) (t ∷ h) (r .0) ts [] (answered .1) (sym (refused-first t ts y) ∙ e) (r .1))
+  half s h now (t ∷ ts) (j ∷ ids) answered e g =
       byTest (λ _. Reached k i (stateThen s (t ∷ ts)) (toldThen h (t ∷ ts)) (λ l. Stage k i m f After l [])) (isAccepted (t .answers))
       (λ y.
       let q = sym (accepted-first t ts y) ∙ e in
       let is : make j ≡ t .call = sym (head-eq-of-cons-eq q) in
-      let u = asked k i s h now j (subst (Asks j) is (asks j)) (seen k i s h now (t .call)) (ap isAccepted (legit .0) ∙ y) in
-      let r = as-told k i s (resultOf s (t .call) .state) h t (λ l. Stage k i m f After l ids) (legit .0)
+      let u = asked k i s h now j (subst (Asks j) is (asks j)) (seen k i s h now (t .call)) (ap isAccepted (answered .0) ∙ y) in
+      let r = as-told k i s (resultOf s (t .call) .state) h t (λ l. Stage k i m f After l ids) (answered .0)
       (u .0, one j ids (now .groups) (u .0 .groups) (subst (λ c. Asked k i j c (now .groups) (u .0 .groups)) (sym is) (u .1)) g) in
-      half (resultOf s (t .call) .state) (t ∷ h) (r .0) ts ids (legit .1) (tail-eq-of-cons-eq q) (r .1))
+      half (resultOf s (t .call) .state) (t ∷ h) (r .0) ts ids (answered .1) (tail-eq-of-cons-eq q) (r .1))
       (λ y.
-      let r = refused-told k i s h now t (legit .0) y (λ l. Stage k i m f After l (j ∷ ids)) g in
-      half (resultOf s (t .call) .state) (t ∷ h) (r .0) ts (j ∷ ids) (legit .1) (sym (refused-first t ts y) ∙ e) (r .1))
+      let r = refused-told k i s h now t (answered .0) y (λ l. Stage k i m f After l (j ∷ ids)) g in
+      half (resultOf s (t .call) .state) (t ∷ h) (r .0) ts (j ∷ ids) (answered .1) (sym (refused-first t ts y) ∙ e) (r .1))
 
 -- ---- a round
 
@@ -299,7 +302,7 @@ head-flies k s h _ y f steps (head-is g l e q c) =
 
 -- before the turns
 turns-begin : (k i m : ℕ) (s : State) (h : List Told) (l : List Group) → Ready k s h l → (ids : List ℕ) → EachOnce (idleOf h) ids →
-    Owes k i l (suc m) → (f : ℕ) × Stage k i m f Flies l ids
+    Bounded k i l (suc m) → (f : ℕ) × Stage k i m f Flies l ids
 turns-begin k i m s h [] y ids once o = (0, fell (λ r. t≠f (sym r)))
 turns-begin k i m s h (g ∷ l) y ids once o = (g .member .id, go (flight (g .member .steps)) refl)
   where
@@ -315,26 +318,26 @@ turns-begin k i m s h (g ∷ l) y ids once o = (g .member .id, go (flight (g .me
         ∙ ap not (head-flies k s h (g ∷ l) y f (g .member .steps) hd ∙ ap hasFlight e)
 
     go : (x : Option Flight) → flight (g .member .steps) ≡ x → Stage k i m f Flies (g ∷ l) ids
-    go none e = is-due (g .member .steps) hd (once f ∙ ap (λ b. if b then 1 else 0) (idle none e)) o
-    go (some x) e = had (g .member .steps) hd (x, e) (once f ∙ ap (λ b. if b then 1 else 0) (idle (some x) e)) o
+    go none e = not-yet (g .member .steps) hd (once f ∙ ap (λ b. if b then 1 else 0) (idle none e)) o
+    go (some x) e = was-asked (g .member .steps) hd (x, e) (once f ∙ ap (λ b. if b then 1 else 0) (idle (some x) e)) o
 
 -- between turns and reports: the first has its command in flight
 reports-begin : (k i m : ℕ) (s : State) (h : List Told) (l : List Group) → Ready k s h l → (f : ℕ) (ids : List ℕ) →
     EachOnce (flyingOf h) ids → Stage k i m f Flies l [] → Stage k i m f (λ steps. ⊥) l ids
 reports-begin k i m s h l y f ids once (fell o) = fell o
-reports-begin k i m s h l y f ids once (is-due steps hd t o) = absurd (omega arith)
-reports-begin k i m s h l y f ids once (had steps hd x t o) =
-    is-due steps hd (once f ∙ ap (λ b. if b then 1 else 0) (head-flies k s h l y f steps hd ∙ ap hasFlight (x .1))) o
+reports-begin k i m s h l y f ids once (not-yet steps hd t o) = absurd (omega arith)
+reports-begin k i m s h l y f ids once (was-asked steps hd x t o) =
+    not-yet steps hd (once f ∙ ap (λ b. if b then 1 else 0) (head-flies k s h l y f steps hd ∙ ap hasFlight (x .1))) o
 
-reports-end : (k i m f : ℕ) (l : List Group) → Stage k i m f (λ steps. ⊥) l [] → Owes k i l m
+reports-end : (k i m f : ℕ) (l : List Group) → Stage k i m f (λ steps. ⊥) l [] → Bounded k i l m
 reports-end k i m f l (fell o) = o
-reports-end k i m f l (is-due steps hd t o) = absurd (omega arith)
-reports-end k i m f l (had steps hd x t o) = absurd x
+reports-end k i m f l (not-yet steps hd t o) = absurd (omega arith)
+reports-end k i m f l (was-asked steps hd x t o) = absurd x
 
--- by a round the sum falls
-round-falls : (k i m : ℕ) (s : State) (h : List Told) (now : Now k i s h) (turns reports : List Told) → Legit s turns →
-    Legit (stateThen s turns) reports → Round h turns reports → Owes k i (now .groups) (suc m) →
-    Reached k i (stateThen (stateThen s turns) reports) (toldThen (toldThen h turns) reports) (λ l. Owes k i l m)
+-- by a round the measure falls
+round-falls : (k i m : ℕ) (s : State) (h : List Told) (now : Now k i s h) (turns reports : List Told) → AsAnswered s turns →
+    AsAnswered (stateThen s turns) reports → Round h turns reports → Bounded k i (now .groups) (suc m) →
+    Reached k i (stateThen (stateThen s turns) reports) (toldThen (toldThen h turns) reports) (λ l. Bounded k i l m)
 round-falls k i m s h now turns reports p q r o =
     let b = turns-begin k i m s h (now .groups) (now .ready) (r .turned) (r .one-turn-each) o in
     let f = b .0 in
@@ -347,41 +350,41 @@ round-falls k i m s h now turns reports p q r o =
 
 -- ---- a schedule
 
--- nothing is owed: it is ended
-paid : (k i : ℕ) (s : State) (h : List Told) (now : Now k i s h) → Owes k i (now .groups) 0 → Ended i h
-paid k i s h now o = byTest (λ b. b ≡ false) (accountsOf h i .running) (λ e. absurd (go e)) (λ e. refl)
+-- a measure of at most 0: it is ended
+bounded-ended : (k i : ℕ) (s : State) (h : List Told) (now : Now k i s h) → Bounded k i (now .groups) 0 → Ended i h
+bounded-ended k i s h now o = byTest (λ b. b ≡ false) (accountsOf h i .running) (λ e. absurd (go e)) (λ e. refl)
   where
     go : accountsOf h i .running ≡ true → ⊥
     go e =
         let r : Runs i (now .groups) = sym (now .ready .running-told i) ∙ e in
-        let p = runs-heavy k i (s .nextId) (now .groups) (now .ready .hub .ids-ok) r in
+        let p = runs-positive k i (s .nextId) (now .groups) (now .ready .hub .ids-ok) r in
         let q = o r in
         omega arith
 
-owes-more : (k i m n : ℕ) (l : List Group) → m ≤ n → Owes k i l m → Owes k i l n
-owes-more k i m n l e o r = let p = o r in omega arith
+bounded-more : (k i m n : ℕ) (l : List Group) → m ≤ n → Bounded k i l m → Bounded k i l n
+bounded-more k i m n l e o r = let p = o r in omega arith
 
-waits-out : (k i : ℕ) (h told : List Told) (n : ℕ) → Schedule h told n → (s : State) → Legit s told → (now : Now k i s h) (m : ℕ) →
-    Owes k i (now .groups) m → m ≤ n → Ended i (toldThen h told)
-waits-out k i h _ _ no-more s legit now m o e = paid k i s h now (owes-more k i m 0 (now .groups) e o)
-waits-out k i h _ n (between {l = l} _ (a-submission cs answers) rest) s legit now m o e =
-    let u = calmly k i s h now {c = submit cs} tt (seen k i s h now (submit cs)) in
+waits-out : (k i : ℕ) (h told : List Told) (n : ℕ) → Schedule h told n → (s : State) → AsAnswered s told → (now : Now k i s h) (m : ℕ) →
+    Bounded k i (now .groups) m → m ≤ n → Ended i (toldThen h told)
+waits-out k i h _ _ no-more s answered now m o e = bounded-ended k i s h now (bounded-more k i m 0 (now .groups) e o)
+waits-out k i h _ n (between {l = l} _ (a-submission cs answers) rest) s answered now m o e =
+    let u = of-schedule k i s h now {c = submit cs} tt (seen k i s h now (submit cs)) in
     let t = saying (submit cs) answers in
-    let r = as-told k i s (resultOf s (submit cs) .state) h t (λ l. Owes k i l m) (legit .0)
-    (u .0, owes-still k i m (now .groups) (u .0 .groups) (u .1) o) in
-    waits-out k i (t ∷ h) l n rest (resultOf s (submit cs) .state) (legit .1) (r .0) m (r .1) e
-waits-out k i h _ n (between {l = l} _ (a-refusal t y) rest) s legit now m o e =
-    let r = refused-told k i s h now t (legit .0) y (λ l. Owes k i l m) o in
-    waits-out k i (t ∷ h) l n rest (resultOf s (t .call) .state) (legit .1) (r .0) m (r .1) e
-waits-out k i h _ _ (a-round {l = l} {n = n} turns reports round rest) s legit now m o e =
-    let p = legit-left s turns (reports ++ l) legit in
-    let q = legit-right s turns (reports ++ l) legit in
+    let r = as-told k i s (resultOf s (submit cs) .state) h t (λ l. Bounded k i l m) (answered .0)
+    (u .0, bounded-still k i m (now .groups) (u .0 .groups) (u .1) o) in
+    waits-out k i (t ∷ h) l n rest (resultOf s (submit cs) .state) (answered .1) (r .0) m (r .1) e
+waits-out k i h _ n (between {l = l} _ (a-refusal t y) rest) s answered now m o e =
+    let r = refused-told k i s h now t (answered .0) y (λ l. Bounded k i l m) o in
+    waits-out k i (t ∷ h) l n rest (resultOf s (t .call) .state) (answered .1) (r .0) m (r .1) e
+waits-out k i h _ _ (a-round {l = l} {n = n} turns reports round rest) s answered now m o e =
+    let p = answered-left s turns (reports ++ l) answered in
+    let q = answered-right s turns (reports ++ l) answered in
     let less = left-of m e in
-    let r = round-falls k i (less .0) s h now turns reports p (legit-left (stateThen s turns) reports l q) round
-    (owes-more k i m (suc (less .0)) (now .groups) (less .1) o) in
+    let r = round-falls k i (less .0) s h now turns reports p (answered-left (stateThen s turns) reports l q) round
+    (bounded-more k i m (suc (less .0)) (now .groups) (less .1) o) in
     subst (Ended i) (sym (told-++ h turns (reports ++ l) ∙ told-++ (toldThen h turns) reports l))
     (waits-out k i (toldThen (toldThen h turns) reports) l n rest (stateThen (stateThen s turns) reports)
-    (legit-right (stateThen s turns) reports l q) (r .0) (less .0) (r .1) (less .2))
+    (answered-right (stateThen s turns) reports l q) (r .0) (less .0) (r .1) (less .2))
   where
     left-of : (m : ℕ) → m ≤ suc n → (p : ℕ) × (m ≤ suc p) × (p ≤ n)
     left-of zero e = (0, omega arith, omega arith)
@@ -408,12 +411,12 @@ room s cs a b e q =
     let m : length (s .sequence) ≡ length a + length b = ap length q ∙ length-members (a ++ b) ∙ length-append a b in
     omega arith
 
--- the routine is placed: what it owes
-place-owes : (k : ℕ) (s : State) (h : List Told) (l : List Group) → Ready k s h l → (cs : List Command) {r : Result} {lead : List Event}
+-- the routine is placed: its measure at the beginning
+place-bounded : (k : ℕ) (s : State) (h : List Told) (l : List Group) → Ready k s h l → (cs : List Command) {r : Result} {lead : List Event}
     {m : List Group} → Moves s l (submit cs) r lead m →
-    Reached k (s .nextId) (settle (r .state)) (saying (submit cs) (r .answers) ∷ h) (λ n. Owes k (s .nextId) n (enoughRounds k))
+    Reached k (s .nextId) (settle (r .state)) (saying (submit cs) (r .answers) ∷ h) (λ n. Bounded k (s .nextId) n (enoughRounds k))
 unfolding place newcomer
-place-owes k s h l y _ {m = m} (places cs a b q e u p n) = (
+place-bounded k s h l y _ {m = m} (places cs a b q e u p n) = (
   record {
     groups = stillHeld m;
     ready = ready-moves k s h l y (places cs a b q e u p n);
@@ -423,20 +426,21 @@ place-owes k s h l y _ {m = m} (places cs a b q e u p n) = (
       let i = s .nextId in
       let new = alone (newcomer i cs) in
       let ok = hub-moves s l (y .hub) (places cs a b q e u p n) .ids-ok in
-      let x = settle-lighter k i (suc i) m ok r in
-      let z = first-burden k i a new (passAll b) (each-left Short a b (subst (Each Short) e (y .short))) (new-short s cs q) refl refl in
+      let x = settle-at-most k i (suc i) m ok r in
+      let z = first-measure k i a new (passAll b) (each-left FewLeft a b (subst (Each FewLeft) e (y .few-left)))
+      (new-few-left s cs q) refl refl in
       let w = room s cs a b q (y .hub .sequence-is ∙ ap members e) in
       omega arith,
 )
-place-owes k s h l y _ (aborts _ a g b e r q) = absurd (no-abort q)
+place-bounded k s h l y _ (aborts _ a g b e r q) = absurd (no-abort q)
 
-placed-owes : (k i j : ℕ) (s : State) (h : List Told) (l : List Group) → Ready k s h l → (cs : List Command) {r : Result} →
+placed-bounded : (k i j : ℕ) (s : State) (h : List Told) (l : List Group) → Ready k s h l → (cs : List Command) {r : Result} →
     Seen s l (submit cs) r → r .answers ≡ placed i j ∷ [] →
-    Reached k i (r .state) (saying (submit cs) (r .answers) ∷ h) (λ m. Owes k i m (enoughRounds k))
-placed-owes k i j s h l y cs (is-refused r) e = let z : _≡_ {A = ℕ} 0 1 = cc in absurd (omega arith)
-placed-owes k i j s h l y cs (moves {r = r} v) e =
-    subst (λ x. Reached k x (settle (r .state)) (saying (submit cs) (r .answers) ∷ h) (λ m. Owes k x m (enoughRounds k))) (is-next v e)
-    (place-owes k s h l y cs v)
+    Reached k i (r .state) (saying (submit cs) (r .answers) ∷ h) (λ m. Bounded k i m (enoughRounds k))
+placed-bounded k i j s h l y cs (is-refused r) e = let z : _≡_ {A = ℕ} 0 1 = cc in absurd (omega arith)
+placed-bounded k i j s h l y cs (moves {r = r} v) e =
+    subst (λ x. Reached k x (settle (r .state)) (saying (submit cs) (r .answers) ∷ h) (λ m. Bounded k x m (enoughRounds k))) (is-next v e)
+    (place-bounded k s h l y cs v)
   where
     is-next : {r : Result} {lead : List Event} {m : List Group} → Moves s l (submit cs) r lead m → r .answers ≡ placed i j ∷ [] →
         s .nextId ≡ i
@@ -447,8 +451,8 @@ placed-owes k i j s h l y cs (moves {r = r} v) e =
 submitted : (k i j : ℕ) (s : State) (h : List Told) (l : List Group) → Ready k s h l → (before : List Call) (cs : List Command) →
     resultOf (stateAfter s before) (submit cs) .answers ≡ placed i j ∷ [] →
     let calls = before ++ (submit cs ∷ []) in
-    Reached k i (stateAfter s calls) (toldThen h (callsTold s calls)) (λ m. Owes k i m (enoughRounds k))
-submitted k i j s h l y [] cs e = placed-owes k i j s h l y cs (see s l (y .hub .sequence-is) (submit cs)) e
+    Reached k i (stateAfter s calls) (toldThen h (callsTold s calls)) (λ m. Bounded k i m (enoughRounds k))
+submitted k i j s h l y [] cs e = placed-bounded k i j s h l y cs (see s l (y .hub .sequence-is) (submit cs)) e
 submitted k i j s h l y (c ∷ before) cs e =
     let r = ready-seen k s h l y (see s l (y .hub .sequence-is) c) in
     submitted k i j (resultOf s c .state) (saying c (resultOf s c .answers) ∷ h) (r .0) (r .1) before cs e
@@ -459,4 +463,4 @@ ended-in-time n k first s e before cs i j p later rounds schedule enough =
     let calls = before ++ (submit cs ∷ []) in
     let r = submitted k i j s [] [] (ready-opened n k first s e) before cs p in
     waits-out k i (toldThen [] (callsTold s calls)) (callsTold (stateAfter s calls) later) rounds schedule (stateAfter s calls)
-    (legit-calls (stateAfter s calls) later) (r .0) (enoughRounds k) (r .1) enough
+    (answered-calls (stateAfter s calls) later) (r .0) (enoughRounds k) (r .1) enough

@@ -1,5 +1,5 @@
--- What a call does to the sum of `Burden.antt`: no submission, turn or report raises it; a turn of the first of the sequence, or a report
--- on it, makes it fall or sends a command of the first. Assumes nothing.
+-- What a call does to the measure of `Measure.antt`: no submission, turn or report raises it; a turn of the first of the sequence, or a
+-- report on it, makes it fall or sends a command of the first. Assumes nothing.
 use mathlib.Core.Path.{_≡_, refl, sym, ap, _∙_, subst}
 use mathlib.Core.Logic.{_≢_}
 use mathlib.Core.Bool.{Bool, true, false, _||_, or-true}
@@ -29,20 +29,20 @@ use Rattle.rules.proofs.View.{sentMember, skippedMember, doneMember, fa
 use Rattle.rules.proofs.View.{Moves, places, commits, sends, skips, dones, misses, aborts, fails, restarts}
 use Rattle.rules.proofs.Marks.{in-turn}
 use Rattle.rules.proofs.Told.{has, none-has, other-has, idle-has, any-swap, any-drop, any-same, same-runs}
-use Rattle.rules.proofs.Burden.{weight, burden, Runs, most-weight, swap-lighter, swap-falls, leave-lighter}
-use Rattle.rules.proofs.Burden.{leave-falls, place-lighter}
-use Rattle.rules.proofs.Ready.{new-short, Ready}
+use Rattle.rules.proofs.Measure.{weight, measure, Runs, most-weight, swap-at-most, swap-falls, leave-at-most}
+use Rattle.rules.proofs.Measure.{leave-falls, place-at-most}
+use Rattle.rules.proofs.Ready.{new-few-left, Ready}
 
--- ---- the sum and a call
+-- ---- the measure and a call
 
 -- calls of a schedule: no failure, restart or cancel
-abbrev pub Calm : Call → Type 0
-Calm (submit cs) = Unit {0}
-Calm (turn i) = Unit {0}
-Calm (report i code) = Unit {0}
-Calm (failure d) = ⊥
-Calm (restart d v) = ⊥
-Calm (cancel i) = ⊥
+abbrev pub OfSchedule : Call → Type 0
+OfSchedule (submit cs) = Unit {0}
+OfSchedule (turn i) = Unit {0}
+OfSchedule (report i code) = Unit {0}
+OfSchedule (failure d) = ⊥
+OfSchedule (restart d v) = ⊥
+OfSchedule (cancel i) = ⊥
 
 -- who runs among some runs among more
 runs-more : (i : ℕ) (a : List Group) (g : Group) (b : List Group) → Runs i (a ++ b) → Runs i (a ++ (g ∷ b))
@@ -54,33 +54,33 @@ runs-more i a g b r =
     go true y z e = refl
     go false y z e = rw e (or-true y)
 
--- what a call does to the routine with id i and its sum
-abbrev pub Lighter : ℕ → ℕ → List Group → List Group → Type 0
-Lighter k i l m = Runs i m → Runs i l × (burden k i m ≤ burden k i l)
+-- what a call does to the routine with id i and its measure
+abbrev pub NotRaised : ℕ → ℕ → List Group → List Group → Type 0
+NotRaised k i l m = Runs i m → Runs i l × (measure k i m ≤ measure k i l)
 
-pub lighter-same : (k i : ℕ) (l : List Group) → Lighter k i l l
-lighter-same k i l r = (r, omega arith)
+pub not-raised-same : (k i : ℕ) (l : List Group) → NotRaised k i l l
+not-raised-same k i l r = (r, omega arith)
 
 -- g becomes h, which runs as g does and has no more left
 swapped : (k i : ℕ) (a : List Group) (g h : Group) (b : List Group) → h .member .id ≡ g .member .id →
     h .member .passed ≡ g .member .passed → h .member .committed ≡ g .member .committed → weight (h .member) ≤ weight (g .member) →
-    Lighter k i (a ++ (g ∷ b)) (a ++ (h ∷ b))
+    NotRaised k i (a ++ (g ∷ b)) (a ++ (h ∷ b))
 unfolding isRunning
 swapped k i a g h b e p c w r =
-    (any-swap isRunning i a g h b (rw (e, c) refl) ∙ r, swap-lighter k i a g h b e p w)
+    (any-swap isRunning i a g h b (rw (e, c) refl) ∙ r, swap-at-most k i a g h b e p w)
 
 -- g leaves
-pub left-others : (n i : ℕ) (a : List Group) (g : Group) (b : List Group) → IdsOk n (ids (a ++ (g ∷ b))) → Runs i (leaving a g b) →
+left-others : (n i : ℕ) (a : List Group) (g : Group) (b : List Group) → IdsOk n (ids (a ++ (g ∷ b))) → Runs i (leaving a g b) →
     Runs i (a ++ b) × (g .member .id ≢ i)
 left-others n i a g b d r =
     let q = any-same isRunning same-runs i (same-leaving a g b) ∙ r in
     (q, λ e. t≠f (sym q ∙ none-has isRunning i (a ++ b) (subst (λ j. NotIn j (ids (a ++ b))) e (other-ids n a g b d))))
 
-left-lighter : (n k i : ℕ) (a : List Group) (g : Group) (b : List Group) → IdsOk n (ids (a ++ (g ∷ b))) →
-    Lighter k i (a ++ (g ∷ b)) (leaving a g b)
-left-lighter n k i a g b d r =
+left-at-most : (n k i : ℕ) (a : List Group) (g : Group) (b : List Group) → IdsOk n (ids (a ++ (g ∷ b))) →
+    NotRaised k i (a ++ (g ∷ b)) (leaving a g b)
+left-at-most n k i a g b d r =
     let q = left-others n i a g b d r in
-    (runs-more i a g b (q .0), leave-lighter k i a g b (q .1))
+    (runs-more i a g b (q .0), leave-at-most k i a g b (q .1))
 
 -- a routine with one command less left weighs less
 less-weight : (g h : Group) (c : Command) → g .member .committed ≡ false → h .member .committed ≡ false →
@@ -92,50 +92,50 @@ less-weight g h c r q e =
     omega arith
 
 module _ (k i : ℕ) (s : State) (h : List Told) (l : List Group) (y : Ready k s h l) (given : i < s .nextId) where
-  pub moves-lighter : {c : Call} {r : Result} {lead : List Event} {m : List Group} → Moves s l c r lead m → Calm c → Lighter k i l m
+  pub moves-at-most : {c : Call} {r : Result} {lead : List Event} {m : List Group} → Moves s l c r lead m → OfSchedule c → NotRaised k i l m
   unfolding newcomer commit isRunning
-  moves-lighter (places cs a b q e u p n) calm = λ r.
+  moves-at-most (places cs a b q e u p n) of = λ r.
       let w = subst (HubOk s) e (y .hub) in
       let new = alone (newcomer (s .nextId) cs) in
       let other : s .nextId ≢ i = λ z. omega arith in
       let runs : Runs i (a ++ b) =
       sym (any-drop isRunning i a new b (other-has isRunning i new other)) ∙ any-same isRunning same-runs i (same-placed a new b) ∙ r in (
         subst (Runs i) (sym e) runs,
-        subst (λ z. burden k i (a ++ (new ∷ passAll b)) ≤ burden k i z) (sym e)
-            (place-lighter k i (s .nextId) s cs (y .limit) a new b (w .ids-ok) runs n other (most-weight new (new-short s cs q))),
+        subst (λ z. measure k i (a ++ (new ∷ passAll b)) ≤ measure k i z) (sym e)
+            (place-at-most k i (s .nextId) s cs (y .limit) a new b (w .ids-ok) runs n other (most-weight new (new-few-left s cs q))),
       )
-  moves-lighter (commits j a g b e n r f q) calm =
-      subst (λ z. Lighter k i z (a ++ (with g (commit (g .member)) ∷ b))) (sym e)
+  moves-at-most (commits j a g b e n r f q) of =
+      subst (λ z. NotRaised k i z (a ++ (with g (commit (g .member)) ∷ b))) (sym e)
       (λ z. (
         runs-more i a g b (sym (any-drop isRunning i a (with g (commit (g .member))) b
             (idle-has isRunning i (with g (commit (g .member))) refl)) ∙ z),
-        swap-lighter k i a g (with g (commit (g .member))) b refl refl
+        swap-at-most k i a g (with g (commit (g .member))) b refl refl
             (omega arith),
       ))
-  moves-lighter (sends j a g b c e n r f q w u) calm =
+  moves-at-most (sends j a g b c e n r f q w u) of =
       let x = send-step (g .member) (in-turn s a g b (subst (HubOk s) e (y .hub))) c (due s (c .device)) q f in
-      subst (λ z. Lighter k i z (a ++ (with g (sentMember s g c) ∷ b))) (sym e)
+      subst (λ z. NotRaised k i z (a ++ (with g (sentMember s g c) ∷ b))) (sym e)
       (swapped k i a g (with g (sentMember s g c)) b refl refl refl (rw (x .same-left) (omega arith)))
-  moves-lighter (skips j a g b c e n r f q w u) calm =
+  moves-at-most (skips j a g b c e n r f q w u) of =
       let x = skip-step (g .member) (in-turn s a g b (subst (HubOk s) e (y .hub))) c q f in
       let less = less-weight g (with g (skippedMember g)) c r r (x .left-is) in
-      subst (λ z. Lighter k i z (a ++ (with g (skippedMember g) ∷ b))) (sym e)
+      subst (λ z. NotRaised k i z (a ++ (with g (skippedMember g) ∷ b))) (sym e)
       (swapped k i a g (with g (skippedMember g)) b refl refl refl (omega arith))
-  moves-lighter (dones j code a g b x e n r f q) calm =
+  moves-at-most (dones j code a g b x e n r f q) of =
       let z = done-step (g .member) (in-turn s a g b (subst (HubOk s) e (y .hub))) x f in
       let less = less-weight g (with g (doneMember g)) (x .command) r r (z .left-is) in
-      subst (λ z. Lighter k i z (a ++ (with g (doneMember g) ∷ b))) (sym e)
+      subst (λ z. NotRaised k i z (a ++ (with g (doneMember g) ∷ b))) (sym e)
       (swapped k i a g (with g (doneMember g)) b refl refl refl (omega arith))
-  moves-lighter (misses j code a g b x e n r f q) calm =
+  moves-at-most (misses j code a g b x e n r f q) of =
       let z = fail-step (g .member) (in-turn s a g b (subst (HubOk s) e (y .hub))) x f in
       let less = less-weight g (with g (failedMember g)) (x .command) r r (z .left-is) in
-      subst (λ z. Lighter k i z (a ++ (with g (failedMember g) ∷ b))) (sym e)
+      subst (λ z. NotRaised k i z (a ++ (with g (failedMember g) ∷ b))) (sym e)
       (swapped k i a g (with g (failedMember g)) b refl refl refl (omega arith))
-  moves-lighter (aborts c a g b e r q) calm =
-      subst (λ z. Lighter k i z (leaving a g b)) (sym e)
-      (left-lighter (s .nextId) k i a g b (subst (HubOk s) e (y .hub) .ids-ok))
-  moves-lighter (fails d r lead m n u g) calm = absurd calm
-  moves-lighter (restarts d v r lead m n u g) calm = absurd calm
+  moves-at-most (aborts c a g b e r q) of =
+      subst (λ z. NotRaised k i z (leaving a g b)) (sym e)
+      (left-at-most (s .nextId) k i a g b (subst (HubOk s) e (y .hub) .ids-ok))
+  moves-at-most (fails d r lead m n u g) of = absurd of
+  moves-at-most (restarts d v r lead m n u g) of = absurd of
 
 -- ---- the first of the sequence
 
@@ -186,21 +186,21 @@ Asks j (failure d) = ⊥
 Asks j (restart d v) = ⊥
 Asks j (cancel i) = ⊥
 
-pub asks-calm : (j : ℕ) (c : Call) → Asks j c → Calm c
-asks-calm j (submit cs) h = tt
-asks-calm j (turn i) h = tt
-asks-calm j (report i code) h = tt
-asks-calm j (failure d) h = h
-asks-calm j (restart d v) h = h
-asks-calm j (cancel i) h = h
+pub asks-of-schedule : (j : ℕ) (c : Call) → Asks j c → OfSchedule c
+asks-of-schedule j (submit cs) h = tt
+asks-of-schedule j (turn i) h = tt
+asks-of-schedule j (report i code) h = tt
+asks-of-schedule j (failure d) h = h
+asks-of-schedule j (restart d v) h = h
+asks-of-schedule j (cancel i) h = h
 
 -- a command of these is in flight
 abbrev pub Flies : List Step → Type 0
 Flies steps = (x : Flight) × (flight steps ≡ some x)
 
--- every sum falls; or, by a turn, a command of the first is now in flight
+-- every measure falls; or, by a turn, a command of the first is now in flight
 pub data Own (k j : ℕ) (c : Call) (l m : List Group) : Type 0 where
-  falls : ((i : ℕ) → Runs i m → burden k i m < burden k i l) → Own k j c l m
+  falls : ((i : ℕ) → Runs i m → measure k i m < measure k i l) → Own k j c l m
   flies : IsTurn c → (steps : List Step) → HeadIs j steps m → Flies steps → Own k j c l m
 
 module _ (k : ℕ) (s : State) (h : List Told) (l : List Group) (y : Ready k s h l) where
@@ -234,13 +234,13 @@ module _ (k : ℕ) (s : State) (h : List Told) (l : List Group) (y : Ready k s h
       own-less : (c : Call) (x : Group) → x .member .id ≡ g .member .id → x .member .passed ≡ g .member .passed →
           weight (x .member) < weight (g .member) → Own k j c l (a ++ (x ∷ b))
       own-less c x same passed w =
-          falls (λ i _. subst (λ z. burden k i (a ++ (x ∷ b)) < burden k i z) (sym e)
-          (subst (λ p. burden k i (p ++ (x ∷ b)) < burden k i (p ++ (g ∷ b))) (sym none-ahead) (swap-falls k i g x b same passed w)))
+          falls (λ i _. subst (λ z. measure k i (a ++ (x ∷ b)) < measure k i z) (sym e)
+          (subst (λ p. measure k i (p ++ (x ∷ b)) < measure k i (p ++ (g ∷ b))) (sym none-ahead) (swap-falls k i g x b same passed w)))
 
       own-gone : (c : Call) → g .member .committed ≡ false → Own k j c l (leaving a g b)
       own-gone c r =
-          falls (λ i z. subst (λ q. burden k i (leaving a g b) < burden k i q) (sym e)
-          (subst (λ p. burden k i (leaving p g b) < burden k i (p ++ (g ∷ b))) (sym none-ahead)
+          falls (λ i z. subst (λ q. measure k i (leaving a g b) < measure k i q) (sym e)
+          (subst (λ p. measure k i (leaving p g b) < measure k i (p ++ (g ∷ b))) (sym none-ahead)
           (leave-falls k i g b (left-others (s .nextId) i a g b (subst (HubOk s) e (y .hub) .ids-ok) z .1) r)))
 
     -- about the first itself
