@@ -56,6 +56,12 @@ record Now (k i : ℕ) (s : State) (h : List Told) : Type 0 where
   ready : Ready k s h groups
   given : i < s .nextId
 
+-- the same hub, after a call that tells nothing
+abbrev same-now : (k i : ℕ) (s : State) (h : List Told) → Now k i s h → (t : Told) → accountsOf (t ∷ h) ≡ accountsOf h →
+    flyingOf (t ∷ h) ≡ flyingOf h → Now k i s (t ∷ h)
+same-now k i s h now t a f =
+    record { groups = now .groups; ready = untold k s h (now .groups) t a f (now .ready); given = now .given }
+
 -- while the routine with id i runs, its measure is at most n
 abbrev Bounded : ℕ → ℕ → List Group → ℕ → Type 0
 Bounded k i l n = Runs i l → measure k i l ≤ n
@@ -85,23 +91,10 @@ module _ (k i : ℕ) (s : State) (h : List Told) (now : Now k i s h) where
   -- a submission, a turn or a report
   of-schedule : {c : Call} {r : Result} → OfSchedule c → Seen s (now .groups) c r →
       (next : Now k i (r .state) (saying c (r .answers) ∷ h)) × NotRaised k i (now .groups) (next .groups)
-  of-schedule {c = c} of (is-refused r) = (
-    record {
-      groups = now .groups;
-      ready = untold k s h (now .groups) (saying c (refused r ∷ [])) refl refl (now .ready);
-      given =
-          now .given;
-    },
-    not-raised-same k i (now .groups),
-  )
-  of-schedule of (waits j a g b d w e n f) = (
-    record {
-      groups = now .groups;
-      ready = untold k s h (now .groups) (saying (turn j) (wait (g .member .id) w ∷ [])) refl refl (now .ready);
-      given = now .given;
-    },
-    not-raised-same k i (now .groups),
-  )
+  of-schedule {c = c} of (is-refused r) =
+      (same-now k i s h now (saying c (refused r ∷ [])) refl refl, not-raised-same k i (now .groups))
+  of-schedule of (waits j a g b d w e n f) =
+      (same-now k i s h now (saying (turn j) (wait (g .member .id) w ∷ [])) refl refl, not-raised-same k i (now .groups))
   of-schedule of (moves {r = r} {k = m} v) = (
     record { groups = stillHeld m; ready = ready-moves k s h (now .groups) (now .ready) v; given = given-still v },
     λ q.
@@ -189,15 +182,7 @@ as-told k i s u h t P e = subst (λ a. Reached k i u (saying (t .call) a ∷ h) 
 -- a call that was refused changes nothing
 refused-same : (k i : ℕ) (s : State) (h : List Told) (now : Now k i s h) {c : Call} {r : Result} → Seen s (now .groups) c r →
     isAccepted (r .answers) ≡ false → (P : List Group → Type 0) → P (now .groups) → Reached k i (r .state) (saying c (r .answers) ∷ h) P
-refused-same k i s h now {c = c} (is-refused r) e P p = (
-  record {
-    groups = now .groups;
-    ready = untold k s h (now .groups) (saying c (refused r ∷ [])) refl refl (now .ready);
-    given =
-        now .given;
-  },
-  p,
-)
+refused-same k i s h now {c = c} (is-refused r) e P p = (same-now k i s h now (saying c (refused r ∷ [])) refl refl, p)
 refused-same k i s h now (waits j a g b d w x n f) e P p = t≠f e
 refused-same k i s h now (moves v) e P p = t≠f (sym (moves-same s (now .groups) v .0) ∙ e)
 
