@@ -17,6 +17,7 @@ use std::process::ExitCode;
 
 const MOST_COMMANDS: u64 = 8;
 const MOST_HELD: u64 = 16;
+const HIGHEST_PASS_LIMIT: u64 = 8;
 
 /// A routine that runs.
 struct Routine {
@@ -109,7 +110,7 @@ impl Schedule {
         // One in twelve is crowded: a full sequence of full routines on one device, all done, and newcomers all the time.
         let crowded = index % 12 == 0;
         let device_count = if crowded { 1 } else { random.between(1, 6) as usize };
-        let pass_limit = random.below(9) as u64;
+        let pass_limit = random.below(HIGHEST_PASS_LIMIT as usize + 1) as u64;
         let rates = if crowded {
             Rates {
                 before: 0,
@@ -118,7 +119,7 @@ impl Schedule {
                 refusals: 0,
                 best_effort: 0,
                 reported_failed: 0,
-                least_commands: 8,
+                least_commands: MOST_COMMANDS as i64,
                 used_devices: 1,
             }
         } else {
@@ -129,7 +130,7 @@ impl Schedule {
                 refusals: *random.pick(&[0, 5, 20]),
                 best_effort: *random.pick(&[10, 50, 90]),
                 reported_failed: *random.pick(&[0, 5, 30]),
-                least_commands: *random.pick(&[1, 1, 4, 8]),
+                least_commands: *random.pick(&[1, 1, 4, MOST_COMMANDS as i64]),
                 used_devices: random.between(1, device_count as i64) as usize,
             }
         };
