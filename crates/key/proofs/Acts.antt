@@ -7,8 +7,7 @@ use Prim.Native.Nat.{ℕ}
 use lib.IntN.{pos}
 use Rattle.rules.specs.State.{State}
 use Rattle.rules.specs.Answers.{Call}
-use Rattle.rules.specs.Calls.{resultOf}
-use Rattle.rules.specs.Calls.{stateAfter}
+use Rattle.rules.specs.Calls.{resultOf, stateAfter}
 use Rattle.rules.specs.World.{World, Act, calls, takes-one, worldAfter, worldAfterAll, newWorld}
 use Rattle.rules.proofs.Theorem.{devices-kept}
 use Rattle.line_rules.specs.Reading.{Line, opening, calling, unread, readLine}

@@ -8,9 +8,8 @@ use Prim.Native.Nat.{ℕ}
 use Rattle.rules.specs.State.{State}
 use Rattle.rules.specs.Answers.{Call}
 use Rattle.rules.specs.Open.{Opening, opened, not-opened, openOf}
-use Rattle.rules.specs.Calls.{resultOf}
+use Rattle.rules.specs.Calls.{resultOf, stateAfter}
 use Rattle.rules.specs.History.{Told}
-use Rattle.rules.specs.Calls.{stateAfter}
 use Rattle.rules.proofs.Lists.{t≠f, or-left, or-right}
 use Rattle.line_rules.specs.Text.{bytes}
 use Rattle.line_rules.specs.Reading.{Line, opening, calling, unread, readLine}
