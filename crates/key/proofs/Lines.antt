@@ -9,6 +9,7 @@ use Rattle.rules.specs.State.{State}
 use Rattle.rules.specs.Answers.{Call}
 use Rattle.rules.specs.Open.{Opening, opened, not-opened, openOf}
 use Rattle.rules.specs.Calls.{resultOf, stateAfter}
+use Rattle.rules.specs.Rounds.{callsTold, toldThen}
 use Rattle.rules.specs.History.{Told}
 use Rattle.rules.proofs.Lists.{t≠f, or-left, or-right}
 use Rattle.line_rules.specs.Text.{bytes}
@@ -118,8 +119,7 @@ calls-hub s (l ∷ ls) e =
 
 -- what calls tell behind a history, each on the hub that the one before left
 abbrev pub toldCalls : List Told → State → List Call → List Told
-toldCalls earlier s [] = earlier
-toldCalls earlier s (c ∷ cs) = toldCalls (record { call = c; answers = resultOf s c .answers } ∷ earlier) (resultOf s c .state) cs
+toldCalls earlier s cs = toldThen earlier (callsTold s cs)
 
 pub calls-told : (earlier : List Told) (s : State) (ls : List (List ℕ)) → anyOpens ls ≡ false →
     toldBehind earlier (repliesTo (some s) ls) ≡ toldCalls earlier s (callsBy ls)
