@@ -1,8 +1,8 @@
--- Rounds exist after every list of calls, and so a schedule can always go on; the computed schedules of `Schedules.antt` are schedules.
--- Assumes nothing.
+-- What is told is what the hub holds; rounds exist after every list of calls, and so a schedule can always go on; the computed schedules of
+-- `Schedules.antt` are schedules. Assumes nothing.
 use mathlib.Core.Path.{_≡_, refl, sym, ap, _∙_, subst}
 use mathlib.Core.Logic.{_≢_}
-use mathlib.Core.Bool.{Bool, true, false, not, _&&_, _||_}
+use mathlib.Core.Bool.{Bool, true, false, not, _&&_, _||_, and-assoc}
 use mathlib.Core.List.{List, [], _∷_, _++_, map}
 use mathlib.Core.Option.{Option, none, some}
 use Prim.Native.Nat.{ℕ, zero, suc, _+_, _<_, _≤_}
@@ -13,9 +13,9 @@ use Rattle.routine.specs.Choice.{if_then_else_}
 use Rattle.routine.specs.declared.Command.{Command}
 use Rattle.routine.proofs.Laws.{byTest}
 use Rattle.rules.specs.Tables.{anyOf, put}
-use Rattle.rules.specs.State.{Member, State}
+use Rattle.rules.specs.State.{Status, to-do, in-flight, was-done, was-skipped, Step, Member, State}
 use Rattle.rules.specs.Answers.{Call, submit, turn, report, placed, Result}
-use Rattle.rules.specs.Progress.{isMust, next, Flight, flight}
+use Rattle.rules.specs.Progress.{isMust, isInFlight, next, Flight, flightOr, flight}
 use Rattle.rules.specs.Sequence.{Found, find, isRunning, runs}
 use Rattle.rules.specs.Abort.{abort}
 use Rattle.rules.specs.Open.{opened, openOf}
@@ -25,7 +25,7 @@ use Rattle.rules.specs.Calls.{resultOf, stateAfter}
 use Rattle.rules.specs.History.{Told, Account, accountsOf}
 use Rattle.rules.specs.World.{isAccepted}
 use Rattle.rules.specs.Rounds.{callsTold, toldThen, flyingOf, idleOf, acceptedIn, times, EachOnce, Round, a-submission}
-use Rattle.rules.specs.Rounds.{Schedule, no-more, between, a-round, enoughRounds, AnyOrder, RoundsExist}
+use Rattle.rules.specs.Rounds.{Schedule, no-more, between, a-round, enoughRounds, ToldIsHeld, AnyOrder, RoundsExist}
 use Rattle.rules.proofs.Lists.{byIf, t≠f, and-left, and-right, put-other, each-left, IsNot, NotIn, IdsOk}
 use Rattle.rules.proofs.Groups.{Group, members, ids, foundAt, ids-++, other-ids}
 use Rattle.rules.proofs.Invariant.{HubOk}
@@ -83,6 +83,41 @@ idle-told : (k : ℕ) (s : State) (h : List Told) (l : List Group) → Ready k s
 idle-told k s h l y i =
     ap (λ b. b && not (flyingOf h i)) (y .running-told i) ∙ ap (λ b. anyOf (has isRunning i) l && not b) (y .flying-told i)
     ∙ idle-any (s .nextId) l (y .hub .ids-ok) i
+
+-- ---- told and held
+
+-- a command in flight is one of the commands
+flight-any : (l : List Step) → hasFlight (flight l) ≡ anyOf (λ x. isInFlight (x .status)) l
+flight-any [] = refl
+flight-any (x ∷ l) = go (x .status) (flight-any l)
+  where
+    go : (st : Status) → hasFlight (flight l) ≡ anyOf (λ y. isInFlight (y .status)) l →
+        hasFlight (flightOr x st (flight l)) ≡ (isInFlight st || anyOf (λ y. isInFlight (y .status)) l)
+    go to-do h = h
+    go (in-flight u) h = refl
+    go was-done h = h
+    go was-skipped h = h
+
+-- a table that tells of the groups tells of the sequence
+any-members : (q p : Member → Bool) (i : ℕ) → ((m : Member) → (eqb (m .id) i && q m) ≡ p m) → (l : List Group) →
+    anyOf (has q i) l ≡ anyOf p (members l)
+any-members q p i e [] = refl
+any-members q p i e (g ∷ l) =
+    ap (λ b. b || anyOf (has q i) l) (e (g .member)) ∙ ap (λ b. p (g .member) || b) (any-members q p i e l)
+
+pub told-is-held : ToldIsHeld
+unfolding isFlying runs
+told-is-held n k first s e calls i =
+    let r = ready-calls k s [] [] (ready-opened n k first s e) calls in
+    let y = r .1 in
+    let same : members (r .0) ≡ stateAfter s calls .sequence = sym (y .hub .sequence-is) in (
+      y .running-told i ∙ any-members isRunning (runs i) i (λ m. refl) (r .0) ∙ ap (anyOf (runs i)) same,
+      y .flying-told i
+          ∙ any-members isFlying (λ m. runs i m && anyOf (λ x. isInFlight (x .status)) (m .steps)) i
+          (λ m. sym (and-assoc (eqb (m .id) i) (isRunning m) (hasFlight (flight (m .steps))))
+          ∙ ap (λ b. (eqb (m .id) i && isRunning m) && b) (flight-any (m .steps))) (r .0)
+          ∙ ap (anyOf (λ m. runs i m && anyOf (λ x. isInFlight (x .status)) (m .steps))) same,
+    )
 
 -- ---- calls that are accepted
 
@@ -368,12 +403,13 @@ promised x n e p =
       schedule = is-schedule (x .passLimit) (placedState x) _ (r .0) (r .1) n (x .newcomers);
     }
 
--- Not weak: a routine that still runs after 8 of 9 parts of the rounds, by a schedule that the promise is about.
+-- Not weak: by a schedule that the promise is about, a routine still runs after rounds that are fewer than promised, and more than half.
 pub needs-most :
-    Promised crowded tooFewRounds × (enoughRounds (crowded .passLimit) < tooFewRounds + tooFewRounds)
+    Promised crowded tooFewRounds × (tooFewRounds < enoughRounds (crowded .passLimit))
+    × (enoughRounds (crowded .passLimit) < tooFewRounds + tooFewRounds)
     × (accountsOf (toldAfter crowded tooFewRounds) (crowded .id) .running ≡ true)
 unfolding calcRounds
-needs-most = (promised crowded tooFewRounds refl crowded-placed, omega arith, crowded-still-runs)
+needs-most = (promised crowded tooFewRounds refl crowded-placed, omega arith, omega arith, crowded-still-runs)
 
 -- And the schedule in which wrong rules show is one.
 pub wrong-rules-show : Promised overtaken (enoughRounds (overtaken .passLimit))

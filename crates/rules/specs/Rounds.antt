@@ -9,10 +9,12 @@ use lib.Dec.{eqb}
 use Rattle.routine.specs.Choice.{if_then_else_}
 use Rattle.routine.specs.Routine.{maxCommands}
 use Rattle.routine.specs.declared.Command.{Command}
-use Rattle.rules.specs.Tables.{put}
+use Rattle.rules.specs.Tables.{anyOf, put}
 use Rattle.rules.specs.State.{maxHeld, State}
 use Rattle.rules.specs.Answers.{Call, submit, turn, report, Answer, refused, placed, wait, send, done, skipped, committed, aborted}
 use Rattle.rules.specs.Answers.{down, up}
+use Rattle.rules.specs.Progress.{isInFlight}
+use Rattle.rules.specs.Sequence.{runs}
 use Rattle.rules.specs.Open.{opened, openOf}
 use Rattle.rules.specs.Report.{codeFailed}
 use Rattle.rules.specs.Calls.{resultOf, stateAfter}
@@ -116,6 +118,19 @@ EndedInTime =
     let history = toldThen [] (callsTold s first-part) in
     let then-told = callsTold (stateAfter s first-part) later in
     Schedule history then-told rounds → enoughRounds k ≤ rounds → Ended i (toldThen history then-told)
+
+-- ---- what is told is what the hub holds
+
+-- After every list of calls a routine runs, by the answers, exactly if it does in the hub's sequence; and has a command in flight exactly
+-- if it has one there.
+abbrev pub ToldIsHeld : Type 0
+ToldIsHeld =
+    (n k first : ℕ) (s : State) → openOf n k first ≡ opened s →
+    (calls : List Call) (i : ℕ) →
+    let now = stateAfter s calls in
+    let history = toldThen [] (callsTold s calls) in
+    (accountsOf history i .running ≡ anyOf (runs i) (now .sequence))
+    × (flyingOf history i ≡ anyOf (λ m. runs i m && anyOf (λ x. isInFlight (x .status)) (m .steps)) (now .sequence))
 
 -- ---- rounds can be made
 
