@@ -8,7 +8,7 @@
 # ---- what is stored in the repository is what the models make
 
 book_model() {
-    python3 tests/book/test_model.py
+    python3 tests/book/test_model.py && python3 tests/book/test_page.py
 }
 
 # Each file that the command writes into a folder (put behind its words) stands in crates/, with the same bytes.
@@ -125,6 +125,7 @@ show_book_prints_and_ends_with_a_message() {
         "$scratch/tree/bin/show_book" <"$book" 2>"$scratch/said" | cmp - "$scratch/expected" || return 1
         [ ! -s "$scratch/said" ] || { cat "$scratch/said" && return 1; }
     done
+    python3 tests/book/settings.py "$scratch/tree/bin/show_book"
 }
 
 # bin/ works through a link, from another folder; before anything is built it says what to run.

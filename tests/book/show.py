@@ -17,4 +17,5 @@ def lines(book):
     return [' '.join(['routine'] + [f'{d} {t} {s}' for d, t, s in routine]) for routine in answer[1]] + ['end']
 
 
-print('\n'.join(lines(sys.stdin.buffer.read())))
+if __name__ == '__main__':
+    print('\n'.join(lines(sys.stdin.buffer.read())))

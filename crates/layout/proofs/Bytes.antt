@@ -1,5 +1,5 @@
--- Numbers, settings and commands as bytes and back, for theorems (a) and (b). `drop p b` is what book b holds from place p on.
--- Assumes nothing.
+-- Numbers, settings and commands as bytes and back, for theorems (a) and (b) and those of the sign. `drop p b` is what book b holds from
+-- place p on. Assumes nothing.
 use Prim.Native.Nat.{ℕ, zero, suc, _+_, _-_, _*_, _/_, _%_, _≤_, _<_}
 use mathlib.Core.Path.{_≡_, refl, sym, ap, ap₂, _∙_}
 use mathlib.Core.Bool.{Bool, true}
@@ -20,26 +20,36 @@ use Rattle.routine.proofs.Laws.{byTest, both-accept, in-range-pos, in-range-neg
 use Rattle.layout.specs.Numbers.{twoBytes, fourBytes, byteAt, twoAt, fourAt, bitsOf, settingOf}
 use Rattle.layout.specs.Layout.{commandSize, commandBytes, commandsBytes, commandAt, commandsAt}
 use Rattle.layout.specs.Claims.{Bytes}
-use Rattle.layout.proofs.Laws.{setting-low, setting-high, bits-pos, bits-negsuc, length-twoBytes, length-commandBytes}
+use Rattle.layout.proofs.Laws.{setting-number, setting-low, setting-high, less-65536, bits-pos, bits-negsuc}
+use Rattle.layout.proofs.Laws.{length-twoBytes, length-commandBytes}
 
--- ---- settings and their 16 bits
+-- ---- settings and their two bytes
 
--- a setting in range is read from its bits
-pub setting-read : (z : ℤ) → inRange z ≡ true → settingOf (bitsOf z) ≡ z
-setting-read (pos n) e =
-    let l = leb-true n (mag highestSetting) (sym (in-range-pos n) ∙ e) in
-    rw (bits-pos n) (setting-low n (omega arith))
-setting-read (negsuc n) e =
-    let l = leb-true n (mag lowestSetting) (sym (in-range-negsuc n) ∙ e) in
-    rw (bits-negsuc n) (setting-high (65535 - n) (omega arith) (omega arith) ∙ ap negsuc (omega arith))
+-- a setting of 16 bits is read from its two bytes
+pub setting-read : (z : ℤ) → mag z < 32768 → settingOf (bitsOf z % 256) (bitsOf z / 256) ≡ z
+setting-read (pos n) h =
+    let k : n % 256 + 256 * (n / 256) ≡ n = omega arith in
+    rw (bits-pos n, setting-low (n % 256) (n / 256) (omega arith), k)
+setting-read (negsuc n) h =
+    let m = 65535 - n in
+    let k : m % 256 + 256 * (m / 256) ≡ m = omega arith in
+    rw (bits-negsuc n (omega arith), setting-high (m % 256) (m / 256) (omega arith), k, less-65536 m (omega arith)) (ap negsuc (omega arith))
 
--- bits are those of the setting that they are read as
-pub setting-written : (n : ℕ) → n < 65536 → bitsOf (settingOf n) ≡ n
-setting-written n h =
-    byTest (λ (_ : Bool). bitsOf (settingOf n) ≡ n) (ltb n 32768)
-    (λ e. let l = ltb-true n 32768 e in rw (setting-low n l) (bits-pos n))
-    (λ e. let l = ltb-false n 32768 e in let k : 65535 - (65535 - n) ≡ n = omega arith in
-    rw (setting-high n l h) (bits-negsuc (65535 - n) ∙ k))
+-- and so one in range
+in-range-read : (z : ℤ) → inRange z ≡ true → settingOf (bitsOf z % 256) (bitsOf z / 256) ≡ z
+in-range-read (pos n) e =
+    let l = leb-true n (mag highestSetting) (sym (in-range-pos n) ∙ e) in setting-read (pos n) (omega arith)
+in-range-read (negsuc n) e =
+    let l = leb-true n (mag lowestSetting) (sym (in-range-negsuc n) ∙ e) in setting-read (negsuc n) (omega arith)
+
+-- two bytes are those of the setting that they are read as
+pub setting-written : (lower upper : ℕ) → lower < 256 → upper < 256 → bitsOf (settingOf lower upper) ≡ lower + 256 * upper
+setting-written lower upper l h =
+    let n = lower + 256 * upper in
+    byTest (λ (_ : Bool). bitsOf (settingOf lower upper) ≡ n) (ltb upper 128)
+    (λ e. let k = ltb-true upper 128 e in rw (setting-low lower upper k) (bits-pos n))
+    (λ e. let k = ltb-false upper 128 e in let d : 65535 - (65535 - n) ≡ n = omega arith in
+    rw (setting-high lower upper k, less-65536 n (omega arith)) (bits-negsuc (65535 - n) (omega arith) ∙ d))
 
 -- ---- reading at a place what stands there
 
@@ -88,12 +98,11 @@ four-read b rest p n e =
 
 -- a command is read as it was
 command-read : (b rest : List ℕ) (p : ℕ) (c : Command) → inRange (c .setting) ≡ true → drop p b ≡ commandBytes c ++ rest → commandAt b p ≡ c
-unfolding commandAt commandBytes
+unfolding commandAt commandBytes twoBytes
 command-read b rest p c h e =
     let x = first-read b _ p e in
     let y = byte-read b _ p 1 e in
-    let z = ap settingOf (two-read b rest (p + 2) (bitsOf (c .setting)) (behind b (c .device ∷ c .tag ∷ []) _ p 2 e refl))
-    ∙ setting-read (c .setting) h in
+    let z = ap₂ settingOf (byte-read b _ p 2 e) (byte-read b _ p 3 e) ∙ in-range-read (c .setting) h in
     λ i. record { device = x i; tag = y i; setting = z i }
 
 -- accepted commands in a row are read as they were
@@ -147,7 +156,7 @@ module _ (b : List ℕ) (bytes : Bytes b) where
       let u = byte-written p (omega arith) in
       let v = byte-written (p + 1) (omega arith) in
       let w = two-written (p + 2) (omega arith) in
-      let x = setting-written (twoAt b (p + 2)) (two-bound (p + 2)) in
+      let x = setting-written (byteAt b (p + 2)) (byteAt b (p + 3)) (bytes (p + 2)) (bytes (p + 3)) ∙ setting-number b p in
       let k : p + 1 + 1 ≡ p + 2 = omega arith in
       let l : p + 2 + 2 ≡ p + commandSize = omega arith in
       cc

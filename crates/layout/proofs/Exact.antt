@@ -24,7 +24,8 @@ use Rattle.layout.specs.Layout.{commandsAt}
 use Rattle.layout.specs.Reading.{headCheck, lengthFits, placedCheck, placedChecks, bookCheck}
 use Rattle.layout.specs.Claims.{Bytes, Breaks, ExactRefusals, commandTests, routineTests, tests, causeOf, place}
 use Rattle.layout.specs.Claims.{Test, head, routine-length, routine-place, command-device, command-setting, command-tag, left-over}
-use Rattle.layout.proofs.Laws.{fits-in-fours, in-fours-fits, setting-low, setting-high, bits-pos, bits-negsuc}
+use Rattle.layout.proofs.Laws.{fits-in-fours, in-fours-fits, setting-number, setting-low, setting-high, less-65536, bits-pos}
+use Rattle.layout.proofs.Laws.{bits-negsuc}
 
 -- ---- what the tests of a book decide
 
@@ -42,19 +43,22 @@ unfit n =
       unmet = λ e h. let f = fits-in-fours n (not-false _ e) in h (f .commands) (f .some) (f .few) (f .size);
     }
 
--- a setting is out of range exactly if its 16 bits lie between those of the highest and those of the lowest
-out-of-range : (n : ℕ) → n < 65536 → Decides (not (inRange (settingOf n))) ((bitsOf highestSetting < n) × (n < bitsOf lowestSetting))
-out-of-range n h =
-    let high = bits-pos (mag highestSetting) in
-    let low = bits-negsuc (mag lowestSetting) in
-    byTest (λ (_ : Bool). Decides (not (inRange (settingOf n))) ((bitsOf highestSetting < n) × (n < bitsOf lowestSetting))) (ltb n 32768)
-    (λ e. let l = ltb-true n 32768 e in rw (setting-low n l, in-range-pos n) record {
-      met = λ e. let x = leb-false n (mag highestSetting) (not-true _ e) in (omega arith, omega arith);
-      unmet = λ e p. let x = leb-true n (mag highestSetting) (not-false _ e) in omega arith;
+-- a setting is out of range exactly if the number of its two bytes lies between that of the highest and that of the lowest
+out-of-range : (lower upper n : ℕ) → lower < 256 → upper < 256 → lower + 256 * upper ≡ n →
+    Decides (not (inRange (settingOf lower upper))) ((bitsOf highestSetting < n) × (n < bitsOf lowestSetting))
+out-of-range lower upper n l h e =
+    let most = bits-pos (mag highestSetting) in
+    let least = bits-negsuc (mag lowestSetting) (omega arith) in
+    byTest (λ (_ : Bool). Decides (not (inRange (settingOf lower upper))) ((bitsOf highestSetting < n) × (n < bitsOf lowestSetting)))
+    (ltb upper 128)
+    (λ t. let k = ltb-true upper 128 t in rw (setting-low lower upper k, e, in-range-pos n) record {
+      met = λ t. let x = leb-false n (mag highestSetting) (not-true _ t) in (omega arith, omega arith);
+      unmet = λ t p. let x = leb-true n (mag highestSetting) (not-false _ t) in omega arith;
     })
-    (λ e. let l = ltb-false n 32768 e in rw (setting-high n l h, in-range-negsuc (65535 - n)) record {
-      met = λ e. let x = leb-false (65535 - n) (mag lowestSetting) (not-true _ e) in (omega arith, omega arith);
-      unmet = λ e p. let x = leb-true (65535 - n) (mag lowestSetting) (not-false _ e) in omega arith;
+    (λ t. let k = ltb-false upper 128 t in
+    rw (setting-high lower upper k, e, less-65536 n (omega arith), in-range-negsuc (65535 - n)) record {
+      met = λ t. let x = leb-false (65535 - n) (mag lowestSetting) (not-true _ t) in (omega arith, omega arith);
+      unmet = λ t p. let x = leb-true (65535 - n) (mag lowestSetting) (not-false _ t) in omega arith;
     })
 
 -- ---- the tests of a book
@@ -90,11 +94,6 @@ module _ (b : List ℕ) (bytes : Bytes b) where
       (passed {t = routine-place i} (λ x. let y = x .0 in omega arith)
       (and-then (commands-past i maxCommands 0 (λ l. absurd (omega arith))) (λ _. routines-past n (suc i) (omega arith))))
 
-  -- two bytes are below 65,536
-  two-bytes : (at : ℕ) → twoAt b at < 65536
-  unfolding twoAt
-  two-bytes at = omega (arith, bytes at, bytes (at + 1))
-
   -- the n commands from the j-th on, which end routine i
   commands-outcome : (i k n j : ℕ) → i < countOf b → lengthAt b i ≡ commandSize * (j + n) → n ≤ k →
       ComesTo (commandTests i j k) (commandsCheck bookDevices j (commandsAt b (place b i + commandSize * j) n))
@@ -106,7 +105,8 @@ module _ (b : List ℕ) (bytes : Bytes b) where
       let there : commandSize * j < lengthAt b i = omega arith in
       let next : place b i + commandSize * suc j ≡ at + commandSize = omega arith in
       let device = made (command-device i j) _ (agree (at-most bookDevices (byteAt b at)) (λ x. (hi, there, x)) (λ y. y .2)) in
-      let bits = out-of-range (twoAt b (at + 2)) (two-bytes (at + 2)) in
+      let bits = out-of-range (byteAt b (at + 2)) (byteAt b (at + 3)) (twoAt b (at + 2)) (bytes (at + 2)) (bytes (at + 3))
+      (setting-number b at) in
       let setting = made (command-setting i j) _ (agree bits (λ x. (hi, there, x .0, x .1)) (λ y. (y .2, y .3))) in
       let tag = made (command-tag i j) _ (agree (less highestTag (byteAt b (at + 1))) (λ x. (hi, there, x)) (λ y. y .2)) in
       let others = commands-outcome i k n (suc j) hi (omega arith) (omega arith) in

@@ -1,15 +1,15 @@
 -- Laws of the layout's definitions that the theorems and the code's proofs cite. Assumes nothing.
 use Prim.Native.Nat.{ℕ, zero, suc, _+_, _-_, _*_, _/_, _%_, _≤_, _<_}
-use mathlib.Core.Path.{_≡_, refl, sym, ap, subst}
+use mathlib.Core.Path.{_≡_, refl, sym, ap, subst, _∙_}
 use mathlib.Core.Bool.{true, false, _&&_}
 use mathlib.Core.List.{List, [], _∷_, _++_}
 use native.Mathlib.Nat.{zero-add}
 use native.Mathlib.Numerals.{add-one}
 use native.Mathlib.Omega.{arith}
-use borrow.Author.Tests.{lt-ltb, le-ltb, le-leb, eq-eqb, ne-eqb, ltb-true, ltb-false, leb-true, eqb-true, not-false}
+use borrow.Author.Tests.{lt-ltb, le-ltb, le-leb, eq-eqb, ne-eqb, ltb-true, ltb-false, leb-true, leb-false, eqb-true, not-false}
 use lib.Dec.{leb, eqb}
-use lib.IntN.{ℤ, pos, negsuc, _-ℤ_}
-use lib.Signed.{ltZ, mag}
+use lib.IntN.{ℤ, pos, negsuc, natAbs, _+ℤ_, _-ℤ_}
+use lib.Signed.{leZ, mag}
 use lib.ListN.{length, length-append}
 use Rattle.routine.specs.Refusals.{book-cut-short, book-misplaced, book-length, refusalOf}
 use Rattle.routine.specs.Routine.{maxCommands, routineOf, commandsCheck}
@@ -17,7 +17,7 @@ use Rattle.routine.specs.declared.Command.{Command}
 use Rattle.routine.specs.declared.Refusal.{Refusal}
 use Rattle.routine.specs.declared.Verdict.the-variants.{Accepted, Refused}
 use Rattle.routine.proofs.Laws.{and-true, both-accept, not-refused, or-false}
-use Rattle.layout.specs.Numbers.{twoBytes, fourBytes, fourAt, bitsOf, settingOf}
+use Rattle.layout.specs.Numbers.{twoBytes, fourBytes, byteAt, twoAt, fourAt, bitsOf, settingOf}
 use Rattle.layout.specs.Layout.{countSize, pairSize, offsetSize, commandSize, maxRoutines, bookDevices, pairsEnd, lengthIn}
 use Rattle.layout.specs.Layout.{commandBytes, commandsBytes, pairsBytes, countOf, offsetAt, lengthAt, commandsAt}
 use Rattle.layout.specs.Reading.{headCheck, lengthFits, placedCheck, placedChecks, bookCheck, endAt, pairNext, turnsDown, nextOf}
@@ -51,47 +51,49 @@ in-fours-fits n h =
       eq-eqb (n % commandSize) 0 (omega arith),
     )
 
--- ---- settings as 16 bits
+-- ---- settings of two bytes
 
--- −1 − n
-pub minus-one-less : (n : ℕ) → negsuc 0 -ℤ pos n ≡ negsuc n
-minus-one-less zero = refl
-minus-one-less (suc n) = ap (λ (k : ℕ). negsuc (suc k)) (zero-add n)
+-- the number of a command's last two bytes
+pub setting-number : (b : List ℕ) (at : ℕ) → byteAt b (at + 2) + 256 * byteAt b (at + 3) ≡ twoAt b (at + 2)
+unfolding twoAt
+setting-number b at =
+    let k : at + 3 ≡ at + 2 + 1 = omega arith in ap (λ (p : ℕ). byteAt b (at + 2) + 256 * byteAt b p) k
 
-pub setting-low : (n : ℕ) → n < 32768 → settingOf n ≡ pos n
+-- the setting of two bytes, in each case; below 0 it is `negsuc`
+pub setting-low : (lower upper : ℕ) → upper < 128 → settingOf lower upper ≡ pos (lower + 256 * upper)
 unfolding settingOf
-setting-low n h = simp (lt-ltb n 32768 h)
+setting-low lower upper h = simp (lt-ltb upper 128 h)
 
-pub setting-high : (n : ℕ) → 32768 ≤ n → n < 65536 → settingOf n ≡ negsuc (65535 - n)
+pub setting-high : (lower upper : ℕ) → 128 ≤ upper → settingOf lower upper ≡ pos (lower + 256 * upper) -ℤ pos 65536
 unfolding settingOf
-setting-high n l h = simp (le-ltb n 32768 l, lt-ltb n 65536 h) (ap negsuc (omega arith))
+setting-high lower upper h = simp (le-ltb upper 128 h)
 
+pub less-65536 : (n : ℕ) → n < 65536 → pos n -ℤ pos 65536 ≡ negsuc (65535 - n)
+less-65536 n h = simp (lt-ltb n 65536 h) (ap negsuc (omega arith))
+
+-- the number of a setting's two bytes, in each case; below 0 it is `pos` of a difference
+pub bits-from-0 : (z : ℤ) → leZ (pos 0) z ≡ true → bitsOf z ≡ natAbs z
+unfolding bitsOf
+bits-from-0 z e = rw e
+
+pub bits-below-0 : (z : ℤ) → leZ (pos 0) z ≡ false → bitsOf z ≡ natAbs (z +ℤ pos 65536)
+unfolding bitsOf
+bits-below-0 z e = rw e
+
+pub not-below-0 : (z : ℤ) → leZ (pos 0) z ≡ true → z ≡ pos (mag z)
+not-below-0 (pos n) e = refl
+not-below-0 (negsuc n) e = let k : _≡_ {A = ℕ} 0 1 = cc in absurd (omega arith)
+
+pub and-65536 : (z : ℤ) → leZ (pos 0) z ≡ false → mag z < 65536 → z +ℤ pos 65536 ≡ pos (65535 - mag z)
+and-65536 (pos n) e h = let l = leb-false 0 n e in absurd (omega arith)
+and-65536 (negsuc n) e h = simp (le-ltb 65536 (suc n) (omega arith)) (ap pos (omega arith))
+
+-- so by the two forms of a setting
 pub bits-pos : (n : ℕ) → bitsOf (pos n) ≡ n
-unfolding bitsOf
-bits-pos n = refl
+bits-pos n = bits-from-0 (pos n) (le-leb 0 n (omega arith))
 
-pub bits-negsuc : (n : ℕ) → bitsOf (negsuc n) ≡ 65535 - n
-unfolding bitsOf
-bits-negsuc n = refl
-
--- −1 − z of a negative z, and the bits of each sign
-pub flipped : (z : ℤ) → ltZ z (pos 0) ≡ true → negsuc 0 -ℤ z ≡ pos (mag z)
-flipped (pos n) e = let h : n < 0 = ltb-true n 0 e in absurd (omega arith)
-flipped (negsuc n) e = simp (le-ltb (suc n) 1 (omega arith)) (ap pos (omega arith))
-
-pub bits-negative : (z : ℤ) → ltZ z (pos 0) ≡ true → 65535 - mag z ≡ bitsOf z
-unfolding bitsOf
-bits-negative (pos n) e = let h : n < 0 = ltb-true n 0 e in absurd (omega arith)
-bits-negative (negsuc n) e = refl
-
-pub not-negative : (z : ℤ) → ltZ z (pos 0) ≡ false → z ≡ pos (mag z)
-not-negative (pos n) e = refl
-not-negative (negsuc n) e = let k : _≡_ {A = ℕ} 0 1 = cc in absurd (omega arith)
-
-pub bits-not-negative : (z : ℤ) → ltZ z (pos 0) ≡ false → mag z ≡ bitsOf z
-unfolding bitsOf
-bits-not-negative (pos n) e = refl
-bits-not-negative (negsuc n) e = let k : _≡_ {A = ℕ} 0 1 = cc in absurd (omega arith)
+pub bits-negsuc : (n : ℕ) → n < 65536 → bitsOf (negsuc n) ≡ 65535 - n
+bits-negsuc n h = bits-below-0 (negsuc n) refl ∙ ap natAbs (and-65536 (negsuc n) refl h)
 
 -- ---- how long the parts are
 

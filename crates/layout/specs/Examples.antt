@@ -95,6 +95,20 @@ pub turned-down : (bookCheck (take 17 bytes) ≡ Refused (Number 18)) × (bookCh
 unfolding calc
 turned-down = (refl, refl, refl, refl, refl)
 
+-- ---- settings of two bytes
+
+-- The edges of the two cases, and of the range of settings; and back.
+pub signs : (settingOf 0 0 ≡ pos 0) × (settingOf 232 3 ≡ pos 1000) × (settingOf 255 127 ≡ pos 32767)
+    × (settingOf 0 128 ≡ negsuc 32767) × (settingOf 24 252 ≡ negsuc 999) × (settingOf 255 255 ≡ negsuc 0)
+unfolding calc
+signs = (refl, refl, refl, refl, refl, refl)
+
+pub signs-back : (twoBytes (bitsOf (pos 0)) ≡ 0 ∷ 0 ∷ []) × (twoBytes (bitsOf (pos 1000)) ≡ 232 ∷ 3 ∷ [])
+    × (twoBytes (bitsOf (pos 32767)) ≡ 255 ∷ 127 ∷ []) × (twoBytes (bitsOf (negsuc 32767)) ≡ 0 ∷ 128 ∷ [])
+    × (twoBytes (bitsOf (negsuc 999)) ≡ 24 ∷ 252 ∷ []) × (twoBytes (bitsOf (negsuc 0)) ≡ 255 ∷ 255 ∷ [])
+unfolding calc
+signs-back = (refl, refl, refl, refl, refl, refl)
+
 -- ---- routines lent
 
 -- What writing answers for routines that are lent, where there is room.

@@ -1,8 +1,9 @@
 -- Numbers as bytes, low byte first, and settings as 16 bits, two's complement: document 01, "The routine book". Assumes nothing.
 use mathlib.Core.List.{List, [], _∷_}
-use Prim.Native.Nat.{ℕ, _+_, _-_, _*_, _/_, _%_}
+use Prim.Native.Nat.{ℕ, _+_, _*_, _/_, _%_}
 use lib.Dec.{ltb}
-use lib.IntN.{ℤ, pos, negsuc, _-ℤ_}
+use lib.IntN.{ℤ, pos, natAbs, _+ℤ_, _-ℤ_}
+use lib.Signed.{leZ}
 use lib.ListN.{getD}
 use Rattle.routine.specs.Choice.{if_then_else_}
 
@@ -23,11 +24,22 @@ twoAt b at = byteAt b at + 256 * byteAt b (at + 1)
 unfoldable pub fourAt : List ℕ → ℕ → ℕ
 fourAt b at = twoAt b at + 65536 * twoAt b (at + 2)
 
--- The 16 bits of a setting, two's complement: −n is 65,536 − n. `negsuc n` is −(n + 1).
-unfoldable pub bitsOf : ℤ → ℕ
-bitsOf (pos n) = n
-bitsOf (negsuc n) = 65535 - n
+-- The setting of two bytes, low byte first: document 02, item 2. Upper byte
+-- below 128: the two bytes' number;
+-- 128 or above: that less 65,536.
+unfoldable pub settingOf : ℕ → ℕ → ℤ
+settingOf lower upper =
+    let number = lower + 256 * upper in
+    if ltb upper 128
+    then pos number
+    else pos number -ℤ pos 65536
 
--- The setting of 16 bits.
-unfoldable pub settingOf : ℕ → ℤ
-settingOf n = if ltb n 32768 then pos n else pos n -ℤ pos 65536
+-- The way back, the number of a setting's two bytes, its 16 bits. The setting
+-- 0 or above: itself;
+-- below 0: that and 65,536.
+-- (`natAbs` is the number of a setting that is not below 0.)
+unfoldable pub bitsOf : ℤ → ℕ
+bitsOf setting =
+    if leZ (pos 0) setting
+    then natAbs setting
+    else natAbs (setting +ℤ pos 65536)

@@ -4,7 +4,6 @@ use routine::MAX_DEVICES;
 use routine::Refusal;
 use routine::Routine;
 ghost use mathlib.Core.Path.{_≡_};
-ghost use Prim.Native.Nat.{_+_, _*_};
 ghost use Rattle.layout.specs.Numbers.{bitsOf, settingOf};
 
 // Sizes in bytes: the count, a pair of offset and length, a command.
@@ -43,25 +42,29 @@ pub enum Written {
     Refused(Refusal),
 }
 
-// The setting of 16 bits, two's complement: unsigned up to the cast, then one subtraction.
-pub fn setting_of(low: u8, high: u8) -> i16
-    ensures { λ r. ⌜ r ≡ settingOf (low + 256 * high) ⌝ }
+// The setting of two bytes, low byte first: document 02, item 2. Upper byte
+// below 128: the two bytes' number;
+// 128 or above: that less 65,536.
+pub fn setting_of(lower: u8, upper: u8) -> i16
+    ensures { λ r. ⌜ r ≡ settingOf lower upper ⌝ }
 {
-    let bits = low as u16 + 256 * (high as u16);
-    if bits < 32768 {
-        bits as i16
+    let number = lower as i32 + 256 * (upper as i32);
+    if upper < 128 {
+        number as i16
     } else {
-        -1 - ((65535 - bits) as i16)
+        (number - 65536) as i16
     }
 }
 
-// The 16 bits of a setting.
+// The way back, the number of a setting's two bytes, its 16 bits. The setting
+// 0 or above: itself;
+// below 0: that and 65,536.
 pub fn bits_of(setting: i16) -> u16
     ensures { λ r. ⌜ r ≡ bitsOf setting ⌝ }
 {
-    if setting < 0 {
-        65535 - ((-1 - setting) as u16)
-    } else {
+    if 0 <= setting {
         setting as u16
+    } else {
+        (setting as i32 + 65536) as u16
     }
 }

@@ -1,10 +1,10 @@
 -- `book::reading::command_at` meets its contract. Assumes nothing.
 use Prim.Native.Nat.{_+_, _*_}
-use mathlib.Core.Path.{_≡_, ap, _∙_}
+use mathlib.Core.Path.{_≡_, ap₂, _∙_}
 use native.Mathlib.Omega.{arith}
 use mir.Syntax.{w16}
 use mir.Val.{toZ, ofZ}
-use Rattle.layout.specs.Numbers.{twoAt, settingOf}
+use Rattle.layout.specs.Numbers.{settingOf}
 use Rattle.layout.specs.Layout.{commandAt}
 use borrow.Author.Needs.{needs}
 use Rattle.book.proofs.reading.command_at.Statement.{statement}
@@ -34,24 +34,13 @@ add-byte-at-3 c = search needs
 byte-at-requires-4 : tie.Need-byte-at-requires-4
 byte-at-requires-4 c κs = search needs
 
--- the setting's 16 bits
-sixteen : (c : tie.After-byte-at4) →
-    let a = c .before .before .before .before .before .before .args in
-    c .before .before .before .before .byte-at .result + 256 * c .before .before .before .byte-at2 .result
-    ≡ twoAt (a .book .now) (a .at + 2)
-unfolding twoAt
-sixteen c =
-    let x = c .before .before .before in
-    let a = x .before .before .before .args in
-    let n : a .at + 2 + 1 ≡ a .at + 3 = omega arith in
-    rw (n, x .before .byte-at .ensures, x .byte-at2 .ensures)
-
 returns : tie.Need-returns
 unfolding commandAt
 returns c = let s = c .before .before in
-    let a = s .before .before .before .before .args in
+    let x = s .before in
+    let a = x .before .before .before .args in
     let e : toZ w16 (ofZ w16 (s .setting-of .result)) ≡ s .setting-of .result = search needs in
-    let f : s .setting-of .result ≡ settingOf (twoAt (a .book .now) (a .at + 2)) = s .setting-of .ensures ∙ ap settingOf (sixteen c) in
+    let f = s .setting-of .ensures ∙ ap₂ settingOf (x .before .byte-at .ensures) (x .byte-at2 .ensures) in
     λ i. record { device = c .before .byte-at3 .ensures i; tag = c .byte-at4 .ensures i; setting = (e ∙ f) i }
 
 pub command-at-spec : {M : Type 1} → statement M
