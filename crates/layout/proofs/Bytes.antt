@@ -33,7 +33,8 @@ setting-read (pos n) h =
 setting-read (negsuc n) h =
     let m = 65535 - n in
     let k : m % 256 + 256 * (m / 256) ≡ m = omega arith in
-    rw (bits-negsuc n (omega arith), setting-high (m % 256) (m / 256) (omega arith), k, less-65536 m (omega arith)) (ap negsuc (omega arith))
+    rw (bits-negsuc n (omega arith), setting-high (m % 256) (m / 256) (omega arith), k, less-65536 m (omega arith))
+    (ap negsuc (omega arith))
 
 -- and so one in range
 in-range-read : (z : ℤ) → inRange z ≡ true → settingOf (bitsOf z % 256) (bitsOf z / 256) ≡ z

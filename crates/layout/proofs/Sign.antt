@@ -1,6 +1,6 @@
 -- The sign of a setting: by cases, and as before. Assumes nothing.
-use Prim.Native.Nat.{ℕ, _+_, _-_, _*_, _/_, _%_, _≤_, _<_}
-use mathlib.Core.Path.{_≡_, refl, sym, ap, ap₂, _∙_}
+use Prim.Native.Nat.{ℕ, _+_, _-_, _*_, _/_, _%_, _<_}
+use mathlib.Core.Path.{_≡_, refl, sym, ap, _∙_}
 use mathlib.Core.Bool.{Bool}
 use mathlib.Core.List.{List, [], _∷_}
 use native.Mathlib.Omega.{arith}
@@ -9,10 +9,11 @@ use lib.Dec.{ltb, leb→le, ltb→lt}
 use lib.IntN.{ℤ, pos, negsuc}
 use lib.Signed.{mag}
 use Rattle.routine.proofs.Laws.{byTest}
-use Rattle.layout.specs.Numbers.{twoBytes, byteAt, twoAt, settingOf, bitsOf}
+use Rattle.layout.specs.Numbers.{twoBytes, byteAt, settingOf, bitsOf}
 use Rattle.layout.specs.Layout.{commandAt}
 use Rattle.layout.specs.Claims.{Bytes}
-use Rattle.layout.specs.Sign.{ReadByCases, WrittenByCases, Of16Bits, SignByCases, settingBefore, commandBefore, bitsBefore, SignAsBefore}
+use Rattle.layout.specs.Sign.{ReadByCases, WrittenByCases, Of16Bits, SignByCases, settingBefore, commandBefore, bitsBefore}
+use Rattle.layout.specs.Sign.{SignAsBefore}
 use Rattle.layout.proofs.Laws.{setting-number, setting-low, setting-high, bits-pos, bits-negsuc, and-65536}
 use Rattle.layout.proofs.Bytes.{setting-read, setting-written}
 
@@ -40,13 +41,18 @@ of-16 (negsuc n) h = let l = leb→le n 32767 (h .0 .le) in omega arith
 
 written-by-cases : (z : ℤ) → Of16Bits z → WrittenByCases z
 written-by-cases (pos n) h =
-    record { from-0 = λ _. ap pos (bits-pos n); below-0 = λ s. let l = ltb→lt n 0 (s .lt) in absurd (omega arith); read-again = setting-read (pos n) (of-16 (pos n) h) }
+    let m = of-16 (pos n) h in
+    record {
+      from-0 = λ _. ap pos (bits-pos n);
+      below-0 = λ s. let l = ltb→lt n 0 (s .lt) in absurd (omega arith);
+      read-again = setting-read (pos n) m;
+    }
 written-by-cases (negsuc n) h =
-    let l = of-16 (negsuc n) h in
+    let m = of-16 (negsuc n) h in
     record {
       from-0 = λ s. absurd (s .le);
       below-0 = λ _. ap pos (bits-negsuc n (omega arith)) ∙ sym (and-65536 (negsuc n) refl (omega arith));
-      read-again = setting-read (negsuc n) l;
+      read-again = setting-read (negsuc n) m;
     }
 
 pub sign-by-cases : SignByCases

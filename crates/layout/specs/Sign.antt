@@ -1,5 +1,5 @@
--- The sign of a setting: document 02, item 2. What is claimed of `settingOf` and of the way back, `bitsOf` (Numbers.antt). The theorems stand
--- in proofs/Theorems.antt. Assumes nothing.
+-- The sign of a setting: document 02, item 2. What is claimed of `settingOf` and of the way back, `bitsOf` (Numbers.antt). The theorems
+-- stand in proofs/Theorems.antt. Assumes nothing.
 use mathlib.Core.Path.{_≡_}
 use mathlib.Core.List.{List, [], _∷_}
 use Prim.Native.Nat.{ℕ, _+_, _-_, _*_, _/_, _%_, _<_, _≤_}

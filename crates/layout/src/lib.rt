@@ -1,5 +1,5 @@
 // The routine book of document 01 as definitions, and the theorems about them: specs/ and proofs/. Here stand what
-// the code of reading and writing shares: the types of the answers, the layout's numbers, and settings as 16 bits.
+// the code of reading and writing shares: the types of the answers, the layout's numbers, and two bytes as a setting, and back.
 use routine::MAX_DEVICES;
 use routine::Refusal;
 use routine::Routine;
