@@ -37,7 +37,7 @@ def books():
 def main():
     failed = 0
     for count, book in enumerate(books(), 1):
-        printed = subprocess.run(sys.argv[1], input=book, stdout=subprocess.PIPE, check=True).stdout.decode()
+        printed = subprocess.run(sys.argv[1], input=book, stdout=subprocess.PIPE, check=True).stdout.decode(errors='replace')
         if printed != '\n'.join(show.lines(book)) + '\n':
             failed += 1
             print(f'{book.hex(" ")}\nprints:\n{printed}')

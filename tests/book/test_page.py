@@ -40,8 +40,8 @@ def has_pair(path, pair):
 
 # Rows: two bytes, their number, the setting.
 def rows(text):
-    for low, high, number, setting in re.findall(r'^\| `(\w\w) (\w\w)` \| ([\d,]+) \| ([−\d,]+) \|$', text, re.M):
-        yield bytes.fromhex(low + high), number_of(number), number_of(setting)
+    for lower, upper, number, setting in re.findall(r'^\| `(\w\w) (\w\w)` \| ([\d,]+) \| ([−\d,]+) \|$', text, re.M):
+        yield bytes.fromhex(lower + upper), number_of(number), number_of(setting)
 
 
 # The book written out: bytes, and what they are.
@@ -89,11 +89,11 @@ def checks():
 
 # "This must be shown for every pair of bytes": the two lines give what the model, two's complement, gives.
 def pairs():
-    for low in range(256):
-        for high in range(256):
-            number = low + 256 * high
-            setting = number if high < 128 else number - 65536
-            yield model.command_of(bytes([0, 0, low, high])) == (0, 0, setting)
+    for lower in range(256):
+        for upper in range(256):
+            number = lower + 256 * upper
+            setting = number if upper < 128 else number - 65536
+            yield model.command_of(bytes([0, 0, lower, upper])) == (0, 0, setting)
             back = setting if setting >= 0 else setting + 65536
             yield bytes([0, 0, back % 256, back // 256]) == model.bytes_of((0, 0, setting))
 
