@@ -36,7 +36,6 @@ returns : tie.Need-returns
 unfolding commandAt
 returns c = let s = c .before .before in
     let x = s .before in
-    let a = x .before .before .before .args in
     let e : toZ w16 (ofZ w16 (s .setting-of .result)) ≡ s .setting-of .result = search needs in
     let f = s .setting-of .ensures ∙ ap₂ settingOf (x .before .byte-at .ensures) (x .byte-at2 .ensures) in
     λ i. record { device = c .before .byte-at3 .ensures i; tag = c .byte-at4 .ensures i; setting = (e ∙ f) i }
