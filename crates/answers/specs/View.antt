@@ -11,6 +11,8 @@ use Rattle.answers.specs.declared.Answer.{Answer}
 use Rattle.answers.specs.declared.Answer.the-variants.{Refused, Placed, Wait, Sent, Done, Skipped, Committed, Aborted, Down, Up}
 use Rattle.answers.specs.declared.First.{First}
 use Rattle.answers.specs.declared.First.the-variants.{NoAbort, Abort}
+use Rattle.answers.specs.declared.OneBack.{OneBack}
+use Rattle.answers.specs.declared.OneBack.the-variants.{Nothing, One}
 use Rattle.answers.specs.declared.PutBack.{PutBack}
 use Rattle.answers.specs.declared.PutBacks.{PutBacks}
 
@@ -19,6 +21,11 @@ backOf b = record { device = b .device; setting = b .setting }
 
 abbrev pub backsOf : PutBacks → List Back
 backsOf b = map backOf (take (b .count) (b .items))
+
+-- None or one.
+abbrev pub oneOf : OneBack → List Back
+oneOf Nothing = []
+oneOf (One b) = backOf b ∷ []
 
 -- The put-backs fit their array.
 abbrev pub BacksOk : PutBacks → Type 0

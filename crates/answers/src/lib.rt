@@ -48,6 +48,12 @@ pub struct PutBack {
     pub setting: i16,
 }
 
+// What an answer that is no abort puts back.
+pub enum OneBack {
+    Nothing,
+    One(PutBack),
+}
+
 // The first `count` of the items, by rising device.
 pub struct PutBacks {
     pub items: [PutBack; MAX_DEVICES],

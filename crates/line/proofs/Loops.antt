@@ -15,10 +15,11 @@ use mir.Syntax.{w64}
 use mir.Val.{toZ}
 use mir.Facts.{toZ-pos}
 use lib.ListN.{length, take, drop, getD, length-append, length-drop, drop-of-length-le}
-use lib.Seq.{sets, sets-eq, length-sets, drop-cons}
+use lib.Seq.{sets, sets-eq, length-sets, drop-cons, drop-drop, length-take-le}
 use Rattle.routine.specs.Choice.{if_then_else_}
 use Rattle.routine.proofs.Laws.{byTest}
 use Rattle.rules.specs.State.{State}
+use Rattle.rules.specs.Rounds.{times}
 use Rattle.state.specs.View.{stateOf}
 use Rattle.hub.specs.View.{view}
 use Rattle.hub.specs.Valid.{Valid}
@@ -173,17 +174,52 @@ pieces-held byte held (b ∷ bs) =
     ≡ length (if t then [] ∷ piecesFrom byte [] bs else piecesFrom byte ([] ++ (b ∷ [])) bs))
     (eqb b byte) (λ _. refl) (λ _. pieces-held byte (held ++ (b ∷ [])) bs ∙ sym (pieces-held byte ([] ++ (b ∷ [])) bs))
 
--- a byte that parts makes one more
-pub count-end : (byte : ℕ) (bs : List ℕ) (i : ℕ) → i < length bs → getD bs i 0 ≡ byte →
-    length (pieces byte (drop i bs)) ≡ suc (length (pieces byte (drop (i + 1) bs)))
-unfolding pieces piecesFrom
-count-end byte bs i h e = rw (drop-cons bs i 0 h, eq-eqb (getD bs i 0) byte e, add-one i)
+-- how often a byte stands in what is left from a place on
+pub times-end : (byte : ℕ) (bs : List ℕ) (i : ℕ) → i < length bs → getD bs i 0 ≡ byte →
+    times byte (drop i bs) ≡ suc (times byte (drop (i + 1) bs))
+times-end byte bs i h e = rw (drop-cons bs i 0 h, eq-eqb (getD bs i 0) byte e, add-one i)
 
-pub count-on : (byte : ℕ) (bs : List ℕ) (i : ℕ) → i < length bs → getD bs i 0 ≢ byte →
-    length (pieces byte (drop i bs)) ≡ length (pieces byte (drop (i + 1) bs))
+pub times-on : (byte : ℕ) (bs : List ℕ) (i : ℕ) → i < length bs → getD bs i 0 ≢ byte →
+    times byte (drop i bs) ≡ times byte (drop (i + 1) bs)
+times-on byte bs i h e = rw (drop-cons bs i 0 h, ne-eqb (getD bs i 0) byte e, add-one i)
+
+pub times-last : (byte : ℕ) (bs : List ℕ) (i : ℕ) → length bs ≤ i → times byte (drop i bs) ≡ 0
+times-last byte bs i h = rw (drop-of-length-le bs h)
+
+times-within : (byte : ℕ) (bs : List ℕ) → times byte bs ≤ length bs
+times-within byte [] = omega arith
+times-within byte (b ∷ bs) =
+    let more = times-within byte bs in
+    byTest (λ (t : Bool). (if t then suc (times byte bs) else times byte bs) ≤ suc (length bs)) (eqb b byte) (λ _. omega arith)
+    (λ _. omega arith)
+
+-- each byte that parts makes one piece more
+times-part : (byte : ℕ) (bs : List ℕ) (n : ℕ) → times byte (take n bs) + length (pieces byte (drop n bs)) ≡ length (pieces byte bs)
 unfolding pieces piecesFrom
-count-on byte bs i h e =
-    rw (drop-cons bs i 0 h, ne-eqb (getD bs i 0) byte e, add-one i) (pieces-held byte (getD bs i 0 ∷ []) (drop (suc i) bs))
+times-part byte bs zero = omega arith
+times-part byte [] (suc n) = omega arith
+times-part byte (b ∷ bs) (suc n) =
+    let more = times-part byte bs n in
+    byTest
+    (λ (t : Bool). (if t then suc (times byte (take n bs)) else times byte (take n bs)) + length (pieces byte (drop n bs))
+    ≡ length (if t then [] ∷ piecesFrom byte [] bs else piecesFrom byte ([] ++ (b ∷ [])) bs))
+    (eqb b byte) (λ _. omega arith) (λ _. more ∙ sym (pieces-held byte ([] ++ (b ∷ [])) bs))
+
+-- a part of the bytes, from a place to another
+module _ (bs : List ℕ) (i end : ℕ) (h : i ≤ end) (k : end ≤ length bs) where
+  pub part-length : length (take (end - i) (drop i bs)) ≡ end - i
+  part-length = length-take-le (end - i) (drop i bs) (omega (arith, length-drop i bs))
+
+  pub count-part : (byte : ℕ) →
+      let n = times byte (take (end - i) (drop i bs)) in
+      (n ≤ end - i) × (n + length (pieces byte (drop end bs)) ≡ length (pieces byte (drop i bs)))
+  count-part byte =
+      let part = take (end - i) (drop i bs) in
+      let e : i + (end - i) ≡ end = omega arith in
+      let behind : drop end bs ≡ drop (end - i) (drop i bs) = sym (drop-drop (end - i) i bs ∙ ap (λ (m : ℕ). drop m bs) e) in (
+        omega (arith, times-within byte part, part-length),
+        ap (λ (l : List ℕ). times byte part + length (pieces byte l)) behind ∙ times-part byte (drop i bs) (end - i),
+      )
 
 pub count-last : (byte : ℕ) (bs : List ℕ) (i : ℕ) → length bs ≤ i → length (pieces byte (drop i bs)) ≡ 1
 unfolding pieces piecesFrom

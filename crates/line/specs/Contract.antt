@@ -38,6 +38,10 @@ pub record Runs (p : Printed) (input : List ℕ) (before after : Hub) (buffer bu
 
 -- ---- below them
 
+-- Ends of lines are counted in parts of up to so many bytes: a byte holds their number.
+abbrev pub partLength : ℕ
+partLength = 240
+
 -- The device lines are not longer than this.
 abbrev pub maxEnd : ℕ
 maxEnd = maxDevices * maxDeviceLine

@@ -10,12 +10,18 @@ use line_rules::LINE_END;
 use routine::Verdict;
 ghost use mathlib.Core.Path.{_≡_};
 ghost use mathlib.Core.Bool.{true};
-ghost use Prim.Native.Nat.{_<_, _^_};
+ghost use Prim.Native.Nat.{_<_, _≤_, _^_};
+ghost use lib.ListN.{length};
+ghost use Rattle.rules.specs.Rounds.{times};
+ghost use Rattle.line_rules.specs.Text.{lineEnd};
 ghost use Rattle.line_rules.specs.Pieces.{linesOf};
 ghost use Rattle.line_rules.specs.Program.{steps, runFrom};
 ghost use Rattle.hub.specs.Valid.{Valid};
 ghost use Rattle.line.specs.View.{hubIn};
-ghost use Rattle.line.specs.Contract.{Ample, Runs, RunsLines, Measures};
+ghost use Rattle.line.specs.Contract.{partLength, Ample, Runs, RunsLines, Measures};
+
+// Ends of lines are counted in parts of so many bytes: a byte holds their number, and the count of many bytes is one operation.
+const PART_LENGTH: usize = 240;
 
 // The hub after some lines, and the place behind what they print.
 pub struct Lines {
@@ -73,6 +79,22 @@ pub fn run_lines(hub: Hub, input: &[u8], out: &mut [u8], room: usize) -> Lines
     Lines { hub: now, at }
 }
 
+// How many of a part's bytes end a line.
+fn ends_in(part: &[u8]) -> u8
+    requires { ⌜ length (now part) ≤ partLength ⌝ }
+    ensures { λ r. ⌜ r ≡ times lineEnd (now (part .entry)) ⌝ }
+{
+    let mut count = 0u8;
+    let mut i = 0;
+    while i < part.len() {
+        if part[i] == LINE_END {
+            count += 1;
+        }
+        i += 1;
+    }
+    count
+}
+
 // Is there room for any text of so many lines, and as much again for the device lines?
 fn is_ample(input: &[u8], room: usize) -> bool
     ensures { λ r. ⌜ (r ≡ true → Ample (now (input .entry)) room) ⌝ }
@@ -81,10 +103,13 @@ fn is_ample(input: &[u8], room: usize) -> bool
     let mut count = 1;
     let mut i = 0;
     while i < input.len() {
-        if input[i] == LINE_END {
-            count += 1;
+        let mut end = input.len();
+        if PART_LENGTH < end - i {
+            end = i + PART_LENGTH;
         }
-        i += 1;
+        let ends = ends_in(&input[i..end]);
+        count += ends as usize;
+        i = end;
     }
     count < most
 }

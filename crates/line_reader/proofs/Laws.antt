@@ -54,6 +54,14 @@ pub ends-on : (byte : ℕ) (bs : List ℕ) (at : ℕ) → at < length bs → get
     at + reach byte (drop at bs) ≡ suc at + reach byte (drop (suc at) bs)
 ends-on byte bs at h n = omega (arith, reach-on byte bs at h n)
 
+-- from a place where it ends as it did: there, or the next place is one too
+pub ends-at : (byte : ℕ) (bs : List ℕ) (at end : ℕ) → at + reach byte (drop at bs) ≡ end → at < length bs → getD bs at 0 ≡ byte → at ≡ end
+ends-at byte bs at end i h e = sym (ends-here byte bs at h e) ∙ i
+
+pub ends-next : (byte : ℕ) (bs : List ℕ) (at next end : ℕ) → next ≡ suc at → at + reach byte (drop at bs) ≡ end → at < length bs →
+    getD bs at 0 ≢ byte → next + reach byte (drop next bs) ≡ end
+ends-next byte bs at next end e i h n = rw e (sym (ends-on byte bs at h n) ∙ i)
+
 -- ---- the word at a place
 
 module _ (line : List ℕ) (at : ℕ) where

@@ -1,124 +1,82 @@
-// Document 01, "Report on R". Refusals: 10, 12, 13.
+// Document 01, "Report on R".
 use answers::Answer;
 use answers::First;
+use answers::OneBack;
 use answers::PutBack;
-use answers::PutBacks;
 use routine::refusals::NONE_IN_FLIGHT;
 use routine::refusals::NOT_RUNNING;
 use routine::refusals::REPORT_CODE;
 use routine::reports::CODE_DONE;
 use routine::reports::CODE_FAILED;
 use routine::tags::MUST;
-use sequence::Place;
-use sequence::find;
-use sequence::keep;
-use slot::Pending;
-use slot::SentCommand;
-use slot::Slot;
-use slot::Stage;
-use slot::due;
-use slot::progress;
+use state::Change;
+use state::DONE;
+use state::Decision;
 use state::HubState;
-use state::StepOutcome;
-use state::outcomes;
-ghost use mathlib.Core.Path.{_≡_};
-ghost use Rattle.rules.specs.Progress.{answerFlight, withSteps};
-ghost use Rattle.rules.specs.Sequence.{change};
-ghost use Rattle.rules.specs.Report.{doneReport, backIfChanged, skipReport, reported, reportOf};
-ghost use Rattle.rules.specs.Settle.{settling};
-ghost use Rattle.slot.specs.View.{statusOf, flightIn};
-ghost use Rattle.answers.specs.View.{backsOf, BacksOk};
-ghost use Rattle.state.specs.View.{stateOf, found};
-ghost use Rattle.state.specs.Valid.{StateOk, Stood};
-ghost use Rattle.state.specs.Contract.{StepGives};
+use state::Open;
+use state::Place;
+use state::SKIPPED;
+use state::STEPS;
+use state::Staged;
+use state::decisions;
+use state::readers;
 
-// The command in flight gets this stage.
-fn answered(state: HubState, at: usize, slot: Slot, stage: Stage) -> HubState
-    requires { ⌜ (StateOk state) × (Stood state at slot) ⌝ }
-    ensures { λ r. ⌜ (StateOk r) × (stateOf r ≡ change (stateOf state) (found state at) (withSteps (found state at .it) (answerFlight (statusOf stage) (found state at .it .steps)))) ⌝ }
+// The change: the command in flight comes to a stage; no mark changes.
+fn answered(state: HubState, at: usize, stage: u8) -> Change
 {
-    let sequence = state.sequence;
-    let after = progress::answered(slot, stage);
-    let changed = keep::replace(sequence, at, after);
-    let mut next = state;
-    next.sequence = changed;
-    next
+    let marks = state.mark;
+    let change = Staged { at, stage, due_then: 0, device: 0, mark: marks[0] };
+    Change::Stage(change)
 }
 
-// "Code 0, done: the setting stands."
-fn done(state: HubState, at: usize, slot: Slot) -> StepOutcome
-    requires { ⌜ (StateOk state) × (Stood state at slot) ⌝ }
-    ensures { λ r. ⌜ StepGives state r (settling (doneReport (stateOf state) (found state at))) ⌝ }
+fn back_if_changed(device: u8, now: i16, before: i16) -> OneBack
 {
-    let next = answered(state, at, slot, Stage::Done);
-    outcomes::plain(next, Answer::Done(slot.id))
-}
-
-// "its device is then sent its due setting if that is another than when the command was sent"
-fn back_if_changed(device: u8, now: i16, before: i16) -> PutBacks
-    ensures { λ r. ⌜ (BacksOk r) × (backsOf r ≡ backIfChanged device now before) ⌝ }
-{
-    let none = answers::no_backs();
-    if due::same_setting(now, before) {
-        return none;
+    if now == before {
+        return OneBack::Nothing;
     }
-    let back = PutBack {
-        device,
-        setting: now,
-    };
-    answers::with_back(none, back)
+    let back = PutBack { device, setting: now };
+    OneBack::One(back)
 }
 
-// "a best-effort is skipped"
-fn skip(state: HubState, at: usize, slot: Slot, sent: SentCommand) -> StepOutcome
-    requires { ⌜ (StateOk state) × (Stood state at slot) ⌝ }
-    ensures { λ r. ⌜ StepGives state r (settling (skipReport (stateOf state) (found state at) (flightIn sent))) ⌝ }
+fn skip(state: HubState, at: usize, k: usize, id: u32) -> Decision
 {
-    let next = answered(state, at, slot, Stage::Skipped);
-    let command = sent.command;
-    let device = command.device;
-    let now = state::due_setting(next, device);
-    let due_then = sent.due_then;
-    let backs = back_if_changed(device, now, due_then);
-    StepOutcome {
-        state: next,
-        first: First::NoAbort,
-        answer: Answer::Skipped(slot.id),
-        backs,
-    }
+    let device = state.device;
+    let dues = state.due_then;
+    let before = dues[at];
+    let table = due::due_settings(state);
+    let d = device[k] as usize;
+    let now = table[d];
+    let back = back_if_changed(device[k], now, before);
+    let change = answered(state, at, SKIPPED);
+    Decision { first: First::NoAbort, answer: Answer::Skipped(id), back, change }
 }
 
-// "Code 1, failed: a must aborts R, a best-effort is skipped"
-fn reported_on(state: HubState, at: usize, slot: Slot, sent: SentCommand, code: u8) -> StepOutcome
-    requires { ⌜ (StateOk state) × (Stood state at slot) ⌝ }
-    ensures { λ r. ⌜ StepGives state r (reported (stateOf state) (found state at) (flightIn sent) code) ⌝ }
+fn failed(state: HubState, at: usize, k: usize, id: u32) -> Decision
 {
-    if code == CODE_DONE {
-        return done(state, at, slot);
+    let tags = state.tag;
+    if tags[k] == MUST {
+        return decisions::plain(Answer::Aborted(id), Change::Abort(at));
     }
-    let command = sent.command;
-    if command.tag == MUST {
-        return abort::step(state, at, slot);
-    }
-    skip(state, at, slot, sent)
+    skip(state, at, k, id)
 }
 
-pub fn step(state: HubState, id: u32, code: u8) -> StepOutcome
-    requires { ⌜ StateOk state ⌝ }
-    ensures { λ r. ⌜ StepGives state r (reportOf (stateOf state) id code) ⌝ }
+pub fn decide(state: HubState, id: u32, code: u8) -> Decision
 {
-    let sequence = state.sequence;
-    let place = find::running(sequence, id);
+    let place = search::running(state, id);
     let Place::At(at) = place else {
-        return outcomes::refused(state, NOT_RUNNING);
+        return decisions::refused(NOT_RUNNING);
     };
-    let slot = keep::slot_at(sequence, at);
-    let pending = progress::pending(slot);
-    let Pending::Sent(sent) = pending else {
-        return outcomes::refused(state, NONE_IN_FLIGHT);
+    let stage = state.stage;
+    let open = readers::open_at(state, &stage, at);
+    let Open::InFlight(k) = open else {
+        return decisions::refused(NONE_IN_FLIGHT);
     };
     if CODE_FAILED < code {
-        return outcomes::refused(state, REPORT_CODE);
+        return decisions::refused(REPORT_CODE);
     }
-    reported_on(state, at, slot, sent, code)
+    if code == CODE_DONE {
+        let change = answered(state, at, DONE);
+        return decisions::plain(Answer::Done(id), change);
+    }
+    failed(state, at, k, id)
 }

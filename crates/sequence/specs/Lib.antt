@@ -1,4 +1,4 @@
-pub mod View
-pub mod Valid
-pub mod Tests
+pub mod Lists
+pub mod Links
 pub mod Contract
+pub mod Examples

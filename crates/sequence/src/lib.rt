@@ -1,44 +1,25 @@
-// The sequence: document 01, "Things and ranges" and "The steps". It is kept packed, in its order; only this crate knows that.
-pub mod find;
+// The sequence: document 01, "Things and ranges" and "The steps"; document 02, item 8. It is kept as links between slots: a slot that is held knows the slot
+// ahead of it and the one behind it. No routine moves. The free slots hang on a list along `behind`. Only this crate changes links.
 pub mod keep;
-pub mod settle;
-pub mod submit;
-pub mod walk;
-
-use routine::MAX_DEVICES;
-use slot::Slot;
+pub mod link;
 
 // "The sequence holds at most 16 routines, running or committed but not settled."
 pub const MAX_HELD: usize = 16;
 
-// The first `len` of the slots, in the sequence's order.
-pub struct Sequence {
-    slots: [Slot; MAX_HELD],
-    len: usize,
+// No slot: what stands before the first and behind the last.
+pub const NONE: u8 = 255;
+
+pub struct Links {
+    pub ahead: [u8; MAX_HELD],
+    pub behind: [u8; MAX_HELD],
+    pub first: u8,
+    pub last: u8,
+    pub free: u8,
+    pub held: usize,
 }
 
-// Where a routine stands in the sequence.
-pub enum Place {
-    At(usize),
-    Nowhere,
-}
-
-// The first routine ahead that is to be waited for, by its id.
-pub enum Holder {
-    Routine(u32),
-    Nobody,
-}
-
-// How many routines join the settled part, and what that leaves: what the devices are at, and the marks.
+// The links with one slot more, and which slot that is.
 pub struct Joined {
-    pub settings: [i16; MAX_DEVICES],
-    pub marks: [u32; MAX_DEVICES],
-    pub count: usize,
-}
-
-// What settling leaves.
-pub struct Settled {
-    pub settings: [i16; MAX_DEVICES],
-    pub marks: [u32; MAX_DEVICES],
-    pub sequence: Sequence,
+    pub links: Links,
+    pub slot: u8,
 }

@@ -1,3 +1,4 @@
 pub mod View
 pub mod Valid
 pub mod Contract
+pub mod Open

@@ -1,23 +1,66 @@
--- Validity of a hub's state: what opening gives and every step keeps. Assumes nothing.
+-- Validity of a hub's state: what opening gives and every call keeps. Assumes nothing.
 use mathlib.Core.Path.{_≡_}
-use Prim.Native.Nat.{ℕ, suc, _<_, _≤_}
-use Rattle.routine.specs.Routine.{maxDevices}
-use Rattle.rules.specs.State.{highestId}
-use Rattle.slot.specs.View.{memberOf}
-use Rattle.slot.specs.Valid.{SlotOk}
-use Rattle.slot.specs.declared.Slot.{Slot}
-use Rattle.sequence.specs.Valid.{SequenceOk, Stands}
-use Rattle.state.specs.View.{found}
+use mathlib.Core.Bool.{true, false}
+use mathlib.Core.List.{List, [], _∷_}
+use Prim.Native.Nat.{ℕ, zero, suc, _<_, _≤_}
+use lib.ListN.{getD}
+use Rattle.routine.specs.Routine.{maxDevices, maxCommands}
+use Rattle.routine.specs.declared.Command.{Command}
+use Rattle.rules.specs.State.{highestId, Step, Member}
+use Rattle.rules.specs.Sequence.{isRunning}
+use Rattle.rules.specs.Progress.{isToDo, isAnswered}
+use Rattle.rules.specs.Tables.{Each}
+use Rattle.sequence.specs.Links.{LinksOk, Stands}
+use Rattle.state.specs.View.{stepsAt}
 use Rattle.state.specs.declared.HubState.{HubState}
+use Rattle.state.specs.declared.Place.{Place}
+use Rattle.state.specs.declared.Place.the-variants.{At, Nowhere}
+
+abbrev pub CommandOk : Command → Type 0
+CommandOk c = c .device < maxDevices
+
+abbrev pub CommandsOk : List Command → Type 0
+CommandsOk cs = Each CommandOk cs
+
+abbrev pub StepOk : Step → Type 0
+StepOk x = CommandOk (x .command)
+
+abbrev pub IsToDo : Step → Type 0
+IsToDo x = isToDo (x .status) ≡ true
+
+-- The first n of the commands are answered; the next, if there is one, is not; those behind that are to do.
+abbrev pub AnsweredUpTo : ℕ → List Step → Type 0
+AnsweredUpTo zero [] = Unit {0}
+AnsweredUpTo zero (x ∷ l) = (isAnswered (x .status) ≡ false) × Each IsToDo l
+AnsweredUpTo (suc n) [] = ⊥
+AnsweredUpTo (suc n) (x ∷ l) = (isAnswered (x .status) ≡ true) × AnsweredUpTo n l
+
+-- A routine has at most as many commands as it may, on devices that there can be, and an id; and the hub knows how far it has come.
+pub record SlotOk (h : HubState) (x : ℕ) : Type 0 where
+  pub fits : getD (h .counts) x 0 ≤ maxCommands
+  pub devices-fit : Each StepOk (stepsAt h x)
+  pub come-so-far : AnsweredUpTo (getD (h .answered) x 0) (stepsAt h x)
+  pub has-id : 0 < getD (h .ids) x 0
 
 pub record StateOk (h : HubState) : Type 0 where
   pub devices-fit : h .devices ≤ maxDevices
   pub some-id : 0 < h .«next_id»
   pub ids-fit : h .«next_id» ≤ suc highestId
-  pub sequence-ok : SequenceOk (h .sequence)
+  pub links-ok : LinksOk (h .links)
+  pub slots-ok : (x : ℕ) → Stands (h .links) x → SlotOk h x
 
--- This routine stands at this place of the sequence.
-pub record Stood (h : HubState) (i : ℕ) (s : Slot) : Type 0 where
-  pub stands : Stands (h .sequence) i
-  pub slot-ok : SlotOk s
-  pub slot-is : memberOf s ≡ found h i .it
+abbrev pub PlaceOk : HubState → Place → Type 0
+PlaceOk h (At x) = Stands (h .links) x
+PlaceOk h Nowhere = Unit {0}
+
+-- A pass count has 8 bits in the code.
+abbrev pub highestPassed : ℕ
+highestPassed = 255
+
+-- A running routine can be passed once more.
+abbrev pub CanPass : Member → Type 0
+CanPass m = isRunning m ≡ true → m .passed < highestPassed
+
+-- Each of these can be passed once more.
+abbrev pub RoomToPass : List Member → Type 0
+RoomToPass l = Each CanPass l

@@ -1,2 +1,0 @@
-pub mod PutBacks
-pub mod Contract

@@ -1,0 +1,92 @@
+// The rows of a newcomer.
+use routine::MAX_DEVICES;
+use routine::Routine;
+use sequence::Links;
+use sequence::MAX_HELD;
+use state::NO_RESTART;
+use state::RESTARTS;
+use state::STEPS;
+use state::TO_DO;
+
+// "Every running routine now behind it has been passed once more." The newcomer was not passed.
+pub fn passed_behind(row: [u8; MAX_HELD], links: Links, committed: [bool; MAX_HELD], slot: usize) -> [u8; MAX_HELD]
+{
+    let behind = links.behind;
+    let mut passed = row;
+    passed[slot] = 0;
+    let mut i = behind[slot] as usize;
+    while i < MAX_HELD {
+        if !committed[i] {
+            passed[i] = passed[i] + 1;
+        }
+        i = behind[i] as usize;
+    }
+    passed
+}
+
+pub fn with_devices(row: [u8; STEPS], from: usize, routine: Routine) -> [u8; STEPS]
+{
+    let commands = routine.commands;
+    let count = routine.count;
+    let mut changed = row;
+    let mut j: usize = 0;
+    while j < count {
+        let command = commands[j];
+        let value = command.device;
+        changed[from + j] = value;
+        j += 1;
+    }
+    changed
+}
+
+pub fn with_tags(row: [u8; STEPS], from: usize, routine: Routine) -> [u8; STEPS]
+{
+    let commands = routine.commands;
+    let count = routine.count;
+    let mut changed = row;
+    let mut j: usize = 0;
+    while j < count {
+        let command = commands[j];
+        let value = command.tag;
+        changed[from + j] = value;
+        j += 1;
+    }
+    changed
+}
+
+pub fn with_settings(row: [i16; STEPS], from: usize, routine: Routine) -> [i16; STEPS]
+{
+    let commands = routine.commands;
+    let count = routine.count;
+    let mut changed = row;
+    let mut j: usize = 0;
+    while j < count {
+        let command = commands[j];
+        let value = command.setting;
+        changed[from + j] = value;
+        j += 1;
+    }
+    changed
+}
+
+pub fn with_to_do(row: [u8; STEPS], from: usize, count: usize) -> [u8; STEPS]
+{
+    let mut changed = row;
+    let mut j: usize = 0;
+    while j < count {
+        changed[from + j] = TO_DO;
+        j += 1;
+    }
+    changed
+}
+
+pub fn without_restarts(row: [i16; RESTARTS], from: usize) -> [i16; RESTARTS]
+{
+    let mut changed = row;
+    let mut d: usize = 0;
+    while d < MAX_DEVICES {
+        changed[from + d] = NO_RESTART;
+        d += 1;
+    }
+    changed
+}

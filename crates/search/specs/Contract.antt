@@ -1,0 +1,36 @@
+-- What the searches promise. Assumes nothing.
+use mathlib.Core.Path.{_≡_}
+use mathlib.Core.Bool.{Bool, false, _||_}
+use mathlib.Core.List.{List, map}
+use Prim.Native.Nat.{ℕ, zero, suc}
+use lib.Dec.{eqb}
+use lib.ListN.{getD}
+use Rattle.routine.specs.declared.Command.{Command}
+use Rattle.rules.specs.State.{Member}
+use Rattle.rules.specs.Sequence.{find}
+use Rattle.rules.specs.Submit.{blocks, upToLast, pastLast}
+use Rattle.sequence.specs.Lists.{through, past}
+use Rattle.sequence.specs.Links.{none, slotsOf, StandsOrNone}
+use Rattle.state.specs.View.{memberAt, stateOf, foundAt}
+use Rattle.state.specs.Valid.{PlaceOk}
+use Rattle.state.specs.declared.HubState.{HubState}
+use Rattle.state.specs.declared.Place.{Place}
+
+abbrev pub hasId : ℕ → Member → Bool
+hasId i m = eqb (m .id) i
+
+-- The first routine of the sequence that passes the test.
+pub record Finds (h : HubState) (p : Member → Bool) (r : Place) : Type 0 where
+  pub place-ok : PlaceOk h r
+  pub found : foundAt h r ≡ find p (stateOf h .sequence)
+
+-- Is one of n entries of a row, from a place on, this device?
+abbrev pub anyOn : List ℕ → ℕ → ℕ → ℕ → Bool
+anyOn row d k zero = false
+anyOn row d k (suc n) = eqb (getD row k 0) d || anyOn row d (suc k) n
+
+-- The slot of the last routine that a newcomer with these commands must follow; none for the settled part.
+pub record Latest (h : HubState) (cs : List Command) (after : ℕ) : Type 0 where
+  pub place : StandsOrNone (h .links) after
+  pub ahead : map (memberAt h) (through after none (slotsOf (h .links))) ≡ upToLast (blocks (stateOf h) cs) (stateOf h .sequence)
+  pub behind : map (memberAt h) (past after none (slotsOf (h .links))) ≡ pastLast (blocks (stateOf h) cs) (stateOf h .sequence)

@@ -1,0 +1,227 @@
+// Searches along the links: for a routine, for the one to wait for, for the one that an event aborts, and for the one that a newcomer follows. They take the rows
+// that they read out of the state; the long rows of a call are lent to them.
+use routine::MAX_COMMANDS;
+use routine::MAX_DEVICES;
+use routine::Routine;
+use sequence::MAX_HELD;
+use sequence::NONE;
+use state::DONE;
+use state::Holder;
+use state::HubState;
+use state::IN_FLIGHT;
+use state::Place;
+use state::STEPS;
+ghost use mathlib.Core.Path.{_≡_};
+ghost use mathlib.Core.Option.{none};
+ghost use mathlib.Core.Bool.{_&&_, not};
+ghost use mathlib.Core.List.{map};
+ghost use Prim.Native.Nat.{_+_, _-_, _*_, _≤_, _<_};
+ghost use lib.ListN.{length, getD, take};
+ghost use Rattle.routine.specs.Routine.{maxCommands, maxDevices, commandsOf};
+ghost use Rattle.rules.specs.State.{maxHeld};
+ghost use Rattle.rules.specs.Sequence.{runs};
+ghost use Rattle.rules.specs.Progress.{begun, flight};
+ghost use Rattle.rules.specs.Turn.{firstHolding};
+ghost use Rattle.rules.specs.Events.{isHalfway};
+ghost use Rattle.sequence.specs.Links.{Stands};
+ghost use Rattle.state.specs.View.{memberAt, stepsAt, stateOf, there, holderOf};
+ghost use Rattle.state.specs.Valid.{StateOk, CommandsOk};
+ghost use Rattle.search.specs.Contract.{hasId, Finds, anyOn, Latest};
+
+// The running routine with this id.
+pub fn running(state: HubState, id: u32) -> Place
+    requires { ⌜ StateOk state ⌝ }
+    ensures { λ r. ⌜ Finds state (runs id) r ⌝ }
+{
+    let links = state.links;
+    let behind = links.behind;
+    let ids = state.ids;
+    let committed = state.committed;
+    let mut i = links.first as usize;
+    while i < MAX_HELD {
+        if ids[i] == id {
+            if !committed[i] {
+                return Place::At(i);
+            }
+        }
+        i = behind[i] as usize;
+    }
+    Place::Nowhere
+}
+
+// The routine with this id.
+pub fn with_id(state: HubState, id: u32) -> Place
+    requires { ⌜ StateOk state ⌝ }
+    ensures { λ r. ⌜ Finds state (hasId id) r ⌝ }
+{
+    let links = state.links;
+    let behind = links.behind;
+    let ids = state.ids;
+    let mut i = links.first as usize;
+    while i < MAX_HELD {
+        if ids[i] == id {
+            return Place::At(i);
+        }
+        i = behind[i] as usize;
+    }
+    Place::Nowhere
+}
+
+// The wait search, "the first such id in the sequence": through the routines ahead, along the links, and the commands of each that are left.
+pub fn first_holder<'a>(state: HubState, device: &'a [u8; STEPS], stage: &'a [u8; STEPS], at: usize, wanted: u8) -> Holder
+    requires { ⌜ (StateOk state) × (Stands (state .links) at) × (now device ≡ state .device) × (now stage ≡ state .stage) ⌝ }
+    ensures { λ r. ⌜ holderOf r ≡ firstHolding wanted (there state at .ahead) ⌝ }
+{
+    let links = state.links;
+    let behind = links.behind;
+    let ids = state.ids;
+    let committed = state.committed;
+    let counts = state.counts;
+    let answered = state.answered;
+    let mut holder = Holder::Nobody;
+    let mut i = links.first as usize;
+    'ahead: while i != at {
+        if !committed[i] {
+            let end = i * MAX_COMMANDS + (counts[i] as usize);
+            let mut k = i * MAX_COMMANDS + (answered[i] as usize);
+            while k < end {
+                if device[k] == wanted {
+                    if stage[k] < DONE {
+                        holder = Holder::Routine(ids[i]);
+                        break 'ahead;
+                    }
+                }
+                k += 1;
+            }
+        }
+        i = behind[i] as usize;
+    }
+    holder
+}
+
+// Is one of these commands on the device?
+fn is_on<'a>(device: &'a [u8; STEPS], from: usize, end: usize, wanted: u8) -> bool
+    requires { ⌜ (from ≤ end) × (end ≤ maxHeld * maxCommands) ⌝ }
+    ensures { λ r. ⌜ r ≡ anyOn (now (device .entry)) wanted from (end - from) ⌝ }
+{
+    let mut k = from;
+    while k < end {
+        if device[k] == wanted {
+            return true;
+        }
+        k += 1;
+    }
+    false
+}
+
+// Begun (document 01, The steps), of a routine with nothing in flight.
+pub fn has_begun<'a>(state: HubState, device: &'a [u8; STEPS], at: usize, wanted: u8) -> bool
+    requires { ⌜ (StateOk state) × (Stands (state .links) at) × (now device ≡ state .device) × (flight (stepsAt state at) ≡ none) ⌝ }
+    ensures { λ r. ⌜ r ≡ begun wanted (memberAt state at) ⌝ }
+{
+    let answered = state.answered;
+    let from = at * MAX_COMMANDS;
+    let end = from + (answered[at] as usize);
+    is_on(device, from, end, wanted)
+}
+
+// Begun and not finished.
+fn is_between<'a>(device: &'a [u8; STEPS], stage: &'a [u8; STEPS], from: usize, open: usize, end: usize, wanted: u8) -> bool
+{
+    if !is_on(device, open, end, wanted) {
+        return false;
+    }
+    if is_on(device, from, open, wanted) {
+        return true;
+    }
+    if stage[open] == IN_FLIGHT {
+        return device[open] == wanted;
+    }
+    false
+}
+
+// "A running routine that has begun D and not finished it"
+pub fn halfway(state: HubState, wanted: u8) -> Place
+    requires { ⌜ StateOk state ⌝ }
+    ensures { λ r. ⌜ Finds state (isHalfway wanted) r ⌝ }
+{
+    let links = state.links;
+    let behind = links.behind;
+    let committed = state.committed;
+    let counts = state.counts;
+    let answered = state.answered;
+    let device = state.device;
+    let stage = state.stage;
+    let mut i = links.first as usize;
+    while i < MAX_HELD {
+        if !committed[i] {
+            let from = i * MAX_COMMANDS;
+            let open = from + (answered[i] as usize);
+            let end = from + (counts[i] as usize);
+            if is_between(&device, &stage, from, open, end, wanted) {
+                return Place::At(i);
+            }
+        }
+        i = behind[i] as usize;
+    }
+    Place::Nowhere
+}
+
+// The marks of a routine's devices.
+fn marks_of<'a>(marks: &'a [u32; MAX_DEVICES], routine: Routine) -> [u32; MAX_COMMANDS]
+{
+    let commands = routine.commands;
+    let count = routine.count;
+    let mut wanted = [0u32; MAX_COMMANDS];
+    let mut j: usize = 0;
+    while j < count {
+        let command = commands[j];
+        let d = command.device as usize;
+        wanted[j] = marks[d];
+        j += 1;
+    }
+    wanted
+}
+
+// Is an id among the first so many?
+fn has_id<'a>(ids: &'a [u32; MAX_COMMANDS], count: usize, id: u32) -> bool
+{
+    let mut j: usize = 0;
+    while j < count {
+        if ids[j] == id {
+            return true;
+        }
+        j += 1;
+    }
+    false
+}
+
+// "directly after the latest, in the sequence, of": the slot of the last that it must follow; NONE for the settled part.
+pub fn latest(state: HubState, routine: Routine) -> u8
+    requires { ⌜ (StateOk state) × (routine .count ≤ maxCommands) × CommandsOk (commandsOf routine) ⌝ }
+    ensures { λ r. ⌜ Latest state (commandsOf routine) r ⌝ }
+{
+    let marks = state.mark;
+    let wanted = marks_of(&marks, routine);
+    let count = routine.count;
+    let limit = state.pass_limit;
+    let links = state.links;
+    let ahead = links.ahead;
+    let ids = state.ids;
+    let passed = state.passed;
+    let committed = state.committed;
+    let mut i = links.last;
+    while (i as usize) < MAX_HELD {
+        let x = i as usize;
+        if !committed[x] {
+            if limit <= passed[x] {
+                return i;
+            }
+        }
+        if has_id(&wanted, count, ids[x]) {
+            return i;
+        }
+        i = ahead[x];
+    }
+    NONE
+}

@@ -1,3 +1,0 @@
-pub mod View
-pub mod Valid
-pub mod Places
