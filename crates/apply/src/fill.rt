@@ -1,4 +1,5 @@
-// The rows of a newcomer.
+// The rows of a newcomer, filled in at its slot.
+use routine::MAX_COMMANDS;
 use routine::MAX_DEVICES;
 use routine::Routine;
 use sequence::Links;
@@ -8,8 +9,13 @@ use state::RESTARTS;
 use state::STEPS;
 use state::TO_DO;
 
-// "Every running routine now behind it has been passed once more." The newcomer was not passed.
-pub fn passed_behind(row: [u8; MAX_HELD], links: Links, committed: [bool; MAX_HELD], slot: usize) -> [u8; MAX_HELD]
+// "Every running routine now behind it has been passed once more." The newcomer itself was not passed.
+pub fn passed_behind(
+    row: [u8; MAX_HELD],
+    links: Links,
+    committed: [bool; MAX_HELD],
+    slot: usize,
+) -> [u8; MAX_HELD]
 {
     let behind = links.behind;
     let mut passed = row;
@@ -24,69 +30,76 @@ pub fn passed_behind(row: [u8; MAX_HELD], links: Links, committed: [bool; MAX_HE
     passed
 }
 
-pub fn with_devices(row: [u8; STEPS], from: usize, routine: Routine) -> [u8; STEPS]
+pub fn with_devices(row: [u8; STEPS], slot: usize, routine: Routine) -> [u8; STEPS]
 {
     let commands = routine.commands;
     let count = routine.count;
-    let mut changed = row;
+    let from = slot * MAX_COMMANDS;
+    let mut filled = row;
     let mut j: usize = 0;
     while j < count {
         let command = commands[j];
         let value = command.device;
-        changed[from + j] = value;
+        filled[from + j] = value;
         j += 1;
     }
-    changed
+    filled
 }
 
-pub fn with_tags(row: [u8; STEPS], from: usize, routine: Routine) -> [u8; STEPS]
+pub fn with_tags(row: [u8; STEPS], slot: usize, routine: Routine) -> [u8; STEPS]
 {
     let commands = routine.commands;
     let count = routine.count;
-    let mut changed = row;
+    let from = slot * MAX_COMMANDS;
+    let mut filled = row;
     let mut j: usize = 0;
     while j < count {
         let command = commands[j];
         let value = command.tag;
-        changed[from + j] = value;
+        filled[from + j] = value;
         j += 1;
     }
-    changed
+    filled
 }
 
-pub fn with_settings(row: [i16; STEPS], from: usize, routine: Routine) -> [i16; STEPS]
+pub fn with_settings(row: [i16; STEPS], slot: usize, routine: Routine) -> [i16; STEPS]
 {
     let commands = routine.commands;
     let count = routine.count;
-    let mut changed = row;
+    let from = slot * MAX_COMMANDS;
+    let mut filled = row;
     let mut j: usize = 0;
     while j < count {
         let command = commands[j];
         let value = command.setting;
-        changed[from + j] = value;
+        filled[from + j] = value;
         j += 1;
     }
-    changed
+    filled
 }
 
-pub fn with_to_do(row: [u8; STEPS], from: usize, count: usize) -> [u8; STEPS]
+// All commands of a newcomer are to do.
+pub fn with_to_do(row: [u8; STEPS], slot: usize) -> [u8; STEPS]
 {
-    let mut changed = row;
+    let from = slot * MAX_COMMANDS;
+    let mut filled = row;
     let mut j: usize = 0;
-    while j < count {
-        changed[from + j] = TO_DO;
+    while j < MAX_COMMANDS {
+        filled[from + j] = TO_DO;
         j += 1;
     }
-    changed
+    filled
 }
 
-pub fn without_restarts(row: [i16; RESTARTS], from: usize) -> [i16; RESTARTS]
+// A newcomer has no restarts.
+pub fn without_restarts(row: [i16; RESTARTS], slot: usize) -> [i16; RESTARTS]
 {
-    let mut changed = row;
+    let from = slot * MAX_DEVICES;
+    let mut filled = row;
     let mut d: usize = 0;
     while d < MAX_DEVICES {
-        changed[from + d] = NO_RESTART;
+        filled[from + d] = NO_RESTART;
         d += 1;
     }
-    changed
+    filled
 }

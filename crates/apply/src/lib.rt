@@ -1,21 +1,25 @@
-// Changes that were decided, each on the rows that it changes. They are taken out of the state, and the state is put together again by one literal.
+// Changes that were decided: a command comes to a stage, a routine commits, a routine joins the sequence. Each takes the rows that it changes out of the state, and
+// puts the state together again by one literal, so that a row which stays is not copied.
 mod fill;
-pub mod leaving;
-pub mod settling;
 
 use routine::MAX_COMMANDS;
-use routine::MAX_DEVICES;
 use routine::Routine;
-use sequence::MAX_HELD;
 use sequence::keep;
 use state::HubState;
 use state::IN_FLIGHT;
-use state::NO_RESTART;
-use state::STEPS;
 use state::Staged;
+ghost use mathlib.Core.Path.{_≡_};
+ghost use Rattle.routine.specs.Routine.{commandsOf};
+ghost use Rattle.sequence.specs.Links.{Stands};
+ghost use Rattle.state.specs.View.{stateOf};
+ghost use Rattle.state.specs.Valid.{StateOk};
+ghost use Rattle.state.specs.Contract.{staged, committedAt, StageOk, JoinOk};
+ghost use Rattle.apply.specs.Contract.{Places};
 
-// The first command that is not answered comes to a stage.
+// The first command that is not answered comes to a stage, and its device to the routine's mark if that begins it.
 pub fn with_stage(state: HubState, change: Staged) -> HubState
+    requires { ⌜ (StateOk state) × (StageOk state change) ⌝ }
+    ensures { λ r. ⌜ (StateOk r) × (stateOf r ≡ staged state change) ⌝ }
 {
     let devices = state.devices;
     let pass_limit = state.pass_limit;
@@ -36,15 +40,17 @@ pub fn with_stage(state: HubState, change: Staged) -> HubState
     let mut answered = state.answered;
     let mut mark = state.mark;
     let at = change.at;
-    let done = answered[at];
-    stage[at * MAX_COMMANDS + (done as usize)] = change.stage;
+    let so_far = answered[at];
+    stage[at * MAX_COMMANDS + (so_far as usize)] = change.stage;
     let due = change.due_then;
     due_then[at] = due;
     if change.stage != IN_FLIGHT {
-        answered[at] = done + 1;
+        answered[at] = so_far + 1;
     }
-    let d = change.device as usize;
-    mark[d] = change.mark;
+    if change.begins {
+        let d = change.device as usize;
+        mark[d] = change.id;
+    }
     HubState {
         devices,
         pass_limit,
@@ -69,6 +75,8 @@ pub fn with_stage(state: HubState, change: Staged) -> HubState
 
 // "No command left: committed."
 pub fn with_commit(state: HubState, at: usize) -> HubState
+    requires { ⌜ (StateOk state) × (Stands (state .links) at) ⌝ }
+    ensures { λ r. ⌜ (StateOk r) × (stateOf r ≡ committedAt state at) ⌝ }
 {
     let devices = state.devices;
     let pass_limit = state.pass_limit;
@@ -111,43 +119,42 @@ pub fn with_commit(state: HubState, at: usize) -> HubState
     }
 }
 
-// "Place the routine directly after the latest".
+// "Place the routine directly after the latest": in a free slot, behind the slot `after`.
 pub fn with_routine(state: HubState, after: u8, routine: Routine) -> HubState
+    requires { ⌜ (StateOk state) × (JoinOk state (commandsOf routine) after) ⌝ }
+    ensures { λ r. ⌜ Places state (commandsOf routine) after r ⌝ }
 {
-    let before = state.links;
-    let joined = keep::join(before, after);
     let devices = state.devices;
     let pass_limit = state.pass_limit;
+    let next_id = state.next_id;
     let due_then = state.due_then;
     let settled = state.settled;
     let up = state.up;
     let mark = state.mark;
-    let next_id = state.next_id;
+    let links_before = state.links;
+    let joined = keep::join(links_before, after);
     let links = joined.links;
     let slot = joined.slot as usize;
-    let count = routine.count;
-    let marked = state.committed;
+    let mut ids = state.ids;
+    let mut committed = state.committed;
+    let mut counts = state.counts;
+    let mut answered = state.answered;
     let old_passed = state.passed;
     let old_device = state.device;
     let old_tag = state.tag;
     let old_setting = state.setting;
     let old_stage = state.stage;
     let old_restarts = state.restarts;
-    let mut ids = state.ids;
-    let mut committed = state.committed;
-    let mut counts = state.counts;
-    let mut answered = state.answered;
-    let passed = fill::passed_behind(old_passed, links, marked, slot);
+    let passed = fill::passed_behind(old_passed, links, committed, slot);
     ids[slot] = next_id as u32;
     committed[slot] = false;
-    counts[slot] = count as u8;
+    counts[slot] = routine.count as u8;
     answered[slot] = 0;
-    let base = slot * MAX_COMMANDS;
-    let device = fill::with_devices(old_device, base, routine);
-    let tag = fill::with_tags(old_tag, base, routine);
-    let setting = fill::with_settings(old_setting, base, routine);
-    let stage = fill::with_to_do(old_stage, base, count);
-    let restarts = fill::without_restarts(old_restarts, slot * MAX_DEVICES);
+    let device = fill::with_devices(old_device, slot, routine);
+    let tag = fill::with_tags(old_tag, slot, routine);
+    let setting = fill::with_settings(old_setting, slot, routine);
+    let stage = fill::with_to_do(old_stage, slot);
+    let restarts = fill::without_restarts(old_restarts, slot);
     HubState {
         devices,
         pass_limit,
@@ -168,22 +175,4 @@ pub fn with_routine(state: HubState, after: u8, routine: Routine) -> HubState
         up,
         mark,
     }
-}
-
-// A device becomes down.
-pub fn with_down(state: HubState, device: u8) -> HubState
-{
-    let at = device as usize;
-    let mut next = state;
-    next.up[at] = false;
-    next
-}
-
-// A device becomes up.
-pub fn with_up(state: HubState, device: u8) -> HubState
-{
-    let at = device as usize;
-    let mut next = state;
-    next.up[at] = true;
-    next
 }

@@ -1,25 +1,25 @@
 // The words of answers: document 01, "The line program".
-use crate::text::put_end;
 use crate::text::put_one;
 use crate::text::put_setting;
 use crate::text::put_two;
 use crate::text::put_word;
 use answers::Answer;
-use answers::First;
+use answers::OneBack;
 use answers::PutBack;
 use answers::PutBacks;
 use answers::Sent;
 use routine::Refusal;
 ghost use mathlib.Core.List.{[], _∷_};
-ghost use Prim.Native.Nat.{_+_, _<_, _^_};
+ghost use Prim.Native.Nat.{_+_, _≤_};
+ghost use lib.ListN.{length};
 ghost use Rattle.rules.specs.Answers.{send, skipped, aborted};
-ghost use Rattle.line_rules.specs.Printing.{asLine, refusalText, backList, backText, answerText, answersText};
-ghost use Rattle.answers.specs.View.{backOf, backsOf, answerOf, firstOf, BacksOk};
+ghost use Rattle.line_rules.specs.Printing.{refusalText, backList, backText, answerText};
+ghost use Rattle.answers.specs.View.{backOf, backsOf, oneOf, answerOf, BacksOk};
 ghost use Rattle.line_printer.specs.Put.{maxBack, maxBacks, ahead, maxAnswer, halfText, PutShort};
 
 // The word, the number, and the index if there is one; no line's end.
 pub fn put_refused(out: &mut [u8], at: usize, refusal: Refusal) -> usize
-    requires { ⌜ at + halfText < 2 ^ 64 ⌝ }
+    requires { ⌜ at + halfText ≤ length (now out) ⌝ }
     ensures { λ r. ⌜ PutShort maxAnswer (now (out .entry)) (now (out .exit)) at r (refusalText refusal) ⌝ }
 {
     match refusal {
@@ -37,7 +37,7 @@ pub fn put_refused(out: &mut [u8], at: usize, refusal: Refusal) -> usize
 
 // "device and setting for each"
 fn put_back(out: &mut [u8], at: usize, back: PutBack) -> usize
-    requires { ⌜ at + maxBack + ahead < 2 ^ 64 ⌝ }
+    requires { ⌜ at + maxBack + ahead ≤ length (now out) ⌝ }
     ensures { λ r. ⌜ PutShort maxBack (now (out .entry)) (now (out .exit)) at r (backList (backOf back ∷ [])) ⌝ }
 {
     let named = put_one(out, at, b" ", back.device as u64);
@@ -48,7 +48,7 @@ fn put_back(out: &mut [u8], at: usize, back: PutBack) -> usize
 
 // "`back` a count, then device and setting for each"
 fn put_backs(out: &mut [u8], at: usize, backs: PutBacks) -> usize
-    requires { ⌜ (at + maxBacks + ahead < 2 ^ 64) × BacksOk backs ⌝ }
+    requires { ⌜ (at + maxBacks + ahead ≤ length (now out)) × BacksOk backs ⌝ }
     ensures { λ r. ⌜ PutShort maxBacks (now (out .entry)) (now (out .exit)) at r (backText (backsOf backs)) ⌝ }
 {
     let count = backs.count;
@@ -62,32 +62,38 @@ fn put_backs(out: &mut [u8], at: usize, backs: PutBacks) -> usize
     to
 }
 
+// The same of one device.
+fn put_one_back(out: &mut [u8], at: usize, back: PutBack) -> usize
+    requires { ⌜ at + maxBacks + ahead ≤ length (now out) ⌝ }
+    ensures { λ r. ⌜ PutShort maxBacks (now (out .entry)) (now (out .exit)) at r (backText (backOf back ∷ [])) ⌝ }
+{
+    let counted = put_word(out, at, b" back 1");
+    put_back(out, counted, back)
+}
+
+// The same of no device or one.
+fn put_at_most_one(out: &mut [u8], at: usize, back: OneBack) -> usize
+    requires { ⌜ at + maxBacks + ahead ≤ length (now out) ⌝ }
+    ensures { λ r. ⌜ PutShort maxBacks (now (out .entry)) (now (out .exit)) at r (backText (oneOf back)) ⌝ }
+{
+    match back {
+        OneBack::Nothing => put_word(out, at, b" back 0"),
+        OneBack::One(one) => put_one_back(out, at, one),
+    }
+}
+
 // "`aborted 1 back 0`"
-fn put_aborted(out: &mut [u8], at: usize, id: u32, backs: PutBacks) -> usize
-    requires { ⌜ (at + halfText < 2 ^ 64) × BacksOk backs ⌝ }
+pub fn put_aborted(out: &mut [u8], at: usize, id: u32, backs: PutBacks) -> usize
+    requires { ⌜ (at + halfText ≤ length (now out)) × BacksOk backs ⌝ }
     ensures { λ r. ⌜ PutShort maxAnswer (now (out .entry)) (now (out .exit)) at r (answerText (aborted id (backsOf backs))) ⌝ }
 {
     let named = put_one(out, at, b"aborted ", id as u64);
     put_backs(out, named, backs)
 }
 
-// "an abort caused by `F` or `R` is printed first, on a line of its own"
-pub fn put_first(out: &mut [u8], at: usize, first: First, backs: PutBacks) -> usize
-    requires { ⌜ (at + halfText < 2 ^ 64) × BacksOk backs ⌝ }
-    ensures { λ r. ⌜ PutShort halfText (now (out .entry)) (now (out .exit)) at r (answersText (firstOf first (backsOf backs))) ⌝ }
-{
-    match first {
-        First::NoAbort => at,
-        First::Abort(id) => {
-            let end = put_aborted(out, at, id, backs);
-            put_end(out, end)
-        }
-    }
-}
-
 // "`send` has id, device, setting"
 fn put_sent(out: &mut [u8], at: usize, sent: Sent) -> usize
-    requires { ⌜ at + halfText < 2 ^ 64 ⌝ }
+    requires { ⌜ at + halfText ≤ length (now out) ⌝ }
     ensures { λ r. ⌜ PutShort maxAnswer (now (out .entry)) (now (out .exit)) at r (answerText (send (sent .id) (sent .command))) ⌝ }
 {
     let command = sent.command;
@@ -105,21 +111,30 @@ fn put_sent(out: &mut [u8], at: usize, sent: Sent) -> usize
 }
 
 // "`skipped 1` (followed by `back` in the same form where a setting was sent back)"
-fn put_skipped(out: &mut [u8], at: usize, id: u32, backs: PutBacks) -> usize
-    requires { ⌜ (at + halfText < 2 ^ 64) × BacksOk backs ⌝ }
-    ensures { λ r. ⌜ PutShort maxAnswer (now (out .entry)) (now (out .exit)) at r (answerText (skipped id (backsOf backs))) ⌝ }
+fn put_skipped(out: &mut [u8], at: usize, id: u32, back: OneBack) -> usize
+    requires { ⌜ at + halfText ≤ length (now out) ⌝ }
+    ensures { λ r. ⌜ PutShort maxAnswer (now (out .entry)) (now (out .exit)) at r (answerText (skipped id (oneOf back))) ⌝ }
 {
     let named = put_one(out, at, b"skipped ", id as u64);
-    if backs.count == 0 {
-        return named;
+    match back {
+        OneBack::Nothing => named,
+        OneBack::One(one) => put_one_back(out, named, one),
     }
-    put_backs(out, named, backs)
+}
+
+// An abort that puts back one setting at most.
+fn put_short_abort(out: &mut [u8], at: usize, id: u32, back: OneBack) -> usize
+    requires { ⌜ at + halfText ≤ length (now out) ⌝ }
+    ensures { λ r. ⌜ PutShort maxAnswer (now (out .entry)) (now (out .exit)) at r (answerText (aborted id (oneOf back))) ⌝ }
+{
+    let named = put_one(out, at, b"aborted ", id as u64);
+    put_at_most_one(out, named, back)
 }
 
 // An answer, without its line's end.
-fn put_words(out: &mut [u8], at: usize, answer: Answer, backs: PutBacks) -> usize
-    requires { ⌜ (at + halfText < 2 ^ 64) × BacksOk backs ⌝ }
-    ensures { λ r. ⌜ PutShort maxAnswer (now (out .entry)) (now (out .exit)) at r (answerText (answerOf answer (backsOf backs))) ⌝ }
+pub fn put_words(out: &mut [u8], at: usize, answer: Answer, back: OneBack) -> usize
+    requires { ⌜ at + halfText ≤ length (now out) ⌝ }
+    ensures { λ r. ⌜ PutShort maxAnswer (now (out .entry)) (now (out .exit)) at r (answerText (answerOf answer (oneOf back))) ⌝ }
 {
     match answer {
         Answer::Refused(refusal) => put_refused(out, at, refusal),
@@ -134,9 +149,9 @@ fn put_words(out: &mut [u8], at: usize, answer: Answer, backs: PutBacks) -> usiz
         Answer::Wait(id, other) => put_two(out, at, b"wait ", id as u64, b" on ", other as u64),
         Answer::Sent(sent) => put_sent(out, at, sent),
         Answer::Done(id) => put_one(out, at, b"done ", id as u64),
-        Answer::Skipped(id) => put_skipped(out, at, id, backs),
+        Answer::Skipped(id) => put_skipped(out, at, id, back),
         Answer::Committed(id) => put_one(out, at, b"committed ", id as u64),
-        Answer::Aborted(id) => put_aborted(out, at, id, backs),
+        Answer::Aborted(id) => put_short_abort(out, at, id, back),
         Answer::Down(device, id) => put_two(
             out,
             at,
@@ -147,13 +162,4 @@ fn put_words(out: &mut [u8], at: usize, answer: Answer, backs: PutBacks) -> usiz
         ),
         Answer::Up(device, id) => put_two(out, at, b"up ", device as u64, b" after ", id as u64),
     }
-}
-
-// An answer, on a line.
-pub fn put_answer(out: &mut [u8], at: usize, answer: Answer, backs: PutBacks) -> usize
-    requires { ⌜ (at + halfText < 2 ^ 64) × BacksOk backs ⌝ }
-    ensures { λ r. ⌜ PutShort halfText (now (out .entry)) (now (out .exit)) at r (asLine (answerText (answerOf answer (backsOf backs)))) ⌝ }
-{
-    let end = put_words(out, at, answer, backs);
-    put_end(out, end)
 }

@@ -1,5 +1,5 @@
--- What the functions promise. Document 02, item 8: "A single placement or leaving changes no links but its own and its neighbours', and moves no other
--- routine." Assumes nothing.
+-- What the functions promise. Document 02, item 8: "A single placement or leaving changes no links but its own and its neighbours', and
+-- moves no other routine." Assumes nothing.
 use Prim.Native.Nat.{ℕ, _+_, _<_}
 use mathlib.Core.Path.{_≡_}
 use mathlib.Core.List.{List, [], _∷_}
@@ -26,8 +26,8 @@ pub record CanJoin (k : Links) (after : ℕ) : Type 0 where
   pub room : k .held < maxHeld
   pub place : StandsOrNone k after
 
--- The slot was free, and stands directly behind `after`. Of all links only the new slot's and its neighbours' are others; `none` counts as a neighbour, so that
--- the frame speaks of `first` and `last` too.
+-- The slot was free, and stands directly behind `after`. Of all links only the new slot's and its neighbours' are others; `none` counts as
+-- a neighbour, so that the frame speaks of `first` and `last` too.
 pub record Joins (k : Links) (after : ℕ) (r : Joined) : Type 0 where
   pub valid : LinksOk (r .links)
   pub slots : slotsOf (r .links) ≡ placed after (r .slot) none (slotsOf k)
@@ -43,8 +43,8 @@ pub record CanLeave (k : Links) (at : ℕ) : Type 0 where
   pub valid : LinksOk k
   pub stands : Stands k at
 
--- The others stand as they stood, and the slot is the first free one. Of all links only its own and its neighbours' are others; `none` counts as a neighbour
--- here too.
+-- The others stand as they stood, and the slot is the first free one. Of all links only its own and its neighbours' are others; `none`
+-- counts as a neighbour here too.
 pub record Leaves (k : Links) (at : ℕ) (r : Links) : Type 0 where
   pub valid : LinksOk r
   pub slots : slotsOf r ≡ without at (slotsOf k)

@@ -13,7 +13,8 @@ use Rattle.sequence.specs.declared.Links.{Links}
 abbrev pub none : ℕ
 none = 255
 
--- A row of links with its end, as one table: the end is the link of `none`. So the links make a ring through `none`, and neither end is a case of its own.
+-- A row of links with its end, as one table: the end is the link of `none`. So the links make a ring through `none`, and neither end is a
+-- case of its own.
 unfoldable pub linkOf : List ℕ → ℕ → ℕ → ℕ
 linkOf row end x = if eqb x none then end else getD row x 0
 
@@ -25,10 +26,11 @@ behindOf k = linkOf (k .behind) (k .first)
 abbrev pub aheadOf : Links → ℕ → ℕ
 aheadOf k = linkOf (k .ahead) (k .last)
 
--- The row, and its end, after the link of `at` became `to`: one of the two changes.
+-- The row after the link of `at` became `to`; the link of `none` is not in the row.
 unfoldable pub rowWith : List ℕ → ℕ → ℕ → List ℕ
 rowWith row at to = if eqb at none then row else set row at to
 
+-- Its end after that.
 unfoldable pub endWith : ℕ → ℕ → ℕ → ℕ
 endWith end at to = if eqb at none then to else end
 
@@ -71,8 +73,9 @@ pub data Chain (f : ℕ → ℕ) : ℕ → List ℕ → Type 0 where
 unfoldable pub within : ℕ → ℕ
 within x = if ltb x maxHeld then 1 else 0
 
--- The links hold these slots in this order, and these are free. "The links run through each held routine a single time" (item 8): the path goes from none
--- through the held slots to none, and `once` says that each slot is in just one of the two lists, and there once, and that no other number is in either.
+-- The links hold these slots in this order, and these are free. Item 8 asks "the links to run through each held routine a single time":
+-- the path goes from none through the held slots to none, and `once` says that each slot is in just one of the two lists, and there once,
+-- and that no other number is in either.
 pub record Keeps (k : Links) (held free : List ℕ) : Type 0 where
   pub linked : Path (aheadOf k) (behindOf k) none held none
   pub spare : Chain (behindOf k) (k .free) free

@@ -8,8 +8,8 @@ use Rattle.routine.specs.Choice.{if_then_else_}
 unfoldable pub same : ℕ → ℕ → ℕ
 same x y = if eqb x y then 1 else 0
 
--- How often x occurs. That no slot is twice in a list, that two lists share none, and that they make up all slots is each an equation of counts, and `omega`
--- reads it.
+-- How often x occurs. That no slot is twice in a list, that two lists share none, and that they make up all slots is each an equation of
+-- counts, and `omega` reads it.
 abbrev pub count : ℕ → List ℕ → ℕ
 count x [] = 0
 count x (y ∷ l) = same x y + count x l

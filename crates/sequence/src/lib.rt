@@ -1,5 +1,6 @@
-// The sequence: document 01, "Things and ranges" and "The steps"; document 02, item 8. It is kept as links between slots: a slot that is held knows the slot
-// ahead of it and the one behind it. No routine moves. The free slots hang on a list along `behind`. Only this crate changes links.
+// The sequence: document 01, "Things and ranges" and "The steps"; document 02, item 8. It is kept as links between slots: a slot that is
+// held knows the slot ahead of it and the one behind it. No routine moves. The free slots hang on a list along `behind`. Only this crate
+// changes links.
 pub mod keep;
 pub mod link;
 

@@ -1,5 +1,5 @@
-// One link of a row at a time. NONE stands before the first slot and behind the last, so that a row's end (`first` of `behind`, `last` of `ahead`) is the link of
-// NONE.
+// One link of a row at a time. NONE stands before the first slot and behind the last, so that a row's end (`first` of `behind`, `last` of
+// `ahead`) is the link of NONE.
 use crate::MAX_HELD;
 use crate::NONE;
 ghost use mathlib.Core.Path.{_≡_};

@@ -141,3 +141,8 @@ foundAt h Nowhere = none
 abbrev pub holderOf : Holder → Option ℕ
 holderOf (Routine i) = some i
 holderOf Nobody = none
+
+-- The first of them is committed.
+abbrev pub firstCommitted : List Member → Bool
+firstCommitted [] = false
+firstCommitted (m ∷ l) = m .committed

@@ -100,8 +100,8 @@ put-one-requires-2 c κs = search needs
 enum-known-answer-8 : tie.Need-enum-known-answer-8
 enum-known-answer-8 c = search needs
 
-put-aborted-requires : tie.Need-put-aborted-requires
-put-aborted-requires c κs = search needs
+put-short-abort-requires : tie.Need-put-short-abort-requires
+put-short-abort-requires c κs = search needs
 
 enum-known-answer-9 : tie.Need-enum-known-answer-9
 enum-known-answer-9 c = search needs
@@ -205,7 +205,8 @@ same-length-8 c = search needs
 returns-8 : tie.Need-returns-8
 unfolding answerText
 returns-8 c =
-    answered _ _ _ (c .before .before .before .before .before .answer8 .given .1) (omega arith) (c .before .before .put-aborted .ensures)
+    answered _ _ _ (c .before .before .before .before .before .answer8 .given .1) (omega arith)
+    (c .before .before .put-short-abort .ensures)
 
 same-length-9 : tie.Need-same-length-9
 same-length-9 c = search needs
@@ -256,7 +257,7 @@ put-words-spec =
     cast-put-one-2
     put-one-requires-2
     enum-known-answer-8
-    put-aborted-requires
+    put-short-abort-requires
     enum-known-answer-9
     slice-aggregate-put-two-5
     cast-put-two-5

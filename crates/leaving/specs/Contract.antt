@@ -1,0 +1,27 @@
+-- What a leaving promises. Document 02, item 8: "A single placement or leaving changes no links but its own and its neighbours', and moves no other routine."
+-- Assumes nothing.
+use mathlib.Core.Path.{_≡_}
+use mathlib.Core.List.{List, _++_}
+use mathlib.Core.Option.{Option}
+use Prim.Native.Nat.{ℕ}
+use lib.Dec.{eqb}
+use lib.IntN.{ℤ}
+use Rattle.routine.specs.Choice.{if_then_else_}
+use Rattle.rules.specs.Sequence.{withSequence}
+use Rattle.rules.specs.Attach.{later}
+use Rattle.sequence.specs.Contract.{Leaves}
+use Rattle.state.specs.View.{restartsAt, memberAt, stateOf, there}
+use Rattle.state.specs.Valid.{StateOk}
+use Rattle.state.specs.declared.HubState.{HubState}
+
+-- A routine has left the links. `links`: of all links only its own and its neighbours' are others. `others`: every routine is in the slot where it was, unchanged.
+pub record Unlinks (h : HubState) (at : ℕ) (r : HubState) : Type 0 where
+  pub valid : StateOk r
+  pub gives : stateOf r ≡ withSequence (stateOf h) (there h at .ahead ++ there h at .behind)
+  pub links : Leaves (h .links) at (r .links)
+  pub others : (x : ℕ) → memberAt r x ≡ memberAt h x
+
+-- The restarts of one slot stand behind those of another.
+abbrev pub MovesRestarts : List ℤ → ℕ → ℕ → List ℤ → Type 0
+MovesRestarts row from to r =
+    (x d : ℕ) → restartsAt r x d ≡ (if eqb x to then later (restartsAt row to d) (restartsAt row from d) else restartsAt row x d)
