@@ -1,8 +1,7 @@
-// Document 01, "Abort of R".
+// Document 01, "Abort of R" and "Cancel aborts R". The abort is carried out here: what it puts back is known from the due settings before and after it.
 use answers::Answer;
 use answers::PutBack;
 use answers::PutBacks;
-use apply::leaving;
 use routine::MAX_DEVICES;
 use routine::refusals::NOT_RUNNING;
 use state::Change;
@@ -12,6 +11,21 @@ use state::Open;
 use state::Place;
 use state::decisions;
 use state::readers;
+ghost use mathlib.Core.Path.{_≡_};
+ghost use mathlib.Core.Bool.{not, _&&_, _||_};
+ghost use mathlib.Core.List.{[]};
+ghost use Prim.Native.Nat.{_≤_};
+ghost use Rattle.routine.specs.Routine.{maxDevices};
+ghost use Rattle.rules.specs.Tables.{sameSetting};
+ghost use Rattle.rules.specs.Progress.{inFlightOn};
+ghost use Rattle.rules.specs.Cancel.{cancelOf};
+ghost use Rattle.sequence.specs.Links.{Stands};
+ghost use Rattle.answers.specs.View.{backsOf, BacksOk};
+ghost use Rattle.state.specs.View.{settingsOf, flagsOf, memberAt, stateOf};
+ghost use Rattle.state.specs.Valid.{StateOk};
+ghost use Rattle.state.specs.Contract.{Decides};
+ghost use Rattle.abort.specs.Contract.{Aborts};
+ghost use Rattle.abort.specs.PutBacks.{isBackBy, backsBy, TablesAre};
 
 // The hub that an abort leaves, and what it puts back.
 pub struct AfterAbort {
@@ -19,7 +33,19 @@ pub struct AfterAbort {
     pub backs: PutBacks,
 }
 
+// The tables that tell which devices are put back: up; with a command in flight of those left, and of the one that left; and due before and after.
+pub struct Tables {
+    pub up: [bool; MAX_DEVICES],
+    pub others: [bool; MAX_DEVICES],
+    pub own: [bool; MAX_DEVICES],
+    pub before: [i16; MAX_DEVICES],
+    pub after: [i16; MAX_DEVICES],
+}
+
+// "A device that is up, with no command of another routine in flight on it, is sent its due setting exactly if that changed by the abort or R had a
+// command in flight on it"
 fn is_put_back(up: bool, others: bool, own: bool, before: i16, after: i16) -> bool
+    ensures { λ r. ⌜ r ≡ (up && not others && (not (sameSetting before after) || own)) ⌝ }
 {
     if !up {
         return false;
@@ -33,14 +59,10 @@ fn is_put_back(up: bool, others: bool, own: bool, before: i16, after: i16) -> bo
     before != after
 }
 
-pub struct Tables {
-    pub up: [bool; MAX_DEVICES],
-    pub others: [bool; MAX_DEVICES],
-    pub before: [i16; MAX_DEVICES],
-    pub after: [i16; MAX_DEVICES],
-}
-
-fn put_backs(devices: u8, own: u8, tables: Tables) -> PutBacks
+// "These go out by rising device."
+fn put_backs(devices: u8, tables: Tables) -> PutBacks
+    requires { ⌜ devices ≤ maxDevices ⌝ }
+    ensures { λ r. ⌜ (BacksOk r) × (backsOf r ≡ backsBy (isBackBy tables) (settingsOf (tables .after)) 0 devices) ⌝ }
 {
     let mut backs = answers::no_backs();
     let count = devices as usize;
@@ -48,9 +70,10 @@ fn put_backs(devices: u8, own: u8, tables: Tables) -> PutBacks
     while d < count {
         let up = tables.up[d];
         let others = tables.others[d];
+        let own = tables.own[d];
         let before = tables.before[d];
         let after = tables.after[d];
-        if is_put_back(up, others, d as u8 == own, before, after) {
+        if is_put_back(up, others, own, before, after) {
             let back = PutBack {
                 device: d as u8,
                 setting: after,
@@ -63,33 +86,57 @@ fn put_backs(devices: u8, own: u8, tables: Tables) -> PutBacks
     backs
 }
 
-// The device of the command in flight; MAX_DEVICES if there is none.
-fn flight_device(state: HubState, at: usize) -> u8
+// The devices with a command of this routine in flight: one at most.
+fn own_flights(state: HubState, at: usize) -> [bool; MAX_DEVICES]
+    requires { ⌜ (StateOk state) × (Stands (state .links) at) ⌝ }
+    ensures { λ r. ⌜ flagsOf r ≡ (λ d. inFlightOn d (memberAt state at)) ⌝ }
 {
+    let mut own = [false; MAX_DEVICES];
     let stage = state.stage;
     let open = readers::open_at(state, &stage, at);
     let Open::InFlight(k) = open else {
-        return MAX_DEVICES as u8;
+        return own;
     };
     let device = state.device;
-    device[k]
+    let d = device[k] as usize;
+    own[d] = true;
+    own
+}
+
+// The tables of an abort: the hub before it, the routine's slot, the hub after it.
+fn tables_of(state: HubState, at: usize, gone: HubState) -> Tables
+    requires { ⌜ (StateOk state) × (Stands (state .links) at) × (StateOk gone) ⌝ }
+    ensures { λ r. ⌜ TablesAre state at gone r ⌝ }
+{
+    let before = due::due_settings(state);
+    let after = due::due_settings(gone);
+    let others = due::in_flight(gone);
+    let own = own_flights(state, at);
+    let up = gone.up;
+    Tables {
+        up,
+        others,
+        own,
+        before,
+        after,
+    }
 }
 
 pub fn aborted(state: HubState, at: usize) -> AfterAbort
+    requires { ⌜ (StateOk state) × (Stands (state .links) at) ⌝ }
+    ensures { λ r. ⌜ Aborts state at r ⌝ }
 {
-    let own = flight_device(state, at);
-    let before = due::due_settings(state);
     let gone = leaving::left(state, at);
-    let after = due::due_settings(gone);
-    let others = due::in_flight(gone);
-    let up = gone.up;
-    let tables = Tables { up, others, before, after };
-    let backs = put_backs(state.devices, own, tables);
+    let tables = tables_of(state, at, gone);
+    let devices = state.devices;
+    let backs = put_backs(devices, tables);
     AfterAbort { state: gone, backs }
 }
 
 // "Cancel: 10."
 pub fn decide_cancel(state: HubState, id: u32) -> Decision
+    requires { ⌜ StateOk state ⌝ }
+    ensures { λ r. ⌜ Decides state [] r (cancelOf (stateOf state) id) ⌝ }
 {
     let place = search::running(state, id);
     let Place::At(at) = place else {

@@ -1,4 +1,4 @@
-// Document 01, "Failure or restart of D".
+// Document 01, "Failure or restart of D". Refusals: failure 14, 15; restart 14, 16, 17.
 use abort::AfterAbort;
 use answers::Answer;
 use answers::First;
@@ -14,34 +14,58 @@ use state::HubState;
 use state::Place;
 use state::decisions;
 use state::readers;
+ghost use mathlib.Core.Path.{_≡_};
+ghost use mathlib.Core.Bool.{true};
+ghost use mathlib.Core.List.{[]};
+ghost use Prim.Native.Nat.{_<_};
+ghost use Rattle.routine.specs.Routine.{maxDevices};
+ghost use Rattle.rules.specs.Events.{failureOf, restartOf};
+ghost use Rattle.state.specs.View.{isRestart, stateOf};
+ghost use Rattle.state.specs.Valid.{StateOk};
+ghost use Rattle.state.specs.Contract.{goneIn, leftBy, backsLeft, downWith, upWith, StandsOrPast, Decides};
+ghost use Rattle.events.specs.Contract.{IsHalfway, Leaves};
 
-// The routine that an event aborts, and the device's mark then.
-pub struct Halfway {
+// The routine that an event aborts, by its slot, MAX_HELD if it aborts none; the abort as it is told; and the device's mark after it.
+pub struct EventAbort {
     pub gone: usize,
     pub first: First,
     pub mark: u32,
 }
 
-fn halfway(state: HubState, device: u8) -> Halfway
+// "A running routine that has begun D and not finished it then aborts, whatever its tags"
+fn halfway(state: HubState, device: u8) -> EventAbort
+    requires { ⌜ (StateOk state) × (device < maxDevices) ⌝ }
+    ensures { λ r. ⌜ IsHalfway state device r ⌝ }
 {
     let marks = state.mark;
     let d = device as usize;
     let mark = marks[d];
     let place = search::halfway(state, device);
     let Place::At(gone) = place else {
-        return Halfway { gone: MAX_HELD, first: First::NoAbort, mark };
+        return EventAbort {
+            gone: MAX_HELD,
+            first: First::NoAbort,
+            mark,
+        };
     };
     let ids = state.ids;
     let id = ids[gone];
     let first = First::Abort(id);
     if mark != id {
-        return Halfway { gone, first, mark };
+        return EventAbort { gone, first, mark };
     }
     let before = readers::id_ahead(state, gone);
-    Halfway { gone, first, mark: before }
+    EventAbort {
+        gone,
+        first,
+        mark: before,
+    }
 }
 
+// "Failure: 14, 15."
 pub fn decide_failure(state: HubState, device: u8) -> Decision
+    requires { ⌜ StateOk state ⌝ }
+    ensures { λ r. ⌜ Decides state [] r (failureOf (stateOf state) device) ⌝ }
 {
     if state.devices <= device {
         return decisions::refused(EVENT_DEVICE);
@@ -51,10 +75,18 @@ pub fn decide_failure(state: HubState, device: u8) -> Decision
     }
     let half = halfway(state, device);
     let first = half.first;
-    Decision { first, answer: Answer::Down(device, half.mark), back: OneBack::Nothing, change: Change::Fail(device, half.gone) }
+    Decision {
+        first,
+        answer: Answer::Down(device, half.mark),
+        back: OneBack::Nothing,
+        change: Change::Fail(device, half.gone),
+    }
 }
 
+// "Restart: 14, 16, 17."
 pub fn decide_restart(state: HubState, device: u8, setting: i16) -> Decision
+    requires { ⌜ StateOk state ⌝ }
+    ensures { λ r. ⌜ Decides state [] r (restartOf (stateOf state) device setting) ⌝ }
 {
     if state.devices <= device {
         return decisions::refused(EVENT_DEVICE);
@@ -67,10 +99,18 @@ pub fn decide_restart(state: HubState, device: u8, setting: i16) -> Decision
     }
     let half = halfway(state, device);
     let first = half.first;
-    Decision { first, answer: Answer::Up(device, half.mark), back: OneBack::Nothing, change: Change::Restart(device, setting, half.gone) }
+    Decision {
+        first,
+        answer: Answer::Up(device, half.mark),
+        back: OneBack::Nothing,
+        change: Change::Restart(device, setting, half.gone),
+    }
 }
 
+// The abort that comes first, if there is one.
 fn abort_if(state: HubState, gone: usize) -> AfterAbort
+    requires { ⌜ (StateOk state) × (StandsOrPast state gone) ⌝ }
+    ensures { λ r. ⌜ Leaves (leftBy (stateOf state) (goneIn state gone)) (backsLeft (stateOf state) (goneIn state gone)) r ⌝ }
 {
     if gone < MAX_HELD {
         return abort::aborted(state, gone);
@@ -79,20 +119,28 @@ fn abort_if(state: HubState, gone: usize) -> AfterAbort
     AfterAbort { state, backs }
 }
 
+// "On a failure D first becomes down." Then the abort.
 pub fn failed(state: HubState, device: u8, gone: usize) -> AfterAbort
+    requires { ⌜ (StateOk state) × (device < maxDevices) × (StandsOrPast state gone) ⌝ }
+    ensures { λ r. ⌜ Leaves (leftBy (downWith (stateOf state) device) (goneIn state gone))
+        (backsLeft (downWith (stateOf state) device) (goneIn state gone)) r ⌝ }
 {
-    let down = apply::with_down(state, device);
+    let down = leaving::with_up(state, device, false);
     abort_if(down, gone)
 }
 
+// The abort; the event is attached to D's mark; "On a restart D then becomes up at the setting it reports."
 pub fn restarted(state: HubState, device: u8, setting: i16, gone: usize) -> AfterAbort
+    requires { ⌜ (StateOk state) × (device < maxDevices) × (isRestart setting ≡ true) × (StandsOrPast state gone) ⌝ }
+    ensures { λ r. ⌜ Leaves (upWith (leftBy (stateOf state) (goneIn state gone)) device setting)
+        (backsLeft (stateOf state) (goneIn state gone)) r ⌝ }
 {
     let after = abort_if(state, gone);
     let left = after.state;
     let backs = after.backs;
     let marks = left.mark;
     let d = device as usize;
-    let with_it = apply::leaving::attached(left, marks[d], device, setting);
-    let up = apply::with_up(with_it, device);
+    let with_it = leaving::attached(left, marks[d], device, setting);
+    let up = leaving::with_up(with_it, device, true);
     AfterAbort { state: up, backs }
 }

@@ -1,4 +1,4 @@
-// Document 01, "Report on R".
+// Document 01, "Report on R". Refusals: 10, 12, 13.
 use answers::Answer;
 use answers::First;
 use answers::OneBack;
@@ -16,42 +16,80 @@ use state::HubState;
 use state::Open;
 use state::Place;
 use state::SKIPPED;
-use state::STEPS;
 use state::Staged;
 use state::decisions;
 use state::readers;
+ghost use mathlib.Core.Path.{_≡_};
+ghost use mathlib.Core.List.{[]};
+ghost use Rattle.routine.specs.Choice.{if_then_else_};
+ghost use Rattle.rules.specs.Progress.{isMust};
+ghost use Rattle.rules.specs.Settle.{settling};
+ghost use Rattle.rules.specs.Abort.{abort};
+ghost use Rattle.rules.specs.Report.{backIfChanged, skipReport, reportOf};
+ghost use Rattle.sequence.specs.Links.{Stands};
+ghost use Rattle.answers.specs.View.{oneOf};
+ghost use Rattle.state.specs.View.{memberAt, stateOf, there};
+ghost use Rattle.state.specs.Valid.{StateOk};
+ghost use Rattle.state.specs.Open.{commandAt, dueThenAt, OpenInFlight};
+ghost use Rattle.state.specs.Contract.{Decides};
+ghost use Rattle.report.specs.Contract.{answeredBy, flightAt};
 
-// The change: the command in flight comes to a stage; no mark changes.
-fn answered(state: HubState, at: usize, stage: u8) -> Change
+// The change: the command in flight is answered. No device is begun by that.
+fn answered(at: usize, stage: u8, id: u32) -> Change
+    ensures { λ r. ⌜ r ≡ answeredBy at stage id ⌝ }
 {
-    let marks = state.mark;
-    let change = Staged { at, stage, due_then: 0, device: 0, mark: marks[0] };
+    let change = Staged {
+        at,
+        stage,
+        due_then: 0,
+        begins: false,
+        device: 0,
+        id,
+    };
     Change::Stage(change)
 }
 
-fn back_if_changed(device: u8, now: i16, before: i16) -> OneBack
+// "its device is then sent its due setting if that is another than when the command was sent"
+fn back_if_changed(device: u8, due: i16, before: i16) -> OneBack
+    ensures { λ r. ⌜ oneOf r ≡ backIfChanged device due before ⌝ }
 {
-    if now == before {
+    if due == before {
         return OneBack::Nothing;
     }
-    let back = PutBack { device, setting: now };
+    let back = PutBack {
+        device,
+        setting: due,
+    };
     OneBack::One(back)
 }
 
+// "a best-effort is skipped". No due setting changes by that: the command was not done.
 fn skip(state: HubState, at: usize, k: usize, id: u32) -> Decision
+    requires { ⌜ (StateOk state) × (Stands (state .links) at) × (OpenInFlight state at k) × (id ≡ memberAt state at .id) ⌝ }
+    ensures { λ r. ⌜ Decides state [] r (settling (skipReport (stateOf state) (there state at) (flightAt state at k))) ⌝ }
 {
     let device = state.device;
+    let wanted = device[k];
+    let d = wanted as usize;
     let dues = state.due_then;
     let before = dues[at];
     let table = due::due_settings(state);
-    let d = device[k] as usize;
-    let now = table[d];
-    let back = back_if_changed(device[k], now, before);
-    let change = answered(state, at, SKIPPED);
-    Decision { first: First::NoAbort, answer: Answer::Skipped(id), back, change }
+    let due = table[d];
+    let back = back_if_changed(wanted, due, before);
+    let change = answered(at, SKIPPED, id);
+    Decision {
+        first: First::NoAbort,
+        answer: Answer::Skipped(id),
+        back,
+        change,
+    }
 }
 
+// "Code 1, failed: a must aborts R, a best-effort is skipped"
 fn failed(state: HubState, at: usize, k: usize, id: u32) -> Decision
+    requires { ⌜ (StateOk state) × (Stands (state .links) at) × (OpenInFlight state at k) × (id ≡ memberAt state at .id) ⌝ }
+    ensures { λ r. ⌜ Decides state [] r (if isMust (commandAt state k) then settling (abort (stateOf state) (there state at))
+        else settling (skipReport (stateOf state) (there state at) (flightAt state at k))) ⌝ }
 {
     let tags = state.tag;
     if tags[k] == MUST {
@@ -61,6 +99,8 @@ fn failed(state: HubState, at: usize, k: usize, id: u32) -> Decision
 }
 
 pub fn decide(state: HubState, id: u32, code: u8) -> Decision
+    requires { ⌜ StateOk state ⌝ }
+    ensures { λ r. ⌜ Decides state [] r (reportOf (stateOf state) id code) ⌝ }
 {
     let place = search::running(state, id);
     let Place::At(at) = place else {
@@ -75,7 +115,7 @@ pub fn decide(state: HubState, id: u32, code: u8) -> Decision
         return decisions::refused(REPORT_CODE);
     }
     if code == CODE_DONE {
-        let change = answered(state, at, DONE);
+        let change = answered(at, DONE, id);
         return decisions::plain(Answer::Done(id), change);
     }
     failed(state, at, k, id)

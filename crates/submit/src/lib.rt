@@ -1,4 +1,4 @@
-// Document 01, "Submit".
+// Document 01, "Submit". Refusals: 4; then the commands in turn, each 5, 6, 7; then 8, 9.
 use answers::Answer;
 use answers::Placed;
 use routine::HIGHEST_ID;
@@ -13,8 +13,21 @@ use state::Change;
 use state::Decision;
 use state::HubState;
 use state::decisions;
+ghost use mathlib.Core.Path.{_≡_};
+ghost use mathlib.Core.List.{map};
+ghost use Rattle.routine.specs.Routine.{commandsOf};
+ghost use Rattle.routine.specs.declared.Verdict.the-variants.{Accepted};
+ghost use Rattle.rules.specs.Sequence.{lastIdOr};
+ghost use Rattle.rules.specs.Submit.{submitCheck, submitOf};
+ghost use Rattle.sequence.specs.Lists.{through};
+ghost use Rattle.sequence.specs.Links.{none, slotsOf, StandsOrNone};
+ghost use Rattle.state.specs.View.{memberAt, stateOf};
+ghost use Rattle.state.specs.Valid.{StateOk};
+ghost use Rattle.state.specs.Contract.{Decides};
 
 fn check(state: HubState, routine: Routine) -> Verdict
+    requires { ⌜ StateOk state ⌝ }
+    ensures { λ r. ⌜ r ≡ submitCheck (stateOf state) (commandsOf routine) ⌝ }
 {
     let devices = state.devices;
     let verdict = routine::check(routine, devices);
@@ -31,29 +44,40 @@ fn check(state: HubState, routine: Routine) -> Verdict
     Verdict::Accepted
 }
 
-fn id_at(state: HubState, at: u8) -> u32
+// The id of the routine in a slot; 0 for none.
+fn id_in(state: HubState, slot: u8) -> u32
+    requires { ⌜ (StateOk state) × (StandsOrNone (state .links) slot) ⌝ }
+    ensures { λ r. ⌜ r ≡ lastIdOr 0 (map (memberAt state) (through slot none (slotsOf (state .links)))) ⌝ }
 {
-    if at == NONE {
+    if slot == NONE {
         return 0;
     }
     let ids = state.ids;
-    let i = at as usize;
+    let i = slot as usize;
     ids[i]
 }
 
-fn placed(state: HubState, routine: Routine) -> Decision
+// "Place the routine directly after the latest": its id and the id it follows.
+fn place(state: HubState, routine: Routine) -> Decision
+    requires { ⌜ (StateOk state) × (submitCheck (stateOf state) (commandsOf routine) ≡ Accepted) ⌝ }
+    ensures { λ r. ⌜ Decides state (commandsOf routine) r (submitOf (stateOf state) (commandsOf routine)) ⌝ }
 {
     let latest = search::latest(state, routine);
-    let after = id_at(state, latest);
-    let answer = Placed { id: state.next_id as u32, after };
+    let after = id_in(state, latest);
+    let answer = Placed {
+        id: state.next_id as u32,
+        after,
+    };
     decisions::plain(Answer::Placed(answer), Change::Join(latest))
 }
 
 pub fn decide(state: HubState, routine: Routine) -> Decision
+    requires { ⌜ StateOk state ⌝ }
+    ensures { λ r. ⌜ Decides state (commandsOf routine) r (submitOf (stateOf state) (commandsOf routine)) ⌝ }
 {
     let verdict = check(state, routine);
     let Verdict::Refused(refusal) = verdict else {
-        return placed(state, routine);
+        return place(state, routine);
     };
     decisions::turned_down(refusal)
 }

@@ -1,0 +1,2 @@
+pub mod PutBacks
+pub mod Contract
