@@ -7,7 +7,7 @@ ghost use mathlib.Core.Path.{_≡_};
 ghost use mathlib.Core.List.{[], _∷_, _++_};
 ghost use Prim.Native.Nat.{suc, _<_};
 ghost use Rattle.routine.specs.Routine.{maxDevices};
-ghost use Rattle.answers.specs.View.{backsOf, backOf};
+ghost use Rattle.answers.specs.View.{backsOf, backOf, oneOf, BacksOk};
 
 // A routine was placed: its id, and the id it follows, 0 for the settled part.
 pub struct Placed {
@@ -82,4 +82,15 @@ pub fn with_back(backs: PutBacks, back: PutBack) -> PutBacks
     more.items[at] = back;
     more.count = at + 1;
     more
+}
+
+// None or one, as a list.
+pub fn at_most_one(back: OneBack) -> PutBacks
+    ensures { λ r. ⌜ (BacksOk r) × (backsOf r ≡ oneOf back) ⌝ }
+{
+    let none = no_backs();
+    let OneBack::One(one) = back else {
+        return none;
+    };
+    with_back(none, one)
 }

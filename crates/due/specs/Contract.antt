@@ -13,13 +13,15 @@ abbrev pub AfterDone : List ℤ → List ℕ → List ℕ → List ℤ → ℕ �
 AfterDone table device stage setting from end r =
     (tags : List ℕ) (u : ℤ) (d : ℕ) →
     settingsOf r d
-    ≡ afterSteps d (stepsFrom (record { devices = device; tags = tags; settings = setting; stages = stage }) u from (end - from)) (settingsOf table d)
+    ≡ afterSteps d (stepsFrom (record { devices = device; tags = tags; settings = setting; stages = stage }) u from (end - from))
+    (settingsOf table d)
 
 -- The devices from one place of a row up to another are devices that there can be.
 abbrev pub DevicesFit : List ℕ → ℕ → ℕ → Type 0
 DevicesFit device from end = (k : ℕ) → from ≤ k → k < end → getD device k 0 < maxDevices
 
--- One past the last done command on the device; the first place if there is none. What the device is due after the commands is that one's setting, or what it was.
+-- One past the last done command on the device; the first place if there is none. What the device is due after the commands is that one's
+-- setting, or what it was.
 pub record LastDone (device stage : List ℕ) (from end d r : ℕ) : Type 0 where
   pub within : (from ≤ r) × (r ≤ end)
   pub none-left :
@@ -27,4 +29,5 @@ pub record LastDone (device stage : List ℕ) (from end d r : ℕ) : Type 0 wher
       afterSteps d (stepsFrom (record { devices = device; tags = tags; settings = settings; stages = stage }) u from (end - from)) v ≡ v
   pub last-is :
       (k : ℕ) → r ≡ suc k → from ≤ k → (tags : List ℕ) (settings : List ℤ) (u v : ℤ) →
-      afterSteps d (stepsFrom (record { devices = device; tags = tags; settings = settings; stages = stage }) u from (end - from)) v ≡ getD settings k (pos 0)
+      afterSteps d (stepsFrom (record { devices = device; tags = tags; settings = settings; stages = stage }) u from (end - from)) v
+      ≡ getD settings k (pos 0)

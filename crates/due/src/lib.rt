@@ -1,4 +1,5 @@
-// What devices are due after the settled part and the sequence: document 01, "Abort of R". One device, from the last routine on; and all, in one pass.
+// What devices are due after the settled part and the sequence: document 01, "Abort of R". One device, from the last routine on; and all,
+// in one pass.
 use routine::MAX_COMMANDS;
 use routine::MAX_DEVICES;
 use sequence::MAX_HELD;
@@ -9,7 +10,7 @@ use state::NO_RESTART;
 use state::RESTARTS;
 use state::STEPS;
 ghost use mathlib.Core.Path.{_≡_};
-ghost use Prim.Native.Nat.{_+_, _*_, _≤_, _<_};
+ghost use Prim.Native.Nat.{_*_, _≤_, _<_};
 ghost use lib.ListN.{length};
 ghost use Rattle.routine.specs.Routine.{maxCommands, maxDevices};
 ghost use Rattle.rules.specs.State.{maxHeld};
@@ -22,7 +23,13 @@ ghost use Rattle.state.specs.Valid.{StateOk};
 ghost use Rattle.due.specs.Contract.{AfterDone, LastDone, DevicesFit};
 
 // The last done command on a device among these; the first place if there is none.
-fn last_done<'a>(device: &'a [u8; STEPS], stage: &'a [u8; STEPS], from: usize, end: usize, wanted: u8) -> usize
+fn last_done<'a>(
+    device: &'a [u8; STEPS],
+    stage: &'a [u8; STEPS],
+    from: usize,
+    end: usize,
+    wanted: u8,
+) -> usize
     requires { ⌜ (from ≤ end) × (end ≤ maxHeld * maxCommands) ⌝ }
     ensures { λ r. ⌜ LastDone (now (device .entry)) (now (stage .entry)) from end wanted r ⌝ }
 {
@@ -39,7 +46,13 @@ fn last_done<'a>(device: &'a [u8; STEPS], stage: &'a [u8; STEPS], from: usize, e
 }
 
 // What one device is due.
-pub fn due_on<'a>(state: HubState, device: &'a [u8; STEPS], stage: &'a [u8; STEPS], wanted: u8, settled: i16) -> i16
+pub fn due_on<'a>(
+    state: HubState,
+    device: &'a [u8; STEPS],
+    stage: &'a [u8; STEPS],
+    wanted: u8,
+    settled: i16,
+) -> i16
     requires { ⌜ (StateOk state) × (now device ≡ state .device) × (now stage ≡ state .stage) ⌝ }
     ensures { λ r. ⌜ r ≡ afterMembers wanted (membersOf state) settled ⌝ }
 {
@@ -93,18 +106,23 @@ pub fn after_done<'a>(
     after
 }
 
-// All devices, after the restarts of a slot.
-pub fn after_restarts<'a>(table: [i16; MAX_DEVICES], restarts: &'a [i16; RESTARTS], at: usize) -> [i16; MAX_DEVICES]
-    requires { ⌜ at < maxHeld ⌝ }
+// All devices, after the restarts of a slot. (That a lent row is as long as its type says is not known to the checker: the contract says
+// it.)
+pub fn after_restarts<'a>(
+    table: [i16; MAX_DEVICES],
+    restarts: &'a [i16; RESTARTS],
+    at: usize,
+) -> [i16; MAX_DEVICES]
+    requires { ⌜ (at < maxHeld) × (length (now restarts) ≡ maxHeld * maxDevices) ⌝ }
     ensures { λ r. ⌜ settingsOf r ≡ settleRestarts (restartsAt (now (restarts .entry)) at) (settingsOf table) ⌝ }
 {
     let from = at * MAX_DEVICES;
     let mut after = table;
     let mut d: usize = 0;
     while d < MAX_DEVICES {
-        let restart = restarts[from + d];
-        if restart != NO_RESTART {
-            after[d] = restart;
+        let last = restarts[from + d];
+        if last != NO_RESTART {
+            after[d] = last;
         }
         d += 1;
     }
@@ -163,7 +181,12 @@ pub fn in_flight(state: HubState) -> [bool; MAX_DEVICES]
 }
 
 // The due setting of a device. One that the hub does not have stands as at the opening.
-pub fn due_setting<'a>(state: HubState, device: &'a [u8; STEPS], stage: &'a [u8; STEPS], wanted: u8) -> i16
+pub fn due_setting<'a>(
+    state: HubState,
+    device: &'a [u8; STEPS],
+    stage: &'a [u8; STEPS],
+    wanted: u8,
+) -> i16
     requires { ⌜ (StateOk state) × (now device ≡ state .device) × (now stage ≡ state .stage) ⌝ }
     ensures { λ r. ⌜ r ≡ due (stateOf state) wanted ⌝ }
 {

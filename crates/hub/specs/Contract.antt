@@ -1,9 +1,8 @@
 -- The contracts of the public calls. Assumes nothing.
 use mathlib.Core.Path.{_≡_}
-use mathlib.Core.Bool.{Bool, true, false}
+use mathlib.Core.Bool.{true}
 use Prim.Native.Nat.{ℕ}
 use lib.IntN.{ℤ}
-use Rattle.routine.specs.Choice.{if_then_else_}
 use Rattle.routine.specs.Routine.{commandsOf}
 use Rattle.routine.specs.declared.Refusal.{Refusal}
 use Rattle.routine.specs.declared.Routine.{Routine}
@@ -16,11 +15,7 @@ use Rattle.rules.specs.Turn.{turnOf}
 use Rattle.rules.specs.Report.{reportOf}
 use Rattle.rules.specs.Events.{failureOf, restartOf}
 use Rattle.rules.specs.Cancel.{cancelOf}
-use Rattle.sequence.specs.View.{membersOf}
-use Rattle.sequence.specs.Tests.{firstCommitted}
 use Rattle.answers.specs.View.{backsOf, backsIn, BacksOk, changesNothing}
-use Rattle.state.specs.Contract.{afterSettling}
-use Rattle.state.specs.declared.StepOutcome.{StepOutcome}
 use Rattle.hub.specs.View.{view, answersIn, resultIn}
 use Rattle.hub.specs.Valid.{Valid}
 use Rattle.hub.specs.declared.Hub.{Hub}
@@ -60,17 +55,3 @@ Failed h device o = Gives h o (failureOf (view h) device)
 
 abbrev pub Restarted : Hub → ℕ → ℤ → Outcome → Type 0
 Restarted h device setting o = Gives h o (restartOf (view h) device setting)
-
--- Does a routine settle after this step? Document 01, "Settling": "After each call, while the first in the sequence is committed"; but a
--- refusal and a wait change nothing.
-abbrev pub settlesAfter : StepOutcome → Bool
-settlesAfter step = if changesNothing (step .answer) then false else firstCommitted (membersOf (step .state .sequence))
-
--- The outcome of a step, once it has settled: the answers are the step's own.
-pub record SettledStep (step : StepOutcome) (o : Outcome) : Type 0 where
-  pub valid : Valid (o .hub)
-  pub gives : resultIn o ≡ afterSettling step
-  pub same-first : o .first ≡ step .first
-  pub same-answer : o .answer ≡ step .answer
-  pub same-backs : o .backs ≡ step .backs
-  pub same-state : changesNothing (step .answer) ≡ true → o .hub .state ≡ step .state

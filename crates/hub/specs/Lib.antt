@@ -1,6 +1,7 @@
 pub mod View
 pub mod Valid
 pub mod Contract
+pub mod Carrying
 pub mod Demand3
 pub mod Exact
 pub mod Rounds

@@ -1,22 +1,43 @@
-// The plot hub, by value: document 01, "The steps". Here stand the public calls with their contracts. Each call is a step, of crate
-// `submit`, `turn`, `report`, `events` or, the cancel, `abort`, and then settling; `specs/` reads a hub as the state of the rules, and an
-// outcome as their answers.
+// The plot hub, by value: document 01, "The steps". Here stand the public calls with their contracts. A call decides, on a hub that stays as it is, what it comes
+// to (crates `submit`, `turn`, `report`, `events` and, the cancel, `abort`); an applier makes the next hub (crates `apply`, `leaving`, `abort`, `events`), which
+// then settles. `specs/` reads a hub as the state of the rules, and an outcome as their answers.
+mod carrying;
 mod opening;
-mod settling;
 
 use answers::Answer;
 use answers::First;
 use answers::PutBacks;
+use leaving::settling;
+use routine::MAX_DEVICES;
 use routine::Routine;
 use routine::Verdict;
+use state::Decision;
 use state::HubState;
+use state::Staged;
+use state::readers;
 ghost use mathlib.Core.Path.{_≡_};
+ghost use mathlib.Core.Bool.{true};
+ghost use mathlib.Core.List.{[]};
+ghost use Prim.Native.Nat.{_<_};
+ghost use Rattle.routine.specs.Routine.{maxDevices, commandsOf};
+ghost use Rattle.rules.specs.Abort.{leave};
+ghost use Rattle.rules.specs.Cancel.{cancelOf};
 ghost use Rattle.rules.specs.Due.{due};
-ghost use Rattle.rules.specs.Open.{closedHub};
+ghost use Rattle.rules.specs.Events.{failureOf, restartOf};
+ghost use Rattle.rules.specs.Open.{closedHub, openCheck};
+ghost use Rattle.rules.specs.Report.{reportOf};
+ghost use Rattle.rules.specs.Settle.{settle};
+ghost use Rattle.rules.specs.Submit.{submitOf};
+ghost use Rattle.rules.specs.Turn.{turnOf};
 ghost use Rattle.rules.specs.Calls.{TurnsAllDown};
+ghost use Rattle.sequence.specs.Links.{Stands};
+ghost use Rattle.answers.specs.View.{backsOf, BacksOk};
+ghost use Rattle.state.specs.View.{settingsOf, isRestart, there, firstCommitted};
+ghost use Rattle.state.specs.Contract.{staged, committedAt, joinedBehind, goneIn, leftBy, downWith, upWith, StandsOrPast, StageOk, JoinOk, Decides, backsOfDecision};
 ghost use Rattle.hub.specs.View.{view};
 ghost use Rattle.hub.specs.Valid.{Valid};
 ghost use Rattle.hub.specs.Contract.{Opens, Submitted, Turned, Reported, Cancelled, Failed, Restarted};
+ghost use Rattle.hub.specs.Carrying.{LeavingOk};
 
 // A hub. Others hold it and hand it on; nobody else can make one, look into it or change it.
 pub struct Hub {
@@ -39,6 +60,13 @@ pub struct Outcome {
     pub backs: PutBacks,
 }
 
+// Is an opening accepted? A caller who has to print the refusal alone makes no hub for that.
+pub fn check_opening(devices: u8, pass_limit: u8, first_id: u32) -> Verdict
+    ensures { λ r. ⌜ r ≡ openCheck devices «pass_limit» «first_id» ⌝ }
+{
+    opening::check(devices, pass_limit, first_id)
+}
+
 // "Opening: 1, 2, 3."
 pub fn open(devices: u8, pass_limit: u8, first_id: u32) -> Opened
     ensures { λ r. ⌜ Opens devices «pass_limit» «first_id» r ⌝ }
@@ -57,12 +85,8 @@ pub fn submit(hub: Hub, routine: Routine) -> Outcome
     requires { ⌜ Valid hub ⌝ }
     ensures { λ r. ⌜ Submitted hub routine r ⌝ }
 {
-    let state = hub.state;
-    let step = submit::step(state, routine);
-    if settling::is_due(step) {
-        return settling::settled(step);
-    }
-    settling::unsettled(step)
+    let decision = decide_submit(hub, routine);
+    carrying::carried_out(hub, decision, routine)
 }
 
 // "Turn: 10, 11."
@@ -70,12 +94,9 @@ pub fn turn(hub: Hub, id: u32) -> Outcome
     requires { ⌜ Valid hub ⌝ }
     ensures { λ r. ⌜ Turned hub id r ⌝ }
 {
-    let state = hub.state;
-    let step = turn::step(state, id);
-    if settling::is_due(step) {
-        return settling::settled(step);
-    }
-    settling::unsettled(step)
+    let decision = decide_turn(hub, id);
+    let routine = routine::empty();
+    carrying::carried_out(hub, decision, routine)
 }
 
 // "Report: 10, 12, 13."
@@ -83,12 +104,9 @@ pub fn report(hub: Hub, id: u32, code: u8) -> Outcome
     requires { ⌜ Valid hub ⌝ }
     ensures { λ r. ⌜ Reported hub id code r ⌝ }
 {
-    let state = hub.state;
-    let step = report::step(state, id, code);
-    if settling::is_due(step) {
-        return settling::settled(step);
-    }
-    settling::unsettled(step)
+    let decision = decide_report(hub, id, code);
+    let routine = routine::empty();
+    carrying::carried_out(hub, decision, routine)
 }
 
 // "Cancel: 10."
@@ -96,12 +114,9 @@ pub fn cancel(hub: Hub, id: u32) -> Outcome
     requires { ⌜ Valid hub ⌝ }
     ensures { λ r. ⌜ Cancelled hub id r ⌝ }
 {
-    let state = hub.state;
-    let step = abort::cancel::step(state, id);
-    if settling::is_due(step) {
-        return settling::settled(step);
-    }
-    settling::unsettled(step)
+    let decision = decide_cancel(hub, id);
+    let routine = routine::empty();
+    carrying::carried_out(hub, decision, routine)
 }
 
 // "Failure: 14, 15."
@@ -109,12 +124,9 @@ pub fn fail(hub: Hub, device: u8) -> Outcome
     requires { ⌜ Valid hub ⌝ }
     ensures { λ r. ⌜ Failed hub device r ⌝ }
 {
-    let state = hub.state;
-    let step = events::failure(state, device);
-    if settling::is_due(step) {
-        return settling::settled(step);
-    }
-    settling::unsettled(step)
+    let decision = decide_failure(hub, device);
+    let routine = routine::empty();
+    carrying::carried_out(hub, decision, routine)
 }
 
 // "Restart: 14, 16, 17."
@@ -122,12 +134,9 @@ pub fn restart(hub: Hub, device: u8, setting: i16) -> Outcome
     requires { ⌜ Valid hub ⌝ }
     ensures { λ r. ⌜ Restarted hub device setting r ⌝ }
 {
-    let state = hub.state;
-    let step = events::restart(state, device, setting);
-    if settling::is_due(step) {
-        return settling::settled(step);
-    }
-    settling::unsettled(step)
+    let decision = decide_restart(hub, device, setting);
+    let routine = routine::empty();
+    carrying::carried_out(hub, decision, routine)
 }
 
 // N.
@@ -143,7 +152,7 @@ pub fn is_up(hub: Hub, device: u8) -> bool
     ensures { λ r. ⌜ r ≡ view hub .up device ⌝ }
 {
     let state = hub.state;
-    state::is_up(state, device)
+    readers::is_up(state, device)
 }
 
 // The due setting of a device. One that the hub does not have stands as at the opening.
@@ -152,7 +161,18 @@ pub fn due_setting(hub: Hub, device: u8) -> i16
     ensures { λ r. ⌜ r ≡ due (view hub) device ⌝ }
 {
     let state = hub.state;
-    state::due_setting(state, device)
+    let devices = state.device;
+    let stages = state.stage;
+    due::due_setting(state, &devices, &stages, device)
+}
+
+// The due settings of all devices, in one pass; past the last device as at the opening.
+pub fn due_settings(hub: Hub) -> [i16; MAX_DEVICES]
+    requires { ⌜ Valid hub ⌝ }
+    ensures { λ r. ⌜ settingsOf r ≡ due (view hub) ⌝ }
+{
+    let state = hub.state;
+    due::due_settings(state)
 }
 
 // A hub of no devices: one that is not opened. Every call on it is turned down.
@@ -160,4 +180,152 @@ pub fn closed() -> Hub
     ensures { λ r. ⌜ (Valid r) × (view r ≡ closedHub) × (TurnsAllDown (view r)) ⌝ }
 {
     opening::new_hub(0, 0, 1)
+}
+
+// ---- the same in two steps, for those who hold one hub and change it line by line: each call decides on a hub that stays as it is, and an applier makes the
+// next hub. An applier asks for a change that was decided on this very hub.
+
+// What a submission comes to.
+pub fn decide_submit(hub: Hub, routine: Routine) -> Decision
+    requires { ⌜ Valid hub ⌝ }
+    ensures { λ r. ⌜ Decides (hub .state) (commandsOf routine) r (submitOf (view hub) (commandsOf routine)) ⌝ }
+{
+    let state = hub.state;
+    submit::decide(state, routine)
+}
+
+// What a turn comes to.
+pub fn decide_turn(hub: Hub, id: u32) -> Decision
+    requires { ⌜ Valid hub ⌝ }
+    ensures { λ r. ⌜ Decides (hub .state) [] r (turnOf (view hub) id) ⌝ }
+{
+    let state = hub.state;
+    turn::decide(state, id)
+}
+
+// What a report comes to.
+pub fn decide_report(hub: Hub, id: u32, code: u8) -> Decision
+    requires { ⌜ Valid hub ⌝ }
+    ensures { λ r. ⌜ Decides (hub .state) [] r (reportOf (view hub) id code) ⌝ }
+{
+    let state = hub.state;
+    report::decide(state, id, code)
+}
+
+// What a cancel comes to.
+pub fn decide_cancel(hub: Hub, id: u32) -> Decision
+    requires { ⌜ Valid hub ⌝ }
+    ensures { λ r. ⌜ Decides (hub .state) [] r (cancelOf (view hub) id) ⌝ }
+{
+    let state = hub.state;
+    abort::decide_cancel(state, id)
+}
+
+// What a failure comes to.
+pub fn decide_failure(hub: Hub, device: u8) -> Decision
+    requires { ⌜ Valid hub ⌝ }
+    ensures { λ r. ⌜ Decides (hub .state) [] r (failureOf (view hub) device) ⌝ }
+{
+    let state = hub.state;
+    events::decide_failure(state, device)
+}
+
+// What a restart comes to.
+pub fn decide_restart(hub: Hub, device: u8, setting: i16) -> Decision
+    requires { ⌜ Valid hub ⌝ }
+    ensures { λ r. ⌜ Decides (hub .state) [] r (restartOf (view hub) device setting) ⌝ }
+{
+    let state = hub.state;
+    events::decide_restart(state, device, setting)
+}
+
+// A command comes to a stage.
+pub fn with_stage(hub: Hub, change: Staged) -> Hub
+    requires { ⌜ (Valid hub) × (StageOk (hub .state) change) ⌝ }
+    ensures { λ r. ⌜ (Valid r) × (view r ≡ staged (hub .state) change) ⌝ }
+{
+    let state = hub.state;
+    let next = apply::with_stage(state, change);
+    Hub { state: next }
+}
+
+// The routine in a slot commits.
+pub fn with_commit(hub: Hub, at: usize) -> Hub
+    requires { ⌜ (Valid hub) × (Stands (hub .state .links) at) ⌝ }
+    ensures { λ r. ⌜ (Valid r) × (view r ≡ committedAt (hub .state) at) ⌝ }
+{
+    let state = hub.state;
+    let next = apply::with_commit(state, at);
+    Hub { state: next }
+}
+
+// A routine joins the sequence behind a slot.
+pub fn with_routine(hub: Hub, after: u8, routine: Routine) -> Hub
+    requires { ⌜ (Valid hub) × (JoinOk (hub .state) (commandsOf routine) after) ⌝ }
+    ensures { λ r. ⌜ (Valid r) × (view r ≡ joinedBehind (hub .state) (commandsOf routine) after) ⌝ }
+{
+    let state = hub.state;
+    let next = apply::with_routine(state, after, routine);
+    Hub { state: next }
+}
+
+// The routine in a slot aborts.
+pub fn with_abort(hub: Hub, at: usize) -> Hub
+    requires { ⌜ (Valid hub) × (Stands (hub .state .links) at) ⌝ }
+    ensures { λ r. ⌜ (Valid r) × (view r ≡ leave (view hub) (there (hub .state) at)) ⌝ }
+{
+    let state = hub.state;
+    let after = abort::aborted(state, at);
+    let next = after.state;
+    Hub { state: next }
+}
+
+// A device fails; the routine in a slot aborts by that, if there is one.
+pub fn with_failure(hub: Hub, device: u8, gone: usize) -> Hub
+    requires { ⌜ (Valid hub) × (device < maxDevices) × (StandsOrPast (hub .state) gone) ⌝ }
+    ensures { λ r. ⌜ (Valid r) × (view r ≡ leftBy (downWith (view hub) device) (goneIn (hub .state) gone)) ⌝ }
+{
+    let state = hub.state;
+    let after = events::failed(state, device, gone);
+    let next = after.state;
+    Hub { state: next }
+}
+
+// A device restarts; the routine in a slot aborts by that, if there is one.
+pub fn with_restart(hub: Hub, device: u8, setting: i16, gone: usize) -> Hub
+    requires { ⌜ (Valid hub) × (device < maxDevices) × (isRestart setting ≡ true) × (StandsOrPast (hub .state) gone) ⌝ }
+    ensures { λ r. ⌜ (Valid r) × (view r ≡ upWith (leftBy (view hub) (goneIn (hub .state) gone)) device setting) ⌝ }
+{
+    let state = hub.state;
+    let after = events::restarted(state, device, setting, gone);
+    let next = after.state;
+    Hub { state: next }
+}
+
+// What a decision puts back: by the abort that it brings, or by its answer.
+pub fn put_backs(hub: Hub, decision: Decision) -> PutBacks
+    requires { ⌜ (Valid hub) × (LeavingOk (hub .state) (decision .change)) ⌝ }
+    ensures { λ r. ⌜ (BacksOk r) × (backsOf r ≡ backsOfDecision (hub .state) decision) ⌝ }
+{
+    let state = hub.state;
+    carrying::backs_of(state, decision)
+}
+
+// Is the first in the sequence committed?
+pub fn settles(hub: Hub) -> bool
+    requires { ⌜ Valid hub ⌝ }
+    ensures { λ r. ⌜ r ≡ firstCommitted (view hub .sequence) ⌝ }
+{
+    let state = hub.state;
+    settling::settles(state)
+}
+
+// The committed routines at the front settle.
+pub fn settled(hub: Hub) -> Hub
+    requires { ⌜ Valid hub ⌝ }
+    ensures { λ r. ⌜ (Valid r) × (view r ≡ settle (view hub)) ⌝ }
+{
+    let state = hub.state;
+    let next = settling::settled_state(state);
+    Hub { state: next }
 }

@@ -7,8 +7,11 @@ use routine::Verdict;
 use routine::refusals::DEVICES_OUT_OF_RANGE;
 use routine::refusals::FIRST_ID_0;
 use routine::refusals::PASS_LIMIT_OUT_OF_RANGE;
+use sequence::MAX_HELD;
 use sequence::keep;
 use state::HubState;
+use state::RESTARTS;
+use state::STEPS;
 ghost use mathlib.Core.Path.{_≡_};
 ghost use Prim.Native.Nat.{_<_, _≤_};
 ghost use Rattle.routine.specs.Routine.{maxDevices};
@@ -40,12 +43,23 @@ pub fn new_hub(devices: u8, pass_limit: u8, first_id: u32) -> Hub
     requires { ⌜ (devices ≤ maxDevices) × (0 < «first_id») ⌝ }
     ensures { λ r. ⌜ (Valid r) × (view r ≡ newHub devices «pass_limit» «first_id») ⌝ }
 {
-    let sequence = keep::empty();
+    let links = keep::empty();
     let state = HubState {
         devices,
         pass_limit,
         next_id: first_id as u64,
-        sequence,
+        links,
+        ids: [0; MAX_HELD],
+        passed: [0; MAX_HELD],
+        committed: [false; MAX_HELD],
+        counts: [0; MAX_HELD],
+        answered: [0; MAX_HELD],
+        due_then: [0; MAX_HELD],
+        device: [0; STEPS],
+        tag: [0; STEPS],
+        setting: [0; STEPS],
+        stage: [0; STEPS],
+        restarts: [0; RESTARTS],
         settled: [0; MAX_DEVICES],
         up: [true; MAX_DEVICES],
         mark: [0; MAX_DEVICES],

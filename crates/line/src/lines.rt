@@ -1,10 +1,15 @@
 // What a line does, and the device lines at the end.
 use answers::Answer;
+use answers::First;
+use answers::OneBack;
+use answers::PutBacks;
 use hub::Hub;
-use hub::Outcome;
 use line_reader::Call;
 use line_reader::Line;
+use line_printer::MAX_DEVICE_LINE;
 use routine::Routine;
+use routine::Verdict;
+use state::Decision;
 ghost use mathlib.Core.Path.{_≡_};
 ghost use Prim.Native.Nat.{_+_, _<_, _^_};
 ghost use Rattle.rules.specs.Calls.{resultOf};
@@ -31,18 +36,18 @@ pub fn heard(line: Line, devices: u8) -> Line
     line
 }
 
-// The call that a line makes.
-pub fn called(hub: Hub, call: Call, routine: Routine) -> Outcome
+// What the call that a line makes comes to.
+pub fn decided(hub: Hub, call: Call, routine: Routine) -> Decision
     requires { ⌜ Valid hub ⌝ }
-    ensures { λ r. ⌜ Gives hub r (resultOf (view hub) (callIn call routine)) ⌝ }
+    ensures { λ r. ⌜ Decides (hub .state) (commandsFor call routine) r (resultOf (view hub) (callIn call routine)) ⌝ }
 {
     match call {
-        Call::Submit => hub::submit(hub, routine),
-        Call::Turn(id) => hub::turn(hub, id),
-        Call::Report(id, code) => hub::report(hub, id, code),
-        Call::Cancel(id) => hub::cancel(hub, id),
-        Call::Fail(device) => hub::fail(hub, device),
-        Call::Restart(device, setting) => hub::restart(hub, device, setting),
+        Call::Submit => hub::decide_submit(hub, routine),
+        Call::Turn(id) => hub::decide_turn(hub, id),
+        Call::Report(id, code) => hub::decide_report(hub, id, code),
+        Call::Cancel(id) => hub::decide_cancel(hub, id),
+        Call::Fail(device) => hub::decide_failure(hub, device),
+        Call::Restart(device, setting) => hub::decide_restart(hub, device, setting),
     }
 }
 
@@ -59,27 +64,96 @@ pub fn keeps_hub(answer: Answer) -> bool
     true
 }
 
-// "one line a device, with its due setting if it is up"
-fn put_device(hub: Hub, device: u8, out: &mut [u8], at: usize) -> usize
-    requires { ⌜ (Valid hub) × (at + maxDeviceLine < 2 ^ 64) ⌝ }
-    ensures { λ r. ⌜ PutShort maxDeviceLine (now (out .entry)) (now (out .exit)) at r (asLine (deviceText (view hub) device)) ⌝ }
-{
-    let up = hub::is_up(hub, device);
-    let due = hub::due_setting(hub, device);
-    line_printer::put_device(out, at, device, up, due)
-}
-
-// "At the end, if a hub was opened, one line a device". No hub has no devices.
+// "At the end, if a hub was opened, one line a device". No hub has no devices. The due settings come from one pass along the sequence.
 pub fn put_devices(hub: Hub, out: &mut [u8], at: usize) -> usize
     requires { ⌜ (Valid hub) × (at + maxEnd < 2 ^ 64) ⌝ }
     ensures { λ r. ⌜ PutShort maxEnd (now (out .entry)) (now (out .exit)) at r (endText (hubIn hub)) ⌝ }
 {
+    let table = hub::due_settings(hub);
     let count = hub::device_count(hub);
+    let mut text = [0u8; MAX_DEVICE_LINE];
     let mut to = at;
-    let mut device = 0;
+    let mut device: u8 = 0;
     while device < count {
-        to = put_device(hub, device, out, to);
+        let d = device as usize;
+        let due = table[d];
+        let up = hub::is_up(hub, device);
+        let end = line_printer::put_device(&mut text, 0, device, up, due);
+        to = line_printer::put_text(out, to, &text[..end]);
         device += 1;
     }
     to
+}
+
+// A line: what of it is heard, the routine that it submits, and where it ends.
+pub struct NextLine {
+    pub said: Line,
+    pub routine: Routine,
+    pub end: usize,
+}
+
+pub fn next_line(input: &[u8], from: usize, devices: u8) -> NextLine
+{
+    let end = line_reader::line_end(input, from);
+    let read = line_reader::read_line(&input[from..end]);
+    let line = read.line;
+    let routine = read.routine;
+    let said = heard(line, devices);
+    NextLine { said, routine, end }
+}
+
+pub fn is_accepted(verdict: Verdict) -> bool
+{
+    let Verdict::Accepted = verdict else {
+        return false;
+    };
+    true
+}
+
+pub fn put_opening(text: &mut [u8], verdict: Verdict) -> usize
+{
+    match verdict {
+        Verdict::Accepted => line_printer::put_opened(text, 0),
+        Verdict::Refused(refusal) => line_printer::put_refusal(text, 0, refusal),
+    }
+}
+
+// Is this the decision of an abort, or of an event that brings one?
+fn aborts(decision: Decision) -> bool
+{
+    let first = decision.first;
+    let First::NoAbort = first else {
+        return true;
+    };
+    let answer = decision.answer;
+    let Answer::Aborted(_) = answer else {
+        return false;
+    };
+    true
+}
+
+// The answers of a call by which a routine aborts: the abort on a line, and behind it the answer of an event.
+fn put_aborts(text: &mut [u8], first: First, answer: Answer, backs: PutBacks) -> usize
+{
+    let First::Abort(id) = first else {
+        let Answer::Aborted(own) = answer else {
+            return line_printer::put_answer(text, 0, answer, OneBack::Nothing);
+        };
+        return line_printer::put_abort(text, 0, own, backs);
+    };
+    let at = line_printer::put_abort(text, 0, id, backs);
+    line_printer::put_answer(text, at, answer, OneBack::Nothing)
+}
+
+// The answers of a call.
+pub fn put_answers(text: &mut [u8], hub: Hub, decision: Decision) -> usize
+{
+    let first = decision.first;
+    let answer = decision.answer;
+    if aborts(decision) {
+        let backs = hub::put_backs(hub, decision);
+        return put_aborts(text, first, answer, backs);
+    }
+    let back = decision.back;
+    line_printer::put_answer(text, 0, answer, back)
 }

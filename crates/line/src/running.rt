@@ -7,7 +7,7 @@ use hub::Hub;
 use line_printer::MAX_TEXT;
 use line_reader::Line;
 use line_rules::LINE_END;
-use routine::Verdict;
+use state::Change;
 ghost use mathlib.Core.Path.{_≡_};
 ghost use mathlib.Core.Bool.{true};
 ghost use Prim.Native.Nat.{_<_, _≤_, _^_};
@@ -29,52 +29,55 @@ pub struct Lines {
     pub at: usize,
 }
 
-// Lines in turn, until what they print goes past the room. The hub is copied only where a line changes it.
+// Lines in turn, until what they print goes past the room. A line's text is put together in a buffer of its own, in which everything fits, and then copied. A
+// call decides on the hub as it is, its answers are put, and the arms of the match make the next hub: so it is changed in its place and not copied.
 pub fn run_lines(hub: Hub, input: &[u8], out: &mut [u8], room: usize) -> Lines
     requires { ⌜ (Valid hub) × (room < 2 ^ 63) ⌝ }
     ensures { λ r. ⌜ RunsLines hub (now (input .entry)) room (now (out .entry)) (now (out .exit)) r ⌝ }
 {
     let mut now = hub;
+    let mut text = [0u8; MAX_TEXT];
     let mut at = 0;
     let mut from = 0;
     while from < input.len() {
         if room < at {
             return Lines { hub: now, at };
         }
-        let end = line_reader::line_end(input, from);
-        let read = line_reader::read_line(&input[from..end]);
-        let line = read.line;
-        let said = lines::heard(line, hub::device_count(now));
+        let next = lines::next_line(input, from, hub::device_count(now));
+        let routine = next.routine;
+        let said = next.said;
+        let mut printed = line_printer::put_unread(&mut text, 0);
         match said {
             Line::Open(devices, pass_limit, first_id) => {
-                let opened = hub::open(devices, pass_limit, first_id);
-                let verdict = opened.verdict;
-                match verdict {
-                    Verdict::Accepted => {
-                        at = line_printer::put_opened(out, at);
-                        now = opened.hub;
-                    }
-                    Verdict::Refused(refusal) => {
-                        at = line_printer::put_refusal(out, at, refusal);
-                    }
+                let verdict = hub::check_opening(devices, pass_limit, first_id);
+                printed = lines::put_opening(&mut text, verdict);
+                if lines::is_accepted(verdict) {
+                    let opened = hub::open(devices, pass_limit, first_id);
+                    now = opened.hub;
                 }
             }
             Line::Calling(call) => {
-                let routine = read.routine;
-                let outcome = lines::called(now, call, routine);
-                let first = outcome.first;
-                let answer = outcome.answer;
-                let backs = outcome.backs;
-                at = line_printer::put_answers(out, at, first, answer, backs);
-                if !lines::keeps_hub(answer) {
-                    now = outcome.hub;
+                let decision = lines::decided(now, call, routine);
+                let answer = decision.answer;
+                let change = decision.change;
+                printed = lines::put_answers(&mut text, now, decision);
+                match change {
+                    Change::Nothing => {}
+                    Change::Stage(staged) => now = hub::with_stage(now, staged),
+                    Change::Commit(slot) => now = hub::with_commit(now, slot),
+                    Change::Join(after) => now = hub::with_routine(now, after, routine),
+                    Change::Abort(slot) => now = hub::with_abort(now, slot),
+                    Change::Fail(device, slot) => now = hub::with_failure(now, device, slot),
+                    Change::Restart(device, setting, slot) => now = hub::with_restart(now, device, setting, slot),
+                }
+                if !lines::keeps_hub(answer) && hub::settles(now) {
+                    now = hub::settled(now);
                 }
             }
-            Line::Unread => {
-                at = line_printer::put_unread(out, at);
-            }
+            Line::Unread => {}
         }
-        from = end + 1;
+        at = line_printer::put_text(out, at, &text[..printed]);
+        from = next.end + 1;
     }
     Lines { hub: now, at }
 }

@@ -47,7 +47,8 @@ unfoldable pub staged : HubState → Staged → State
 staged h c =
     let f = there h (c .at) in
     withMark
-    (change (stateOf h) f (withSteps (f .it) (setStatus (getD (h .answered) (c .at) 0) (statusOf (c .stage) (c .«due_then»)) (f .it .steps))))
+    (change (stateOf h) f
+    (withSteps (f .it) (setStatus (getD (h .answered) (c .at) 0) (statusOf (c .stage) (c .«due_then»)) (f .it .steps))))
     (if c .begins then put (stateOf h .mark) (c .device) (c .id) else stateOf h .mark)
 
 unfoldable pub committedAt : HubState → ℕ → State
@@ -162,7 +163,8 @@ settledUnlessNothing (Restart d v x) r = settling r
 abbrev pub resultBy : HubState → List Command → Decision → Result
 resultBy h cs d = settledUnlessNothing (d .change) (record { state = appliedTo h cs (d .change); answers = toldBy h d })
 
--- A decision on the state h: carried out, it gives what the rules give; and it can be carried out. Where the answer is a refusal or a wait, and only there, nothing changes.
+-- A decision on the state h: carried out, it gives what the rules give; and it can be carried out. Where the answer is a refusal or a wait,
+-- and only there, nothing changes.
 pub record Decides (h : HubState) (cs : List Command) (d : Decision) (result : Result) : Type 0 where
   pub change-ok : ChangeOk h cs (d .change)
   pub gives : resultBy h cs d ≡ result

@@ -1,6 +1,6 @@
-// The hub's state by value: rows over the slots of the sequence, whose order the links keep; and what a call comes to on it, as a decision. Document 01,
-// "Things and ranges" and "The steps". `specs/` reads the rows as the state of the rules, and a decision as their result. Only crate `hub` has a hub to give to
-// others; the crates of the calls decide on its state, and those of the appliers change it.
+// The hub's state by value: rows over the slots of the sequence, whose order the links keep; and what a call comes to on it, as a decision.
+// Document 01, "Things and ranges" and "The steps". `specs/` reads the rows as the state of the rules, and a decision as their result. Only
+// crate `hub` has a hub to give to others; the crates of the calls decide on its state, and those of the appliers change it.
 pub mod decisions;
 pub mod readers;
 
@@ -29,10 +29,10 @@ pub const SKIPPED: u8 = 3;
 // In the row of restarts, what stands at a device that has none. No setting is that high.
 pub const NO_RESTART: i16 = 32767;
 
-// N; K; the id that the next routine gets, one past the last when all are used up; the links. For each slot the id, how often it was passed, whether it is
-// committed, how many commands it has, how many of them, from the first on, are answered, and the due setting of the device of its command in flight when that
-// was sent. For each command its device, tag, setting and stage. For each slot and device the setting of the last restart attached to it. For each device what
-// the settled part leaves it at, whether it is up, and its mark.
+// N; K; the id that the next routine gets, one past the last when all are used up; the links. For each slot the id, how often it was
+// passed, whether it is committed, how many commands it has, how many of them, from the first on, are answered, and the due setting of the
+// device of its command in flight when that was sent. For each command its device, tag, setting and stage. For each slot and device the
+// setting of the last restart attached to it. For each device what the settled part leaves it at, whether it is up, and its mark.
 pub struct HubState {
     pub devices: u8,
     pub pass_limit: u8,
@@ -73,7 +73,8 @@ pub enum Open {
     InFlight(usize),
 }
 
-// The first command of the routine in a slot that is not answered comes to a stage; `begins`: the routine begins its device by that, which gets its mark.
+// The first command of the routine in a slot that is not answered comes to a stage; `begins`: the routine begins its device by that, which
+// gets its mark.
 pub struct Staged {
     pub at: usize,
     pub stage: u8,
@@ -83,8 +84,8 @@ pub struct Staged {
     pub id: u32,
 }
 
-// What a call changes, by slots of the state that it was decided on. `Join` has the slot that the newcomer follows, `Fail` and `Restart` the one that
-// aborts first; a number past the slots stands for none.
+// What a call changes, by slots of the state that it was decided on. `Join` has the slot that the newcomer follows, `Fail` and `Restart`
+// the one that aborts first; a number past the slots stands for none.
 pub enum Change {
     Nothing,
     Stage(Staged),
@@ -95,8 +96,8 @@ pub enum Change {
     Restart(u8, i16, usize),
 }
 
-// What a call comes to: the abort that comes first, if there is one, the answer, what the answer puts back, and the change. What an abort puts back is known
-// once it is carried out.
+// What a call comes to: the abort that comes first, if there is one, the answer, what the answer puts back, and the change. What an abort
+// puts back is known once it is carried out.
 pub struct Decision {
     pub first: First,
     pub answer: Answer,

@@ -40,7 +40,8 @@ pub fn id_ahead(state: HubState, at: usize) -> u32
     0
 }
 
-// The first command that is not answered: the one in flight, or the next. The row of stages is lent, so that it is taken out of the state once a call.
+// The first command that is not answered: the one in flight, or the next. The row of stages is lent, so that it is taken out of the state
+// once a call.
 pub fn open_at<'a>(state: HubState, stage: &'a [u8; STEPS], at: usize) -> Open
     requires { ⌜ (StateOk state) × (Stands (state .links) at) × (now stage ≡ state .stage) ⌝ }
     ensures { λ r. ⌜ OpenIs state at r ⌝ }

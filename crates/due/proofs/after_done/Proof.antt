@@ -1,61 +1,83 @@
+-- `due::after_done` meets its contract. The loop's invariant: the commands from the k-th on leave each device as all of them do. Assumes
+-- nothing.
+use borrow.Author.Needs.{needs}
+use native.Mathlib.Omega.{arith}
+use mathlib.Core.Path.{_≡_, ap, _∙_}
+use mathlib.Core.Logic.{⊎-elim}
+use Prim.Native.Nat.{_-_, _≤_, _<_}
+use lib.IntN.{pos}
+use lib.ListN.{getD, set}
+use mir.Val.{toZ, ofZ}
+use mir.Syntax.{w16}
+use Rattle.routine.specs.Routine.{maxDevices}
+use Rattle.due.proofs.Places.{DoneTo, done-yet, done-all, done-store, done-keep}
 use Rattle.due.proofs.after_done.Statement.{statement}
 use Rattle.due.proofs.after_done.Tie as tie
-use Rattle.due.proofs.after_done.Reads as reads
-use Rattle.due.proofs.after_done.Lts as lts
 
 abbrev Inv-loop : tie.InvT-loop
-Inv-loop device stage setting from end after₀ k₀ after k = ?
+Inv-loop device stage setting from end after₀ k₀ after k = (from ≤ k) × (k ≤ end) × DoneTo device stage setting from end after₀ k after
 
 abbrev μ-loop : tie.MeasureT-loop
-μ-loop device stage setting from end after₀ k₀ after k = ?
+μ-loop device stage setting from end after₀ k₀ after k = end - k
 
--- src/lib.rt:85:5
+-- the device of the next command
+below : (c : tie.In-loop Inv-loop μ-loop) → getD (c .before .before .args .device .now) (c .before .loop .k) 0 < maxDevices
+below c = let v = c .before .loop .inv in c .before .before .pre .2 (c .before .loop .k) (v .0) (c .loop-test .taken)
+
 loop-holds : tie.Need-loop-holds Inv-loop μ-loop
-loop-holds c = ?
+loop-holds c = (omega arith, c .pre .0, done-yet _ _ _ _ _ _ (search needs))
 
--- src/lib.rt:86:12
 element-copy-out-if1 : tie.Need-element-copy-out-if1 Inv-loop μ-loop
-element-copy-out-if1 c = ?
+element-copy-out-if1 c = search needs
 
--- src/lib.rt:87:21
 element-copy-out-d : tie.Need-element-copy-out-d Inv-loop μ-loop
-element-copy-out-d c = ?
+element-copy-out-d c = search needs
 
--- src/lib.rt:87:21
 cast-d : tie.Need-cast-d Inv-loop μ-loop
-cast-d c = ?
+cast-d c = let b = below (c .before .before .before) in omega arith
 
--- src/lib.rt:88:22
 mul-to : tie.Need-mul-to Inv-loop μ-loop
-mul-to c = ?
+mul-to c = search needs
 
--- src/lib.rt:88:22
 element-copy-out-to : tie.Need-element-copy-out-to Inv-loop μ-loop
-element-copy-out-to c = ?
+element-copy-out-to c = search needs
 
--- src/lib.rt:89:13
 mul-after : tie.Need-mul-after Inv-loop μ-loop
-mul-after c = ?
+mul-after c = let b = below (c .before .before .before .before) in omega arith
 
--- src/lib.rt:89:13
 array-set-from-after : tie.Need-array-set-from-after Inv-loop μ-loop
-array-set-from-after c = ?
+array-set-from-after c = below (c .before .before .before .before)
 
--- src/lib.rt:91:9
 add-k : tie.Need-add-k Inv-loop μ-loop
-add-k c = ?
+add-k c = search needs
 
--- src/lib.rt:85:5
 loop-less : tie.Need-loop-less Inv-loop μ-loop
-loop-less c = ?
+loop-less c = search needs
 
--- src/lib.rt:85:5
 loop-again : tie.Need-loop-again Inv-loop μ-loop
-loop-again c = ?
+loop-again c =
+    let l = c .before .before in
+    let v = l .before .loop .inv in
+    ⊎-elim
+    (λ w. let a = l .before .before .args in
+    let after = l .before .loop .after in
+    let at = getD (a .device .now) (l .before .loop .k) 0 in
+    let to = getD (a .setting .now) (l .before .loop .k) (pos 0) in
+    let b : toZ w16 (ofZ w16 to) ≡ to = search needs in
+    let e : c .if1 .after ≡ set after at to = w .3 ∙ ap (set after at) b in (
+      omega (arith, v .0),
+      omega (arith, l .loop-test .taken),
+      done-store (v .2) (l .loop-test .taken) e (w .0 .taken) (below l),
+    ))
+    (λ w. (
+      omega (arith, v .0),
+      omega (arith, l .loop-test .taken),
+      done-keep (v .2) (l .loop-test .taken) (w .1) (w .0 .left),
+    ))
+    (c .if1 .came)
 
--- src/lib.rt:72:1
 returns : tie.Need-returns Inv-loop μ-loop
-returns c = ?
+returns c = done-all (c .before .loop .inv .2) (c .loop-test .left)
 
 pub after-done-spec : {M : Type 1} → statement M
 after-done-spec =

@@ -1,57 +1,74 @@
+-- `due::after_restarts` meets its contract. The loop's invariant: the devices below d are at their restarts' settings. Assumes nothing.
+use borrow.Author.Needs.{needs}
+use native.Mathlib.Omega.{arith}
+use mathlib.Core.Path.{_≡_, ap, _∙_}
+use mathlib.Core.Logic.{⊎-elim}
+use Prim.Native.Nat.{_+_, _*_, _-_, _≤_}
+use lib.IntN.{pos}
+use lib.ListN.{getD, set}
+use mir.Val.{toZ, ofZ}
+use mir.Syntax.{w16}
+use Rattle.routine.specs.Routine.{maxDevices}
+use Rattle.due.proofs.Restarts.{restart-there, restart-absent, RestartsTo, restarts-yet, restart-store, restart-keep, restarts-all}
 use Rattle.due.proofs.after_restarts.Statement.{statement}
 use Rattle.due.proofs.after_restarts.Tie as tie
-use Rattle.due.proofs.after_restarts.Reads as reads
-use Rattle.due.proofs.after_restarts.Lts as lts
 
 abbrev Inv-loop : tie.InvT-loop
-Inv-loop restarts at from after₀ d₀ after d = ?
+Inv-loop restarts at from after₀ d₀ after d = (d ≤ maxDevices) × RestartsTo restarts at after₀ d after
 
 abbrev μ-loop : tie.MeasureT-loop
-μ-loop restarts at from after₀ d₀ after d = ?
+μ-loop restarts at from after₀ d₀ after d = maxDevices - d
 
--- src/lib.rt:101:16
 mul-from : tie.Need-mul-from Inv-loop μ-loop
-mul-from c = ?
+mul-from c = search needs
 
--- src/lib.rt:104:5
 loop-holds : tie.Need-loop-holds Inv-loop μ-loop
-loop-holds c = ?
+loop-holds c = (omega arith, restarts-yet _ _ _ (search needs))
 
--- src/lib.rt:105:32
-add-restart : tie.Need-add-restart Inv-loop μ-loop
-add-restart c = ?
+add-last : tie.Need-add-last Inv-loop μ-loop
+add-last c = search needs
 
--- src/lib.rt:105:23
-mul-restart : tie.Need-mul-restart Inv-loop μ-loop
-mul-restart c = ?
+mul-last : tie.Need-mul-last Inv-loop μ-loop
+mul-last c = search needs
 
--- src/lib.rt:105:23
-element-copy-out-restart : tie.Need-element-copy-out-restart Inv-loop μ-loop
-element-copy-out-restart c = ?
+element-copy-out-last : tie.Need-element-copy-out-last Inv-loop μ-loop
+element-copy-out-last c = search needs
 
--- src/lib.rt:107:13
 mul-after : tie.Need-mul-after Inv-loop μ-loop
-mul-after c = ?
+mul-after c = search needs
 
--- src/lib.rt:107:13
 array-set-from-after : tie.Need-array-set-from-after Inv-loop μ-loop
-array-set-from-after c = ?
+array-set-from-after c = search needs
 
--- src/lib.rt:109:9
 add-d : tie.Need-add-d Inv-loop μ-loop
-add-d c = ?
+add-d c = search needs
 
--- src/lib.rt:104:5
 loop-less : tie.Need-loop-less Inv-loop μ-loop
-loop-less c = ?
+loop-less c = search needs
 
--- src/lib.rt:104:5
 loop-again : tie.Need-loop-again Inv-loop μ-loop
-loop-again c = ?
+loop-again c =
+    let l = c .before .before in
+    let s = l .before .before in
+    let row = s .args .restarts .now in
+    let d = l .before .loop .d in
+    let now = l .before .loop .after in
+    let v = l .before .loop .inv in
+    let r = getD row (s .args .at * maxDevices + d) (pos 0) in
+    let b : toZ w16 (ofZ w16 r) ≡ r = search needs in
+    ⊎-elim
+    (λ w. let e : c .if1 .after ≡ set now d r = w .1 ∙ ap (set now d) b in (
+      omega (arith, l .loop-test .taken),
+      restart-store (v .1) r e (l .loop-test .taken) (restart-there row _ d (s .pre .1) (s .pre .0) (l .loop-test .taken) (w .0 .taken)),
+    ))
+    (λ w. (
+      omega (arith, l .loop-test .taken),
+      restart-keep (v .1) (w .1) (restart-absent row _ d (s .pre .1) (s .pre .0) (l .loop-test .taken) b (w .0 .left)),
+    ))
+    (c .if1 .came)
 
--- src/lib.rt:97:1
 returns : tie.Need-returns Inv-loop μ-loop
-returns c = ?
+returns c = restarts-all (c .before .loop .inv .1) (c .loop-test .left)
 
 pub after-restarts-spec : {M : Type 1} → statement M
 after-restarts-spec =
@@ -61,9 +78,9 @@ after-restarts-spec =
     μ-loop
     mul-from
     loop-holds
-    add-restart
-    mul-restart
-    element-copy-out-restart
+    add-last
+    mul-last
+    element-copy-out-last
     mul-after
     array-set-from-after
     add-d

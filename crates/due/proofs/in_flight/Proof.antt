@@ -1,81 +1,120 @@
+-- `due::in_flight` meets its contract. The loop's invariant: with the slots that are left, the row has the devices that all slots give.
+-- Assumes nothing.
+use borrow.Author.Needs.{needs}
+use native.Mathlib.Omega.{arith}
+use mathlib.Core.Path.{_∙_, fun-ext}
+use mathlib.Core.Logic.{⊎-elim}
+use Prim.Native.Nat.{_+_, _*_, _-_, _<_}
+use lib.ListN.{length, getD}
+use Rattle.routine.specs.Routine.{maxDevices, maxCommands}
+use Rattle.rules.specs.State.{maxHeld}
+use Rattle.sequence.specs.Links.{along, Walks, Stands}
+use Rattle.sequence.proofs.ReadLaws.{walks-behind}
+use Rattle.sequence.proofs.WalkLaws.{walks-spot, walks-next, walks-less}
+use Rattle.state.proofs.Members.{place-within, device-within}
+use Rattle.due.proofs.Slots.{Within, within-self, walk-within, walk-here, flights-along, FlightsTo, flights-yet, flights-end}
+use Rattle.due.proofs.Slots.{flights-past, flights-to-do, flights-put}
 use Rattle.due.proofs.in_flight.Statement.{statement}
 use Rattle.due.proofs.in_flight.Tie as tie
-use Rattle.due.proofs.in_flight.Reads as reads
-use Rattle.due.proofs.in_flight.Lts as lts
 
 abbrev Inv-loop : tie.InvT-loop
-Inv-loop behind counts answered device stage busy₀ i₀ busy i = ?
+Inv-loop behind counts answered device stage busy₀ i₀ busy i =
+    (Walks behind i) × (Within (along behind i) (along behind i₀)) × (FlightsTo behind counts answered device stage i₀ i busy)
 
 abbrev μ-loop : tie.MeasureT-loop
-μ-loop behind counts answered device stage busy₀ i₀ busy i = ?
+μ-loop behind counts answered device stage busy₀ i₀ busy i = length (along behind i)
 
--- src/lib.rt:151:17
+-- the slot that the walk has come to is held
+stands : (c : tie.In-loop Inv-loop μ-loop) →
+    Stands (c .before .before .before .before .before .before .before .before .before .args .state .links) (c .before .loop .i)
+stands c = let v = c .before .loop .inv in walk-here (v .0) (v .1) (c .loop-test .taken)
+
+-- the place of its first command that is not answered, and that command's device
+place : (c : tie.Then1 Inv-loop μ-loop) →
+    c .before .before .loop .i * maxCommands
+    + getD (c .before .before .before .before .before .before .before .before .before .before .args .state .answered)
+    (c .before .before .loop .i) 0
+    < maxHeld * maxCommands
+place c = let s = c .before .before .before .before .before .before .before .before .before .before in
+    place-within (s .args .state) _ (s .pre) (stands (c .before)) _ (c .if1 .taken)
+
+device : (c : tie.Then1 Inv-loop μ-loop) →
+    getD (c .before .before .before .before .before .before .before .before .before .before .args .state .device)
+    (c .before .before .loop .i * maxCommands
+    + getD (c .before .before .before .before .before .before .before .before .before .before .args .state .answered)
+    (c .before .before .loop .i) 0) 0
+    < maxDevices
+device c = let s = c .before .before .before .before .before .before .before .before .before .before in
+    device-within (s .args .state) _ (s .pre) (stands (c .before)) _ (c .if1 .taken)
+
 cast-i : tie.Need-cast-i Inv-loop μ-loop
-cast-i c = ?
+cast-i c = search needs
 
--- src/lib.rt:152:5
 loop-holds : tie.Need-loop-holds Inv-loop μ-loop
-loop-holds c = ?
+loop-holds c = let s = c .before .before .before .before .before .before .before in
+    (walks-behind _ (s .pre .links-ok), within-self _, flights-yet _ _ _ _ _ _)
 
--- src/lib.rt:153:12
 array-read-if1 : tie.Need-array-read-if1 Inv-loop μ-loop
-array-read-if1 c = ?
+array-read-if1 c = search needs
 
--- src/lib.rt:153:26
 array-read-if1-2 : tie.Need-array-read-if1-2 Inv-loop μ-loop
-array-read-if1-2 c = ?
+array-read-if1-2 c = search needs
 
--- src/lib.rt:154:21
 mul-k : tie.Need-mul-k Inv-loop μ-loop
-mul-k c = ?
+mul-k c = search needs
 
--- src/lib.rt:154:41
 array-read-k : tie.Need-array-read-k Inv-loop μ-loop
-array-read-k c = ?
+array-read-k c = search needs
 
--- src/lib.rt:154:41
 cast-k : tie.Need-cast-k Inv-loop μ-loop
-cast-k c = ?
+cast-k c = let h = place c in omega arith
 
--- src/lib.rt:154:21
 add-k : tie.Need-add-k Inv-loop μ-loop
-add-k c = ?
+add-k c = let h = place c in omega arith
 
--- src/lib.rt:155:16
 array-read-if2 : tie.Need-array-read-if2 Inv-loop μ-loop
-array-read-if2 c = ?
+array-read-if2 c = place c
 
--- src/lib.rt:156:25
 array-read-d : tie.Need-array-read-d Inv-loop μ-loop
-array-read-d c = ?
+array-read-d c = place (c .before)
 
--- src/lib.rt:156:25
 cast-d : tie.Need-cast-d Inv-loop μ-loop
-cast-d c = ?
+cast-d c = let h = device (c .before) in omega arith
 
--- src/lib.rt:157:17
 array-write-busy : tie.Need-array-write-busy Inv-loop μ-loop
-array-write-busy c = ?
+array-write-busy c = device (c .before)
 
--- src/lib.rt:160:13
 array-read-i : tie.Need-array-read-i Inv-loop μ-loop
-array-read-i c = ?
+array-read-i c = search needs
 
--- src/lib.rt:160:13
 cast-i-2 : tie.Need-cast-i-2 Inv-loop μ-loop
-cast-i-2 c = ?
+cast-i-2 c = let l = c .before in
+    let s = walks-spot (walks-next (l .before .loop .inv .0) (l .loop-test .taken) .1) in
+    omega arith
 
--- src/lib.rt:152:5
 loop-less : tie.Need-loop-less Inv-loop μ-loop
-loop-less c = ?
+loop-less c = let l = c .before in walks-less (l .before .loop .inv .0) (l .loop-test .taken)
 
--- src/lib.rt:152:5
 loop-again : tie.Need-loop-again Inv-loop μ-loop
-loop-again c = ?
+loop-again c =
+    let l = c .before in
+    let h = l .loop-test .taken in
+    let v = l .before .loop .inv in
+    let a = walks-next (v .0) h .1 in
+    let b = walk-within (v .0) (v .1) h in
+    ⊎-elim
+    (λ w. let i : tie.Then1 Inv-loop μ-loop = record { before = l; if1 = w .0 } in
+    (a, b, flights-put (v .0) (v .2) h (w .2) (w .0 .taken) (w .1 .taken) (device i)))
+    (⊎-elim
+    (λ w. (a, b, flights-to-do (v .0) (v .2) h (w .2) (w .1 .left)))
+    (λ w. (a, b, flights-past (v .0) (v .2) h (w .1) (w .0 .left))))
+    (c .if1 .came)
 
--- src/lib.rt:140:1
 returns : tie.Need-returns Inv-loop μ-loop
-returns c = ?
+returns c =
+    let s = c .before .before .before .before .before .before .before .before .before in
+    let v = c .before .loop .inv in
+    fun-ext (λ d. flights-end (v .0) (v .2) (c .loop-test .left) d ∙ flights-along _ (s .pre) d)
 
 pub in-flight-spec : {M : Type 1} → statement M
 in-flight-spec =

@@ -1,53 +1,58 @@
+-- `due::last_done` meets its contract. The loop's invariant: the commands from the k-th on leave the device as it was. Assumes nothing.
+use borrow.Author.Needs.{needs}
+use native.Mathlib.Omega.{arith}
+use Prim.Native.Nat.{_≤_}
+use Rattle.due.proofs.Places.{NoneFrom, none-yet, other-more, not-done-more, last-found, last-none}
+use mathlib.Core.Logic.{⊎-elim}
 use Rattle.due.proofs.last_done.Statement.{statement}
 use Rattle.due.proofs.last_done.Tie as tie
-use Rattle.due.proofs.last_done.Reads as reads
-use Rattle.due.proofs.last_done.Lts as lts
 
 abbrev Inv-loop : tie.InvT-loop
-Inv-loop device stage from end wanted k₀ k = ?
+Inv-loop device stage from end wanted k₀ k = (from ≤ k) × (k ≤ end) × NoneFrom device stage from end wanted k
 
 abbrev μ-loop : tie.MeasureT-loop
-μ-loop device stage from end wanted k₀ k = ?
+μ-loop device stage from end wanted k₀ k = k
 
--- src/lib.rt:30:5
 loop-holds : tie.Need-loop-holds Inv-loop μ-loop
-loop-holds c = ?
+loop-holds c = (c .pre .0, omega arith, none-yet)
 
--- src/lib.rt:31:19
 sub-if1 : tie.Need-sub-if1 Inv-loop μ-loop
-sub-if1 c = ?
+sub-if1 c = search needs
 
--- src/lib.rt:31:12
 element-copy-out-if1 : tie.Need-element-copy-out-if1 Inv-loop μ-loop
-element-copy-out-if1 c = ?
+element-copy-out-if1 c = search needs
 
--- src/lib.rt:32:22
 sub-if2 : tie.Need-sub-if2 Inv-loop μ-loop
-sub-if2 c = ?
+sub-if2 c = search needs
 
--- src/lib.rt:32:16
 element-copy-out-if2 : tie.Need-element-copy-out-if2 Inv-loop μ-loop
-element-copy-out-if2 c = ?
+element-copy-out-if2 c = search needs
 
--- src/lib.rt:33:17
 returns : tie.Need-returns Inv-loop μ-loop
-returns c = ?
+returns c =
+    let i = c .before .before in
+    let l = i .before .before in
+    let v = l .before .loop .inv in
+    last-found (v .2) (l .loop-test .taken) (v .1) (i .if1 .taken) (c .if2 .taken)
 
--- src/lib.rt:36:9
 sub-k : tie.Need-sub-k Inv-loop μ-loop
-sub-k c = ?
+sub-k c = search needs
 
--- src/lib.rt:30:5
 loop-less : tie.Need-loop-less Inv-loop μ-loop
-loop-less c = ?
+loop-less c = search needs
 
--- src/lib.rt:30:5
 loop-again : tie.Need-loop-again Inv-loop μ-loop
-loop-again c = ?
+loop-again c =
+    let l = c .before .before in
+    let v = l .before .loop .inv in (
+      omega (arith, l .loop-test .taken),
+      omega (arith, v .1),
+      ⊎-elim (λ w. not-done-more (v .2) (l .loop-test .taken) (w .2 .left)) (λ w. other-more (v .2) (l .loop-test .taken) (w .left))
+          (c .if1 .came),
+    )
 
--- src/lib.rt:25:1
 returns-2 : tie.Need-returns-2 Inv-loop μ-loop
-returns-2 c = ?
+returns-2 c = last-none (c .before .loop .inv .2) (c .before .before .pre .0) (c .loop-test .left)
 
 pub last-done-spec : {M : Type 1} → statement M
 last-done-spec =

@@ -1,20 +1,26 @@
+-- `state::is_up` meets its contract. Assumes nothing.
+use mathlib.Core.Path.{_≡_}
+use native.Mathlib.Omega.{arith}
 use borrow.Author.Needs.{needs}
+use lib.ListN.{length}
+use Rattle.routine.specs.Routine.{maxDevices}
+use Rattle.routine.proofs.Laws.{length-mapped}
+use Rattle.state.proofs.Members.{up-read, up-past}
 use Rattle.state.proofs.readers.is_up.Statement.{statement}
 use Rattle.state.proofs.readers.is_up.Tie as tie
-use Rattle.state.proofs.readers.is_up.Reads as reads
-use Rattle.state.proofs.readers.is_up.Lts as lts
 
--- src/readers.rt:22:9
+-- the row's length
+long : (c : tie.Start) → length (c .args .state .up) ≡ maxDevices
+long c = search (needs, length-mapped)
+
 returns : tie.Need-returns
-returns c = ?
+returns c = let n = long (c .before) in up-past _ _ (omega (arith, n, c .if1 .taken))
 
--- src/readers.rt:25:5
 array-read-result : tie.Need-array-read-result
 array-read-result c = search needs
 
--- src/readers.rt:17:1
 returns-2 : tie.Need-returns-2
-returns-2 c = ?
+returns-2 c = let n = long (c .before .before) in up-read _ _ _ (omega (arith, n, c .before .if1 .left))
 
 pub is-up-spec : {M : Type 1} → statement M
 is-up-spec = tie.close (tie.spec returns array-read-result returns-2)

@@ -1,0 +1,4 @@
+pub mod Tables
+pub mod Places
+pub mod Restarts
+pub mod Slots

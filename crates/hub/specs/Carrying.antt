@@ -1,0 +1,42 @@
+-- A decision carried out. Assumes nothing.
+use mathlib.Core.Path.{_≡_}
+use mathlib.Core.Bool.{Bool, true, false}
+use mathlib.Core.List.{List}
+use Prim.Native.Nat.{ℕ, _<_}
+use Rattle.routine.specs.Choice.{if_then_else_}
+use Rattle.routine.specs.Routine.{maxDevices}
+use Rattle.routine.specs.declared.Command.{Command}
+use Rattle.rules.specs.State.{State}
+use Rattle.answers.specs.View.{changesNothing}
+use Rattle.answers.specs.declared.Answer.{Answer}
+use Rattle.sequence.specs.Links.{Stands}
+use Rattle.state.specs.View.{isRestart, firstCommitted}
+use Rattle.state.specs.Contract.{appliedTo, StandsOrPast}
+use Rattle.state.specs.declared.HubState.{HubState}
+use Rattle.state.specs.declared.Change.{Change}
+use Rattle.state.specs.declared.Change.the-variants.{Nothing, Stage, Commit, Join, Abort, Fail, Restart}
+use Rattle.state.specs.declared.Decision.{Decision}
+use Rattle.hub.specs.View.{view}
+use Rattle.hub.specs.Valid.{Valid}
+use Rattle.hub.specs.declared.Hub.{Hub}
+
+-- What is asked of a change before it is told what it puts back: that of an abort.
+abbrev pub LeavingOk : HubState → Change → Type 0
+LeavingOk h Nothing = Unit {0}
+LeavingOk h (Stage c) = Unit {0}
+LeavingOk h (Commit x) = Unit {0}
+LeavingOk h (Join after) = Unit {0}
+LeavingOk h (Abort x) = Stands (h .links) x
+LeavingOk h (Fail d x) = (d < maxDevices) × StandsOrPast h x
+LeavingOk h (Restart d v x) = (d < maxDevices) × (isRestart v ≡ true) × StandsOrPast h x
+
+-- The change of a decision on hub h is carried out; where it changes nothing it is the same hub, whole.
+pub record Carries (h : Hub) (cs : List Command) (c : Change) (r : Hub) : Type 0 where
+  pub valid : Valid r
+  pub gives : view r ≡ appliedTo (h .state) cs c
+  pub same-hub : c ≡ Nothing → r ≡ h
+
+-- Does a routine settle after this answer? Document 01, "Settling": "After each call, while the first in the sequence is committed"; but a refusal and a wait
+-- change nothing.
+abbrev pub settlesAfter : Answer → State → Bool
+settlesAfter a s = if changesNothing a then false else firstCommitted (s .sequence)

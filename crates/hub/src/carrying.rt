@@ -1,0 +1,105 @@
+// A decision carried out, as one outcome: what it puts back, the change, and settling.
+use crate::Hub;
+use crate::Outcome;
+use answers::Answer;
+use answers::PutBacks;
+use routine::Routine;
+use state::Change;
+use state::Decision;
+use state::HubState;
+ghost use mathlib.Core.Path.{_≡_};
+ghost use Rattle.routine.specs.Routine.{commandsOf};
+ghost use Rattle.answers.specs.View.{backsOf, BacksOk};
+ghost use Rattle.state.specs.Valid.{StateOk};
+ghost use Rattle.state.specs.Contract.{ChangeOk, Decides, resultBy, backsOfDecision};
+ghost use Rattle.hub.specs.View.{view};
+ghost use Rattle.hub.specs.Valid.{Valid};
+ghost use Rattle.hub.specs.Contract.{Gives};
+ghost use Rattle.hub.specs.Carrying.{LeavingOk, Carries, settlesAfter};
+
+// What a decision puts back. What an abort does is known from the hub that it leaves.
+pub fn backs_of(state: HubState, decision: Decision) -> PutBacks
+    requires { ⌜ (StateOk state) × (LeavingOk state (decision .change)) ⌝ }
+    ensures { λ r. ⌜ (BacksOk r) × (backsOf r ≡ backsOfDecision state decision) ⌝ }
+{
+    let back = decision.back;
+    let change = decision.change;
+    match change {
+        Change::Nothing => answers::at_most_one(back),
+        Change::Stage(_) => answers::at_most_one(back),
+        Change::Commit(_) => answers::at_most_one(back),
+        Change::Join(_) => answers::at_most_one(back),
+        Change::Abort(at) => {
+            let after = abort::aborted(state, at);
+            after.backs
+        }
+        Change::Fail(device, gone) => {
+            let after = events::failed(state, device, gone);
+            after.backs
+        }
+        Change::Restart(device, setting, gone) => {
+            let after = events::restarted(state, device, setting, gone);
+            after.backs
+        }
+    }
+}
+
+// The hub after a change that was decided on it. It is not settled yet.
+fn changed(hub: Hub, change: Change, routine: Routine) -> Hub
+    requires { ⌜ (Valid hub) × (ChangeOk (hub .state) (commandsOf routine) change) ⌝ }
+    ensures { λ r. ⌜ Carries hub (commandsOf routine) change r ⌝ }
+{
+    match change {
+        Change::Nothing => hub,
+        Change::Stage(staged) => crate::with_stage(hub, staged),
+        Change::Commit(at) => crate::with_commit(hub, at),
+        Change::Join(after) => crate::with_routine(hub, after, routine),
+        Change::Abort(at) => crate::with_abort(hub, at),
+        Change::Fail(device, gone) => crate::with_failure(hub, device, gone),
+        Change::Restart(device, setting, gone) => crate::with_restart(hub, device, setting, gone),
+    }
+}
+
+// Does the hub settle after this answer? "After each call": a refusal and a wait change nothing, so that nothing settles after them.
+fn is_due(hub: Hub, answer: Answer) -> bool
+    requires { ⌜ Valid hub ⌝ }
+    ensures { λ r. ⌜ r ≡ settlesAfter answer (view hub) ⌝ }
+{
+    let Answer::Refused(_) = answer else {
+        let Answer::Wait(_, _) = answer else {
+            return crate::settles(hub);
+        };
+        return false;
+    };
+    false
+}
+
+// A hub with the answers of a decision.
+fn outcome_with(hub: Hub, decision: Decision, backs: PutBacks) -> Outcome
+    ensures { λ r. ⌜ (r .hub ≡ hub) × (r .first ≡ decision .first) × (r .answer ≡ decision .answer) × (r .backs ≡ backs) ⌝ }
+{
+    let first = decision.first;
+    let answer = decision.answer;
+    Outcome {
+        hub,
+        first,
+        answer,
+        backs,
+    }
+}
+
+// What is put back, the change, then settling.
+pub fn carried_out(hub: Hub, decision: Decision, routine: Routine) -> Outcome
+    requires { ⌜ (Valid hub) × (Decides (hub .state) (commandsOf routine) decision (resultBy (hub .state) (commandsOf routine) decision)) ⌝ }
+    ensures { λ r. ⌜ Gives hub r (resultBy (hub .state) (commandsOf routine) decision) ⌝ }
+{
+    let backs = crate::put_backs(hub, decision);
+    let change = decision.change;
+    let next = changed(hub, change, routine);
+    let answer = decision.answer;
+    if is_due(next, answer) {
+        let after = crate::settled(next);
+        return outcome_with(after, decision, backs);
+    }
+    outcome_with(next, decision, backs)
+}
