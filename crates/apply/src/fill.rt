@@ -8,6 +8,12 @@ use state::NO_RESTART;
 use state::RESTARTS;
 use state::STEPS;
 use state::TO_DO;
+ghost use Prim.Native.Nat.{_*_, _<_};
+ghost use lib.IntN.{pos};
+ghost use Rattle.routine.specs.Routine.{maxCommands, maxDevices};
+ghost use Rattle.rules.specs.State.{maxHeld};
+ghost use Rattle.state.specs.View.{toDoCode, noRestart};
+ghost use Rattle.apply.specs.Fill.{Fills, commandIn, CanFill, CanPassBehind, PassesBehind};
 
 // "Every running routine now behind it has been passed once more." The newcomer itself was not passed.
 pub fn passed_behind(
@@ -16,6 +22,8 @@ pub fn passed_behind(
     committed: [bool; MAX_HELD],
     slot: usize,
 ) -> [u8; MAX_HELD]
+    requires { ⌜ CanPassBehind row links committed slot ⌝ }
+    ensures { λ r. ⌜ PassesBehind row links committed slot r ⌝ }
 {
     let behind = links.behind;
     let mut passed = row;
@@ -30,7 +38,10 @@ pub fn passed_behind(
     passed
 }
 
+// The commands of a newcomer: their devices, their tags, their settings, each in a row of its own.
 pub fn with_devices(row: [u8; STEPS], slot: usize, routine: Routine) -> [u8; STEPS]
+    requires { ⌜ CanFill slot routine ⌝ }
+    ensures { λ r. ⌜ Fills 0 row (slot * maxCommands) (routine .count) (λ j. commandIn routine j .device) r ⌝ }
 {
     let commands = routine.commands;
     let count = routine.count;
@@ -47,6 +58,8 @@ pub fn with_devices(row: [u8; STEPS], slot: usize, routine: Routine) -> [u8; STE
 }
 
 pub fn with_tags(row: [u8; STEPS], slot: usize, routine: Routine) -> [u8; STEPS]
+    requires { ⌜ CanFill slot routine ⌝ }
+    ensures { λ r. ⌜ Fills 0 row (slot * maxCommands) (routine .count) (λ j. commandIn routine j .tag) r ⌝ }
 {
     let commands = routine.commands;
     let count = routine.count;
@@ -63,6 +76,8 @@ pub fn with_tags(row: [u8; STEPS], slot: usize, routine: Routine) -> [u8; STEPS]
 }
 
 pub fn with_settings(row: [i16; STEPS], slot: usize, routine: Routine) -> [i16; STEPS]
+    requires { ⌜ CanFill slot routine ⌝ }
+    ensures { λ r. ⌜ Fills (pos 0) row (slot * maxCommands) (routine .count) (λ j. commandIn routine j .setting) r ⌝ }
 {
     let commands = routine.commands;
     let count = routine.count;
@@ -80,6 +95,8 @@ pub fn with_settings(row: [i16; STEPS], slot: usize, routine: Routine) -> [i16; 
 
 // All commands of a newcomer are to do.
 pub fn with_to_do(row: [u8; STEPS], slot: usize) -> [u8; STEPS]
+    requires { ⌜ slot < maxHeld ⌝ }
+    ensures { λ r. ⌜ Fills 0 row (slot * maxCommands) maxCommands (λ j. toDoCode) r ⌝ }
 {
     let from = slot * MAX_COMMANDS;
     let mut filled = row;
@@ -93,6 +110,8 @@ pub fn with_to_do(row: [u8; STEPS], slot: usize) -> [u8; STEPS]
 
 // A newcomer has no restarts.
 pub fn without_restarts(row: [i16; RESTARTS], slot: usize) -> [i16; RESTARTS]
+    requires { ⌜ slot < maxHeld ⌝ }
+    ensures { λ r. ⌜ Fills noRestart row (slot * maxDevices) maxDevices (λ d. noRestart) r ⌝ }
 {
     let from = slot * MAX_DEVICES;
     let mut filled = row;

@@ -1,53 +1,53 @@
+-- `apply::fill::with_tags` meets its contract: with each round one entry more is filled in. Assumes nothing.
+use borrow.Author.Needs.{needs}
+use Prim.Native.Nat.{_*_, _-_, _≤_}
+use native.Mathlib.Omega.{arith}
+use mathlib.Core.Path.{_≡_, refl}
+use lib.ListN.{length, getD, length-set}
+use Rattle.routine.specs.Routine.{maxCommands, zeroCommand}
+use Rattle.rules.specs.State.{maxHeld}
+use Rattle.apply.specs.Fill.{Fills}
+use Rattle.apply.proofs.FillLaws.{fills-none, fills-more, fills-all}
 use Rattle.apply.proofs.fill.with_tags.Statement.{statement}
 use Rattle.apply.proofs.fill.with_tags.Tie as tie
-use Rattle.apply.proofs.fill.with_tags.Reads as reads
-use Rattle.apply.proofs.fill.with_tags.Lts as lts
 
 abbrev Inv-loop : tie.InvT-loop
-Inv-loop slot commands count from filled₀ j₀ filled j = ?
+Inv-loop slot commands count from filled₀ j₀ filled j = (length filled ≡ maxHeld * maxCommands) × (j ≤ count)
+    × (Fills 0 filled₀ (slot * maxCommands) j (λ i. getD commands i zeroCommand .tag) filled)
 
 abbrev μ-loop : tie.MeasureT-loop
-μ-loop slot commands count from filled₀ j₀ filled j = ?
+μ-loop slot commands count from filled₀ j₀ filled j = count - j
 
--- src/fill.rt:53:16
 mul-from : tie.Need-mul-from Inv-loop μ-loop
-mul-from c = ?
+mul-from c = search needs
 
--- src/fill.rt:56:5
 loop-holds : tie.Need-loop-holds Inv-loop μ-loop
-loop-holds c = ?
+loop-holds c = (search needs, omega arith, fills-none _ _ _ _)
 
--- src/fill.rt:57:23
 mul-command : tie.Need-mul-command Inv-loop μ-loop
-mul-command c = ?
+mul-command c = search needs
 
--- src/fill.rt:57:23
 array-copy-out-command : tie.Need-array-copy-out-command Inv-loop μ-loop
-array-copy-out-command c = ?
+array-copy-out-command c = search needs
 
--- src/fill.rt:59:16
 add-filled : tie.Need-add-filled Inv-loop μ-loop
-add-filled c = ?
+add-filled c = search needs
 
--- src/fill.rt:59:9
 array-write-filled : tie.Need-array-write-filled Inv-loop μ-loop
-array-write-filled c = ?
+array-write-filled c = search needs
 
--- src/fill.rt:60:9
 add-j : tie.Need-add-j Inv-loop μ-loop
-add-j c = ?
+add-j c = search needs
 
--- src/fill.rt:56:5
 loop-less : tie.Need-loop-less Inv-loop μ-loop
-loop-less c = ?
+loop-less c = search needs
 
--- src/fill.rt:56:5
 loop-again : tie.Need-loop-again Inv-loop μ-loop
-loop-again c = ?
+loop-again c = let v = c .before .before .loop .inv in
+    (simp length-set (v .0), omega arith, fills-more _ _ _ _ _ _ _ (v .2) (omega arith) refl)
 
--- src/fill.rt:49:1
 returns : tie.Need-returns Inv-loop μ-loop
-returns c = ?
+returns c = let v = c .before .loop .inv in fills-all _ _ _ _ _ _ _ (v .1) (c .loop-test .left) (v .2)
 
 pub with-tags-spec : {M : Type 1} → statement M
 with-tags-spec =

@@ -1,49 +1,51 @@
+-- `apply::fill::without_restarts` meets its contract: with each round one entry more is filled in. Assumes nothing.
+use borrow.Author.Needs.{needs}
+use Prim.Native.Nat.{_*_, _-_, _≤_}
+use native.Mathlib.Omega.{arith}
+use mathlib.Core.Path.{_≡_, refl}
+use lib.ListN.{length, length-set}
+use Rattle.routine.specs.Routine.{maxDevices}
+use Rattle.rules.specs.State.{maxHeld}
+use Rattle.state.specs.View.{noRestart}
+use Rattle.apply.specs.Fill.{Fills}
+use Rattle.apply.proofs.FillLaws.{fills-none, fills-more, fills-all}
 use Rattle.apply.proofs.fill.without_restarts.Statement.{statement}
 use Rattle.apply.proofs.fill.without_restarts.Tie as tie
-use Rattle.apply.proofs.fill.without_restarts.Reads as reads
-use Rattle.apply.proofs.fill.without_restarts.Lts as lts
 
 abbrev Inv-loop : tie.InvT-loop
-Inv-loop slot from filled₀ d₀ filled d = ?
+Inv-loop slot from filled₀ d₀ filled d = (length filled ≡ maxHeld * maxDevices) × (d ≤ maxDevices)
+    × (Fills noRestart filled₀ (slot * maxDevices) d (λ i. noRestart) filled)
 
 abbrev μ-loop : tie.MeasureT-loop
-μ-loop slot from filled₀ d₀ filled d = ?
+μ-loop slot from filled₀ d₀ filled d = maxDevices - d
 
--- src/fill.rt:97:16
 mul-from : tie.Need-mul-from Inv-loop μ-loop
-mul-from c = ?
+mul-from c = search needs
 
--- src/fill.rt:100:5
 loop-holds : tie.Need-loop-holds Inv-loop μ-loop
-loop-holds c = ?
+loop-holds c = (search needs, omega arith, fills-none _ _ _ _)
 
--- src/fill.rt:101:16
 add-filled : tie.Need-add-filled Inv-loop μ-loop
-add-filled c = ?
+add-filled c = search needs
 
--- src/fill.rt:101:9
 mul-filled : tie.Need-mul-filled Inv-loop μ-loop
-mul-filled c = ?
+mul-filled c = search needs
 
--- src/fill.rt:101:9
 array-set-of-filled : tie.Need-array-set-of-filled Inv-loop μ-loop
-array-set-of-filled c = ?
+array-set-of-filled c = search needs
 
--- src/fill.rt:102:9
 add-d : tie.Need-add-d Inv-loop μ-loop
-add-d c = ?
+add-d c = search needs
 
--- src/fill.rt:100:5
 loop-less : tie.Need-loop-less Inv-loop μ-loop
-loop-less c = ?
+loop-less c = search needs
 
--- src/fill.rt:100:5
 loop-again : tie.Need-loop-again Inv-loop μ-loop
-loop-again c = ?
+loop-again c = let v = c .before .loop .inv in
+    (simp length-set (v .0), omega arith, fills-more _ _ _ _ _ _ _ (v .2) (omega arith) refl)
 
--- src/fill.rt:95:1
 returns : tie.Need-returns Inv-loop μ-loop
-returns c = ?
+returns c = let v = c .before .loop .inv in fills-all _ _ _ _ _ _ _ (v .1) (c .loop-test .left) (v .2)
 
 pub without-restarts-spec : {M : Type 1} → statement M
 without-restarts-spec =

@@ -1,0 +1,3 @@
+pub mod FillLaws
+pub mod StageLaws
+pub mod PlaceLaws

@@ -1,0 +1,250 @@
+-- A command comes to a stage, or a routine commits: the slot's routine becomes another, and all others stay. Assumes nothing.
+use Prim.Native.Nat.{ℕ, suc, _+_, _*_, _<_}
+use native.Mathlib.Omega.{arith}
+use borrow.Author.Tests.{eq-eqb, ne-eqb}
+use mathlib.Core.Path.{_≡_, refl, sym, ap, subst, _∙_}
+use mathlib.Core.Bool.{Bool, true, false}
+use mathlib.Core.List.{List}
+use lib.Dec.{eqb}
+use lib.IntN.{ℤ, pos}
+use lib.ListN.{length, getD, set}
+use lib.Seq.{getD-set-same, getD-set-other}
+use Rattle.routine.specs.Choice.{if_then_else_}
+use Rattle.routine.specs.Routine.{maxCommands}
+use Rattle.routine.proofs.Laws.{byTest}
+use Rattle.rules.specs.State.{maxHeld, to-do, in-flight, was-done, was-skipped, Status, Member}
+use Rattle.rules.specs.Tables.{put}
+use Rattle.rules.specs.Progress.{isToDo, isAnswered, withSteps}
+use Rattle.rules.specs.Sequence.{withSequence, withMark}
+use Rattle.rules.specs.Turn.{commit}
+use Rattle.rules.proofs.Lists.{t≠f}
+use Rattle.sequence.specs.Links.{Stands}
+use Rattle.sequence.proofs.Tables.{fun-ext, byEq}
+use Rattle.state.specs.View.{inFlightCode, doneCode, toDoCode, statusOf, rowsOf, stepsAt, memberAt, stateOf, there, marksOf}
+use Rattle.state.specs.Valid.{AnsweredUpTo, SlotOk, StateOk}
+use Rattle.state.specs.Contract.{setStatus, staged, committedAt, StageOk}
+use Rattle.state.specs.declared.HubState.{HubState}
+use Rattle.state.specs.declared.Staged.{Staged}
+use Rattle.state.proofs.Steps.{each-setStatus, answered-next, sent-stays}
+use Rattle.state.proofs.Rows.{steps-outside, steps-staged}
+use Rattle.state.proofs.Members.{changed-held, length-steps, stands-below, counts-most, place-within}
+
+-- ---- a routine commits
+
+abbrev pub committedRow : HubState → List Bool → HubState
+committedRow h committed = record {
+  devices = h .devices;
+  «pass_limit» = h .«pass_limit»;
+  «next_id» = h .«next_id»;
+  links = h .links;
+  ids = h .ids;
+  passed = h .passed;
+  committed = committed;
+  counts = h .counts;
+  answered = h .answered;
+  «due_then» = h .«due_then»;
+  device = h .device;
+  tag = h .tag;
+  setting = h .setting;
+  stage = h .stage;
+  restarts = h .restarts;
+  settled = h .settled;
+  up = h .up;
+  mark = h .mark;
+}
+
+module _ (h : HubState) (x : ℕ) (v : StateOk h) (s : Stands (h .links) x) (n : length (h .committed) ≡ maxHeld) where
+  abbrev nowCommitted : HubState
+  nowCommitted = committedRow h (set (h .committed) x true)
+
+  commit-it : memberAt nowCommitted x ≡ commit (there h x .it)
+  unfolding memberAt stepsAt there commit
+  commit-it = let i = stands-below h x v s in rw (getD-set-same (h .committed) x true false (omega arith))
+
+  commit-others : (y : ℕ) → Stands (h .links) y → (y ≡ x → ⊥) → memberAt nowCommitted y ≡ memberAt h y
+  unfolding memberAt stepsAt
+  commit-others y t m = rw (getD-set-other (h .committed) x y true false m)
+
+  -- all but the one row is as it was
+  commit-valid : StateOk nowCommitted
+  unfolding stepsAt
+  commit-valid =
+      record {
+        devices-fit = v .devices-fit;
+        some-id = v .some-id;
+        ids-fit = v .ids-fit;
+        links-ok = v .links-ok;
+        slots-ok = λ y t. let w = v .slots-ok y t in
+            record { fits = w .fits; devices-fit = w .devices-fit; come-so-far = w .come-so-far; has-id = w .has-id };
+      }
+
+  pub commit-applied : (StateOk nowCommitted) × (stateOf nowCommitted ≡ committedAt h x)
+  unfolding stateOf committedAt
+  commit-applied = (
+    commit-valid,
+    ap (λ (l : List Member). withSequence (stateOf h) l) (changed-held h nowCommitted x v s commit-others _ refl commit-it),
+  )
+
+-- ---- a command comes to a stage
+
+-- the rows of stages and of due settings with the new entries; how many are answered, and the marks, are given
+abbrev pub stagedRows : HubState → Staged → List ℕ → List ℕ → HubState
+stagedRows h c answered mark = record {
+  devices = h .devices;
+  «pass_limit» = h .«pass_limit»;
+  «next_id» = h .«next_id»;
+  links = h .links;
+  ids = h .ids;
+  passed = h .passed;
+  committed = h .committed;
+  counts = h .counts;
+  answered = answered;
+  «due_then» = set (h .«due_then») (c .at) (c .«due_then»);
+  device = h .device;
+  tag = h .tag;
+  setting = h .setting;
+  stage = set (h .stage) (c .at * maxCommands + getD (h .answered) (c .at) 0) (c .stage);
+  restarts = h .restarts;
+  settled = h .settled;
+  up = h .up;
+  mark = mark;
+}
+
+-- one that was sent or answered: it is in flight, or answered
+sent-in-flight : (code : ℕ) (due : ℤ) → code ≡ inFlightCode → isAnswered (statusOf code due) ≡ false
+unfolding statusOf
+sent-in-flight code due e = rw e
+
+sent-answered : (code : ℕ) (due : ℤ) → isToDo (statusOf code due) ≡ false → (code ≡ inFlightCode → ⊥) →
+    isAnswered (statusOf code due) ≡ true
+unfolding statusOf
+sent-answered code due e n =
+    let later = if eqb code inFlightCode then in-flight due else if eqb code doneCode then was-done else was-skipped in
+    byTest (λ (t : Bool). isToDo (if t then to-do else later) ≡ false → isAnswered (if t then to-do else later) ≡ true)
+    (eqb code toDoCode)
+    (λ _ f. t≠f f)
+    (λ _ _. rw (ne-eqb code inFlightCode n)
+    (byTest (λ (t : Bool). isAnswered (if t then was-done else was-skipped) ≡ true) (eqb code doneCode) (λ _. refl) (λ _. refl)))
+    e
+
+module _ (h : HubState) (c : Staged) (v : StateOk h) (ok : StageOk h c) where
+  -- the status that it gets
+  abbrev newStatus : Status
+  newStatus = statusOf (c .stage) (c .«due_then»)
+
+  abbrev soFar : ℕ
+  soFar = getD (h .answered) (c .at) 0
+
+  -- How many are answered now, in each slot.
+  pub record AnsweredNow (answered : List ℕ) : Type 0 where
+    pub here : AnsweredUpTo (getD answered (c .at) 0) (setStatus soFar newStatus (stepsAt h (c .at)))
+    pub others : (y : ℕ) → (y ≡ c .at → ⊥) → getD answered y 0 ≡ getD (h .answered) y 0
+
+  few : soFar < length (stepsAt h (c .at))
+  few = omega (arith, ok .not-all, length-steps h (c .at))
+
+  come : AnsweredUpTo soFar (stepsAt h (c .at))
+  come = v .slots-ok (c .at) (ok .stands) .come-so-far
+
+  pub at-slot : c .at < maxHeld
+  at-slot = stands-below h (c .at) v (ok .stands)
+
+  -- the place of the stage
+  pub at-place : c .at * maxCommands + soFar < maxHeld * maxCommands
+  at-place = place-within h (c .at) v (ok .stands) soFar (ok .not-all)
+
+  pub not-all-answered : soFar < maxCommands
+  not-all-answered = omega (arith, ok .not-all, counts-most h (c .at) v (ok .stands))
+
+  pub one-more : (c .stage ≡ inFlightCode → ⊥) → length (h .answered) ≡ maxHeld → AnsweredNow (set (h .answered) (c .at) (soFar + 1))
+  one-more n l = let i = at-slot in
+      let e : getD (set (h .answered) (c .at) (soFar + 1)) (c .at) 0 ≡ suc soFar
+      = getD-set-same (h .answered) (c .at) (soFar + 1) 0 (omega arith) ∙ omega arith in
+      record {
+        here = rw e
+            (answered-next soFar (stepsAt h (c .at)) come newStatus
+            (sent-answered (c .stage) (c .«due_then») (ok .sent-or-answered) n) few);
+        others = λ y m. getD-set-other (h .answered) (c .at) y (soFar + 1) 0 m;
+      }
+
+  pub no-more : c .stage ≡ inFlightCode → AnsweredNow (h .answered)
+  no-more e =
+      record {
+        here = sent-stays soFar (stepsAt h (c .at)) come newStatus (sent-in-flight (c .stage) (c .«due_then») e) few;
+        others = λ y m. refl;
+      }
+
+  module _ (answered mark : List ℕ) (a : AnsweredNow answered)
+      (stage-long : length (h .stage) ≡ maxHeld * maxCommands) (due-long : length (h .«due_then») ≡ maxHeld)
+    where
+      abbrev nowStaged : HubState
+      nowStaged = stagedRows h c answered mark
+
+      steps-here : stepsAt nowStaged (c .at) ≡ setStatus soFar newStatus (stepsAt h (c .at))
+      unfolding stepsAt
+      steps-here =
+          let i = at-slot in
+          rw (getD-set-same (h .«due_then») (c .at) (c .«due_then») (pos 0) (omega arith))
+          (steps-staged (rowsOf h) _ _ (c .at * maxCommands) _ soFar (c .stage) come (ok .not-all) (omega (arith, at-place)))
+
+      steps-others : (y : ℕ) → Stands (h .links) y → (y ≡ c .at → ⊥) → stepsAt nowStaged y ≡ stepsAt h y
+      unfolding stepsAt
+      steps-others y t n =
+          let p = counts-most h (c .at) v (ok .stands) in
+          let q = counts-most h y v t in
+          let i = ok .not-all in
+          rw (getD-set-other (h .«due_then») (c .at) y (c .«due_then») (pos 0) n)
+          (steps-outside (rowsOf h) _ (y * maxCommands) (getD (h .counts) y 0) (c .at * maxCommands + soFar) (c .stage)
+          (λ d e. n (omega arith)))
+
+      stage-it : memberAt nowStaged (c .at) ≡ withSteps (there h (c .at) .it) (setStatus soFar newStatus (there h (c .at) .it .steps))
+      unfolding memberAt there
+      stage-it = λ i. withSteps (memberAt h (c .at)) (steps-here i)
+
+      stage-others : (y : ℕ) → Stands (h .links) y → (y ≡ c .at → ⊥) → memberAt nowStaged y ≡ memberAt h y
+      unfolding memberAt
+      stage-others y t n = λ i. withSteps (memberAt h y) (steps-others y t n i)
+
+      stage-slot : (y : ℕ) → Stands (h .links) y → SlotOk nowStaged y
+      stage-slot y t = let w = v .slots-ok y t in
+          byEq y (c .at)
+          (λ e. subst (SlotOk nowStaged) (sym e)
+          (record {
+            fits = counts-most h (c .at) v (ok .stands);
+            devices-fit =
+                rw steps-here (each-setStatus soFar newStatus (stepsAt h (c .at)) (v .slots-ok (c .at) (ok .stands) .devices-fit));
+            come-so-far = rw steps-here (a .here);
+            has-id = v .slots-ok (c .at) (ok .stands) .has-id;
+          }))
+          (λ n. record {
+            fits = w .fits;
+            devices-fit = rw (steps-others y t n) (w .devices-fit);
+            come-so-far = rw (steps-others y t n, a .others y n) (w .come-so-far);
+            has-id = w .has-id;
+          })
+
+      stage-valid : StateOk nowStaged
+      stage-valid =
+          record { devices-fit = v .devices-fit; some-id = v .some-id; ids-fit = v .ids-fit; links-ok = v .links-ok; slots-ok = stage-slot }
+
+      pub stage-applied : marksOf mark ≡ (if c .begins then put (marksOf (h .mark)) (c .device) (c .id) else marksOf (h .mark)) →
+          (StateOk nowStaged) × (stateOf nowStaged ≡ staged h c)
+      unfolding stateOf staged
+      stage-applied e = (
+        stage-valid,
+        (λ i. withMark (withSequence (stateOf h) (changed-held h nowStaged (c .at) v (ok .stands) stage-others _ refl stage-it i)) (e i)),
+      )
+
+-- ---- the marks
+
+pub begins-marks : (mark : List ℕ) (d id : ℕ) (t : Bool) → t ≡ true → d < length mark →
+    marksOf (set mark d id) ≡ (if t then put (marksOf mark) d id else marksOf mark)
+begins-marks mark d id t e h =
+    rw e
+    (fun-ext _ _
+    (λ x. byEq x d
+    (λ q. rw (q, eq-eqb d d refl) (getD-set-same mark d id 0 h))
+    (λ n. rw (ne-eqb x d n) (getD-set-other mark d x id 0 n))))
+
+pub same-marks : (mark : List ℕ) (d id : ℕ) (t : Bool) → t ≡ false → marksOf mark ≡ (if t then put (marksOf mark) d id else marksOf mark)
+same-marks mark d id t e = rw e
