@@ -1,8 +1,7 @@
--- What a leaving promises. Document 02, item 8: "A single placement or leaving changes no links but its own and its neighbours', and moves no other routine."
--- Assumes nothing.
+-- What a leaving promises. Document 02, item 8: "A single placement or leaving changes no links but its own and its neighbours', and moves
+-- no other routine." Assumes nothing.
 use mathlib.Core.Path.{_≡_}
 use mathlib.Core.List.{List, _++_}
-use mathlib.Core.Option.{Option}
 use Prim.Native.Nat.{ℕ}
 use lib.Dec.{eqb}
 use lib.IntN.{ℤ}
@@ -14,7 +13,8 @@ use Rattle.state.specs.View.{restartsAt, memberAt, stateOf, there}
 use Rattle.state.specs.Valid.{StateOk}
 use Rattle.state.specs.declared.HubState.{HubState}
 
--- A routine has left the links. `links`: of all links only its own and its neighbours' are others. `others`: every routine is in the slot where it was, unchanged.
+-- A routine has left the links. `links`: of all links only its own and its neighbours' are others. `others`: every routine is in the slot
+-- where it was, unchanged.
 pub record Unlinks (h : HubState) (at : ℕ) (r : HubState) : Type 0 where
   pub valid : StateOk r
   pub gives : stateOf r ≡ withSequence (stateOf h) (there h at .ahead ++ there h at .behind)

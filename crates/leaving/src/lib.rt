@@ -1,5 +1,5 @@
-// A routine leaves the sequence, by an abort or since it settles; restarts are attached; devices go down and up. Document 01, "Abort of R", "Failure or restart
-// of D" and "Settling".
+// A routine leaves the sequence, by an abort or since it settles; restarts are attached; devices go down and up. Document 01, "Abort of R",
+// "Failure or restart of D" and "Settling".
 pub mod settling;
 
 use routine::MAX_DEVICES;
@@ -120,7 +120,8 @@ pub fn attached(state: HubState, id: u32, device: u8, setting: i16) -> HubState
 // A device becomes up or down.
 pub fn with_up(state: HubState, device: u8, is_up: bool) -> HubState
     requires { ⌜ (StateOk state) × (device < maxDevices) ⌝ }
-    ensures { λ r. ⌜ (StateOk r) × (stateOf r ≡ withUp (stateOf state) (put (stateOf state .up) device «is_up»)) × (r .links ≡ state .links) × (there r ≡ there state) ⌝ }
+    ensures { λ r. ⌜ (StateOk r) × (stateOf r ≡ withUp (stateOf state) (put (stateOf state .up) device «is_up»)) × (r .links ≡ state .links)
+        × (there r ≡ there state) ⌝ }
 {
     let at = device as usize;
     let mut changed = state;

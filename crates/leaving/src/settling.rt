@@ -1,4 +1,5 @@
-// "while the first in the sequence is committed, it joins the settled part with its attached events, and marks equal to it become 0": document 01, "Settling".
+// "while the first in the sequence is committed, it joins the settled part with its attached events, and marks equal to it become 0":
+// document 01, "Settling".
 use crate::moved_marks;
 use routine::MAX_COMMANDS;
 use sequence::MAX_HELD;

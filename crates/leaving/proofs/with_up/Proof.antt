@@ -1,16 +1,28 @@
+-- `leaving::with_up` meets its contract. Assumes nothing.
 use borrow.Author.Needs.{needs}
+use mathlib.Core.Path.{_≡_, refl}
+use lib.ListN.{length}
+use native.Mathlib.Omega.{arith}
+use Rattle.routine.specs.Routine.{maxDevices}
+use Rattle.routine.proofs.Laws.{length-mapped}
+use Rattle.leaving.proofs.StateLaws.{valid-tables, up-gives, up-there}
 use Rattle.leaving.proofs.with_up.Statement.{statement}
 use Rattle.leaving.proofs.with_up.Tie as tie
-use Rattle.leaving.proofs.with_up.Reads as reads
-use Rattle.leaving.proofs.with_up.Lts as lts
 
--- src/lib.rt:127:5
 element-write-changed : tie.Need-element-write-changed
 element-write-changed c = search needs
 
--- src/lib.rt:121:1
 returns : tie.Need-returns
-returns c = ?
+returns c =
+    let a = c .args in
+    let n : length (a .state .up) ≡ maxDevices = search (needs, length-mapped) in
+    let d = c .pre .1 in (
+      valid-tables (a .state) _ _ _ _ (c .pre .0),
+      up-gives (a .state) (a .device) (a .is-up) (omega arith),
+      refl,
+      up-there (a .state)
+          (a .device) (a .is-up) (omega arith),
+    )
 
 pub with-up-spec : {M : Type 1} → statement M
 with-up-spec = tie.close (tie.spec element-write-changed returns)

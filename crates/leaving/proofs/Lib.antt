@@ -1,0 +1,5 @@
+pub mod MarkLaws
+pub mod RestartLaws
+pub mod StateLaws
+pub mod LeaveLaws
+pub mod SettleLaws
