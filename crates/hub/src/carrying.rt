@@ -29,18 +29,9 @@ pub fn backs_of(state: HubState, decision: Decision) -> PutBacks
         Change::Stage(_) => answers::at_most_one(back),
         Change::Commit(_) => answers::at_most_one(back),
         Change::Join(_) => answers::at_most_one(back),
-        Change::Abort(at) => {
-            let after = abort::aborted(state, at);
-            after.backs
-        }
-        Change::Fail(device, gone) => {
-            let after = events::failed(state, device, gone);
-            after.backs
-        }
-        Change::Restart(device, setting, gone) => {
-            let after = events::restarted(state, device, setting, gone);
-            after.backs
-        }
+        Change::Abort(at) => abort::backs_of(state, at),
+        Change::Fail(device, gone) => events::failure_backs(state, device, gone),
+        Change::Restart(_, _, gone) => events::backs_if(state, gone),
     }
 }
 

@@ -275,8 +275,7 @@ pub fn with_abort(hub: Hub, at: usize) -> Hub
     ensures { λ r. ⌜ (Valid r) × (view r ≡ leave (view hub) (there (hub .state) at)) ⌝ }
 {
     let state = hub.state;
-    let after = abort::aborted(state, at);
-    let next = after.state;
+    let next = leaving::left(state, at);
     Hub { state: next }
 }
 
@@ -286,8 +285,7 @@ pub fn with_failure(hub: Hub, device: u8, gone: usize) -> Hub
     ensures { λ r. ⌜ (Valid r) × (view r ≡ leftBy (downWith (view hub) device) (goneIn (hub .state) gone)) ⌝ }
 {
     let state = hub.state;
-    let after = events::failed(state, device, gone);
-    let next = after.state;
+    let next = events::with_failure(state, device, gone);
     Hub { state: next }
 }
 
@@ -297,8 +295,7 @@ pub fn with_restart(hub: Hub, device: u8, setting: i16, gone: usize) -> Hub
     ensures { λ r. ⌜ (Valid r) × (view r ≡ upWith (leftBy (view hub) (goneIn (hub .state) gone)) device setting) ⌝ }
 {
     let state = hub.state;
-    let after = events::restarted(state, device, setting, gone);
-    let next = after.state;
+    let next = events::with_restart(state, device, setting, gone);
     Hub { state: next }
 }
 

@@ -1,8 +1,8 @@
 -- What the searches promise. Assumes nothing.
 use mathlib.Core.Path.{_≡_}
-use mathlib.Core.Bool.{Bool, false, _||_}
+use mathlib.Core.Bool.{Bool, false, _&&_, _||_}
 use mathlib.Core.List.{List, map}
-use Prim.Native.Nat.{ℕ, zero, suc}
+use Prim.Native.Nat.{ℕ, zero, suc, _-_}
 use lib.Dec.{eqb}
 use lib.ListN.{getD}
 use Rattle.routine.specs.declared.Command.{Command}
@@ -11,7 +11,7 @@ use Rattle.rules.specs.Sequence.{find}
 use Rattle.rules.specs.Submit.{blocks, upToLast, pastLast}
 use Rattle.sequence.specs.Lists.{through, past}
 use Rattle.sequence.specs.Links.{none, slotsOf, StandsOrNone}
-use Rattle.state.specs.View.{memberAt, stateOf, foundAt}
+use Rattle.state.specs.View.{inFlightCode, marksOf, memberAt, stateOf, foundAt}
 use Rattle.state.specs.Valid.{PlaceOk}
 use Rattle.state.specs.declared.HubState.{HubState}
 use Rattle.state.specs.declared.Place.{Place}
@@ -24,10 +24,21 @@ pub record Finds (h : HubState) (p : Member → Bool) (r : Place) : Type 0 where
   pub place-ok : PlaceOk h r
   pub found : foundAt h r ≡ find p (stateOf h .sequence)
 
--- Is one of n entries of a row, from a place on, this device?
+-- Is one of n entries of a row, from a place on, this number?
 abbrev pub anyOn : List ℕ → ℕ → ℕ → ℕ → Bool
 anyOn row d k zero = false
 anyOn row d k (suc n) = eqb (getD row k 0) d || anyOn row d (suc k) n
+
+-- Of a routine whose commands stand from one place to another, those before `mid` answered and no other: is the device begun and not
+-- finished? One that is not answered is on it, and one before `mid` is, or the command at `mid` is, in flight.
+unfoldable pub between : List ℕ → List ℕ → ℕ → ℕ → ℕ → ℕ → Bool
+between device stage from mid end d =
+    anyOn device d mid (end - mid) &&
+    (anyOn device d from (mid - from) || (eqb (getD stage mid 0) inFlightCode && eqb (getD device mid 0) d))
+
+-- The marks of the devices of these commands, in turn.
+unfoldable pub marksFor : List ℕ → List Command → List ℕ
+marksFor row cs = map (λ c. marksOf row (c .device)) cs
 
 -- The slot of the last routine that a newcomer with these commands must follow; none for the settled part.
 pub record Latest (h : HubState) (cs : List Command) (after : ℕ) : Type 0 where

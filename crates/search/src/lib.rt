@@ -1,5 +1,5 @@
-// Searches along the links: for a routine, for the one to wait for, for the one that an event aborts, and for the one that a newcomer follows. They take the rows
-// that they read out of the state; the long rows of a call are lent to them.
+// Searches along the links: for a routine, for the one to wait for, for the one that an event aborts, and for the one that a newcomer
+// follows. They take the rows that they read out of the state; the long rows of a call are lent to them.
 use routine::MAX_COMMANDS;
 use routine::MAX_DEVICES;
 use routine::Routine;
@@ -13,20 +13,18 @@ use state::Place;
 use state::STEPS;
 ghost use mathlib.Core.Path.{_≡_};
 ghost use mathlib.Core.Option.{none};
-ghost use mathlib.Core.Bool.{_&&_, not};
-ghost use mathlib.Core.List.{map};
-ghost use Prim.Native.Nat.{_+_, _-_, _*_, _≤_, _<_};
-ghost use lib.ListN.{length, getD, take};
-ghost use Rattle.routine.specs.Routine.{maxCommands, maxDevices, commandsOf};
+ghost use Prim.Native.Nat.{_-_, _*_, _≤_};
+ghost use lib.ListN.{take};
+ghost use Rattle.routine.specs.Routine.{maxCommands, commandsOf};
 ghost use Rattle.rules.specs.State.{maxHeld};
 ghost use Rattle.rules.specs.Sequence.{runs};
 ghost use Rattle.rules.specs.Progress.{begun, flight};
 ghost use Rattle.rules.specs.Turn.{firstHolding};
 ghost use Rattle.rules.specs.Events.{isHalfway};
 ghost use Rattle.sequence.specs.Links.{Stands};
-ghost use Rattle.state.specs.View.{memberAt, stepsAt, stateOf, there, holderOf};
+ghost use Rattle.state.specs.View.{memberAt, stepsAt, there, holderOf};
 ghost use Rattle.state.specs.Valid.{StateOk, CommandsOk};
-ghost use Rattle.search.specs.Contract.{hasId, Finds, anyOn, Latest};
+ghost use Rattle.search.specs.Contract.{hasId, Finds, anyOn, between, marksFor, Latest};
 
 // The running routine with this id.
 pub fn running(state: HubState, id: u32) -> Place
@@ -67,8 +65,15 @@ pub fn with_id(state: HubState, id: u32) -> Place
     Place::Nowhere
 }
 
-// The wait search, "the first such id in the sequence": through the routines ahead, along the links, and the commands of each that are left.
-pub fn first_holder<'a>(state: HubState, device: &'a [u8; STEPS], stage: &'a [u8; STEPS], at: usize, wanted: u8) -> Holder
+// The wait search, "the first such id in the sequence": through the routines ahead, along the links, and the commands of each that are
+// left.
+pub fn first_holder<'a>(
+    state: HubState,
+    device: &'a [u8; STEPS],
+    stage: &'a [u8; STEPS],
+    at: usize,
+    wanted: u8,
+) -> Holder
     requires { ⌜ (StateOk state) × (Stands (state .links) at) × (now device ≡ state .device) × (now stage ≡ state .stage) ⌝ }
     ensures { λ r. ⌜ holderOf r ≡ firstHolding wanted (there state at .ahead) ⌝ }
 {
@@ -125,17 +130,27 @@ pub fn has_begun<'a>(state: HubState, device: &'a [u8; STEPS], at: usize, wanted
     is_on(device, from, end, wanted)
 }
 
-// Begun and not finished.
-fn is_between<'a>(device: &'a [u8; STEPS], stage: &'a [u8; STEPS], from: usize, open: usize, end: usize, wanted: u8) -> bool
+// Begun and not finished: those before `mid` are answered, and no other. Where one from `mid` on is on the device there is a command at
+// `mid`.
+fn is_between<'a>(
+    device: &'a [u8; STEPS],
+    stage: &'a [u8; STEPS],
+    from: usize,
+    mid: usize,
+    end: usize,
+    wanted: u8,
+) -> bool
+    requires { ⌜ (from ≤ mid) × (mid ≤ end) × (end ≤ maxHeld * maxCommands) ⌝ }
+    ensures { λ r. ⌜ r ≡ between (now (device .entry)) (now (stage .entry)) from mid end wanted ⌝ }
 {
-    if !is_on(device, open, end, wanted) {
+    if !is_on(device, mid, end, wanted) {
         return false;
     }
-    if is_on(device, from, open, wanted) {
+    if is_on(device, from, mid, wanted) {
         return true;
     }
-    if stage[open] == IN_FLIGHT {
-        return device[open] == wanted;
+    if stage[mid] == IN_FLIGHT {
+        return device[mid] == wanted;
     }
     false
 }
@@ -156,9 +171,9 @@ pub fn halfway(state: HubState, wanted: u8) -> Place
     while i < MAX_HELD {
         if !committed[i] {
             let from = i * MAX_COMMANDS;
-            let open = from + (answered[i] as usize);
+            let mid = from + (answered[i] as usize);
             let end = from + (counts[i] as usize);
-            if is_between(&device, &stage, from, open, end, wanted) {
+            if is_between(&device, &stage, from, mid, end, wanted) {
                 return Place::At(i);
             }
         }
@@ -169,6 +184,8 @@ pub fn halfway(state: HubState, wanted: u8) -> Place
 
 // The marks of a routine's devices.
 fn marks_of<'a>(marks: &'a [u32; MAX_DEVICES], routine: Routine) -> [u32; MAX_COMMANDS]
+    requires { ⌜ (routine .count ≤ maxCommands) × CommandsOk (commandsOf routine) ⌝ }
+    ensures { λ r. ⌜ take (routine .count) r ≡ marksFor (now (marks .entry)) (commandsOf routine) ⌝ }
 {
     let commands = routine.commands;
     let count = routine.count;
@@ -185,6 +202,8 @@ fn marks_of<'a>(marks: &'a [u32; MAX_DEVICES], routine: Routine) -> [u32; MAX_CO
 
 // Is an id among the first so many?
 fn has_id<'a>(ids: &'a [u32; MAX_COMMANDS], count: usize, id: u32) -> bool
+    requires { ⌜ count ≤ maxCommands ⌝ }
+    ensures { λ r. ⌜ r ≡ anyOn (now (ids .entry)) id 0 count ⌝ }
 {
     let mut j: usize = 0;
     while j < count {

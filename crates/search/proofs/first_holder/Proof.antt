@@ -1,119 +1,141 @@
+-- `search::first_holder` meets its contract. The outer loop seeks along the links, up to `at`; the inner one: what is left gives what the
+-- whole gives. Assumes nothing.
+use borrow.Author.Needs.{needs}
+use Prim.Native.Nat.{_-_, _*_, _≤_, _<_}
+use native.Mathlib.Omega.{arith}
+use mathlib.Core.Path.{_≡_, refl, sym, ap, _∙_}
+use mathlib.Core.Logic.{⊎-elim}
+use lib.ListN.{length, getD}
+use Rattle.routine.specs.Routine.{maxCommands}
+use Rattle.rules.specs.State.{maxHeld}
+use Rattle.sequence.specs.Links.{along}
+use Rattle.sequence.proofs.ReadLaws.{walks-behind}
+use Rattle.state.specs.View.{holderOf}
+use Rattle.state.specs.declared.Holder.the-variants.{Nobody}
+use Rattle.search.proofs.Slots.{Seeks, stopAt, seeks-start, seeks-there, seeks-on, seeks-less, seeks-spot}
+use Rattle.search.proofs.Commands.{anyAt, openAt, at-hit, at-on, at-end, open-here, open-other, open-answered}
+use Rattle.search.proofs.Laws.{openIn, open-start, holdsIn, holds-committed, holds-off, commands-fit, holder-slot, holder-nobody}
+use Rattle.search.proofs.Laws.{holder-found}
 use Rattle.search.proofs.first_holder.Statement.{statement}
 use Rattle.search.proofs.first_holder.Tie as tie
-use Rattle.search.proofs.first_holder.Reads as reads
-use Rattle.search.proofs.first_holder.Lts as lts
 
 abbrev Inv-loop : tie.InvT-loop
-Inv-loop device stage at wanted behind ids committed counts answered holder₀ i end k₀ holder k = ?
+Inv-loop device stage at wanted behind ids committed counts answered holder₀ i end k₀ holder k = (holder ≡ Nobody)
+    × (end ≤ maxHeld * maxCommands)
+    × (anyAt (openAt device stage wanted) k (end - k) ≡ openIn counts answered device stage wanted i)
 
 abbrev μ-loop : tie.MeasureT-loop
-μ-loop device stage at wanted behind ids committed counts answered holder₀ i end k₀ holder k = ?
+μ-loop device stage at wanted behind ids committed counts answered holder₀ i end k₀ holder k = end - k
 
 abbrev Inv-ahead : tie.InvT-ahead
-Inv-ahead device stage at wanted behind ids committed counts answered holder₀ i₀ holder i = ?
+Inv-ahead device stage at wanted behind ids committed counts answered holder₀ i₀ holder i = (holder ≡ Nobody)
+    × Seeks (stopAt at (holdsIn committed counts answered device stage wanted)) behind i₀ i
 
 abbrev μ-ahead : tie.MeasureT-ahead
-μ-ahead device stage at wanted behind ids committed counts answered holder₀ i₀ holder i = ?
+μ-ahead device stage at wanted behind ids committed counts answered holder₀ i₀ holder i = length (along behind i)
 
--- src/lib.rt:82:17
+-- the slot, and how many commands it has
+fits : (c : tie.In-ahead Inv-loop μ-loop Inv-ahead μ-ahead) →
+    let h = c .before .before .before .before .before .before .before .before .before .args .state in
+    let x = c .before .ahead .i in
+    (x < maxHeld) × (getD (h .answered) x 0 ≤ getD (h .counts) x 0) × (getD (h .counts) x 0 ≤ maxCommands)
+fits c =
+    let s = c .before .ahead .inv .1 in
+    let p = c .before .before .before .before .before .before .before .before .before .pre in
+    commands-fit _ (p .0) _ (seeks-there s (holder-slot _ (p .0) _ _ (p .2) (p .3) _ _ (p .1) s))
+
 cast-i : tie.Need-cast-i Inv-loop μ-loop Inv-ahead μ-ahead
-cast-i c = ?
+cast-i c = search needs
 
--- src/lib.rt:83:5
 ahead-holds : tie.Need-ahead-holds Inv-loop μ-loop Inv-ahead μ-ahead
-ahead-holds c = ?
+ahead-holds c = (refl, seeks-start _ _ _ (walks-behind _ (c .before .before .before .before .before .before .before .pre .0 .links-ok)))
 
--- src/lib.rt:84:13
 array-read-if1 : tie.Need-array-read-if1 Inv-loop μ-loop Inv-ahead μ-ahead
-array-read-if1 c = ?
+array-read-if1 c = fits c .0
 
--- src/lib.rt:85:23
 mul-end : tie.Need-mul-end Inv-loop μ-loop Inv-ahead μ-ahead
-mul-end c = ?
+mul-end c = let f = fits (c .before) in omega (arith, f .0)
 
--- src/lib.rt:85:43
 array-read-end : tie.Need-array-read-end Inv-loop μ-loop Inv-ahead μ-ahead
-array-read-end c = ?
+array-read-end c = fits (c .before) .0
 
--- src/lib.rt:85:43
 cast-end : tie.Need-cast-end Inv-loop μ-loop Inv-ahead μ-ahead
-cast-end c = ?
+cast-end c = let f = fits (c .before) in omega arith
 
--- src/lib.rt:85:23
 add-end : tie.Need-add-end Inv-loop μ-loop Inv-ahead μ-ahead
-add-end c = ?
+add-end c = let f = fits (c .before) in omega arith
 
--- src/lib.rt:86:25
 mul-k : tie.Need-mul-k Inv-loop μ-loop Inv-ahead μ-ahead
-mul-k c = ?
+mul-k c = let f = fits (c .before) in omega (arith, f .0)
 
--- src/lib.rt:86:45
 array-read-k : tie.Need-array-read-k Inv-loop μ-loop Inv-ahead μ-ahead
-array-read-k c = ?
+array-read-k c = fits (c .before) .0
 
--- src/lib.rt:86:45
 cast-k : tie.Need-cast-k Inv-loop μ-loop Inv-ahead μ-ahead
-cast-k c = ?
+cast-k c = let f = fits (c .before) in omega arith
 
--- src/lib.rt:86:25
 add-k : tie.Need-add-k Inv-loop μ-loop Inv-ahead μ-ahead
-add-k c = ?
+add-k c = let f = fits (c .before) in omega arith
 
--- src/lib.rt:87:13
 loop-holds : tie.Need-loop-holds Inv-loop μ-loop Inv-ahead μ-ahead
-loop-holds c = ?
+loop-holds c = let f = fits (c .before) in (c .before .before .ahead .inv .0, omega arith, open-start _ _ _ _ _ _)
 
--- src/lib.rt:88:20
 element-copy-out-if2 : tie.Need-element-copy-out-if2 Inv-loop μ-loop Inv-ahead μ-ahead
-element-copy-out-if2 c = ?
+element-copy-out-if2 c = omega (arith, c .loop-test .taken, c .before .loop .inv .1)
 
--- src/lib.rt:89:24
 element-copy-out-if3 : tie.Need-element-copy-out-if3 Inv-loop μ-loop Inv-ahead μ-ahead
-element-copy-out-if3 c = ?
+element-copy-out-if3 c = let l = c .before .before in omega (arith, l .loop-test .taken, l .before .loop .inv .1)
 
--- src/lib.rt:90:50
 mul-t35 : tie.Need-mul-t35 Inv-loop μ-loop Inv-ahead μ-ahead
-mul-t35 c = ?
+mul-t35 c = let f = fits (c .before .before .before .before .before .before .before) in omega (arith, f .0)
 
--- src/lib.rt:90:50
 array-read-t38 : tie.Need-array-read-t38 Inv-loop μ-loop Inv-ahead μ-ahead
-array-read-t38 c = ?
+array-read-t38 c = fits (c .before .before .before .before .before .before .before) .0
 
--- src/lib.rt:94:17
 add-k-2 : tie.Need-add-k-2 Inv-loop μ-loop Inv-ahead μ-ahead
-add-k-2 c = ?
+add-k-2 c = let l = c .before .before in omega (arith, l .loop-test .taken, l .before .loop .inv .1)
 
--- src/lib.rt:87:13
 loop-less : tie.Need-loop-less Inv-loop μ-loop Inv-ahead μ-ahead
-loop-less c = ?
+loop-less c = omega (arith, c .before .before .loop-test .taken)
 
--- src/lib.rt:87:13
 loop-again : tie.Need-loop-again Inv-loop μ-loop Inv-ahead μ-ahead
-loop-again c = ?
+loop-again c = let l = c .before .before in
+    let v = l .before .loop .inv in
+    let o = ⊎-elim (λ w. open-answered _ _ _ _ (w .2 .left)) (λ w. open-other _ _ _ _ (w .left)) (c .if2 .came) in
+    (v .0, v .1, at-on _ _ _ (l .loop-test .taken) o ∙ v .2)
 
--- src/lib.rt:97:13
 array-read-i : tie.Need-array-read-i Inv-loop μ-loop Inv-ahead μ-ahead
-array-read-i c = ?
+array-read-i c = fits (c .before) .0
 
--- src/lib.rt:97:13
 cast-i-2 : tie.Need-cast-i-2 Inv-loop μ-loop Inv-ahead μ-ahead
-cast-i-2 c = ?
+cast-i-2 c = let s = seeks-spot (c .before .before .ahead .inv .1) (fits (c .before) .0) in omega arith
 
--- src/lib.rt:83:5
 ahead-less : tie.Need-ahead-less Inv-loop μ-loop Inv-ahead μ-ahead
-ahead-less c = ?
+ahead-less c = seeks-less (c .before .before .ahead .inv .1) (fits (c .before) .0)
 
--- src/lib.rt:83:5
 ahead-again : tie.Need-ahead-again Inv-loop μ-loop Inv-ahead μ-ahead
-ahead-again c = ?
+ahead-again c = let w = c .before .before .ahead .inv in
+    let n = c .before .ahead-test .taken in (
+      ⊎-elim (λ p. p .3 ∙ p .1 .inv .0) (λ p. p .1 ∙ w .0) (c .if1 .came),
+      seeks-on (w .1) (fits (c .before) .0)
+          (⊎-elim (λ p. holds-off _ _ _ _ _ _ _ _ n (sym (p .1 .inv .2) ∙ at-end _ _ _ (p .2 .left)))
+          (λ p. holds-committed _ _ _ _ _ _ _ _ n (p .0 .left))
+          (c .if1 .came)),
+    )
 
--- src/lib.rt:71:1
 returns : tie.Need-returns Inv-loop μ-loop Inv-ahead μ-ahead
-returns c = ?
+returns c = let w = c .before .ahead .inv in
+    let p = c .before .before .before .before .before .before .before .before .before .pre in
+    ap holderOf (w .0) ∙ holder-nobody _ (p .0) _ _ (p .2) (p .3) _ _ (p .1) (w .1) (c .ahead-test .left)
 
--- src/lib.rt:71:1
 returns-2 : tie.Need-returns-2 Inv-loop μ-loop Inv-ahead μ-ahead
-returns-2 c = ?
+returns-2 c = let l = c .before .before .before .before in
+    let v = l .before .loop .inv in
+    let t = l .before .before in
+    let a = t .before in
+    let p = a .before .before .before .before .before .before .before .before .before .pre in
+    holder-found _ (p .0) _ _ (p .2) (p .3) _ _ (p .1) (a .before .ahead .inv .1) (a .ahead-test .taken) (t .if1 .taken)
+    (sym (v .2) ∙ at-hit _ _ _ (l .loop-test .taken) (open-here _ _ _ _ (c .before .before .if2 .taken) (c .if3 .taken)))
 
 pub first-holder-spec : {M : Type 1} → statement M
 first-holder-spec =

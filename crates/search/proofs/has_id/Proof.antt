@@ -1,45 +1,46 @@
+-- `search::has_id` meets its contract. The loop: what is left gives what the whole gives. Assumes nothing.
+use borrow.Author.Needs.{needs}
+use Prim.Native.Nat.{_-_}
+use native.Mathlib.Omega.{arith}
+use borrow.Author.Tests.{eq-eqb, ne-eqb}
+use mathlib.Core.Path.{_≡_, sym, _∙_}
+use Rattle.search.specs.Contract.{anyOn}
+use Rattle.search.proofs.Commands.{anyAt, onAt, at-hit, at-on, at-end, on-at}
 use Rattle.search.proofs.has_id.Statement.{statement}
 use Rattle.search.proofs.has_id.Tie as tie
-use Rattle.search.proofs.has_id.Reads as reads
-use Rattle.search.proofs.has_id.Lts as lts
 
 abbrev Inv-loop : tie.InvT-loop
-Inv-loop ids count id j₀ j = ?
+Inv-loop ids count id j₀ j = anyAt (onAt ids id) j (count - j) ≡ anyOn ids id 0 count
 
 abbrev μ-loop : tie.MeasureT-loop
-μ-loop ids count id j₀ j = ?
+μ-loop ids count id j₀ j = count - j
 
--- src/lib.rt:190:5
 loop-holds : tie.Need-loop-holds Inv-loop μ-loop
-loop-holds c = ?
+loop-holds c = let e : c .args .count - 0 ≡ c .args .count = omega arith in
+    rw e (on-at (c .args .ids .now) (c .args .id) 0 (c .args .count))
 
--- src/lib.rt:191:12
 mul-if1 : tie.Need-mul-if1 Inv-loop μ-loop
-mul-if1 c = ?
+mul-if1 c = search needs
 
--- src/lib.rt:191:12
 element-copy-out-if1 : tie.Need-element-copy-out-if1 Inv-loop μ-loop
-element-copy-out-if1 c = ?
+element-copy-out-if1 c = omega (arith, c .before .before .pre)
 
--- src/lib.rt:192:13
 returns : tie.Need-returns Inv-loop μ-loop
-returns c = ?
+returns c = let l = c .before .before in
+    sym (at-hit _ _ _ (l .loop-test .taken) (eq-eqb _ _ (c .if1 .taken))) ∙ l .before .loop .inv
 
--- src/lib.rt:194:9
 add-j : tie.Need-add-j Inv-loop μ-loop
-add-j c = ?
+add-j c = search needs
 
--- src/lib.rt:190:5
 loop-less : tie.Need-loop-less Inv-loop μ-loop
-loop-less c = ?
+loop-less c = omega (arith, c .before .before .loop-test .taken)
 
--- src/lib.rt:190:5
 loop-again : tie.Need-loop-again Inv-loop μ-loop
-loop-again c = ?
+loop-again c = let l = c .before .before in
+    at-on _ _ _ (l .loop-test .taken) (ne-eqb _ _ (c .if1 .left)) ∙ l .before .loop .inv
 
--- src/lib.rt:187:1
 returns-2 : tie.Need-returns-2 Inv-loop μ-loop
-returns-2 c = ?
+returns-2 c = sym (at-end _ _ _ (c .loop-test .left)) ∙ c .before .loop .inv
 
 pub has-id-spec : {M : Type 1} → statement M
 has-id-spec =

@@ -1,41 +1,42 @@
+-- `search::is_on` meets its contract. The loop: what is left gives what the whole gives. Assumes nothing.
+use borrow.Author.Needs.{needs}
+use Prim.Native.Nat.{_-_}
+use native.Mathlib.Omega.{arith}
+use borrow.Author.Tests.{eq-eqb, ne-eqb}
+use mathlib.Core.Path.{_≡_, sym, _∙_}
+use Rattle.search.specs.Contract.{anyOn}
+use Rattle.search.proofs.Commands.{anyAt, onAt, at-hit, at-on, at-end, on-at}
 use Rattle.search.proofs.is_on.Statement.{statement}
 use Rattle.search.proofs.is_on.Tie as tie
-use Rattle.search.proofs.is_on.Reads as reads
-use Rattle.search.proofs.is_on.Lts as lts
 
 abbrev Inv-loop : tie.InvT-loop
-Inv-loop device from end wanted k₀ k = ?
+Inv-loop device from end wanted k₀ k = anyAt (onAt device wanted) k (end - k) ≡ anyOn device wanted from (end - from)
 
 abbrev μ-loop : tie.MeasureT-loop
-μ-loop device from end wanted k₀ k = ?
+μ-loop device from end wanted k₀ k = end - k
 
--- src/lib.rt:108:5
 loop-holds : tie.Need-loop-holds Inv-loop μ-loop
-loop-holds c = ?
+loop-holds c = on-at (c .args .device .now) (c .args .wanted) (c .args .from) (c .args .end - c .args .from)
 
--- src/lib.rt:109:12
 element-copy-out-if1 : tie.Need-element-copy-out-if1 Inv-loop μ-loop
-element-copy-out-if1 c = ?
+element-copy-out-if1 c = omega (arith, c .before .before .pre .1)
 
--- src/lib.rt:110:13
 returns : tie.Need-returns Inv-loop μ-loop
-returns c = ?
+returns c = let l = c .before .before in
+    sym (at-hit _ _ _ (l .loop-test .taken) (eq-eqb _ _ (c .if1 .taken))) ∙ l .before .loop .inv
 
--- src/lib.rt:112:9
 add-k : tie.Need-add-k Inv-loop μ-loop
-add-k c = ?
+add-k c = search needs
 
--- src/lib.rt:108:5
 loop-less : tie.Need-loop-less Inv-loop μ-loop
-loop-less c = ?
+loop-less c = omega (arith, c .before .before .loop-test .taken)
 
--- src/lib.rt:108:5
 loop-again : tie.Need-loop-again Inv-loop μ-loop
-loop-again c = ?
+loop-again c = let l = c .before .before in
+    at-on _ _ _ (l .loop-test .taken) (ne-eqb _ _ (c .if1 .left)) ∙ l .before .loop .inv
 
--- src/lib.rt:103:1
 returns-2 : tie.Need-returns-2 Inv-loop μ-loop
-returns-2 c = ?
+returns-2 c = sym (at-end _ _ _ (c .loop-test .left)) ∙ c .before .loop .inv
 
 pub is-on-spec : {M : Type 1} → statement M
 is-on-spec =

@@ -1,53 +1,50 @@
+-- `search::with_id` meets its contract. The loop seeks along the links. Assumes nothing.
+use borrow.Author.Needs.{needs}
+use native.Mathlib.Omega.{arith}
+use lib.ListN.{length}
+use Rattle.sequence.specs.Links.{along}
+use Rattle.sequence.proofs.ReadLaws.{walks-behind}
+use Rattle.search.proofs.Slots.{Seeks, seeks-start, seeks-on, seeks-less, seeks-spot}
+use Rattle.search.proofs.Laws.{idIn, id-other, id-at, id-nowhere}
 use Rattle.search.proofs.with_id.Statement.{statement}
 use Rattle.search.proofs.with_id.Tie as tie
-use Rattle.search.proofs.with_id.Reads as reads
-use Rattle.search.proofs.with_id.Lts as lts
 
 abbrev Inv-loop : tie.InvT-loop
-Inv-loop id behind ids i₀ i = ?
+Inv-loop id behind ids i₀ i = Seeks (idIn ids id) behind i₀ i
 
 abbrev μ-loop : tie.MeasureT-loop
-μ-loop id behind ids i₀ i = ?
+μ-loop id behind ids i₀ i = length (along behind i)
 
--- src/lib.rt:60:17
 cast-i : tie.Need-cast-i Inv-loop μ-loop
-cast-i c = ?
+cast-i c = search needs
 
--- src/lib.rt:61:5
 loop-holds : tie.Need-loop-holds Inv-loop μ-loop
-loop-holds c = ?
+loop-holds c = seeks-start _ _ _ (walks-behind _ (c .before .before .before .before .pre .links-ok))
 
--- src/lib.rt:62:12
 mul-if1 : tie.Need-mul-if1 Inv-loop μ-loop
-mul-if1 c = ?
+mul-if1 c = search needs
 
--- src/lib.rt:62:12
 array-read-if1 : tie.Need-array-read-if1 Inv-loop μ-loop
-array-read-if1 c = ?
+array-read-if1 c = search needs
 
--- src/lib.rt:63:13
 returns : tie.Need-returns Inv-loop μ-loop
-returns c = ?
+returns c = let l = c .before in
+    id-at _ (l .before .before .before .before .before .before .pre) _ (l .before .loop .inv) (l .loop-test .taken) (c .if1 .taken)
 
--- src/lib.rt:65:13
 array-read-i : tie.Need-array-read-i Inv-loop μ-loop
-array-read-i c = ?
+array-read-i c = search needs
 
--- src/lib.rt:65:13
 cast-i-2 : tie.Need-cast-i-2 Inv-loop μ-loop
-cast-i-2 c = ?
+cast-i-2 c = let s = seeks-spot (c .before .before .loop .inv) (c .before .loop-test .taken) in omega arith
 
--- src/lib.rt:61:5
 loop-less : tie.Need-loop-less Inv-loop μ-loop
-loop-less c = ?
+loop-less c = seeks-less (c .before .before .loop .inv) (c .before .loop-test .taken)
 
--- src/lib.rt:61:5
 loop-again : tie.Need-loop-again Inv-loop μ-loop
-loop-again c = ?
+loop-again c = seeks-on (c .before .before .loop .inv) (c .before .loop-test .taken) (id-other _ _ _ (c .if1 .left))
 
--- src/lib.rt:53:1
 returns-2 : tie.Need-returns-2 Inv-loop μ-loop
-returns-2 c = ?
+returns-2 c = id-nowhere _ (c .before .before .before .before .before .before .pre) _ (c .before .loop .inv) (c .loop-test .left)
 
 pub with-id-spec : {M : Type 1} → statement M
 with-id-spec =

@@ -1,0 +1,4 @@
+pub mod Slots
+pub mod Back
+pub mod Commands
+pub mod Laws
