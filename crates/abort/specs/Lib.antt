@@ -1,2 +1,1 @@
 pub mod PutBacks
-pub mod Contract

@@ -15,12 +15,15 @@ use Rattle.abort.specs.declared.Tables.{Tables}
 
 -- Is D put back? By the tables: it is up, no other routine's command is in flight on it, and its due setting changed or R had one.
 abbrev pub isBackBy : Tables → ℕ → Bool
-isBackBy t d = upOf (t .up) d && not (flagsOf (t .others) d) && (not (sameSetting (settingsOf (t .before) d) (settingsOf (t .after) d)) || flagsOf (t .own) d)
+isBackBy t d =
+    upOf (t .up) d && not (flagsOf (t .others) d) &&
+    (not (sameSetting (settingsOf (t .before) d) (settingsOf (t .after) d)) || flagsOf (t .own) d)
 
 -- By rising device: those of the `left` devices from d on that pass the test, each with its setting.
 abbrev pub backsBy : (ℕ → Bool) → (ℕ → ℤ) → ℕ → ℕ → List Back
 backsBy p setting d zero = []
-backsBy p setting d (suc left) = if p d then record { device = d; setting = setting d } ∷ backsBy p setting (suc d) left else backsBy p setting (suc d) left
+backsBy p setting d (suc left) = if p d then record { device = d; setting = setting d } ∷ backsBy p setting (suc d) left
+    else backsBy p setting (suc d) left
 
 -- The tables of an abort of the routine in a slot, which took the hub from h to g.
 pub record TablesAre (h : HubState) (x : ℕ) (g : HubState) (t : Tables) : Type 0 where

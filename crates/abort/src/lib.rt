@@ -1,4 +1,5 @@
-// Document 01, "Abort of R" and "Cancel aborts R". The abort is carried out here: what it puts back is known from the due settings before and after it.
+// Document 01, "Abort of R" and "Cancel aborts R": what an abort puts back, from the due settings before and after it. How the routine leaves stands in crate
+// `leaving`.
 use answers::Answer;
 use answers::PutBack;
 use answers::PutBacks;
@@ -14,6 +15,7 @@ use state::readers;
 ghost use mathlib.Core.Path.{_≡_};
 ghost use mathlib.Core.Bool.{not, _&&_, _||_};
 ghost use mathlib.Core.List.{[]};
+ghost use mathlib.Core.Option.{some};
 ghost use Prim.Native.Nat.{_≤_};
 ghost use Rattle.routine.specs.Routine.{maxDevices};
 ghost use Rattle.rules.specs.Tables.{sameSetting};
@@ -21,17 +23,10 @@ ghost use Rattle.rules.specs.Progress.{inFlightOn};
 ghost use Rattle.rules.specs.Cancel.{cancelOf};
 ghost use Rattle.sequence.specs.Links.{Stands};
 ghost use Rattle.answers.specs.View.{backsOf, BacksOk};
-ghost use Rattle.state.specs.View.{settingsOf, flagsOf, memberAt, stateOf};
+ghost use Rattle.state.specs.View.{settingsOf, flagsOf, memberAt, stateOf, there};
 ghost use Rattle.state.specs.Valid.{StateOk};
-ghost use Rattle.state.specs.Contract.{Decides};
-ghost use Rattle.abort.specs.Contract.{Aborts};
+ghost use Rattle.state.specs.Contract.{backsLeft, Decides};
 ghost use Rattle.abort.specs.PutBacks.{isBackBy, backsBy, TablesAre};
-
-// The hub that an abort leaves, and what it puts back.
-pub struct AfterAbort {
-    pub state: HubState,
-    pub backs: PutBacks,
-}
 
 // The tables that tell which devices are put back: up; with a command in flight of those left, and of the one that left; and due before and after.
 pub struct Tables {
@@ -122,15 +117,15 @@ fn tables_of(state: HubState, at: usize, gone: HubState) -> Tables
     }
 }
 
-pub fn aborted(state: HubState, at: usize) -> AfterAbort
+// What the abort of the routine in a slot puts back.
+pub fn backs_of(state: HubState, at: usize) -> PutBacks
     requires { ⌜ (StateOk state) × (Stands (state .links) at) ⌝ }
-    ensures { λ r. ⌜ Aborts state at r ⌝ }
+    ensures { λ r. ⌜ (BacksOk r) × (backsOf r ≡ backsLeft (stateOf state) (some (there state at))) ⌝ }
 {
     let gone = leaving::left(state, at);
     let tables = tables_of(state, at, gone);
     let devices = state.devices;
-    let backs = put_backs(devices, tables);
-    AfterAbort { state: gone, backs }
+    put_backs(devices, tables)
 }
 
 // "Cancel: 10."

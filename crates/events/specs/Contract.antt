@@ -4,15 +4,12 @@ use mathlib.Core.List.{List, [], _∷_}
 use mathlib.Core.Option.{Option, none, some}
 use Prim.Native.Nat.{ℕ}
 use Rattle.rules.specs.Answers.{Back, Answer as Told, aborted}
-use Rattle.rules.specs.State.{State}
 use Rattle.rules.specs.Sequence.{Found, find}
 use Rattle.rules.specs.Events.{isHalfway}
-use Rattle.answers.specs.View.{backsOf, BacksOk, firstOf}
+use Rattle.answers.specs.View.{firstOf}
 use Rattle.state.specs.View.{stateOf}
-use Rattle.state.specs.Valid.{StateOk}
 use Rattle.state.specs.Contract.{goneIn, leftBy, StandsOrPast}
 use Rattle.state.specs.declared.HubState.{HubState}
-use Rattle.abort.specs.declared.AfterAbort.{AfterAbort}
 use Rattle.events.specs.declared.EventAbort.{EventAbort}
 
 -- The abort that is told first.
@@ -26,10 +23,3 @@ pub record IsHalfway (h : HubState) (device : ℕ) (r : EventAbort) : Type 0 whe
   pub gone-is : goneIn h (r .gone) ≡ find (isHalfway device) (stateOf h .sequence)
   pub first-is : (l : List Back) → firstOf (r .first) l ≡ abortTold (goneIn h (r .gone)) l
   pub mark-is : r .mark ≡ leftBy (stateOf h) (goneIn h (r .gone)) .mark device
-
--- This state, and this is put back.
-pub record Leaves (s : State) (backs : List Back) (a : AfterAbort) : Type 0 where
-  pub valid : StateOk (a .state)
-  pub gives : stateOf (a .state) ≡ s
-  pub backs-fit : BacksOk (a .backs)
-  pub backs-are : backsOf (a .backs) ≡ backs

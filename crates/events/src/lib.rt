@@ -1,8 +1,8 @@
 // Document 01, "Failure or restart of D". Refusals: failure 14, 15; restart 14, 16, 17.
-use abort::AfterAbort;
 use answers::Answer;
 use answers::First;
 use answers::OneBack;
+use answers::PutBacks;
 use routine::refusals::EVENT_DEVICE;
 use routine::refusals::FAILURE_OF_DOWN;
 use routine::refusals::RESTART_OF_UP;
@@ -20,10 +20,11 @@ ghost use mathlib.Core.List.{[]};
 ghost use Prim.Native.Nat.{_<_};
 ghost use Rattle.routine.specs.Routine.{maxDevices};
 ghost use Rattle.rules.specs.Events.{failureOf, restartOf};
+ghost use Rattle.answers.specs.View.{backsOf, BacksOk};
 ghost use Rattle.state.specs.View.{isRestart, stateOf};
 ghost use Rattle.state.specs.Valid.{StateOk};
 ghost use Rattle.state.specs.Contract.{goneIn, leftBy, backsLeft, downWith, upWith, StandsOrPast, Decides};
-ghost use Rattle.events.specs.Contract.{IsHalfway, Leaves};
+ghost use Rattle.events.specs.Contract.{IsHalfway};
 
 // The routine that an event aborts, by its slot, MAX_HELD if it aborts none; the abort as it is told; and the device's mark after it.
 pub struct EventAbort {
@@ -107,40 +108,51 @@ pub fn decide_restart(state: HubState, device: u8, setting: i16) -> Decision
     }
 }
 
-// The abort that comes first, if there is one.
-fn abort_if(state: HubState, gone: usize) -> AfterAbort
+// What the abort that comes first puts back, if there is one.
+pub fn backs_if(state: HubState, gone: usize) -> PutBacks
     requires { ⌜ (StateOk state) × (StandsOrPast state gone) ⌝ }
-    ensures { λ r. ⌜ Leaves (leftBy (stateOf state) (goneIn state gone)) (backsLeft (stateOf state) (goneIn state gone)) r ⌝ }
+    ensures { λ r. ⌜ (BacksOk r) × (backsOf r ≡ backsLeft (stateOf state) (goneIn state gone)) ⌝ }
 {
     if gone < MAX_HELD {
-        return abort::aborted(state, gone);
+        return abort::backs_of(state, gone);
     }
-    let backs = answers::no_backs();
-    AfterAbort { state, backs }
+    answers::no_backs()
 }
 
 // "On a failure D first becomes down." Then the abort.
-pub fn failed(state: HubState, device: u8, gone: usize) -> AfterAbort
+pub fn with_failure(state: HubState, device: u8, gone: usize) -> HubState
     requires { ⌜ (StateOk state) × (device < maxDevices) × (StandsOrPast state gone) ⌝ }
-    ensures { λ r. ⌜ Leaves (leftBy (downWith (stateOf state) device) (goneIn state gone))
-        (backsLeft (downWith (stateOf state) device) (goneIn state gone)) r ⌝ }
+    ensures { λ r. ⌜ (StateOk r) × (stateOf r ≡ leftBy (downWith (stateOf state) device) (goneIn state gone)) ⌝ }
+{
+    let mut next = leaving::with_up(state, device, false);
+    if gone < MAX_HELD {
+        let left = leaving::left(next, gone);
+        next = left;
+    }
+    next
+}
+
+// What a failure puts back: its device is down by then.
+pub fn failure_backs(state: HubState, device: u8, gone: usize) -> PutBacks
+    requires { ⌜ (StateOk state) × (device < maxDevices) × (StandsOrPast state gone) ⌝ }
+    ensures { λ r. ⌜ (BacksOk r) × (backsOf r ≡ backsLeft (downWith (stateOf state) device) (goneIn state gone)) ⌝ }
 {
     let down = leaving::with_up(state, device, false);
-    abort_if(down, gone)
+    backs_if(down, gone)
 }
 
 // The abort; the event is attached to D's mark; "On a restart D then becomes up at the setting it reports."
-pub fn restarted(state: HubState, device: u8, setting: i16, gone: usize) -> AfterAbort
+pub fn with_restart(state: HubState, device: u8, setting: i16, gone: usize) -> HubState
     requires { ⌜ (StateOk state) × (device < maxDevices) × (isRestart setting ≡ true) × (StandsOrPast state gone) ⌝ }
-    ensures { λ r. ⌜ Leaves (upWith (leftBy (stateOf state) (goneIn state gone)) device setting)
-        (backsLeft (stateOf state) (goneIn state gone)) r ⌝ }
+    ensures { λ r. ⌜ (StateOk r) × (stateOf r ≡ upWith (leftBy (stateOf state) (goneIn state gone)) device setting) ⌝ }
 {
-    let after = abort_if(state, gone);
-    let left = after.state;
-    let backs = after.backs;
-    let marks = left.mark;
+    let mut next = state;
+    if gone < MAX_HELD {
+        let left = leaving::left(next, gone);
+        next = left;
+    }
+    let marks = next.mark;
     let d = device as usize;
-    let with_it = leaving::attached(left, marks[d], device, setting);
-    let up = leaving::with_up(with_it, device, true);
-    AfterAbort { state: up, backs }
+    let with_it = leaving::attached(next, marks[d], device, setting);
+    leaving::with_up(with_it, device, true)
 }

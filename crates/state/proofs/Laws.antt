@@ -46,12 +46,12 @@ all-backs (b ∷ l) = ap (λ (m : List Back). b ∷ m) (all-backs l)
 module _ (h : HubState) (cs : List Command) (result : Result) where
   -- a call is turned down
   pub refused-decides : (r : Refusal) → turnedDown r (stateOf h) ≡ result → Decides h cs (plainly (Refused r) Nothing) result
-  refused-decides r e = record { change-ok = tt; gives = e; backs-told = refl; nothing-told = λ t. refl; something-told = λ t k. t≠f t }
+  refused-decides r e = record { change-ok = tt; gives = e; backs-told = refl; well-told = refl; nothing-told = λ t. refl; something-told = λ t k. t≠f t }
 
   -- it waits
   pub wait-decides : (i j : ℕ) → record { state = stateOf h; answers = wait i j ∷ [] } ≡ result →
       Decides h cs (plainly (Wait i j) Nothing) result
-  wait-decides i j e = record { change-ok = tt; gives = e; backs-told = refl; nothing-told = λ t. refl; something-told = λ t k. t≠f t }
+  wait-decides i j e = record { change-ok = tt; gives = e; backs-told = refl; well-told = refl; nothing-told = λ t. refl; something-told = λ t k. t≠f t }
 
   -- one answer that puts nothing back, and a change
   module _ (a : Answer) (t : changesNothing a ≡ false) where
@@ -61,6 +61,7 @@ module _ (h : HubState) (cs : List Command) (result : Result) where
       change-ok = ok;
       gives = e;
       backs-told = no-backs a;
+      well-told = refl;
       nothing-told = λ u. t≠f (sym u ∙ t);
       something-told = λ u k. let z : _≡_ {A = ℕ} 0 1 = cc in omega arith;
     }
@@ -72,6 +73,7 @@ module _ (h : HubState) (cs : List Command) (result : Result) where
       change-ok = ok;
       gives = e;
       backs-told = no-backs a;
+      well-told = refl;
       nothing-told = λ u. t≠f (sym u ∙ t);
       something-told = λ u k. let z : _≡_ {A = ℕ} 0 1 = cc in omega arith;
     }
@@ -83,6 +85,7 @@ module _ (h : HubState) (cs : List Command) (result : Result) where
       change-ok = ok;
       gives = e;
       backs-told = no-backs a;
+      well-told = refl;
       nothing-told = λ u. t≠f (sym u ∙ t);
       something-told = λ u k. let z : _≡_ {A = ℕ} 0 1 = cc in omega arith;
     }
@@ -95,6 +98,7 @@ module _ (h : HubState) (cs : List Command) (result : Result) where
     change-ok = ok;
     gives = e;
     backs-told = all-backs (oneOf o);
+    well-told = refl;
     nothing-told = λ u. t≠f (sym u);
     something-told = λ u k. let z : _≡_ {A = ℕ} 0 1 = cc in omega arith;
   }
@@ -110,6 +114,7 @@ module _ (h : HubState) (cs : List Command) (result : Result) where
         change-ok = ok;
         gives = ap (λ (j : ℕ). settling (record { state = leave (stateOf h) f; answers = aborted j backs ∷ [] })) k ∙ e;
         backs-told = all-backs backs;
+        well-told = (refl, (_, refl));
         nothing-told = λ u. t≠f (sym u);
         something-told = λ u m. let z : _≡_ {A = ℕ} 0 1 = cc in omega arith;
       }

@@ -24,6 +24,8 @@ use Rattle.sequence.specs.Lists.{through, past}
 use Rattle.sequence.specs.Links.{none as noSlot, slotsOf, Stands, StandsOrNone}
 use Rattle.answers.specs.View.{oneOf, firstOf, answerOf, backsIn, changesNothing}
 use Rattle.answers.specs.declared.Answer.{Answer}
+use Rattle.answers.specs.declared.Answer.the-variants.{Aborted, Down, Up}
+use Rattle.answers.specs.declared.First.{First}
 use Rattle.answers.specs.declared.First.the-variants.{NoAbort}
 use Rattle.answers.specs.declared.OneBack.the-variants.{Nothing as NoBack}
 use Rattle.state.specs.View.{isRestart, statusOf, memberAt, stateOf, there}
@@ -163,11 +165,22 @@ settledUnlessNothing (Restart d v x) r = settling r
 abbrev pub resultBy : HubState → List Command → Decision → Result
 resultBy h cs d = settledUnlessNothing (d .change) (record { state = appliedTo h cs (d .change); answers = toldBy h d })
 
+-- Only an event tells an abort before its answer; the answer of an abort is the abort, that of an event the event.
+abbrev pub WellTold : First → Answer → Change → Type 0
+WellTold f a Nothing = f ≡ NoAbort
+WellTold f a (Stage c) = f ≡ NoAbort
+WellTold f a (Commit x) = f ≡ NoAbort
+WellTold f a (Join after) = f ≡ NoAbort
+WellTold f a (Abort x) = (f ≡ NoAbort) × ((i : ℕ) × (a ≡ Aborted i))
+WellTold f a (Fail d x) = (i : ℕ) × (a ≡ Down d i)
+WellTold f a (Restart d v x) = (i : ℕ) × (a ≡ Up d i)
+
 -- A decision on the state h: carried out, it gives what the rules give; and it can be carried out. Where the answer is a refusal or a wait,
 -- and only there, nothing changes.
 pub record Decides (h : HubState) (cs : List Command) (d : Decision) (result : Result) : Type 0 where
   pub change-ok : ChangeOk h cs (d .change)
   pub gives : resultBy h cs d ≡ result
   pub backs-told : backsOfDecision h d ≡ backsIn (toldBy h d)
+  pub well-told : WellTold (d .first) (d .answer) (d .change)
   pub nothing-told : changesNothing (d .answer) ≡ true → d .change ≡ Nothing
   pub something-told : changesNothing (d .answer) ≡ false → d .change ≡ Nothing → ⊥

@@ -1,23 +1,28 @@
+-- `abort::is_put_back` meets its contract. Assumes nothing.
+use mir.Facts.{toZ-ofZ}
+use Rattle.abort.proofs.Laws.{back-down, back-others, back-own, back-changed}
 use Rattle.abort.proofs.is_put_back.Statement.{statement}
 use Rattle.abort.proofs.is_put_back.Tie as tie
-use Rattle.abort.proofs.is_put_back.Reads as reads
-use Rattle.abort.proofs.is_put_back.Lts as lts
 
--- src/lib.rt:51:9
 returns : tie.Need-returns
-returns c = ?
+returns c = let a = c .before .args in back-down (a .up) (a .others) (a .own) (a .before) (a .after) (c .if1 .taken)
 
--- src/lib.rt:54:9
 returns-2 : tie.Need-returns-2
-returns-2 c = ?
+returns-2 c =
+    let a = c .before .before .args in
+    back-others (a .up) (a .others) (a .own) (a .before) (a .after) (c .before .if1 .left) (c .if2 .taken)
 
--- src/lib.rt:57:9
 returns-3 : tie.Need-returns-3
-returns-3 c = ?
+returns-3 c =
+    let a = c .before .before .before .args in
+    back-own (a .up) (a .others) (a .own) (a .before) (a .after) (c .before .before .if1 .left) (c .before .if2 .left) (c .if3 .taken)
 
--- src/lib.rt:47:1
 returns-4 : tie.Need-returns-4
-returns-4 c = ?
+returns-4 c =
+    let s = c .before .before .before in
+    let a = s .args in
+    back-changed (a .up) (a .others) (a .own) (a .before) (a .after) (toZ-ofZ (s .fits .before)) (toZ-ofZ (s .fits .after))
+    (c .before .before .if1 .left) (c .before .if2 .left) (c .if3 .left)
 
 pub is-put-back-spec : {M : Type 1} → statement M
 is-put-back-spec = tie.close (tie.spec returns returns-2 returns-3 returns-4)

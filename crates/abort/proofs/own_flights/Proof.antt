@@ -1,37 +1,44 @@
+-- `abort::own_flights` meets its contract. Assumes nothing.
 use borrow.Author.Needs.{needs}
+use Rattle.abort.proofs.Laws.{own-none, own-place, own-device, own-one}
 use Rattle.abort.proofs.own_flights.Statement.{statement}
 use Rattle.abort.proofs.own_flights.Tie as tie
-use Rattle.abort.proofs.own_flights.Reads as reads
-use Rattle.abort.proofs.own_flights.Lts as lts
-use Rattle.state.proofs.readers.open_at.Reads as open-at-reads
 
--- src/lib.rt:96:9
 open-at-requires : tie.Need-open-at-requires
 open-at-requires c κs = search needs
 
--- src/lib.rt:97:24
 enum-known-open : tie.Need-enum-known-open
 enum-known-open c = search needs
 
--- src/lib.rt:98:9
 returns : tie.Need-returns
-returns c = ?
+returns c =
+    let s = c .before .before .before .before in
+    own-none (s .args .state) (s .args .at) (s .pre .0) (s .pre .1) (c .before .open-at .result) (c .before .open-at .ensures)
+    (c .match .keys2)
 
--- src/lib.rt:101:13
 array-read-d : tie.Need-array-read-d
-array-read-d c = ?
+array-read-d c =
+    let o = c .before .before in
+    let a = o .before .before in
+    let s = a .before .before .before in
+    own-place (s .args .state) (s .args .at) (s .pre .0) (s .pre .1) _ _ (o .«open» .given .1) (a .open-at .ensures)
 
--- src/lib.rt:101:13
 cast-d : tie.Need-cast-d
 cast-d c = search needs
 
--- src/lib.rt:102:5
 array-write-own : tie.Need-array-write-own
-array-write-own c = ?
+array-write-own c =
+    let o = c .before .before in
+    let a = o .before .before in
+    let s = a .before .before .before in
+    own-device (s .args .state) (s .args .at) (s .pre .0) (s .pre .1) _ _ (o .«open» .given .1) (a .open-at .ensures)
 
--- src/lib.rt:90:1
 returns-2 : tie.Need-returns-2
-returns-2 c = ?
+returns-2 c =
+    let o = c .before .before in
+    let a = o .before .before in
+    let s = a .before .before .before in
+    own-one (s .args .state) (s .args .at) (s .pre .0) (s .pre .1) _ _ (o .«open» .given .1) (a .open-at .ensures)
 
 pub own-flights-spec : {M : Type 1} → statement M
 own-flights-spec =

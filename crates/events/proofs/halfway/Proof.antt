@@ -1,53 +1,75 @@
+-- `events::halfway` meets its contract. Assumes nothing.
+use borrow.Author.Needs.{needs}
+use native.Mathlib.Omega.{arith}
+use Prim.Native.Nat.{_<_}
+use Rattle.rules.specs.State.{maxHeld}
+use Rattle.sequence.specs.Links.{Stands}
+use Rattle.state.proofs.Members.{stands-below}
+use Rattle.events.proofs.Laws.{halfway-none, halfway-stands, halfway-other, halfway-marked}
 use Rattle.events.proofs.halfway.Statement.{statement}
 use Rattle.events.proofs.halfway.Tie as tie
-use Rattle.events.proofs.halfway.Reads as reads
-use Rattle.events.proofs.halfway.Lts as lts
-use Rattle.search.proofs.halfway.Reads as halfway-reads
-use Rattle.state.proofs.readers.id_ahead.Reads as id-ahead-reads
 
--- src/lib.rt:42:16
 mul-mark : tie.Need-mul-mark
-mul-mark c = ?
+mul-mark c = search needs
 
--- src/lib.rt:42:16
 array-read-mark : tie.Need-array-read-mark
-array-read-mark c = ?
+array-read-mark c = search needs
 
--- src/lib.rt:43:9
 halfway-requires : tie.Need-halfway-requires
-halfway-requires c κs = ?
+halfway-requires c κs = search needs
 
--- src/lib.rt:44:19
 enum-known-place : tie.Need-enum-known-place
-enum-known-place c = ?
+enum-known-place c = search needs
 
--- src/lib.rt:47:20
 enum-told : tie.Need-enum-told
-enum-told c = ?
+enum-told c = search needs
 
--- src/lib.rt:45:9
 returns : tie.Need-returns
-returns c = ?
+returns c =
+    let k = c .before .before in
+    let a = k .before .before .args in
+    halfway-none (a .state) (a .device) (k .halfway .result) (k .halfway .ensures) (c .enum-told .given .1)
 
--- src/lib.rt:52:14
+-- a routine stands in the slot that was found
+stands : (c : tie.After-place) → Stands (c .before .before .before .before .args .state .links) (c .place .given .0 .0)
+stands c =
+    let k = c .before .before in
+    let s = k .before .before in
+    halfway-stands (s .args .state) (s .args .device) (k .halfway .result) (k .halfway .ensures) (s .pre .0) (c .place .given .0 .0)
+    (c .place .given .1)
+
+below : (c : tie.After-ids) → c .before .before .place .given .0 .0 < maxHeld
+below c =
+    let q = c .before .before in
+    let s = q .before .before .before .before in
+    stands-below (s .args .state) (q .place .given .0 .0) (s .pre .0) (stands q)
+
 mul-id : tie.Need-mul-id
-mul-id c = ?
+mul-id c = let i = below c in omega arith
 
--- src/lib.rt:52:14
 array-read-id : tie.Need-array-read-id
-array-read-id c = ?
+array-read-id c = below c
 
--- src/lib.rt:55:9
 returns-2 : tie.Need-returns-2
-returns-2 c = ?
+returns-2 c =
+    let q = c .before .before .before in
+    let k = q .before .before in
+    let s = k .before .before in
+    halfway-other (s .args .state) (s .args .device) (k .halfway .result) (k .halfway .ensures) (s .pre .0) (q .place .given .0 .0)
+    (q .place .given .1)
+    (c .if1 .taken)
 
--- src/lib.rt:57:9
 id-ahead-requires : tie.Need-id-ahead-requires
-id-ahead-requires c κs = ?
+id-ahead-requires c κs = let q = c .before .before .before in (q .before .before .before .before .pre .0, stands q)
 
--- src/lib.rt:36:1
 returns-3 : tie.Need-returns-3
-returns-3 c = ?
+returns-3 c =
+    let q = c .before .before .before .before in
+    let k = q .before .before in
+    let s = k .before .before in
+    halfway-marked (s .args .state) (s .args .device) (k .halfway .result) (k .halfway .ensures) (s .pre .0) (q .place .given .0 .0)
+    (q .place .given .1)
+    (c .id-ahead .result) (c .id-ahead .ensures) (c .before .if1 .left)
 
 pub halfway-spec : {M : Type 1} → statement M
 halfway-spec =

@@ -1,34 +1,41 @@
+-- `events::restarted` meets its contract. Assumes nothing.
+use borrow.Author.Needs.{needs}
+use mathlib.Core.Path.{ap, _∙_}
+use lib.IntN.{ℤ}
+use lib.ListN.{getD}
+use mir.Facts.{toZ-ofZ}
+use Rattle.rules.specs.Attach.{oneRestart, attach}
+use Rattle.state.specs.View.{stateOf}
+use Rattle.events.proofs.Laws.{restarted-gives}
 use Rattle.events.proofs.restarted.Statement.{statement}
 use Rattle.events.proofs.restarted.Tie as tie
-use Rattle.events.proofs.restarted.Reads as reads
-use Rattle.events.proofs.restarted.Lts as lts
-use Rattle.events.proofs.abort_if.Reads as abort-if-reads
-use Rattle.leaving.proofs.attached.Reads as attached-reads
-use Rattle.leaving.proofs.with_up.Reads as with-up-reads
 
--- src/lib.rt:138:9
 abort-if-requires : tie.Need-abort-if-requires
-abort-if-requires c κs = ?
+abort-if-requires c κs = search needs
 
--- src/lib.rt:143:43
 mul-attached : tie.Need-mul-attached
-mul-attached c = ?
+mul-attached c = search needs
 
--- src/lib.rt:143:43
 array-read-attached : tie.Need-array-read-attached
-array-read-attached c = ?
+array-read-attached c = search needs
 
--- src/lib.rt:143:9
 attached-requires : tie.Need-attached-requires
-attached-requires c κs = ?
+attached-requires c κs = search needs
 
--- src/lib.rt:144:9
 with-up-requires : tie.Need-with-up-requires
-with-up-requires c κs = ?
+with-up-requires c κs = search needs
 
--- src/lib.rt:133:1
 returns : tie.Need-returns
-returns c = ?
+returns c =
+    let t = c .before in
+    let b = t .before .before .before .before in
+    let s = b .before in
+    let a = s .args in
+    restarted-gives _ _ (b .abort-if .result) (t .attached .result) (c .with-up .result) (a .device) (a .setting) (b .abort-if .ensures)
+    (t .attached .ensures .1
+    ∙ ap (λ (v : ℤ). attach (getD (b .abort-if .result .state .mark) (a .device) 0) (oneRestart (a .device) v)
+    (stateOf (b .abort-if .result .state))) (toZ-ofZ (s .fits .setting)))
+    (c .with-up .ensures .0) (c .with-up .ensures .1)
 
 pub restarted-spec : {M : Type 1} → statement M
 restarted-spec =
