@@ -1,4 +1,3 @@
-pub mod Laws
 pub mod OpenLaws
 pub mod Theorem
 pub mod Rounds

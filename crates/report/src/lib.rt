@@ -30,7 +30,7 @@ ghost use Rattle.sequence.specs.Links.{Stands};
 ghost use Rattle.answers.specs.View.{oneOf};
 ghost use Rattle.state.specs.View.{memberAt, stateOf, there};
 ghost use Rattle.state.specs.Valid.{StateOk};
-ghost use Rattle.state.specs.Open.{commandAt, dueThenAt, OpenInFlight};
+ghost use Rattle.state.specs.Open.{commandAt, OpenInFlight};
 ghost use Rattle.state.specs.Contract.{Decides};
 ghost use Rattle.report.specs.Contract.{answeredBy, flightAt};
 

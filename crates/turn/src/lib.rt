@@ -37,7 +37,8 @@ fn send<'a>(
     k: usize,
     id: u32,
 ) -> Decision
-    requires { ⌜ (StateOk state) × (Stands (state .links) at) × (OpenToDo state at k) × (id ≡ memberAt state at .id) × (now device ≡ state .device) × (now stage ≡ state .stage) ⌝ }
+    requires { ⌜ (StateOk state) × (Stands (state .links) at) × (OpenToDo state at k) × (id ≡ memberAt state at .id)
+        × (now device ≡ state .device) × (now stage ≡ state .stage) ⌝ }
     ensures { λ r. ⌜ Decides state [] r (settling (sendTurn (stateOf state) (there state at) (commandAt state k))) ⌝ }
 {
     let wanted = device[k];
@@ -65,7 +66,8 @@ fn send<'a>(
 
 // "a best-effort is skipped"
 fn skip<'a>(state: HubState, device: &'a [u8; STEPS], at: usize, k: usize, id: u32) -> Decision
-    requires { ⌜ (StateOk state) × (Stands (state .links) at) × (OpenToDo state at k) × (id ≡ memberAt state at .id) × (now device ≡ state .device) ⌝ }
+    requires { ⌜ (StateOk state) × (Stands (state .links) at) × (OpenToDo state at k) × (id ≡ memberAt state at .id)
+        × (now device ≡ state .device) ⌝ }
     ensures { λ r. ⌜ Decides state [] r (settling (skipTurn (stateOf state) (there state at) (commandAt state k))) ⌝ }
 {
     let wanted = device[k];
@@ -90,7 +92,8 @@ fn go_on<'a>(
     k: usize,
     id: u32,
 ) -> Decision
-    requires { ⌜ (StateOk state) × (Stands (state .links) at) × (OpenToDo state at k) × (id ≡ memberAt state at .id) × (now device ≡ state .device) × (now stage ≡ state .stage) ⌝ }
+    requires { ⌜ (StateOk state) × (Stands (state .links) at) × (OpenToDo state at k) × (id ≡ memberAt state at .id)
+        × (now device ≡ state .device) × (now stage ≡ state .stage) ⌝ }
     ensures { λ r. ⌜ Decides state [] r (proceed (stateOf state) (there state at) (commandAt state k)) ⌝ }
 {
     if readers::is_up(state, device[k]) {
@@ -112,7 +115,8 @@ fn next_turn<'a>(
     k: usize,
     id: u32,
 ) -> Decision
-    requires { ⌜ (StateOk state) × (Stands (state .links) at) × (OpenToDo state at k) × (id ≡ memberAt state at .id) × (now device ≡ state .device) × (now stage ≡ state .stage) ⌝ }
+    requires { ⌜ (StateOk state) × (Stands (state .links) at) × (OpenToDo state at k) × (id ≡ memberAt state at .id)
+        × (now device ≡ state .device) × (now stage ≡ state .stage) ⌝ }
     ensures { λ r. ⌜ Decides state [] r (turnNext (stateOf state) (there state at) (next (stepsAt state at))) ⌝ }
 {
     let holder = search::first_holder(state, device, stage, at, device[k]);

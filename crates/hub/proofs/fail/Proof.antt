@@ -1,27 +1,27 @@
--- `hub::fail` meets its contract. Assumes nothing.
-use borrow.Author.Needs.{needs}
-use mathlib.Core.Path.{sym, _∙_}
-use Rattle.hub.proofs.Laws.{settled-gives}
 use Rattle.hub.proofs.fail.Statement.{statement}
 use Rattle.hub.proofs.fail.Tie as tie
+use Rattle.hub.proofs.fail.Reads as reads
+use Rattle.hub.proofs.fail.Lts as lts
+use Rattle.hub.proofs.carrying.carried_out.Reads as carried-out-reads
+use Rattle.hub.proofs.decide_failure.Reads as decide-failure-reads
+use Rattle.routine.proofs.empty.Reads as empty-reads
 
-failure-requires : tie.Need-failure-requires
-failure-requires c κs = search needs
+-- src/lib.rt:127:9
+decide-failure-requires : tie.Need-decide-failure-requires
+decide-failure-requires c κs = ?
 
-is-due-requires : tie.Need-is-due-requires
-is-due-requires c κs = search needs
+-- src/lib.rt:128:9
+empty-requires : tie.Need-empty-requires
+empty-requires c κs = ?
 
-settled-requires : tie.Need-settled-requires
-settled-requires c κs = (c .before .before .failure .ensures .valid, sym (c .before .is-due .ensures) ∙ c .if1 .taken)
+-- src/lib.rt:129:5
+carried-out-requires : tie.Need-carried-out-requires
+carried-out-requires c κs = ?
 
+-- src/lib.rt:123:1
 returns : tie.Need-returns
-returns c = settled-gives _ _ _ _ (c .before .before .before .failure .ensures) (c .settled .ensures)
-
-unsettled-requires : tie.Need-unsettled-requires
-unsettled-requires c κs = (c .before .before .failure .ensures .valid, sym (c .before .is-due .ensures) ∙ c .if1 .left)
-
-returns-2 : tie.Need-returns-2
-returns-2 c = settled-gives _ _ _ _ (c .before .before .before .failure .ensures) (c .unsettled .ensures)
+returns c = ?
 
 pub fail-spec : {M : Type 1} → statement M
-fail-spec = tie.close (tie.spec failure-requires is-due-requires settled-requires returns unsettled-requires returns-2)
+fail-spec =
+    tie.close (tie.spec decide-failure-requires empty-requires carried-out-requires returns)

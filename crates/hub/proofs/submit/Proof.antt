@@ -1,27 +1,22 @@
--- `hub::submit` meets its contract. Assumes nothing.
 use borrow.Author.Needs.{needs}
-use mathlib.Core.Path.{sym, _∙_}
-use Rattle.hub.proofs.Laws.{settled-gives}
 use Rattle.hub.proofs.submit.Statement.{statement}
 use Rattle.hub.proofs.submit.Tie as tie
+use Rattle.hub.proofs.submit.Reads as reads
+use Rattle.hub.proofs.submit.Lts as lts
+use Rattle.hub.proofs.carrying.carried_out.Reads as carried-out-reads
+use Rattle.hub.proofs.decide_submit.Reads as decide-submit-reads
 
-step-requires : tie.Need-step-requires
-step-requires c κs = search needs
+-- src/lib.rt:88:9
+decide-submit-requires : tie.Need-decide-submit-requires
+decide-submit-requires c κs = search needs
 
-is-due-requires : tie.Need-is-due-requires
-is-due-requires c κs = search needs
+-- src/lib.rt:89:5
+carried-out-requires : tie.Need-carried-out-requires
+carried-out-requires c κs = search needs
 
-settled-requires : tie.Need-settled-requires
-settled-requires c κs = (c .before .before .step .ensures .valid, sym (c .before .is-due .ensures) ∙ c .if1 .taken)
-
+-- src/lib.rt:84:1
 returns : tie.Need-returns
-returns c = settled-gives _ _ _ _ (c .before .before .before .step .ensures) (c .settled .ensures)
-
-unsettled-requires : tie.Need-unsettled-requires
-unsettled-requires c κs = (c .before .before .step .ensures .valid, sym (c .before .is-due .ensures) ∙ c .if1 .left)
-
-returns-2 : tie.Need-returns-2
-returns-2 c = settled-gives _ _ _ _ (c .before .before .before .step .ensures) (c .unsettled .ensures)
+returns c = ?
 
 pub submit-spec : {M : Type 1} → statement M
-submit-spec = tie.close (tie.spec step-requires is-due-requires settled-requires returns unsettled-requires returns-2)
+submit-spec = tie.close (tie.spec decide-submit-requires carried-out-requires returns)

@@ -1,77 +1,108 @@
+-- `report::decide` meets its contract. Assumes nothing.
+use borrow.Author.Needs.{needs}
+use mathlib.Core.Path.{refl, subst}
+use Rattle.state.specs.Open.{OpenInFlight, OpenIs}
+use Rattle.report.proofs.Found.{stands-at, found-id}
+use Rattle.report.proofs.Laws.{done-decides, idle, report-nowhere, report-idle, report-code, report-done, report-failed}
 use Rattle.report.proofs.decide.Statement.{statement}
 use Rattle.report.proofs.decide.Tie as tie
-use Rattle.report.proofs.decide.Reads as reads
-use Rattle.report.proofs.decide.Lts as lts
-use Rattle.report.proofs.answered.Reads as answered-reads
-use Rattle.report.proofs.failed.Reads as failed-reads
-use Rattle.search.proofs.running.Reads as running-reads
-use Rattle.state.proofs.decisions.plain.Reads as plain-reads
-use Rattle.state.proofs.decisions.refused.Reads as refused-reads
-use Rattle.state.proofs.readers.open_at.Reads as open-at-reads
 
--- src/lib.rt:105:9
 running-requires : tie.Need-running-requires
-running-requires c κs = ?
+running-requires c κs = search needs
 
--- src/lib.rt:106:19
 enum-known-place : tie.Need-enum-known-place
-enum-known-place c = ?
+enum-known-place c = search needs
 
--- src/lib.rt:107:9
 enum-told : tie.Need-enum-told
-enum-told c = ?
+enum-told c = search needs
 
--- src/lib.rt:107:9
 refused-requires : tie.Need-refused-requires
-refused-requires c κs = ?
+refused-requires c κs = search needs
 
--- src/lib.rt:107:9
 returns : tie.Need-returns
-returns c = ?
+returns c =
+    let r = c .before .before .before in
+    let l = r .before in
+    report-nowhere (l .args .state) (l .args .id) (l .args .code) _ (r .running .ensures) _
+    (c .before .enum-told .given .1) (c .refused .ensures)
 
--- src/lib.rt:110:9
 open-at-requires : tie.Need-open-at-requires
-open-at-requires c κs = ?
+open-at-requires c κs =
+    let g = c .before .before .before in
+    let r = g .before .before in
+    (r .before .pre, stands-at _ _ _ (r .running .ensures) _ (g .place .given .1), refl)
 
--- src/lib.rt:111:24
 enum-known-open : tie.Need-enum-known-open
-enum-known-open c = ?
+enum-known-open c = search needs
 
--- src/lib.rt:112:9
 refused-requires-2 : tie.Need-refused-requires-2
-refused-requires-2 c κs = ?
+refused-requires-2 c κs = search needs
 
--- src/lib.rt:112:9
 returns-2 : tie.Need-returns-2
-returns-2 c = ?
+returns-2 c =
+    let o = c .before .before in
+    let g = o .before .before .before .before in
+    let r = g .before .before in
+    let l = r .before in
+    report-idle (l .args .state) (l .args .id) (l .args .code) _ (r .running .ensures) _ _ (g .place .given .1)
+    (idle _ _ (o .open-at .result) (o .open-at .ensures) (c .before .match2 .keys2)) (c .refused2 .ensures)
 
--- src/lib.rt:115:9
+-- the command in flight of the routine that was found
+opened : (c : tie.After-known-told2) →
+    let o = c .before .before .before in
+    let g = o .before .before .before .before in
+    OpenInFlight (g .before .before .before .args .state) (g .place .given .0 .0) (c .before .«open» .given .0 .0)
+opened c = subst (OpenIs _ _) (c .before .«open» .given .1) (c .before .before .before .open-at .ensures)
+
 refused-requires-3 : tie.Need-refused-requires-3
-refused-requires-3 c κs = ?
+refused-requires-3 c κs = search needs
 
--- src/lib.rt:115:9
 returns-3 : tie.Need-returns-3
-returns-3 c = ?
+returns-3 c =
+    let t = c .before .before in
+    let g = t .before .before .before .before .before .before .before in
+    let r = g .before .before in
+    let l = r .before in
+    report-code (l .args .state) (l .args .id) (l .args .code) _ (r .running .ensures) _ _ (g .place .given .1) _ (opened t)
+    (c .before .if1 .taken) (c .refused3 .ensures)
 
--- src/lib.rt:118:13
 answered-requires : tie.Need-answered-requires
-answered-requires c κs = ?
+answered-requires c κs = search needs
 
--- src/lib.rt:119:9
 plain-requires : tie.Need-plain-requires
-plain-requires c κs = ?
+plain-requires c κs = search needs
 
--- src/lib.rt:119:9
 returns-4 : tie.Need-returns-4
-returns-4 c = ?
+returns-4 c =
+    let d = c .before .before in
+    let t = d .before .before in
+    let g = t .before .before .before .before .before .before .before in
+    let r = g .before .before in
+    let l = r .before in
+    let f = r .running .ensures in
+    let e = g .place .given .1 in
+    report-done (l .args .state) (l .args .id) (l .args .code) _ f _ _ e _ (opened t) (d .before .if1 .left) (d .if2 .taken)
+    (done-decides (l .args .state) _ _ (stands-at _ _ _ f _ e) (opened t) (l .args .id) (found-id _ _ _ f _ e) _ _
+    (c .before .answered .ensures) (c .plain .ensures))
 
--- src/lib.rt:121:5
 failed-requires : tie.Need-failed-requires
-failed-requires c κs = ?
+failed-requires c κs =
+    let t = c .before .before in
+    let g = t .before .before .before .before .before .before .before in
+    let r = g .before .before in
+    let f = r .running .ensures in
+    let e = g .place .given .1 in
+    (r .before .pre, stands-at _ _ _ f _ e, opened t, found-id _ _ _ f _ e)
 
--- src/lib.rt:101:1
 returns-5 : tie.Need-returns-5
-returns-5 c = ?
+returns-5 c =
+    let d = c .before in
+    let t = d .before .before in
+    let g = t .before .before .before .before .before .before .before in
+    let r = g .before .before in
+    let l = r .before in
+    report-failed (l .args .state) (l .args .id) (l .args .code) _ (r .running .ensures) _ _ (g .place .given .1) _ (opened t)
+    (d .before .if1 .left) (d .if2 .left) (c .failed .ensures)
 
 pub decide-spec : {M : Type 1} → statement M
 decide-spec =

@@ -1,37 +1,72 @@
+-- `submit::check` meets its contract. Assumes nothing.
 use borrow.Author.Needs.{needs}
+use mathlib.Core.Path.{sym, _∙_}
+use Prim.Native.Nat.{_≤_, _<_}
+use native.Mathlib.Omega.{arith}
+use lib.ListN.{length}
+use Rattle.routine.specs.Refusals.{refusalOf}
+use Rattle.rules.specs.State.{maxHeld}
+use Rattle.state.specs.View.{stateOf}
+use Rattle.submit.proofs.Laws.{check-routine, check-full, check-ids, check-fine, held-is}
 use Rattle.submit.proofs.check.Statement.{statement}
 use Rattle.submit.proofs.check.Tie as tie
-use Rattle.submit.proofs.check.Reads as reads
-use Rattle.submit.proofs.check.Lts as lts
-use Rattle.routine.proofs.check.Reads as check-reads
 
--- src/lib.rt:33:9
 check-requires : tie.Need-check-requires
 check-requires c κs = search needs
 
 enum-told : tie.Need-enum-told
 enum-told c = search needs
 
--- src/lib.rt:35:9
 enum-told-2 : tie.Need-enum-told-2
 enum-told-2 c = search needs
 
--- src/lib.rt:35:9
 returns : tie.Need-returns
-returns c = ?
+unfolding stateOf
+returns c =
+    let e = c .enum-told2 .given .1 in
+    let k = c .before .before in
+    e ∙ sym (check-routine (stateOf (k .before .args .state)) _ _ (sym (k .check .ensures) ∙ e))
 
--- src/lib.rt:39:9
 returns-2 : tie.Need-returns-2
-returns-2 c = ?
+unfolding stateOf refusalOf
+returns-2 c =
+    let t = c .before .before .before in
+    let k = t .before .before in
+    let h = k .before .args .state in
+    let i : maxHeld ≤ length (stateOf h .sequence) = let n = held-is h (k .before .pre) in omega (arith, n, c .if1 .taken) in
+    sym (check-full (stateOf h) _ (sym (k .check .ensures) ∙ t .enum-told .given .1) i)
 
--- src/lib.rt:42:9
+-- the routine is fine, and there is room for it
+room : (c : tie.Else1) → length (stateOf (c .before .before .before .before .before .before .args .state) .sequence) < maxHeld
+room c =
+    let k = c .before .before .before .before .before in
+    let n = held-is (k .before .args .state) (k .before .pre) in
+    omega (arith, n, c .if1 .left)
+
 returns-3 : tie.Need-returns-3
-returns-3 c = ?
+unfolding stateOf refusalOf
+returns-3 c =
+    let e = c .before .before in
+    let t = e .before .before .before in
+    let k = t .before .before in
+    sym (check-ids (stateOf (k .before .args .state)) _ (sym (k .check .ensures) ∙ t .enum-told .given .1) (room e) (c .if2 .taken))
 
--- src/lib.rt:28:1
 returns-4 : tie.Need-returns-4
-returns-4 c = ?
+unfolding stateOf
+returns-4 c =
+    let e = c .before .before in
+    let t = e .before .before .before in
+    let k = t .before .before in
+    sym (check-fine (stateOf (k .before .args .state)) _ (sym (k .check .ensures) ∙ t .enum-told .given .1) (room e) (c .if2 .left))
 
 pub check-spec : {M : Type 1} → statement M
 check-spec =
-    tie.close (tie.spec check-requires enum-told enum-told-2 returns returns-2 returns-3 returns-4)
+    tie.close
+    (tie.spec
+    check-requires
+    enum-told
+    enum-told-2
+    returns
+    returns-2
+    returns-3
+    returns-4)

@@ -1,38 +1,35 @@
+-- `submit::decide` meets its contract. Assumes nothing.
+use borrow.Author.Needs.{needs}
+use mathlib.Core.Path.{sym, _∙_}
+use Rattle.submit.proofs.Laws.{submit-turned-down}
 use Rattle.submit.proofs.decide.Statement.{statement}
 use Rattle.submit.proofs.decide.Tie as tie
-use Rattle.submit.proofs.decide.Reads as reads
-use Rattle.submit.proofs.decide.Lts as lts
-use Rattle.state.proofs.decisions.turned_down.Reads as turned-down-reads
-use Rattle.submit.proofs.check.Reads as check-reads
-use Rattle.submit.proofs.place.Reads as place-reads
 
--- src/lib.rt:78:9
 check-requires : tie.Need-check-requires
-check-requires c κs = ?
+check-requires c κs = search needs
 
--- src/lib.rt:79:26
 enum-known-verdict : tie.Need-enum-known-verdict
-enum-known-verdict c = ?
+enum-known-verdict c = search needs
 
--- src/lib.rt:80:9
 enum-told : tie.Need-enum-told
-enum-told c = ?
+enum-told c = search needs
 
--- src/lib.rt:80:9
 place-requires : tie.Need-place-requires
-place-requires c κs = ?
+place-requires c κs =
+    let k = c .before .before in
+    (k .before .pre, sym (k .check .ensures) ∙ c .enum-told .given .1)
 
--- src/lib.rt:80:9
 returns : tie.Need-returns
-returns c = ?
+returns c = search needs
 
--- src/lib.rt:82:5
 turned-down-requires : tie.Need-turned-down-requires
-turned-down-requires c κs = ?
+turned-down-requires c κs = search needs
 
--- src/lib.rt:74:1
 returns-2 : tie.Need-returns-2
-returns-2 c = ?
+returns-2 c =
+    let g = c .before .before in
+    let k = g .before .before in
+    submit-turned-down (k .before .args .state) _ _ _ (sym (k .check .ensures) ∙ g .verdict .given .1) (c .turned-down .ensures)
 
 pub decide-spec : {M : Type 1} → statement M
 decide-spec =

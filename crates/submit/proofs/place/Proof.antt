@@ -1,30 +1,42 @@
+-- `submit::place` meets its contract. Assumes nothing.
+use borrow.Author.Needs.{needs}
+use Prim.Native.Nat.{_≤_}
+use native.Mathlib.Omega.{arith}
+use Rattle.routine.specs.Routine.{commandsOf}
+use Rattle.routine.proofs.Laws.{length-commandsOf}
+use Rattle.state.specs.Valid.{highestPassed}
+use Rattle.submit.proofs.Laws.{fine-routine, fine-id, submit-places}
 use Rattle.submit.proofs.place.Statement.{statement}
 use Rattle.submit.proofs.place.Tie as tie
-use Rattle.submit.proofs.place.Reads as reads
-use Rattle.submit.proofs.place.Lts as lts
-use Rattle.search.proofs.latest.Reads as latest-reads
-use Rattle.state.proofs.decisions.plain.Reads as plain-reads
-use Rattle.submit.proofs.id_in.Reads as id-in-reads
 
--- src/lib.rt:65:9
+-- the pass limit is one of 8 bits
+narrow : (c : tie.Start) → c .args .state .«pass_limit» ≤ highestPassed
+narrow c = search needs
+
 latest-requires : tie.Need-latest-requires
-latest-requires c κs = ?
+latest-requires c κs =
+    let f = fine-routine (c .args .state) (commandsOf (c .args .routine)) (c .pre .1) (c .pre .0) in
+    let n = length-commandsOf (c .args .routine) in
+    (c .pre .0, omega (arith, f .0, n), f .1)
 
--- src/lib.rt:66:9
 id-in-requires : tie.Need-id-in-requires
-id-in-requires c κs = ?
+id-in-requires c κs = (c .before .pre .0, c .latest .ensures .place)
 
--- src/lib.rt:68:13
 cast-t6 : tie.Need-cast-t6
-cast-t6 c = ?
+cast-t6 c =
+    let s = c .before .before .before in
+    let f = fine-id (s .args .state) (commandsOf (s .args .routine)) (s .pre .1) (s .pre .0) in
+    search needs
 
--- src/lib.rt:71:5
 plain-requires : tie.Need-plain-requires
-plain-requires c κs = ?
+plain-requires c κs = search needs
 
--- src/lib.rt:61:1
 returns : tie.Need-returns
-returns c = ?
+returns c =
+    let i = c .before .before in
+    let s = i .before .before in
+    submit-places (s .args .state) (commandsOf (s .args .routine)) _ _ (s .pre .1) (s .pre .0) (i .before .latest .ensures) (narrow s) _
+    (i .id-in .ensures) (c .plain .ensures)
 
 pub place-spec : {M : Type 1} → statement M
 place-spec = tie.close (tie.spec latest-requires id-in-requires cast-t6 plain-requires returns)

@@ -1,47 +1,66 @@
+-- `turn::go_on` meets its contract. Assumes nothing.
+use borrow.Author.Needs.{needs}
+use mathlib.Core.Path.{sym, _∙_, subst}
+use Prim.Native.Nat.{_*_, _<_}
+use Rattle.routine.specs.Routine.{maxCommands}
+use Rattle.rules.specs.State.{maxHeld}
+use Rattle.state.specs.Contract.{Decides}
+use Rattle.turn.proofs.Laws.{in-rows, device-read, tag-read, must-decides, proceed-up, proceed-must, proceed-skip}
 use Rattle.turn.proofs.go_on.Statement.{statement}
 use Rattle.turn.proofs.go_on.Tie as tie
-use Rattle.turn.proofs.go_on.Reads as reads
-use Rattle.turn.proofs.go_on.Lts as lts
-use Rattle.state.proofs.decisions.plain.Reads as plain-reads
-use Rattle.state.proofs.readers.is_up.Reads as is-up-reads
-use Rattle.turn.proofs.send.Reads as send-reads
-use Rattle.turn.proofs.skip.Reads as skip-reads
 
--- src/lib.rt:96:30
+-- the place of the command is in the rows
+within : (c : tie.Start) → c .args .k < maxHeld * maxCommands
+within c = in-rows _ _ _ (c .pre .0) (c .pre .1) (c .pre .2)
+
 element-copy-out-is-up : tie.Need-element-copy-out-is-up
-element-copy-out-is-up c = ?
+element-copy-out-is-up c = within c
 
--- src/lib.rt:96:8
 is-up-requires : tie.Need-is-up-requires
-is-up-requires c κs = ?
+is-up-requires c κs = search needs
 
--- src/lib.rt:97:9
 send-requires : tie.Need-send-requires
-send-requires c κs = ?
+send-requires c κs = c .before .before .before .pre
 
--- src/lib.rt:97:9
 returns : tie.Need-returns
-returns c = ?
+returns c =
+    let u = c .before .before in
+    let l = u .before .before in
+    let h = l .args .state in
+    subst (Decides _ _ _)
+    (proceed-up h _ _ _ (device-read h (l .args .k) _ (l .pre .4)) _ (u .is-up .ensures) (c .before .if1 .taken))
+    (c .send .ensures)
 
--- src/lib.rt:100:8
 array-read-if2 : tie.Need-array-read-if2
-array-read-if2 c = ?
+array-read-if2 c = within (c .before .before .before .before)
 
--- src/lib.rt:101:9
 plain-requires : tie.Need-plain-requires
-plain-requires c κs = ?
+plain-requires c κs = search needs
 
--- src/lib.rt:101:9
 returns-2 : tie.Need-returns-2
-returns-2 c = ?
+returns-2 c =
+    let e = c .before .before .before in
+    let l = e .before .before .before in
+    let h = l .args .state in
+    let k = l .args .k in
+    subst (Decides _ _ _)
+    (proceed-must h _ _ _ (device-read h k _ (l .pre .4)) _ (e .before .is-up .ensures) (e .if1 .left)
+    (sym (tag-read h k) ∙ c .before .if2 .taken))
+    (must-decides h _ k (l .pre .1) (l .pre .2) _ (l .pre .3) _ (c .plain .ensures))
 
--- src/lib.rt:103:5
 skip-requires : tie.Need-skip-requires
-skip-requires c κs = ?
+skip-requires c κs = let p = c .before .before .before .before .before .pre in (p .0, p .1, p .2, p .3, p .4)
 
--- src/lib.rt:85:1
 returns-3 : tie.Need-returns-3
-returns-3 c = ?
+returns-3 c =
+    let e = c .before .before .before in
+    let l = e .before .before .before in
+    let h = l .args .state in
+    let k = l .args .k in
+    subst (Decides _ _ _)
+    (proceed-skip h _ _ _ (device-read h k _ (l .pre .4)) _ (e .before .is-up .ensures) (e .if1 .left)
+    (λ q. c .before .if2 .left (tag-read h k ∙ q)))
+    (c .skip .ensures)
 
 pub go-on-spec : {M : Type 1} → statement M
 go-on-spec =

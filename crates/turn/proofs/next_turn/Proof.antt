@@ -1,42 +1,47 @@
+-- `turn::next_turn` meets its contract. Assumes nothing.
+use borrow.Author.Needs.{needs}
+use Rattle.turn.proofs.Laws.{in-rows, device-read, goes-on, waits}
 use Rattle.turn.proofs.next_turn.Statement.{statement}
 use Rattle.turn.proofs.next_turn.Tie as tie
-use Rattle.turn.proofs.next_turn.Reads as reads
-use Rattle.turn.proofs.next_turn.Lts as lts
-use Rattle.search.proofs.first_holder.Reads as first-holder-reads
-use Rattle.state.proofs.decisions.plain.Reads as plain-reads
-use Rattle.turn.proofs.go_on.Reads as go-on-reads
 
--- src/lib.rt:118:65
 element-copy-out-first-holder : tie.Need-element-copy-out-first-holder
-element-copy-out-first-holder c = ?
+element-copy-out-first-holder c = in-rows _ _ _ (c .pre .0) (c .pre .1) (c .pre .2)
 
--- src/lib.rt:118:9
 first-holder-requires : tie.Need-first-holder-requires
-first-holder-requires c κs = ?
+first-holder-requires c κs = let p = c .before .pre in (p .0, p .1, p .4, p .5)
 
--- src/lib.rt:119:25
 enum-known-holder : tie.Need-enum-known-holder
-enum-known-holder c = ?
+enum-known-holder c = search needs
 
--- src/lib.rt:120:9
 enum-told : tie.Need-enum-told
-enum-told c = ?
+enum-told c = search needs
 
--- src/lib.rt:120:9
 go-on-requires : tie.Need-go-on-requires
-go-on-requires c κs = ?
+go-on-requires c κs = c .before .before .before .before .pre
 
--- src/lib.rt:120:9
 returns : tie.Need-returns
-returns c = ?
+returns c =
+    let f = c .before .before .before in
+    let l = f .before .before in
+    let h = l .args .state in
+    let k = l .args .k in
+    let p = l .pre in
+    goes-on h (l .args .at) k (p .1) (p .2) _ (device-read h k _ (p .4)) _ (f .first-holder .ensures) _
+    (c .before .enum-told .given .1) (c .go-on .ensures)
 
--- src/lib.rt:122:5
 plain-requires : tie.Need-plain-requires
-plain-requires c κs = ?
+plain-requires c κs = search needs
 
--- src/lib.rt:107:1
 returns-2 : tie.Need-returns-2
-returns-2 c = ?
+returns-2 c =
+    let g = c .before .before in
+    let f = g .before .before in
+    let l = f .before .before in
+    let h = l .args .state in
+    let k = l .args .k in
+    let p = l .pre in
+    waits h (l .args .at) k (p .1) (p .2) _ (device-read h k _ (p .4)) _ (f .first-holder .ensures) _ _ _ (p .3)
+    (g .holder .given .1) (c .plain .ensures)
 
 pub next-turn-spec : {M : Type 1} → statement M
 next-turn-spec =

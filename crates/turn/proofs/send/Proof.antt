@@ -1,42 +1,56 @@
+-- `turn::send` meets its contract. Assumes nothing.
+use borrow.Author.Needs.{needs}
+use mathlib.Core.Path.{_≡_, _∙_}
+use Prim.Native.Nat.{_*_, _<_}
+use native.Mathlib.Omega.{arith}
+use mir.Val.{toZ, ofZ}
+use mir.Syntax.{w16}
+use lib.IntN.{pos}
+use lib.ListN.{getD}
+use Rattle.routine.specs.Routine.{maxCommands}
+use Rattle.rules.specs.State.{maxHeld}
+use Rattle.turn.proofs.Laws.{in-rows, device-read, tag-read, setting-read, send-decides}
 use Rattle.turn.proofs.send.Statement.{statement}
 use Rattle.turn.proofs.send.Tie as tie
-use Rattle.turn.proofs.send.Reads as reads
-use Rattle.turn.proofs.send.Lts as lts
-use Rattle.due.proofs.due_setting.Reads as due-setting-reads
-use Rattle.search.proofs.has_begun.Reads as has-begun-reads
-use Rattle.state.proofs.decisions.plain.Reads as plain-reads
 
--- src/lib.rt:43:18
+-- the place of the command is in the rows
+within : (c : tie.Start) → c .args .k < maxHeld * maxCommands
+within c = in-rows _ _ _ (c .pre .0) (c .pre .1) (c .pre .2)
+
 element-copy-out-wanted : tie.Need-element-copy-out-wanted
-element-copy-out-wanted c = ?
+element-copy-out-wanted c = within c
 
--- src/lib.rt:46:19
 mul-setting : tie.Need-mul-setting
-mul-setting c = ?
+mul-setting c = let i = within (c .before .before .before) in omega arith
 
--- src/lib.rt:46:19
 array-copy-out-setting : tie.Need-array-copy-out-setting
-array-copy-out-setting c = ?
+array-copy-out-setting c = within (c .before .before .before)
 
--- src/lib.rt:47:9
 due-setting-requires : tie.Need-due-setting-requires
-due-setting-requires c κs = ?
+due-setting-requires c κs = let p = c .before .before .before .before .pre in (p .0, p .4, p .5)
 
--- src/lib.rt:48:9
 has-begun-requires : tie.Need-has-begun-requires
-has-begun-requires c κs = ?
+has-begun-requires c κs = let p = c .before .before .before .before .before .pre in (p .0, p .1, p .4, p .2 .no-flight)
 
--- src/lib.rt:59:14
 array-read-t18 : tie.Need-array-read-t18
-array-read-t18 c = ?
+array-read-t18 c = within (c .before .before .before .before .before .before)
 
--- src/lib.rt:63:5
 plain-requires : tie.Need-plain-requires
-plain-requires c κs = ?
+plain-requires c κs = search needs
 
--- src/lib.rt:32:1
 returns : tie.Need-returns
-returns c = ?
+returns c =
+    let l = c .before .before .before .before .before .before .before in
+    let h = l .args .state in
+    let k = l .args .k in
+    let p = l .pre in
+    let d = c .before .before .due-setting in
+    let v = getD (h .setting) k (pos 0) in
+    let e : toZ w16 (ofZ w16 v) ≡ v = search needs in
+    let u : toZ w16 (ofZ w16 (d .result)) ≡ d .result = search needs in
+    send-decides h (l .args .at) k (p .1) (p .2) _ _ _
+    (device-read h k _ (p .4)) (c .before .has-begun .ensures) (p .3)
+    _ _ _ (tag-read h k) (e ∙ setting-read h k) (u ∙ d .ensures) _ (c .plain .ensures)
 
 pub send-spec : {M : Type 1} → statement M
 send-spec =

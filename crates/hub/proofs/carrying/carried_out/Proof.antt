@@ -1,0 +1,55 @@
+use borrow.Author.Needs.{needs}
+use Rattle.hub.proofs.carrying.carried_out.Statement.{statement}
+use Rattle.hub.proofs.carrying.carried_out.Tie as tie
+use Rattle.hub.proofs.carrying.carried_out.Reads as reads
+use Rattle.hub.proofs.carrying.carried_out.Lts as lts
+use Rattle.hub.proofs.carrying.changed.Reads as changed-reads
+use Rattle.hub.proofs.carrying.is_due.Reads as is-due-reads
+use Rattle.hub.proofs.carrying.outcome_with.Reads as outcome-with-reads
+use Rattle.hub.proofs.put_backs.Reads as put-backs-reads
+use Rattle.hub.proofs.settled.Reads as settled-reads
+
+-- src/carrying.rt:87:9
+put-backs-requires : tie.Need-put-backs-requires
+put-backs-requires c κs = ?
+
+-- src/carrying.rt:89:9
+changed-requires : tie.Need-changed-requires
+changed-requires c κs = search needs
+
+-- src/carrying.rt:91:8
+is-due-requires : tie.Need-is-due-requires
+is-due-requires c κs = search needs
+
+-- src/carrying.rt:92:13
+settled-requires : tie.Need-settled-requires
+settled-requires c κs = search needs
+
+-- src/carrying.rt:93:9
+outcome-with-requires : tie.Need-outcome-with-requires
+outcome-with-requires c κs = search needs
+
+-- src/carrying.rt:93:9
+returns : tie.Need-returns
+returns c = ?
+
+-- src/carrying.rt:95:5
+outcome-with-requires-2 : tie.Need-outcome-with-requires-2
+outcome-with-requires-2 c κs = search needs
+
+-- src/carrying.rt:83:1
+returns-2 : tie.Need-returns-2
+returns-2 c = ?
+
+pub carried-out-spec : {M : Type 1} → statement M
+carried-out-spec =
+    tie.close
+    (tie.spec
+    put-backs-requires
+    changed-requires
+    is-due-requires
+    settled-requires
+    outcome-with-requires
+    returns
+    outcome-with-requires-2
+    returns-2)

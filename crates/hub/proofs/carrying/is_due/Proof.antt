@@ -1,0 +1,32 @@
+use borrow.Author.Needs.{needs}
+use Rattle.hub.proofs.carrying.is_due.Statement.{statement}
+use Rattle.hub.proofs.carrying.is_due.Tie as tie
+use Rattle.hub.proofs.carrying.is_due.Reads as reads
+use Rattle.hub.proofs.carrying.is_due.Lts as lts
+use Rattle.hub.proofs.settles.Reads as settles-reads
+
+enum-told : tie.Need-enum-told
+enum-told c = search needs
+
+enum-told-2 : tie.Need-enum-told-2
+enum-told-2 c = search needs
+
+-- src/carrying.rt:61:13
+settles-requires : tie.Need-settles-requires
+settles-requires c κs = search needs
+
+-- src/carrying.rt:61:13
+returns : tie.Need-returns
+returns c = ?
+
+-- src/carrying.rt:63:9
+returns-2 : tie.Need-returns-2
+returns-2 c = ?
+
+-- src/carrying.rt:55:1
+returns-3 : tie.Need-returns-3
+returns-3 c = ?
+
+pub is-due-spec : {M : Type 1} → statement M
+is-due-spec =
+    tie.close (tie.spec enum-told enum-told-2 settles-requires returns returns-2 returns-3)

@@ -1,0 +1,223 @@
+-- Laws that the proofs of this crate cite. Assumes nothing.
+use mathlib.Core.Path.{_≡_, refl, sym, ap, _∙_, subst}
+use mathlib.Core.Logic.{_≢_}
+use mathlib.Core.Bool.{Bool, true, false, not}
+use mathlib.Core.List.{List, [], _∷_}
+use mathlib.Core.Option.{Option, none}
+use Prim.Native.Nat.{ℕ, _*_, _<_}
+use native.Mathlib.Omega.{arith}
+use borrow.Author.Tests.{eq-eqb, ne-eqb}
+use lib.IntN.{ℤ, pos}
+use lib.ListN.{getD}
+use Rattle.routine.specs.Choice.{if_then_else_}
+use Rattle.routine.specs.Refusals.{refusalOf}
+use Rattle.routine.specs.Routine.{maxDevices, maxCommands, mustTag}
+use Rattle.routine.specs.declared.Command.{Command}
+use Rattle.routine.specs.declared.Refusal.the-variants.{Number}
+use Rattle.rules.specs.State.{maxHeld, Status, in-flight, was-skipped, Member}
+use Rattle.rules.specs.Tables.{put}
+use Rattle.rules.specs.Answers.{wait, send, skipped, committed}
+use Rattle.rules.specs.Progress.{isToDo, begun, next, flight, Flight, advance, withSteps}
+use Rattle.rules.specs.Due.{due}
+use Rattle.rules.specs.Sequence.{Found, runs, withMark, change}
+use Rattle.rules.specs.Abort.{abort}
+use Rattle.rules.specs.Settle.{settling}
+use Rattle.rules.specs.Turn.{firstHolding, markBegun, commitTurn, nextBecomes, sendTurn, skipTurn}
+use Rattle.rules.specs.Turn.{proceed, waitOr, turnNext, turnFlight, turnFound, turnOf}
+use Rattle.sequence.specs.Links.{Stands}
+use Rattle.state.specs.View.{inFlightCode, skippedCode, statusOf, stepAt, stepsAt, memberAt, stateOf, there, holderOf}
+use Rattle.state.specs.Valid.{StateOk}
+use Rattle.state.specs.Open.{answeredAt, commandAt, NoneOpen, OpenToDo, OpenInFlight}
+use Rattle.state.specs.Contract.{setStatus, staged, committedAt, StageOk, plainly, Decides}
+use Rattle.state.specs.declared.HubState.{HubState}
+use Rattle.state.specs.declared.Place.{Place}
+use Rattle.state.specs.declared.Place.the-variants.{At, Nowhere}
+use Rattle.state.specs.declared.Holder.{Holder}
+use Rattle.state.specs.declared.Holder.the-variants.{Routine, Nobody}
+use Rattle.state.specs.declared.Staged.{Staged}
+use Rattle.state.specs.declared.Change.the-variants.{Nothing, Stage, Commit, Abort}
+use Rattle.state.specs.declared.Decision.{Decision}
+use Rattle.answers.specs.declared.Answer.the-variants.{Refused, Wait, Sent as ToSend, Skipped, Committed, Aborted}
+use Rattle.state.proofs.Rows.{status-sent, status-skipped}
+use Rattle.state.proofs.Members.{there-it, member-steps, place-within}
+use Rattle.state.proofs.Laws.{refused-decides, wait-decides, stage-decides, commit-decides, abort-decides}
+use Rattle.search.specs.Contract.{Finds}
+use Rattle.turn.proofs.Found.{found-as, stands-at, found-id}
+
+-- ---- the place of the next command is in the rows
+
+pub in-rows : (h : HubState) (x k : ℕ) → StateOk h → Stands (h .links) x → OpenToDo h x k → k < maxHeld * maxCommands
+in-rows h x k v s o = subst (λ (i : ℕ). i < maxHeld * maxCommands) (sym (o .place)) (place-within h x v s (answeredAt h x) (o .not-all))
+
+-- what the code reads there is the command
+module _ (h : HubState) (k : ℕ) where
+  pub device-read : (row : List ℕ) → row ≡ h .device → getD row k 0 ≡ commandAt h k .device
+  unfolding stepAt
+  device-read row e = ap (λ (l : List ℕ). getD l k 0) e
+
+  pub tag-read : getD (h .tag) k 0 ≡ commandAt h k .tag
+  unfolding stepAt
+  tag-read = refl
+
+  pub setting-read : getD (h .setting) k (pos 0) ≡ commandAt h k .setting
+  unfolding stepAt
+  setting-read = refl
+
+-- the routine found there
+module _ (h : HubState) (x : ℕ) where
+  id-there : (i : ℕ) → i ≡ memberAt h x .id → i ≡ there h x .it .id
+  id-there i e = e ∙ ap (λ (m : Member). m .id) (sym (there-it h x))
+
+  steps-there : there h x .it .steps ≡ stepsAt h x
+  steps-there = ap (λ (m : Member). m .steps) (there-it h x) ∙ member-steps h x
+
+-- ---- the next command gets a status
+
+not-if {ℓ} : {A : Type ℓ} (t : Bool) (a b : A) → (if not t then a else b) ≡ (if t then b else a)
+not-if true a b = refl
+not-if false a b = refl
+
+module _ (h : HubState) (x k : ℕ) (s : Stands (h .links) x) (o : OpenToDo h x k) where
+  -- what the code has of the command, and whether its routine begins the device by it
+  module _ (d i : ℕ) (b : Bool) (p : d ≡ commandAt h k .device) (q : b ≡ begun d (memberAt h x)) (r : i ≡ memberAt h x .id) where
+    marked : (if not b then put (stateOf h .mark) d i else stateOf h .mark)
+        ≡ markBegun (memberAt h x) (commandAt h k .device) (stateOf h .mark)
+    unfolding markBegun
+    marked =
+        not-if b (put (stateOf h .mark) d i) (stateOf h .mark)
+        ∙ (λ j. if (q ∙ ap (λ (e : ℕ). begun e (memberAt h x)) p) j then stateOf h .mark else put (stateOf h .mark) (p j) (r j))
+
+    module _ (code : ℕ) (u : ℤ) where
+      abbrev becomes : Staged
+      becomes = record { at = x; stage = code; «due_then» = u; begins = not b; device = d; id = i }
+
+      staged-next : (st : Status) → statusOf code u ≡ st → staged h becomes ≡ nextBecomes (stateOf h) (there h x) (commandAt h k) st
+      unfolding staged there memberAt
+      staged-next st e =
+          let l : setStatus (answeredAt h x) (statusOf code u) (stepsAt h x) ≡ advance st (stepsAt h x)
+          = ap (λ (z : Status). setStatus (answeredAt h x) z (stepsAt h x)) e ∙ sym (o .advances st) in
+          λ j. withMark (change (stateOf h) (there h x) (withSteps (memberAt h x) (l j))) (marked j)
+
+      -- the appliers can carry it out
+      next-ok : isToDo (statusOf code u) ≡ false → StageOk h becomes
+      next-ok e = record {
+        stands = s;
+        not-all = o .not-all;
+        device-fits = subst (λ (e : ℕ). e < maxDevices) (sym p) (o .device-fits);
+        sent-or-answered = e;
+      }
+
+    -- "Otherwise the command is sent and is in flight."
+    pub send-decides : (t : ℕ) (v u : ℤ) → t ≡ commandAt h k .tag → v ≡ commandAt h k .setting → u ≡ due (stateOf h) d → (y : Decision) →
+        y ≡ plainly (ToSend (record { id = i; command = record { device = d; tag = t; setting = v } })) (Stage (becomes inFlightCode u)) →
+        Decides h [] y (settling (sendTurn (stateOf h) (there h x) (commandAt h k)))
+    unfolding sendTurn
+    send-decides t v u a b e y z =
+        let c : Command = record { device = d; tag = t; setting = v } in
+        let q = status-sent inFlightCode u refl in
+        let f : u ≡ due (stateOf h) (commandAt h k .device) = e ∙ ap (due (stateOf h)) p in
+        let w = staged-next inFlightCode u (in-flight (due (stateOf h) (commandAt h k .device))) (q ∙ ap in-flight f) in
+        let n = id-there h x i r in
+        let g : c ≡ commandAt h k = λ j. record { device = p j; tag = a j; setting = b j } in
+        subst (λ (o : Decision). Decides h [] o (settling (sendTurn (stateOf h) (there h x) (commandAt h k)))) (sym z)
+        (stage-decides h [] _ (ToSend (record { id = i; command = c })) refl (becomes inFlightCode u) (next-ok inFlightCode u (ap isToDo q))
+        (λ j. settling (record { state = w j; answers = send (n j) (g j) ∷ [] })))
+
+    -- "a best-effort is skipped"
+    pub skip-decides : (u : ℤ) (y : Decision) → y ≡ plainly (Skipped i) (Stage (becomes skippedCode u)) →
+        Decides h [] y (settling (skipTurn (stateOf h) (there h x) (commandAt h k)))
+    unfolding skipTurn
+    skip-decides u y z =
+        let t = status-skipped skippedCode u (omega arith) in
+        let w = staged-next skippedCode u was-skipped t in
+        let n = id-there h x i r in
+        subst (λ (f : Decision). Decides h [] f (settling (skipTurn (stateOf h) (there h x) (commandAt h k)))) (sym z)
+        (stage-decides h [] _ (Skipped i) refl (becomes skippedCode u) (next-ok skippedCode u (ap isToDo t))
+        (λ j. settling (record { state = w j; answers = skipped (n j) [] ∷ [] })))
+
+  -- "a must aborts R"
+  pub must-decides : (i : ℕ) → i ≡ memberAt h x .id → (y : Decision) → y ≡ plainly (Aborted i) (Abort x) →
+      Decides h [] y (settling (abort (stateOf h) (there h x)))
+  must-decides i r y z =
+      subst (λ (f : Decision). Decides h [] f (settling (abort (stateOf h) (there h x)))) (sym z)
+      (abort-decides h [] _ i x s (id-there h x i r) refl)
+
+  -- ---- the wait search: wait, or go on
+
+  module _ (d : ℕ) (p : d ≡ commandAt h k .device) (w : Holder) (e : holderOf w ≡ firstHolding d (there h x .ahead)) where
+    holder-tells : (o : Holder) → w ≡ o →
+        waitOr (stateOf h) (there h x) (commandAt h k) (holderOf o) ≡ turnNext (stateOf h) (there h x) (next (stepsAt h x))
+    holder-tells v q =
+        ap (waitOr (stateOf h) (there h x) (commandAt h k)) (sym (ap holderOf q) ∙ e ∙ ap (λ (c : ℕ). firstHolding c (there h x .ahead)) p)
+        ∙ ap (turnNext (stateOf h) (there h x)) (sym (o .next-is))
+
+    pub goes-on : (y : Decision) → w ≡ Nobody → Decides h [] y (proceed (stateOf h) (there h x) (commandAt h k)) →
+        Decides h [] y (turnNext (stateOf h) (there h x) (next (stepsAt h x)))
+    goes-on y q = subst (Decides h [] y) (holder-tells Nobody q)
+
+    -- "the answer is wait, with the first such id in the sequence, and no change"
+    pub waits : (i j : ℕ) (y : Decision) → i ≡ memberAt h x .id → w ≡ Routine j → y ≡ plainly (Wait i j) Nothing →
+        Decides h [] y (turnNext (stateOf h) (there h x) (next (stepsAt h x)))
+    waits i j y r q z =
+        let n = id-there h x i r in
+        subst (λ (f : Decision). Decides h [] f (turnNext (stateOf h) (there h x) (next (stepsAt h x)))) (sym z)
+        (wait-decides h [] _ i j ((λ a. record { state = stateOf h; answers = wait (n a) j ∷ [] }) ∙ holder-tells (Routine j) q))
+
+-- ---- "If D is down"
+
+module _ (h : HubState) (f : Found) (c : Command) (d : ℕ) (p : d ≡ c .device) (t : Bool) (e : t ≡ stateOf h .up d) where
+  up-is : stateOf h .up (c .device) ≡ t
+  up-is = ap (stateOf h .up) (sym p) ∙ sym e
+
+  pub proceed-up : t ≡ true → settling (sendTurn (stateOf h) f c) ≡ proceed (stateOf h) f c
+  proceed-up u = rw (up-is ∙ u)
+
+  pub proceed-must : t ≡ false → c .tag ≡ mustTag → settling (abort (stateOf h) f) ≡ proceed (stateOf h) f c
+  proceed-must u m = rw (up-is ∙ u, eq-eqb (c .tag) mustTag m)
+
+  pub proceed-skip : t ≡ false → c .tag ≢ mustTag → settling (skipTurn (stateOf h) f c) ≡ proceed (stateOf h) f c
+  proceed-skip u m = rw (up-is ∙ u, ne-eqb (c .tag) mustTag m)
+
+-- ---- the ways of a turn
+
+module _ (h : HubState) (i : ℕ) (p : Place) (f : Finds h (runs i) p) (y : Decision) where
+  -- 10: no running routine has this id
+  pub turn-nowhere : p ≡ Nowhere → y ≡ plainly (Refused (Number 10)) Nothing → Decides h [] y (turnOf (stateOf h) i)
+  unfolding turnOf refusalOf
+  turn-nowhere e z =
+      subst (λ (d : Decision). Decides h [] d (turnOf (stateOf h) i)) (sym z)
+      (refused-decides h [] _ (Number 10) (sym (ap (turnFound (stateOf h)) (found-as h (runs i) p f Nowhere e))))
+
+  module _ (x : ℕ) (e : p ≡ At x) where
+    -- the command in flight decides
+    turn-at : (o : Option Flight) → flight (stepsAt h x) ≡ o → turnFlight (stateOf h) (there h x) o ≡ turnOf (stateOf h) i
+    unfolding turnOf
+    turn-at o q =
+        sym (ap (turnFound (stateOf h)) (found-as h (runs i) p f (At x) e)
+        ∙ ap (turnFlight (stateOf h) (there h x)) (ap flight (steps-there h x) ∙ q))
+
+    -- 11: turn with a command in flight
+    pub turn-sent : (k : ℕ) → OpenInFlight h x k → y ≡ plainly (Refused (Number 11)) Nothing → Decides h [] y (turnOf (stateOf h) i)
+    unfolding refusalOf
+    turn-sent k o z =
+        subst (λ (d : Decision). Decides h [] d (turnOf (stateOf h) i)) (sym z)
+        (refused-decides h [] _ (Number 11) (turn-at _ (o .flight-is)))
+
+    -- no command is in flight: the next one
+    turn-next : (o : Option Command) → flight (stepsAt h x) ≡ none → next (stepsAt h x) ≡ o →
+        turnNext (stateOf h) (there h x) o ≡ turnOf (stateOf h) i
+    turn-next o q n =
+        ap (turnNext (stateOf h) (there h x)) (sym (ap next (steps-there h x) ∙ n)) ∙ turn-at none q
+
+    pub turn-on : (k : ℕ) → OpenToDo h x k → Decides h [] y (turnNext (stateOf h) (there h x) (next (stepsAt h x))) →
+        Decides h [] y (turnOf (stateOf h) i)
+    turn-on k o = subst (Decides h [] y) (turn-next (next (stepsAt h x)) (o .no-flight) refl)
+
+    -- "No command left: committed."
+    pub turn-commits : NoneOpen h x → y ≡ plainly (Committed i) (Commit x) → Decides h [] y (turnOf (stateOf h) i)
+    unfolding commitTurn committedAt
+    turn-commits o z =
+        let n = id-there h x i (found-id h i p f x e) in
+        subst (λ (d : Decision). Decides h [] d (turnOf (stateOf h) i)) (sym z)
+        (commit-decides h [] _ (Committed i) refl x (stands-at h (runs i) p f x e)
+        ((λ j. settling (record { state = committedAt h x; answers = committed (n j) ∷ [] })) ∙ turn-next none (o .no-flight) (o .no-next)))
