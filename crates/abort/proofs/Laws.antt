@@ -35,7 +35,7 @@ use Rattle.answers.specs.declared.Answer.the-variants.{Refused, Aborted}
 use Rattle.state.specs.View.{settingsOf, flagsOf, upOf, rowsOf, stepsAt, memberAt, stateOf, there, foundAt}
 use Rattle.state.specs.Valid.{StateOk, PlaceOk}
 use Rattle.state.specs.Open.{answeredAt, OpenInFlight, OpenIs}
-use Rattle.state.specs.Contract.{plainly, Decides}
+use Rattle.state.specs.Contract.{backsLeft, plainly, Decides}
 use Rattle.state.specs.declared.HubState.{HubState}
 use Rattle.state.specs.declared.Open.{Open}
 use Rattle.state.specs.declared.Open.the-variants.{Nothing, ToDo, InFlight}
@@ -127,7 +127,7 @@ test-by h x g t a =
 pub backs-are-by : (h : HubState) (x : ℕ) (g : HubState) (t : Tables) (l : List Back) → TablesAre h x g t →
     stateOf g ≡ leave (stateOf h) (there h x) →
     l ≡ backsBy (isBackBy t) (settingsOf (t .after)) 0 (h .devices) →
-    l ≡ putBacks (stateOf h) (there h x .it) (leave (stateOf h) (there h x)) 0 (stateOf h .devices)
+    l ≡ backsLeft (stateOf h) (some (there h x))
 unfolding stateOf
 backs-are-by h x g t l a v e =
     e

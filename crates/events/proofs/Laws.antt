@@ -41,10 +41,8 @@ use Rattle.state.specs.declared.Place.the-variants.{At, Nowhere}
 use Rattle.state.specs.declared.Change.the-variants.{Fail, Restart}
 use Rattle.state.proofs.Members.{state-mark, member-id, there-it, stands-below}
 use Rattle.search.specs.Contract.{Finds}
-use Rattle.abort.specs.Contract.{Aborts}
-use Rattle.abort.specs.declared.AfterAbort.{AfterAbort}
 use Rattle.abort.proofs.Laws.{found-as, stands-at}
-use Rattle.events.specs.Contract.{abortTold, IsHalfway, Leaves}
+use Rattle.events.specs.Contract.{abortTold, IsHalfway}
 use Rattle.events.specs.declared.EventAbort.{EventAbort}
 
 -- ---- the routine that aborts, by its slot
@@ -166,6 +164,7 @@ module _ (h : HubState) (d : ℕ) (a : EventAbort) (w : IsHalfway h d a) (result
             ∙ e;
         backs-told = own-backs o s (down d (a .mark)) refl
             ∙ (λ j. backsIn (sym (w .first-is (backsLeft s o)) j ++ (down d (a .mark) ∷ [])));
+        well-told = (_, refl);
         nothing-told = λ u. t≠f (sym u);
         something-told = λ u k. let z : _≡_ {A = ℕ} 0 1 = cc in omega arith;
       }
@@ -184,6 +183,7 @@ module _ (h : HubState) (d : ℕ) (a : EventAbort) (w : IsHalfway h d a) (result
             ∙ sym (restart-is s d v))
             ∙ e;
         backs-told = own-backs o s (up d (a .mark)) refl ∙ (λ j. backsIn (sym (w .first-is (backsLeft s o)) j ++ (up d (a .mark) ∷ [])));
+        well-told = (_, refl);
         nothing-told = λ u. t≠f (sym u);
         something-told = λ u k. let z : _≡_ {A = ℕ} 0 1 = cc in omega arith;
       }
@@ -230,49 +230,47 @@ module _ (s : State) (d : ℕ) (v : ℤ) where
 -- ---- the event carried out
 
 module _ (h : HubState) (x : ℕ) where
-  abbrev AbortsIf : AfterAbort → Type 0
-  AbortsIf r = Leaves (leftBy (stateOf h) (goneIn h x)) (backsLeft (stateOf h) (goneIn h x)) r
+  -- what comes of the abort that comes first, if there is one: the state, and what is put back
+  abbrev pub LeavesIf : HubState → Type 0
+  LeavesIf r = (StateOk r) × (stateOf r ≡ leftBy (stateOf h) (goneIn h x))
 
-  -- one aborts first
-  pub one-aborts : (r : AfterAbort) → x < maxHeld → Aborts h x r → AbortsIf r
-  one-aborts r i a =
-      let g = sym (gone-there h x i) in
-      record {
-        valid = a .valid;
-        gives = a .leaves ∙ ap (leftBy (stateOf h)) g;
-        backs-fit = a .backs-fit;
-        backs-are = a .backs-are ∙ ap (backsLeft (stateOf h)) g;
-      }
+  abbrev BacksIf : PutBacks → Type 0
+  BacksIf r = (BacksOk r) × (backsOf r ≡ backsLeft (stateOf h) (goneIn h x))
+
+  -- one aborts
+  pub one-leaves : (r : HubState) → x < maxHeld → (StateOk r) × (stateOf r ≡ leave (stateOf h) (there h x)) → LeavesIf r
+  one-leaves r i a = (a .0, a .1 ∙ ap (leftBy (stateOf h)) (sym (gone-there h x i)))
+
+  pub one-backs : (r : PutBacks) → x < maxHeld → (BacksOk r) × (backsOf r ≡ backsLeft (stateOf h) (some (there h x))) → BacksIf r
+  one-backs r i a = (a .0, a .1 ∙ ap (backsLeft (stateOf h)) (sym (gone-there h x i)))
 
   -- none does
-  pub none-aborts : (b : PutBacks) → StateOk h → maxHeld ≤ x → BacksOk b → backsOf b ≡ [] → AbortsIf (record { state = h; backs = b })
-  none-aborts b v i fit k =
-      let g = sym (gone-past h x i) in
-      record { valid = v; gives = ap (leftBy (stateOf h)) g; backs-fit = fit; backs-are = k ∙ ap (backsLeft (stateOf h)) g }
+  pub none-leaves : StateOk h → maxHeld ≤ x → LeavesIf h
+  none-leaves v i = (v, ap (leftBy (stateOf h)) (sym (gone-past h x i)))
+
+  pub none-backs : (r : PutBacks) → maxHeld ≤ x → BacksOk r → backsOf r ≡ [] → BacksIf r
+  none-backs r i fit k = (fit, k ∙ ap (backsLeft (stateOf h)) (sym (gone-past h x i)))
 
 -- g: the hub with the device down
-module _ (h g : HubState) (d x : ℕ) (k : g .links ≡ h .links) where
-  pub stands-down : StandsOrPast h x → StandsOrPast g x
-  stands-down s i = subst (λ (l : Links). Stands l x) (sym k) (s i)
+pub stands-down : (h g : HubState) (x : ℕ) → g .links ≡ h .links → StandsOrPast h x → StandsOrPast g x
+stands-down h g x k s i = subst (λ (l : Links). Stands l x) (sym k) (s i)
 
-  pub failed-gives : (r : AfterAbort) → stateOf g ≡ downWith (stateOf h) d → there g ≡ there h → AbortsIf g x r →
-      Leaves (leftBy (downWith (stateOf h) d) (goneIn h x)) (backsLeft (downWith (stateOf h) d) (goneIn h x)) r
-  failed-gives r e t a =
-      let o : goneIn g x ≡ goneIn h x = λ i. if ltb x maxHeld then some (t i x) else none in
-      subst (λ (f : Option Found). Leaves (leftBy (downWith (stateOf h) d) f) (backsLeft (downWith (stateOf h) d) f) r) o
-      (subst (λ (s : State). Leaves (leftBy s (goneIn g x)) (backsLeft s (goneIn g x)) r) e a)
+module _ (h g : HubState) (d x : ℕ) (e : stateOf g ≡ downWith (stateOf h) d) (t : there g ≡ there h) where
+  gone-down : goneIn g x ≡ goneIn h x
+  gone-down = λ i. if ltb x maxHeld then some (t i x) else none
 
--- a: after the abort; t: with the restart attached; u: with the device up
-pub restarted-gives : (s : State) (l : List Back) (a : AfterAbort) (t u : HubState) (d : ℕ) (v : ℤ) → Leaves s l a →
-    stateOf t ≡ attach (getD (a .state .mark) d 0) (oneRestart d v) (stateOf (a .state)) → StateOk u →
-    stateOf u ≡ withUp (stateOf t) (put (stateOf t .up) d true) → Leaves (upWith s d v) l (record { state = u; backs = a .backs })
-restarted-gives s l a t u d v b e w k = record {
-  valid = w;
-  gives =
-      k
-      ∙ ap (λ (r : State). withUp r (put (r .up) d true))
-      (e ∙ ap (λ (j : ℕ). attach j (oneRestart d v) (stateOf (a .state))) (λ i. sym (state-mark (a .state)) i d))
-      ∙ ap (λ (r : State). upWith r d v) (b .gives);
-  backs-fit = b .backs-fit;
-  backs-are = b .backs-are;
-}
+  pub failure-leaves : (r : HubState) → LeavesIf g x r → (StateOk r) × (stateOf r ≡ leftBy (downWith (stateOf h) d) (goneIn h x))
+  failure-leaves r a = (a .0, a .1 ∙ (λ i. leftBy (e i) (gone-down i)))
+
+  pub failure-puts : (r : PutBacks) → BacksIf g x r → (BacksOk r) × (backsOf r ≡ backsLeft (downWith (stateOf h) d) (goneIn h x))
+  failure-puts r a = (a .0, a .1 ∙ (λ i. backsLeft (e i) (gone-down i)))
+
+-- g: after the abort, if there is one; t: with the restart attached; u: with the device up
+pub restart-gives : (h g t u : HubState) (x d : ℕ) (v : ℤ) → LeavesIf h x g →
+    stateOf t ≡ attach (getD (g .mark) d 0) (oneRestart d v) (stateOf g) → stateOf u ≡ withUp (stateOf t) (put (stateOf t .up) d true) →
+    stateOf u ≡ upWith (leftBy (stateOf h) (goneIn h x)) d v
+restart-gives h g t u x d v a e k =
+    k
+    ∙ ap (λ (s : State). withUp s (put (s .up) d true))
+    (e ∙ ap (λ (j : ℕ). attach j (oneRestart d v) (stateOf g)) (λ i. sym (state-mark g) i d))
+    ∙ ap (λ (s : State). upWith s d v) (a .1)

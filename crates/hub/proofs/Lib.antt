@@ -1,3 +1,4 @@
+pub mod Laws
 pub mod OpenLaws
 pub mod Theorem
 pub mod Rounds

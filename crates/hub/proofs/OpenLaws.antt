@@ -1,28 +1,28 @@
 -- Laws for the proofs of the opening. Assumes nothing.
-use mathlib.Core.Path.{_≡_, sym, ap, _∙_, subst}
-use mathlib.Core.Bool.{true, _||_}
-use mathlib.Core.List.{[]}
-use Prim.Native.Nat.{ℕ, suc, _<_, _≤_}
+use mathlib.Core.Path.{_≡_, refl, sym, ap, _∙_, subst}
+use mathlib.Core.Bool.{true, false, _||_}
+use mathlib.Core.List.{map}
+use Prim.Native.Nat.{ℕ, zero, suc, _*_, _<_, _≤_}
 use native.Mathlib.Omega.{arith}
 use borrow.Author.Tests.{lt-ltb, le-ltb, ltb-false, eq-eqb, ne-eqb, eqb-false}
 use lib.Dec.{eqb, ltb}
 use lib.IntN.{pos}
-use lib.ListN.{replicate}
+use lib.ListN.{replicate, getD}
 use Rattle.routine.specs.Refusals.{devices-out-of-range, pass-limit-out-of-range, first-id-0, refusalOf, refuse_when_, _andThen_}
-use Rattle.routine.specs.Routine.{maxDevices}
+use Rattle.routine.specs.Routine.{maxDevices, maxCommands}
 use Rattle.routine.specs.declared.Refusal.{Refusal}
 use Rattle.routine.specs.declared.Verdict.{Verdict}
 use Rattle.routine.specs.declared.Verdict.the-variants.{Accepted, Refused as TurnedDown}
 use Rattle.routine.proofs.Laws.{both-accept, not-refused, or-false}
-use Rattle.rules.specs.State.{highestPassLimit, highestId}
+use Rattle.rules.specs.State.{highestPassLimit, highestId, maxHeld}
 use Rattle.rules.specs.Open.{openCheck, newHub, closedHub, openIf, openOf}
 use Rattle.rules.specs.Calls.{TurnsAllDown}
 use Rattle.rules.proofs.Closed.{closed-turns-all-down}
-use Rattle.slot.proofs.Laws.{all-same}
-use Rattle.sequence.specs.View.{membersOf}
-use Rattle.sequence.specs.Valid.{SequenceOk}
-use Rattle.sequence.specs.declared.Sequence.{Sequence}
-use Rattle.state.specs.View.{stateOf}
+use Rattle.sequence.specs.Lists.{count}
+use Rattle.sequence.specs.Links.{slotsOf, Stands}
+use Rattle.sequence.specs.Contract.{Empty}
+use Rattle.sequence.specs.declared.Links.{Links}
+use Rattle.state.specs.View.{memberAt, membersOf, stateOf}
 use Rattle.state.specs.Valid.{StateOk}
 use Rattle.state.specs.declared.HubState.{HubState}
 use Rattle.hub.specs.View.{view}
@@ -30,6 +30,12 @@ use Rattle.hub.specs.Valid.{Valid}
 use Rattle.hub.specs.Contract.{Opens}
 use Rattle.hub.specs.declared.Hub.{Hub}
 use Rattle.hub.specs.declared.Opened.{Opened}
+
+-- a list of one value has it everywhere
+all-same : {A : Type 0} (n : ℕ) (v : A) (d : ℕ) → getD (replicate n v) d v ≡ v
+all-same zero v d = refl
+all-same (suc n) v zero = refl
+all-same (suc n) v (suc d) = all-same n v d
 
 -- every call on the hub of no devices is turned down
 pub turns-all-down : (h : Hub) → view h ≡ closedHub → TurnsAllDown (view h)
@@ -72,27 +78,44 @@ module _ (n k first : ℕ) where
       (m, omega (arith, f))
 
   -- the state of the hub that is made
-  abbrev pub freshState : Sequence → HubState
-  freshState q = record {
+  abbrev pub freshState : Links → HubState
+  freshState links = record {
     devices = n;
     «pass_limit» = k;
     «next_id» = first;
-    sequence = q;
+    links = links;
+    ids = replicate maxHeld 0;
+    passed = replicate maxHeld 0;
+    committed = replicate maxHeld false;
+    counts = replicate maxHeld 0;
+    answered = replicate maxHeld 0;
+    «due_then» = replicate maxHeld (pos 0);
+    device = replicate (maxHeld * maxCommands) 0;
+    tag = replicate (maxHeld * maxCommands) 0;
+    setting = replicate (maxHeld * maxCommands) (pos 0);
+    stage = replicate (maxHeld * maxCommands) 0;
+    restarts = replicate (maxHeld * maxDevices) (pos 0);
     settled = replicate maxDevices (pos 0);
     up = replicate maxDevices true;
     mark = replicate maxDevices 0;
   }
 
-  pub fresh-valid : (q : Sequence) → n ≤ maxDevices → 0 < first → first ≤ suc highestId → SequenceOk q → StateOk (freshState q)
-  fresh-valid q m f g ok = record { devices-fit = m; some-id = f; ids-fit = g; sequence-ok = ok }
+  pub fresh-valid : (links : Links) → n ≤ maxDevices → 0 < first → first ≤ suc highestId → Empty links → StateOk (freshState links)
+  fresh-valid links m f g e = record {
+    devices-fit = m;
+    some-id = f;
+    ids-fit = g;
+    links-ok = e .valid;
+    slots-ok = λ x s. let z : count x (slotsOf links) ≡ 0 = ap (count x) (e .slots) in absurd (omega arith);
+  }
 
-  pub fresh-view : (q : Sequence) → membersOf q ≡ [] → stateOf (freshState q) ≡ newHub n k first
-  unfolding stateOf newHub
-  fresh-view q e = λ i. record {
+  pub fresh-view : (links : Links) → Empty links → stateOf (freshState links) ≡ newHub n k first
+  unfolding stateOf newHub membersOf
+  fresh-view links e = λ i. record {
     devices = n;
     passLimit = k;
     nextId = first;
-    sequence = e i;
+    sequence = map (memberAt (freshState links)) (e .slots i);
     settled = λ d. all-same maxDevices (pos 0) d i;
     up = λ d. all-same maxDevices true d i;
     mark = λ d. all-same maxDevices 0 d i;
