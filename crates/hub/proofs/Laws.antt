@@ -6,19 +6,21 @@ use Prim.Native.Nat.{ℕ}
 use types.Run.{OneOf, miss}
 use denote.Enum.Declared.{tagOf}
 use Rattle.routine.specs.Choice.{if_then_else_}
+use Rattle.routine.specs.Routine.{commandsOf, routineOf, noRoutine}
 use Rattle.routine.specs.declared.Command.{Command}
+use Rattle.routine.specs.declared.Routine.{Routine}
 use Rattle.routine.proofs.Laws.{byTest}
 use Rattle.rules.specs.State.{State}
-use Rattle.rules.specs.Answers.{Result}
+use Rattle.rules.specs.Answers.{Back, Result}
 use Rattle.rules.specs.Settle.{settle, settling}
 use Rattle.rules.proofs.Lists.{t≠f}
-use Rattle.answers.specs.View.{firstOf, answerOf, backsOf, backsIn, BacksOk, changesNothing}
+use Rattle.answers.specs.View.{oneOf, firstOf, answerOf, backsOf, backsIn, BacksOk, changesNothing}
 use Rattle.answers.specs.declared.Answer.{Answer}
 use Rattle.answers.specs.declared.Answer.the-variants.{Refused, Placed, Wait, Sent, Done, Skipped, Committed, Aborted, Down, Up}
 use Rattle.answers.specs.declared.PutBacks.{PutBacks}
 use Rattle.answers.proofs.Answer.{the-type}
 use Rattle.state.specs.View.{firstCommitted}
-use Rattle.state.specs.Contract.{appliedTo, ChangeOk, backsOfDecision, toldBy, settledUnlessNothing, resultBy, Decides}
+use Rattle.state.specs.Contract.{appliedTo, backsBy, ChangeOk, backsOfDecision, toldBy, settledUnlessNothing, resultBy, Decides}
 use Rattle.state.specs.declared.HubState.{HubState}
 use Rattle.state.specs.declared.Change.{Change}
 use Rattle.state.specs.declared.Change.the-variants.{Nothing, Stage, Commit, Join, Abort, Fail, Restart}
@@ -164,3 +166,33 @@ module _ (h : Hub) (cs : List Command) (d : Decision) (backs : PutBacks) (n : Hu
       ∙ sym (settled-result f))
       (λ t. t≠f (sym t ∙ f)))
       refl
+
+-- ---- the arms
+
+-- what is put back, where the change is this one
+pub backs-as : (h : HubState) (d : Decision) {c : Change} {l : List Back} → d .change ≡ c → l ≡ backsBy h (oneOf (d .back)) c →
+    l ≡ backsOfDecision h d
+backs-as h d e f = f ∙ sym (ap (backsBy h (oneOf (d .back))) e)
+
+-- a change that is this one is carried out
+pub carries-as : {h : Hub} {cs : List Command} {c x : Change} {r : Hub} → c ≡ x → (x ≡ Nothing → ⊥) → Valid r → view r ≡ appliedTo (h .state) cs x →
+    Carries h cs c r
+carries-as {h} {cs} e n v g = record { valid = v; gives = g ∙ sym (ap (appliedTo (h .state) cs) e); same-hub = λ k. absurd (n (sym e ∙ k)) }
+
+pub carries-nothing : {h : Hub} {cs : List Command} {c : Change} → c ≡ Nothing → Valid h → Carries h cs c h
+carries-nothing {h} {cs} e v = record { valid = v; gives = sym (ap (appliedTo (h .state) cs) e); same-hub = λ _. refl }
+
+-- ---- calls that submit nothing
+
+no-commands : (r : Routine) → r ≡ noRoutine → [] ≡ commandsOf r
+unfolding commandsOf routineOf
+no-commands r e = sym (ap commandsOf e)
+
+pub decides-none : {h : HubState} {d : Decision} {result : Result} (r : Routine) → r ≡ noRoutine → Decides h [] d result →
+    Decides h (commandsOf r) d (resultBy h (commandsOf r) d)
+decides-none {h} {d} r e k = subst (λ (cs : List Command). Decides h cs d (resultBy h cs d)) (no-commands r e) (decides-itself k)
+
+pub gives-none : {h : Hub} {o : Outcome} {d : Decision} {result : Result} (r : Routine) → r ≡ noRoutine → Decides (h .state) [] d result →
+    Gives h o (resultBy (h .state) (commandsOf r) d) → Gives h o result
+gives-none {h} {o} {d} r e k g =
+    subst (Gives h o) (ap (λ (cs : List Command). resultBy (h .state) cs d) (sym (no-commands r e)) ∙ k .gives) g

@@ -1,4 +1,6 @@
+-- `hub::cancel` meets its contract. Assumes nothing.
 use borrow.Author.Needs.{needs}
+use Rattle.hub.proofs.Laws.{decides-none, gives-none}
 use Rattle.hub.proofs.cancel.Statement.{statement}
 use Rattle.hub.proofs.cancel.Tie as tie
 use Rattle.hub.proofs.cancel.Reads as reads
@@ -17,11 +19,13 @@ empty-requires c κs = search needs
 
 -- src/lib.rt:119:5
 carried-out-requires : tie.Need-carried-out-requires
-carried-out-requires c κs = ?
+carried-out-requires c κs = (c .before .before .pre, decides-none _ (c .empty .ensures) (c .before .decide-cancel .ensures))
 
 -- src/lib.rt:113:1
 returns : tie.Need-returns
-returns c = ?
+returns c =
+    let e = c .before in
+    gives-none (e .empty .result) (e .empty .ensures) (e .before .decide-cancel .ensures) (c .carried-out .ensures)
 
 pub cancel-spec : {M : Type 1} → statement M
 cancel-spec =

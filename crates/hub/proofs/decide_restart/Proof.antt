@@ -1,3 +1,13 @@
+-- `hub::decide_restart` meets its contract. Assumes nothing.
+use mathlib.Core.Path.{_≡_, subst}
+use mathlib.Core.List.{[]}
+use lib.IntN.{ℤ}
+use mir.Val.{toZ, ofZ}
+use mir.Syntax.{w16}
+use borrow.Author.Needs.{needs}
+use Rattle.rules.specs.Events.{restartOf}
+use Rattle.state.specs.Contract.{Decides}
+use Rattle.hub.specs.View.{view}
 use Rattle.hub.proofs.decide_restart.Statement.{statement}
 use Rattle.hub.proofs.decide_restart.Tie as tie
 use Rattle.hub.proofs.decide_restart.Reads as reads
@@ -6,11 +16,14 @@ use Rattle.events.proofs.decide_restart.Reads as decide-restart-reads
 
 -- src/lib.rt:239:5
 decide-restart-requires : tie.Need-decide-restart-requires
-decide-restart-requires c κs = ?
+decide-restart-requires c κs = search needs
 
 -- src/lib.rt:234:1
 returns : tie.Need-returns
-returns c = ?
+returns c =
+    let a = c .before .before .args in
+    let e : toZ w16 (ofZ w16 (a .setting)) ≡ a .setting = search needs in
+    subst (λ (z : ℤ). Decides (a .hub .state) [] (c .decide-restart .result) (restartOf (view (a .hub)) (a .device) z)) e (c .decide-restart .ensures)
 
 pub decide-restart-spec : {M : Type 1} → statement M
 decide-restart-spec = tie.close (tie.spec decide-restart-requires returns)

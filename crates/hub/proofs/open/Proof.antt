@@ -1,38 +1,36 @@
+-- `hub::open` meets its contract. Assumes nothing.
 use borrow.Author.Needs.{needs}
+use mathlib.Core.Path.{sym, _∙_}
+use Rattle.hub.proofs.OpenLaws.{open-fits, opens, opens-not}
 use Rattle.hub.proofs.open.Statement.{statement}
 use Rattle.hub.proofs.open.Tie as tie
-use Rattle.hub.proofs.open.Reads as reads
-use Rattle.hub.proofs.open.Lts as lts
-use Rattle.hub.proofs.closed.Reads as closed-reads
-use Rattle.hub.proofs.opening.check.Reads as check-reads
-use Rattle.hub.proofs.opening.new_hub.Reads as new-hub-reads
 
--- src/lib.rt:74:9
 check-requires : tie.Need-check-requires
 check-requires c κs = search needs
 
 enum-told : tie.Need-enum-told
 enum-told c = search needs
 
--- src/lib.rt:76:13
 enum-told-2 : tie.Need-enum-told-2
 enum-told-2 c = search needs
 
--- src/lib.rt:76:13
 closed-requires : tie.Need-closed-requires
 closed-requires c κs = search needs
 
--- src/lib.rt:77:9
 returns : tie.Need-returns
-returns c = ?
+returns c =
+    let k = c .before .before .before .check in
+    opens-not _ _ _ _ _ (k .ensures) (c .before .enum-told2 .given .1) (c .closed .ensures .0) (c .closed .ensures .1)
 
--- src/lib.rt:79:9
 new-hub-requires : tie.Need-new-hub-requires
-new-hub-requires c κs = ?
+new-hub-requires c κs =
+    let k = c .before .before .check in
+    open-fits _ _ _ (sym (k .ensures) ∙ c .enum-told .given .1)
 
--- src/lib.rt:71:1
 returns-2 : tie.Need-returns-2
-returns-2 c = ?
+returns-2 c =
+    let k = c .before .before .before .check in
+    opens _ _ _ _ (k .ensures) (c .before .enum-told .given .1) (c .new-hub .ensures .0) (c .new-hub .ensures .1)
 
 pub open-spec : {M : Type 1} → statement M
 open-spec =

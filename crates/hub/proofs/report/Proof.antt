@@ -1,4 +1,6 @@
+-- `hub::report` meets its contract. Assumes nothing.
 use borrow.Author.Needs.{needs}
+use Rattle.hub.proofs.Laws.{decides-none, gives-none}
 use Rattle.hub.proofs.report.Statement.{statement}
 use Rattle.hub.proofs.report.Tie as tie
 use Rattle.hub.proofs.report.Reads as reads
@@ -17,11 +19,13 @@ empty-requires c κs = search needs
 
 -- src/lib.rt:109:5
 carried-out-requires : tie.Need-carried-out-requires
-carried-out-requires c κs = ?
+carried-out-requires c κs = (c .before .before .pre, decides-none _ (c .empty .ensures) (c .before .decide-report .ensures))
 
 -- src/lib.rt:103:1
 returns : tie.Need-returns
-returns c = ?
+returns c =
+    let e = c .before in
+    gives-none (e .empty .result) (e .empty .ensures) (e .before .decide-report .ensures) (c .carried-out .ensures)
 
 pub report-spec : {M : Type 1} → statement M
 report-spec =

@@ -1,4 +1,12 @@
+-- `hub::with_restart` meets its contract. Assumes nothing.
+use mathlib.Core.Path.{_≡_, subst}
+use lib.IntN.{ℤ}
+use mir.Val.{toZ, ofZ}
+use mir.Syntax.{w16}
 use borrow.Author.Needs.{needs}
+use Rattle.state.specs.View.{stateOf}
+use Rattle.state.specs.Valid.{StateOk}
+use Rattle.state.specs.Contract.{goneIn, leftBy, upWith}
 use Rattle.hub.proofs.with_restart.Statement.{statement}
 use Rattle.hub.proofs.with_restart.Tie as tie
 use Rattle.hub.proofs.with_restart.Reads as reads
@@ -11,7 +19,15 @@ with-restart-requires c κs = search needs
 
 -- src/lib.rt:293:1
 returns : tie.Need-returns
-returns c = ?
+returns c =
+    let a = c .before .before .args in
+    let e : toZ w16 (ofZ w16 (a .setting)) ≡ a .setting = search needs in
+    subst
+    (λ (v : ℤ).
+    StateOk (c .with-restart .result)
+    × (stateOf (c .with-restart .result) ≡ upWith (leftBy (stateOf (a .hub .state)) (goneIn (a .hub .state) (a .gone))) (a .device) v))
+    e
+    (c .with-restart .ensures)
 
 pub with-restart-spec : {M : Type 1} → statement M
 with-restart-spec = tie.close (tie.spec with-restart-requires returns)

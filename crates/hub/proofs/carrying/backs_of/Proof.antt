@@ -1,4 +1,8 @@
+-- `hub::carrying::backs_of` meets its contract. Assumes nothing.
 use borrow.Author.Needs.{needs}
+use mathlib.Core.Path.{subst}
+use Rattle.hub.specs.Carrying.{LeavingOk}
+use Rattle.hub.proofs.Laws.{backs-as}
 use Rattle.hub.proofs.carrying.backs_of.Statement.{statement}
 use Rattle.hub.proofs.carrying.backs_of.Tie as tie
 use Rattle.hub.proofs.carrying.backs_of.Reads as reads
@@ -46,7 +50,9 @@ enum-known-change c = search needs
 
 -- src/carrying.rt:32:30
 backs-of-requires : tie.Need-backs-of-requires
-backs-of-requires c κs = ?
+backs-of-requires c κs =
+    let p = c .before .before .before .pre in
+    (p .0, subst (LeavingOk _) (c .before .change .given .1) (p .1))
 
 -- src/carrying.rt:33:22
 enum-known-change-2 : tie.Need-enum-known-change-2
@@ -54,7 +60,10 @@ enum-known-change-2 c = search needs
 
 -- src/carrying.rt:33:39
 failure-backs-requires : tie.Need-failure-backs-requires
-failure-backs-requires c κs = ?
+failure-backs-requires c κs =
+    let p = c .before .before .before .pre in
+    let q = subst (LeavingOk _) (c .before .change2 .given .1) (p .1) in
+    (p .0, q .0, q .1)
 
 -- src/carrying.rt:34:31
 enum-known-change-3 : tie.Need-enum-known-change-3
@@ -62,35 +71,58 @@ enum-known-change-3 c = search needs
 
 -- src/carrying.rt:34:40
 backs-if-requires : tie.Need-backs-if-requires
-backs-if-requires c κs = ?
+backs-if-requires c κs =
+    let p = c .before .before .before .pre in
+    (p .0, subst (LeavingOk _) (c .before .change3 .given .1) (p .1) .2)
 
 -- src/carrying.rt:21:1
 returns : tie.Need-returns
-returns c = ?
+returns c =
+    let b = c .before in
+    let a = b .before .before .args in
+    (c .at-most-one .ensures .0, backs-as (a .state) (a .decision) (b .enum-told .given .1) (c .at-most-one .ensures .1))
 
 -- src/carrying.rt:21:1
 returns-2 : tie.Need-returns-2
-returns-2 c = ?
+returns-2 c =
+    let b = c .before in
+    let a = b .before .before .args in
+    (c .at-most-one2 .ensures .0, backs-as (a .state) (a .decision) (b .enum-told2 .given .1) (c .at-most-one2 .ensures .1))
 
 -- src/carrying.rt:21:1
 returns-3 : tie.Need-returns-3
-returns-3 c = ?
+returns-3 c =
+    let b = c .before in
+    let a = b .before .before .args in
+    (c .at-most-one3 .ensures .0, backs-as (a .state) (a .decision) (b .enum-told3 .given .1) (c .at-most-one3 .ensures .1))
 
 -- src/carrying.rt:21:1
 returns-4 : tie.Need-returns-4
-returns-4 c = ?
+returns-4 c =
+    let b = c .before in
+    let a = b .before .before .args in
+    (c .at-most-one4 .ensures .0, backs-as (a .state) (a .decision) (b .enum-told4 .given .1) (c .at-most-one4 .ensures .1))
 
 -- src/carrying.rt:21:1
 returns-5 : tie.Need-returns-5
-returns-5 c = ?
+returns-5 c =
+    let b = c .before .before in
+    let a = b .before .before .args in
+    (c .backs-of .ensures .0, backs-as (a .state) (a .decision) (b .change .given .1) (c .backs-of .ensures .1))
 
 -- src/carrying.rt:21:1
 returns-6 : tie.Need-returns-6
-returns-6 c = ?
+returns-6 c =
+    let b = c .before .before in
+    let a = b .before .before .args in
+    (c .failure-backs .ensures .0, backs-as (a .state) (a .decision) (b .change2 .given .1) (c .failure-backs .ensures .1))
 
 -- src/carrying.rt:21:1
 returns-7 : tie.Need-returns-7
-returns-7 c = ?
+returns-7 c =
+    let b = c .before .before in
+    let a = b .before .before .args in
+    (c .backs-if .ensures .0, backs-as (a .state) (a .decision) (b .change3 .given .1) (c .backs-if .ensures .1))
 
 pub backs-of-spec : {M : Type 1} → statement M
 backs-of-spec =

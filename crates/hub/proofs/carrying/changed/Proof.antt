@@ -1,4 +1,16 @@
+-- `hub::carrying::changed` meets its contract. Assumes nothing.
+use mathlib.Core.Path.{_≡_, sym, subst}
+use mathlib.Core.Bool.{true}
+use lib.IntN.{ℤ}
+use mir.Val.{toZ, ofZ}
+use mir.Syntax.{w16}
+use Prim.Native.Nat.{ℕ}
+use native.Mathlib.Omega.{arith}
 use borrow.Author.Needs.{needs}
+use Rattle.state.specs.View.{isRestart}
+use Rattle.state.specs.Contract.{goneIn, leftBy, upWith, ChangeOk}
+use Rattle.hub.specs.View.{view}
+use Rattle.hub.proofs.Laws.{carries-as, carries-nothing}
 use Rattle.hub.proofs.carrying.changed.Statement.{statement}
 use Rattle.hub.proofs.carrying.changed.Tie as tie
 use Rattle.hub.proofs.carrying.changed.Reads as reads
@@ -20,7 +32,9 @@ enum-known-change c = search needs
 
 -- src/carrying.rt:45:34
 with-stage-requires : tie.Need-with-stage-requires
-with-stage-requires c κs = ?
+with-stage-requires c κs =
+    let p = c .before .before .before .pre in
+    (p .0, subst (ChangeOk _ _) (c .before .change .given .1) (p .1))
 
 -- src/carrying.rt:46:24
 enum-known-change-2 : tie.Need-enum-known-change-2
@@ -28,7 +42,9 @@ enum-known-change-2 c = search needs
 
 -- src/carrying.rt:46:31
 with-commit-requires : tie.Need-with-commit-requires
-with-commit-requires c κs = ?
+with-commit-requires c κs =
+    let p = c .before .before .before .pre in
+    (p .0, subst (ChangeOk _ _) (c .before .change2 .given .1) (p .1))
 
 -- src/carrying.rt:47:22
 enum-known-change-3 : tie.Need-enum-known-change-3
@@ -36,7 +52,9 @@ enum-known-change-3 c = search needs
 
 -- src/carrying.rt:47:32
 with-routine-requires : tie.Need-with-routine-requires
-with-routine-requires c κs = ?
+with-routine-requires c κs =
+    let p = c .before .before .before .pre in
+    (p .0, subst (ChangeOk _ _) (c .before .change3 .given .1) (p .1))
 
 -- src/carrying.rt:48:23
 enum-known-change-4 : tie.Need-enum-known-change-4
@@ -44,7 +62,9 @@ enum-known-change-4 c = search needs
 
 -- src/carrying.rt:48:30
 with-abort-requires : tie.Need-with-abort-requires
-with-abort-requires c κs = ?
+with-abort-requires c κs =
+    let p = c .before .before .before .pre in
+    (p .0, subst (ChangeOk _ _) (c .before .change4 .given .1) (p .1))
 
 -- src/carrying.rt:49:22
 enum-known-change-5 : tie.Need-enum-known-change-5
@@ -52,43 +72,63 @@ enum-known-change-5 c = search needs
 
 -- src/carrying.rt:49:39
 with-failure-requires : tie.Need-with-failure-requires
-with-failure-requires c κs = ?
+with-failure-requires c κs =
+    let p = c .before .before .before .pre in
+    let q = subst (ChangeOk _ _) (c .before .change5 .given .1) (p .1) in
+    (p .0, q .0, q .1)
 
 -- src/carrying.rt:50:25
 enum-known-change-6 : tie.Need-enum-known-change-6
 enum-known-change-6 c = search needs
 
--- src/carrying.rt:50:51
+-- the setting as it was handed over
+same-setting : (c : tie.After-known-told6) → toZ w16 (ofZ w16 (c .before .change6 .given .0 .1 .0)) ≡ c .before .change6 .given .0 .1 .0
+same-setting c = search needs
+
 with-restart-requires : tie.Need-with-restart-requires
-with-restart-requires c κs = ?
+with-restart-requires c κs =
+    let p = c .before .before .before .pre in
+    let q = subst (ChangeOk _ _) (c .before .change6 .given .1) (p .1) in
+    (p .0, q .0, subst (λ (z : ℤ). isRestart z ≡ true) (sym (same-setting c)) (q .1), q .2)
 
 -- src/carrying.rt:39:1
 returns : tie.Need-returns
-returns c = ?
+returns c = carries-nothing (c .enum-told .given .1) (c .before .before .pre .0)
 
 -- src/carrying.rt:39:1
 returns-2 : tie.Need-returns-2
-returns-2 c = ?
+returns-2 c =
+    carries-as (c .before .before .change .given .1) (λ e. let z : _≡_ {A = ℕ} 0 1 = cc in omega arith) (c .with-stage .ensures .0) (c .with-stage .ensures .1)
 
 -- src/carrying.rt:39:1
 returns-3 : tie.Need-returns-3
-returns-3 c = ?
+returns-3 c =
+    carries-as (c .before .before .change2 .given .1) (λ e. let z : _≡_ {A = ℕ} 0 1 = cc in omega arith) (c .with-commit .ensures .0) (c .with-commit .ensures .1)
 
 -- src/carrying.rt:39:1
 returns-4 : tie.Need-returns-4
-returns-4 c = ?
+returns-4 c =
+    carries-as (c .before .before .change3 .given .1) (λ e. let z : _≡_ {A = ℕ} 0 1 = cc in omega arith) (c .with-routine .ensures .0) (c .with-routine .ensures .1)
 
 -- src/carrying.rt:39:1
 returns-5 : tie.Need-returns-5
-returns-5 c = ?
+returns-5 c =
+    carries-as (c .before .before .change4 .given .1) (λ e. let z : _≡_ {A = ℕ} 0 1 = cc in omega arith) (c .with-abort .ensures .0) (c .with-abort .ensures .1)
 
 -- src/carrying.rt:39:1
 returns-6 : tie.Need-returns-6
-returns-6 c = ?
+returns-6 c =
+    carries-as (c .before .before .change5 .given .1) (λ e. let z : _≡_ {A = ℕ} 0 1 = cc in omega arith) (c .with-failure .ensures .0) (c .with-failure .ensures .1)
 
 -- src/carrying.rt:39:1
 returns-7 : tie.Need-returns-7
-returns-7 c = ?
+returns-7 c =
+    let b = c .before .before in
+    let a = b .before .before .args in
+    let x = b .change6 .given .0 in
+    carries-as (b .change6 .given .1) (λ e. let z : _≡_ {A = ℕ} 0 1 = cc in omega arith) (c .with-restart .ensures .0)
+    (subst (λ (z : ℤ). view (c .with-restart .result) ≡ upWith (leftBy (view (a .hub)) (goneIn (a .hub .state) (x .1 .1 .0))) (x .0) z)
+    (same-setting (c .before)) (c .with-restart .ensures .1))
 
 pub changed-spec : {M : Type 1} → statement M
 changed-spec =

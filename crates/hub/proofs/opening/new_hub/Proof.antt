@@ -1,17 +1,19 @@
+-- `hub::opening::new_hub` meets its contract. Assumes nothing.
 use borrow.Author.Needs.{needs}
+use native.Mathlib.Omega.{arith}
+use Rattle.hub.proofs.OpenLaws.{fresh-valid, fresh-view}
 use Rattle.hub.proofs.opening.new_hub.Statement.{statement}
 use Rattle.hub.proofs.opening.new_hub.Tie as tie
-use Rattle.hub.proofs.opening.new_hub.Reads as reads
-use Rattle.hub.proofs.opening.new_hub.Lts as lts
-use Rattle.sequence.proofs.keep.empty.Reads as empty-reads
 
--- src/opening.rt:46:9
 empty-requires : tie.Need-empty-requires
 empty-requires c κs = search needs
 
--- src/opening.rt:42:1
 returns : tie.Need-returns
-returns c = ?
+returns c =
+    let a = c .before in
+    let e = c .empty .ensures in
+    let f = a .fits .first-id in
+    (fresh-valid _ _ _ _ (a .pre .0) (a .pre .1) (omega (arith, f)) e, fresh-view _ _ _ _ e)
 
 pub new-hub-spec : {M : Type 1} → statement M
 new-hub-spec = tie.close (tie.spec empty-requires returns)
