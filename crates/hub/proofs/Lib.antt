@@ -1,5 +1,6 @@
 pub mod Laws
 pub mod OpenLaws
 pub mod Theorem
+pub mod Links
 pub mod Rounds
 pub mod Exact

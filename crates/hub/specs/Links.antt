@@ -1,0 +1,57 @@
+-- Document 02, item 8, "Links for the sequence": from an opening on, along every chain of calls, the answers and the sequence read along the links are those
+-- of a packed list, which is how the rules keep it; along the other links it is the same list from its end; and the links run through each held routine a
+-- single time. What a single placement or leaving changes is a contract: `Joins` and `Leaves` of crate `sequence`, `Places` of crate `apply`, `Unlinks` of
+-- crate `leaving`. The proof is `links-are-the-sequence` of `proofs/Links.antt`. Assumes nothing.
+use mathlib.Core.Path.{_≡_}
+use mathlib.Core.List.{List, [], _∷_, map, reverse}
+use Prim.Native.Nat.{ℕ, _+_}
+use Rattle.routine.specs.declared.Verdict.the-variants.{Accepted}
+use Rattle.rules.specs.State.{Member, State}
+use Rattle.rules.specs.Answers.{Call, Answer as Told}
+use Rattle.rules.specs.Open.{newHub}
+use Rattle.rules.specs.Calls.{resultOf, stateAfter}
+use Rattle.sequence.specs.Lists.{count}
+use Rattle.sequence.specs.Links.{slotsOf, backOf, freeOf, within}
+use Rattle.state.specs.View.{memberAt}
+use Rattle.hub.specs.View.{answersIn}
+use Rattle.hub.specs.Contract.{Opens}
+use Rattle.hub.specs.Demand3.{HubAct, called, device-takes, callOf, Chain, hubAfter}
+use Rattle.hub.specs.declared.Hub.{Hub}
+use Rattle.hub.specs.declared.Opened.{Opened}
+
+-- The calls of a chain, and what their outcomes answer.
+abbrev pub callsIn : List HubAct → List Call
+callsIn [] = []
+callsIn (called c o v ∷ l) = callOf c ∷ callsIn l
+callsIn (device-takes d k ∷ l) = callsIn l
+
+abbrev pub answersAlong : List HubAct → List (List Told)
+answersAlong [] = []
+answersAlong (called c o v ∷ l) = answersIn o ∷ answersAlong l
+answersAlong (device-takes d k ∷ l) = answersAlong l
+
+-- What the rules answer to the calls, with the sequence as a packed list.
+abbrev pub packedAnswers : State → List Call → List (List Told)
+packedAnswers s [] = []
+packedAnswers s (c ∷ l) = resultOf s c .answers ∷ packedAnswers (resultOf s c .state) l
+
+-- The routine in each slot, in the order in which the slots are met along the links, from the first on and from the last on.
+abbrev pub alongLinks : Hub → List Member
+alongLinks h = map (memberAt (h .state)) (slotsOf (h .state .links))
+
+abbrev pub backLinks : Hub → List Member
+backLinks h = map (memberAt (h .state)) (backOf (h .state .links))
+
+-- The links of the hub keep this packed list. `once`: each slot is met along the links or is free, just one of the two and that once, and no other number is.
+pub record KeepsPacked (h : Hub) (packed : List Member) : Type 0 where
+  pub read : alongLinks h ≡ packed
+  pub read-back : backLinks h ≡ reverse packed
+  pub once : (x : ℕ) → count x (slotsOf (h .state .links)) + count x (freeOf (h .state .links)) ≡ within x
+  pub once-back : (x : ℕ) → count x (backOf (h .state .links)) ≡ count x (slotsOf (h .state .links))
+
+-- For every accepted opening and every chain of calls.
+abbrev pub LinksAreTheSequence : Type 0
+LinksAreTheSequence =
+    (n k first : ℕ) (o : Opened) → Opens n k first o → o .verdict ≡ Accepted → (acts : List HubAct) → Chain (o .hub) acts →
+    (answersAlong acts ≡ packedAnswers (newHub n k first) (callsIn acts))
+    × KeepsPacked (hubAfter (o .hub) acts) (stateAfter (newHub n k first) (callsIn acts) .sequence)
