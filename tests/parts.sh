@@ -60,13 +60,27 @@ needs_nothing() {
     ! grep -vxE 'memcpy|memmove|memset|memcmp' "$log/needed"
 }
 
+# How deep the call goes, held to what the header promises.
+stack() {
+    tests/c/stack "$archive" "$bin" "$scratch"
+}
+
+has_valgrind() {
+    valgrind -q true && return 0
+    echo "there is no valgrind that runs; on Debian: apt-get install valgrind"
+    return 1
+}
+
+# One busy input, held to the figure stored in bench/instructions.
+instructions() {
+    has_valgrind || return 77
+    PLOT_HUB_ARCHIVE=$archive bench/run --check
+}
+
 # Memory that is read before it was written is seen by valgrind only.
 under_valgrind() {
     local input=$scratch/input
-    if ! valgrind -q true; then
-        echo "there is no valgrind that runs; on Debian: apt-get install valgrind"
-        return 77
-    fi
+    has_valgrind || return 77
     PLOT_HUB_CALLER=$out/caller_plain PLOT_HUB_UNDER='valgrind -q --error-exitcode=9' "$bin/compare" caller 12 "$seed" &&
         "$bin/history" random "$seed" 5 >"$input" && "$bin/history" damaged "$seed" 5 >>"$input" &&
         valgrind -q --error-exitcode=9 "$program" <"$input" >"$scratch/printed" &&

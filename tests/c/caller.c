@@ -17,6 +17,7 @@
  */
 #define _GNU_SOURCE
 #include "plot_hub.h"
+#include "promise.h"
 
 #include <pthread.h>
 #include <stdarg.h>
@@ -27,7 +28,6 @@
 #include <unistd.h>
 
 enum { THREADS = 4, ROUNDS = 10, MORE = 3, BESIDE = 256, LONG_BUFFERS = 8 };
-static const size_t STACK = 128 * 1024;
 
 static unsigned long record_number;
 
@@ -278,7 +278,7 @@ static void from_threads(void)
 {
     pthread_t threads[THREADS];
     pthread_attr_t attributes;
-    if (pthread_attr_init(&attributes) != 0 || pthread_attr_setstacksize(&attributes, STACK) != 0 ||
+    if (pthread_attr_init(&attributes) != 0 || pthread_attr_setstacksize(&attributes, STACK_PROMISED) != 0 ||
         pthread_barrier_init(&together, NULL, THREADS) != 0)
         fail("no thread attributes");
     for (size_t i = 0; i < THREADS; i++)
@@ -356,7 +356,7 @@ int main(void)
 {
     pthread_t thread;
     pthread_attr_t attributes;
-    if (pthread_attr_init(&attributes) != 0 || pthread_attr_setstacksize(&attributes, STACK) != 0 ||
+    if (pthread_attr_init(&attributes) != 0 || pthread_attr_setstacksize(&attributes, STACK_PROMISED) != 0 ||
         pthread_create(&thread, &attributes, records, NULL) != 0 || pthread_join(thread, NULL) != 0)
         fail("no thread");
     pthread_attr_destroy(&attributes);

@@ -50,6 +50,7 @@ use Rattle.state.proofs.Members.{there-it, member-steps, place-within}
 use Rattle.state.proofs.Laws.{refused-decides, abort-decides}
 use Rattle.due.proofs.Tables.{set-put}
 use Rattle.search.specs.Contract.{Finds}
+use Rattle.search.proofs.Found.{found-as, stands-at, found-id}
 use Rattle.abort.specs.PutBacks.{isBackBy, backsBy, TablesAre}
 use Rattle.abort.specs.declared.Tables.{Tables}
 
@@ -199,38 +200,6 @@ refused-as h cs n r result k e = subst (λ (d : Decision). Decides h cs d result
 
 -- ---- the ways out of a cancel
 
--- what a search has found, by the place that it gave
-module _ (h : HubState) (test : Member → Bool) (p : Place) (f : Finds h test p) where
-  pub found-as : (r : Place) → p ≡ r → find test (stateOf h .sequence) ≡ foundAt h r
-  found-as r e = sym (f .found) ∙ ap (foundAt h) e
-
-  pub stands-at : (x : ℕ) → p ≡ At x → Stands (h .links) x
-  stands-at x e = subst (PlaceOk h) e (f .place-ok)
-
-abbrev itOr : Member → Option Found → Member
-itOr m none = m
-itOr m (some f) = f .it
-
--- what is found passes the test
-found-passes : (p : Member → Bool) (l : List Member) (f : Found) → find p l ≡ some f → p (f .it) ≡ true
-found-passes p [] f e = let z : _≡_ {A = ℕ} 0 1 = cc in absurd (omega arith)
-found-passes p (m ∷ l) f e = go (p m) refl (λ g. found-passes p l g) e
-  where
-    further : (o : Option Found) → find p l ≡ o → ((g : Found) → find p l ≡ some g → p (g .it) ≡ true) → onto m o ≡ some f →
-        p (f .it) ≡ true
-    further none q r k = let z : _≡_ {A = ℕ} 0 1 = cc in absurd (omega arith)
-    further (some g) q r k = ap (λ (o : Option Found). p (itOr m o)) (sym k) ∙ r g q
-
-    go : (t : Bool) → p m ≡ t → ((g : Found) → find p l ≡ some g → p (g .it) ≡ true) →
-        (if t then some (record { ahead = []; it = m; behind = l }) else onto m (find p l)) ≡ some f → p (f .it) ≡ true
-    go true t r k = ap (λ (o : Option Found). p (itOr m o)) (sym k) ∙ t
-    go false t r k = further (find p l) refl r k
-
--- the one that runs under an id has it
-runs-id : (i : ℕ) (m : Member) → runs i m ≡ true → i ≡ m .id
-unfolding runs
-runs-id i m e = sym (eqb-true (m .id) i (and-true (eqb (m .id) i) (isRunning m) e .0))
-
 module _ (h : HubState) (i : ℕ) (p : Place) (f : Finds h (runs i) p) where
   pub cancel-nowhere : (r : Decision) → r ≡ plainly (Refused (Number 10)) NoChange → p ≡ Nowhere → Decides h [] r (cancelOf (stateOf h) i)
   unfolding cancelOf refusalOf
@@ -243,4 +212,4 @@ module _ (h : HubState) (i : ℕ) (p : Place) (f : Finds h (runs i) p) where
       let g = found-as h (runs i) p f (At x) e in
       subst (λ (d : Decision). Decides h [] d (cancelOf (stateOf h) i)) (sym k)
       (abort-decides h [] (cancelOf (stateOf h) i) i x (stands-at h (runs i) p f x e)
-      (runs-id i (there h x .it) (found-passes (runs i) (stateOf h .sequence) (there h x) g)) (sym (ap (cancelFound (stateOf h)) g)))
+      (found-id h i p f x e ∙ sym (ap (λ (m : Member). m .id) (there-it h x))) (sym (ap (cancelFound (stateOf h)) g)))

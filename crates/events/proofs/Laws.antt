@@ -41,7 +41,7 @@ use Rattle.state.specs.declared.Place.the-variants.{At, Nowhere}
 use Rattle.state.specs.declared.Change.the-variants.{Fail, Restart}
 use Rattle.state.proofs.Members.{state-mark, member-id, there-it, stands-below}
 use Rattle.search.specs.Contract.{Finds}
-use Rattle.abort.proofs.Laws.{found-as, stands-at}
+use Rattle.search.proofs.Found.{found-as, stands-at}
 use Rattle.events.specs.Contract.{abortTold, IsHalfway}
 use Rattle.events.specs.declared.EventAbort.{EventAbort}
 

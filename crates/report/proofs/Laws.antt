@@ -53,7 +53,7 @@ use Rattle.state.proofs.Members.{there-it, there-whole, member-steps, place-wit
 use Rattle.state.proofs.Laws.{refused-decides, stage-decides, skip-decides, abort-decides}
 use Rattle.search.specs.Contract.{Finds}
 use Rattle.report.specs.Contract.{answeredBy, flightAt}
-use Rattle.report.proofs.Found.{found-as}
+use Rattle.search.proofs.Found.{found-as}
 
 -- ---- the device of a command that is skipped
 

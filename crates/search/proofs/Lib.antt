@@ -2,3 +2,4 @@ pub mod Slots
 pub mod Back
 pub mod Commands
 pub mod Laws
+pub mod Found

@@ -42,7 +42,7 @@ use Rattle.state.proofs.Rows.{status-sent, status-skipped}
 use Rattle.state.proofs.Members.{there-it, member-steps, place-within}
 use Rattle.state.proofs.Laws.{refused-decides, wait-decides, stage-decides, commit-decides, abort-decides}
 use Rattle.search.specs.Contract.{Finds}
-use Rattle.turn.proofs.Found.{found-as, stands-at, found-id}
+use Rattle.search.proofs.Found.{found-as, stands-at, found-id}
 
 -- ---- the place of the next command is in the rows
 

@@ -2,7 +2,7 @@
 use borrow.Author.Needs.{needs}
 use mathlib.Core.Path.{refl, subst}
 use Rattle.state.specs.Open.{OpenInFlight, OpenIs}
-use Rattle.report.proofs.Found.{stands-at, found-id}
+use Rattle.search.proofs.Found.{stands-at, found-id}
 use Rattle.report.proofs.Laws.{done-decides, idle, report-nowhere, report-idle, report-code, report-done, report-failed}
 use Rattle.report.proofs.decide.Statement.{statement}
 use Rattle.report.proofs.decide.Tie as tie

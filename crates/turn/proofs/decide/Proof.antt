@@ -2,7 +2,7 @@
 use borrow.Author.Needs.{needs}
 use mathlib.Core.Path.{refl, subst}
 use Rattle.state.specs.Open.{OpenToDo, OpenIs}
-use Rattle.turn.proofs.Found.{stands-at, found-id}
+use Rattle.search.proofs.Found.{stands-at, found-id}
 use Rattle.turn.proofs.Laws.{turn-nowhere, turn-sent, turn-commits, turn-on}
 use Rattle.turn.proofs.decide.Statement.{statement}
 use Rattle.turn.proofs.decide.Tie as tie
