@@ -26,7 +26,7 @@ ghost use Rattle.answers.specs.View.{backsOf, BacksOk};
 ghost use Rattle.state.specs.View.{settingsOf, flagsOf, memberAt, stateOf, there};
 ghost use Rattle.state.specs.Valid.{StateOk};
 ghost use Rattle.state.specs.Contract.{backsLeft, Decides};
-ghost use Rattle.abort.specs.PutBacks.{isBackBy, backsBy, TablesAre};
+ghost use Rattle.abort.specs.PutBacks.{downIf, isBackBy, backsBy, TablesAre};
 
 // The tables that tell which devices are put back: up; with a command in flight of those left, and of the one that left; and due before and after.
 pub struct Tables {
@@ -98,16 +98,21 @@ fn own_flights(state: HubState, at: usize) -> [bool; MAX_DEVICES]
     own
 }
 
-// The tables of an abort: the hub before it, the routine's slot, the hub after it.
-fn tables_of(state: HubState, at: usize, gone: HubState) -> Tables
-    requires { ⌜ (StateOk state) × (Stands (state .links) at) × (StateOk gone) ⌝ }
-    ensures { λ r. ⌜ TablesAre state at gone r ⌝ }
+// The tables of an abort of the routine in a slot, while the device `down` fails; a number past the devices is none. They are read off the rows as they are: the
+// routine's commands are left out.
+fn tables_of(state: HubState, at: usize, down: u8) -> Tables
+    requires { ⌜ (StateOk state) × (Stands (state .links) at) ⌝ }
+    ensures { λ r. ⌜ TablesAre state at down r ⌝ }
 {
     let before = due::due_settings(state);
-    let after = due::due_settings(gone);
-    let others = due::in_flight(gone);
+    let after = due::due_settings_but(state, at);
+    let others = due::in_flight_but(state, at);
     let own = own_flights(state, at);
-    let up = gone.up;
+    let mut up = state.up;
+    let d = down as usize;
+    if d < MAX_DEVICES {
+        up[d] = false;
+    }
     Tables {
         up,
         others,
@@ -117,13 +122,12 @@ fn tables_of(state: HubState, at: usize, gone: HubState) -> Tables
     }
 }
 
-// What the abort of the routine in a slot puts back.
-pub fn backs_of(state: HubState, at: usize) -> PutBacks
+// What the abort of the routine in a slot puts back, while the device `down` fails.
+pub fn backs_of(state: HubState, at: usize, down: u8) -> PutBacks
     requires { ⌜ (StateOk state) × (Stands (state .links) at) ⌝ }
-    ensures { λ r. ⌜ (BacksOk r) × (backsOf r ≡ backsLeft (stateOf state) (some (there state at))) ⌝ }
+    ensures { λ r. ⌜ (BacksOk r) × (backsOf r ≡ backsLeft (downIf (stateOf state) down) (some (there state at))) ⌝ }
 {
-    let gone = leaving::left(state, at);
-    let tables = tables_of(state, at, gone);
+    let tables = tables_of(state, at, down);
     let devices = state.devices;
     put_backs(devices, tables)
 }

@@ -1,12 +1,19 @@
 -- What the readings of due settings promise. Assumes nothing.
 use mathlib.Core.Path.{_≡_}
-use mathlib.Core.List.{List}
+use mathlib.Core.List.{List, [], map}
 use Prim.Native.Nat.{ℕ, suc, _-_, _≤_, _<_}
 use lib.IntN.{ℤ, pos}
 use lib.ListN.{getD}
 use Rattle.routine.specs.Routine.{maxDevices}
-use Rattle.rules.specs.Due.{afterSteps}
-use Rattle.state.specs.View.{settingsOf, Rows, stepsFrom}
+use lib.Dec.{eqb}
+use Rattle.routine.specs.Choice.{if_then_else_}
+use Rattle.rules.specs.State.{Member}
+use Rattle.rules.specs.Progress.{withSteps}
+use Rattle.rules.specs.Due.{afterSteps, afterMembers}
+use Rattle.sequence.specs.Lists.{without}
+use Rattle.sequence.specs.Links.{slotsOf}
+use Rattle.state.specs.View.{settingsOf, Rows, stepsFrom, memberAt}
+use Rattle.state.specs.declared.HubState.{HubState}
 
 -- A table after the done commands from one place of the rows up to another. Their tags do not count, nor the due setting of one in flight.
 abbrev pub AfterDone : List ℤ → List ℕ → List ℕ → List ℤ → ℕ → ℕ → List ℤ → Type 0
@@ -31,3 +38,16 @@ pub record LastDone (device stage : List ℕ) (from end d r : ℕ) : Type 0 wher
       (k : ℕ) → r ≡ suc k → from ≤ k → (tags : List ℕ) (settings : List ℤ) (u v : ℤ) →
       afterSteps d (stepsFrom (record { devices = device; tags = tags; settings = settings; stages = stage }) u from (end - from)) v
       ≡ getD settings k (pos 0)
+
+-- The routines of the sequence but the one in a slot.
+unfoldable pub membersBut : HubState → ℕ → List Member
+membersBut h x = map (memberAt h) (without x (slotsOf (h .links)))
+
+-- A routine of which no command was done: the events attached to it are left.
+abbrev pub noneDone : Member → Member
+noneDone m = withSteps m []
+
+-- The due settings with the commands of the routine in a slot left out, and its events not.
+unfoldable pub dueBut : HubState → ℕ → ℕ → ℤ
+dueBut h x d =
+    afterMembers d (map (λ y. if eqb y x then noneDone (memberAt h y) else memberAt h y) (slotsOf (h .links))) (settingsOf (h .settled) d)

@@ -20,7 +20,7 @@ ghost use Rattle.rules.specs.Due.{afterMembers, due};
 ghost use Rattle.rules.specs.Attach.{settleRestarts};
 ghost use Rattle.state.specs.View.{settingsOf, flagsOf, restartsAt, stateOf, membersOf};
 ghost use Rattle.state.specs.Valid.{StateOk};
-ghost use Rattle.due.specs.Contract.{AfterDone, LastDone, DevicesFit};
+ghost use Rattle.due.specs.Contract.{AfterDone, LastDone, DevicesFit, dueBut, membersBut};
 
 // The last done command on a device among these; the first place if there is none.
 fn last_done<'a>(
@@ -50,16 +50,17 @@ pub fn due_on<'a>(
     state: HubState,
     device: &'a [u8; STEPS],
     stage: &'a [u8; STEPS],
+    setting: &'a [i16; STEPS],
     wanted: u8,
     settled: i16,
 ) -> i16
-    requires { ⌜ (StateOk state) × (now device ≡ state .device) × (now stage ≡ state .stage) ⌝ }
+    requires { ⌜ (StateOk state) × (now device ≡ state .device) × (now stage ≡ state .stage)
+        × (now setting ≡ state .setting) ⌝ }
     ensures { λ r. ⌜ r ≡ afterMembers wanted (membersOf state) settled ⌝ }
 {
     let links = state.links;
     let ahead = links.ahead;
     let answered = state.answered;
-    let setting = state.setting;
     let restarts = state.restarts;
     let d = wanted as usize;
     let mut i = links.last as usize;
@@ -129,10 +130,11 @@ pub fn after_restarts<'a>(
     after
 }
 
-// What all devices are due, in one pass.
-pub fn due_settings(state: HubState) -> [i16; MAX_DEVICES]
+// What all devices are due, in one pass. The commands of the routine in the slot `but` do not count, the events attached to it do; a number past the slots is no
+// routine.
+pub fn due_settings_but(state: HubState, but: usize) -> [i16; MAX_DEVICES]
     requires { ⌜ StateOk state ⌝ }
-    ensures { λ r. ⌜ settingsOf r ≡ due (stateOf state) ⌝ }
+    ensures { λ r. ⌜ settingsOf r ≡ dueBut state but ⌝ }
 {
     let links = state.links;
     let behind = links.behind;
@@ -144,20 +146,31 @@ pub fn due_settings(state: HubState) -> [i16; MAX_DEVICES]
     let mut table = state.settled;
     let mut i = links.first as usize;
     while i < MAX_HELD {
-        let from = i * MAX_COMMANDS;
-        let end = from + (answered[i] as usize);
-        let done = after_done(table, &device, &stage, &setting, from, end);
-        let after = after_restarts(done, &restarts, i);
+        if i != but {
+            let from = i * MAX_COMMANDS;
+            let end = from + (answered[i] as usize);
+            let done = after_done(table, &device, &stage, &setting, from, end);
+            table = done;
+        }
+        let after = after_restarts(table, &restarts, i);
         table = after;
         i = behind[i] as usize;
     }
     table
 }
 
-// The devices with a command in flight.
-pub fn in_flight(state: HubState) -> [bool; MAX_DEVICES]
+// What all devices are due.
+pub fn due_settings(state: HubState) -> [i16; MAX_DEVICES]
     requires { ⌜ StateOk state ⌝ }
-    ensures { λ r. ⌜ flagsOf r ≡ (λ d. anyOf (inFlightOn d) (stateOf state .sequence)) ⌝ }
+    ensures { λ r. ⌜ settingsOf r ≡ due (stateOf state) ⌝ }
+{
+    due_settings_but(state, MAX_HELD)
+}
+
+// The devices with a command in flight of a routine that is not in the slot `but`.
+pub fn in_flight_but(state: HubState, but: usize) -> [bool; MAX_DEVICES]
+    requires { ⌜ StateOk state ⌝ }
+    ensures { λ r. ⌜ flagsOf r ≡ (λ d. anyOf (inFlightOn d) (membersBut state but)) ⌝ }
 {
     let links = state.links;
     let behind = links.behind;
@@ -168,11 +181,13 @@ pub fn in_flight(state: HubState) -> [bool; MAX_DEVICES]
     let mut busy = [false; MAX_DEVICES];
     let mut i = links.first as usize;
     while i < MAX_HELD {
-        if answered[i] < counts[i] {
-            let k = i * MAX_COMMANDS + (answered[i] as usize);
-            if stage[k] == IN_FLIGHT {
-                let d = device[k] as usize;
-                busy[d] = true;
+        if i != but {
+            if answered[i] < counts[i] {
+                let k = i * MAX_COMMANDS + (answered[i] as usize);
+                if stage[k] == IN_FLIGHT {
+                    let d = device[k] as usize;
+                    busy[d] = true;
+                }
             }
         }
         i = behind[i] as usize;
@@ -185,16 +200,18 @@ pub fn due_setting<'a>(
     state: HubState,
     device: &'a [u8; STEPS],
     stage: &'a [u8; STEPS],
+    setting: &'a [i16; STEPS],
     wanted: u8,
 ) -> i16
-    requires { ⌜ (StateOk state) × (now device ≡ state .device) × (now stage ≡ state .stage) ⌝ }
+    requires { ⌜ (StateOk state) × (now device ≡ state .device) × (now stage ≡ state .stage)
+        × (now setting ≡ state .setting) ⌝ }
     ensures { λ r. ⌜ r ≡ due (stateOf state) wanted ⌝ }
 {
     let at = wanted as usize;
     if MAX_DEVICES <= at {
-        return due_on(state, device, stage, wanted, 0);
+        return due_on(state, device, stage, setting, wanted, 0);
     }
     let table = state.settled;
     let settled = table[at];
-    due_on(state, device, stage, wanted, settled)
+    due_on(state, device, stage, setting, wanted, settled)
 }

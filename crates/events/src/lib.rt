@@ -24,6 +24,7 @@ ghost use Rattle.answers.specs.View.{backsOf, BacksOk};
 ghost use Rattle.state.specs.View.{isRestart, stateOf};
 ghost use Rattle.state.specs.Valid.{StateOk};
 ghost use Rattle.state.specs.Contract.{goneIn, leftBy, backsLeft, downWith, upWith, StandsOrPast, Decides};
+ghost use Rattle.abort.specs.PutBacks.{downIf};
 ghost use Rattle.events.specs.Contract.{IsHalfway};
 
 // The routine that an event aborts, by its slot, MAX_HELD if it aborts none; the abort as it is told; and the device's mark after it.
@@ -108,13 +109,13 @@ pub fn decide_restart(state: HubState, device: u8, setting: i16) -> Decision
     }
 }
 
-// What the abort that comes first puts back, if there is one.
-pub fn backs_if(state: HubState, gone: usize) -> PutBacks
+// What the abort that comes first puts back, if there is one, while the device `down` fails; a number past the devices is none.
+pub fn backs_if(state: HubState, gone: usize, down: u8) -> PutBacks
     requires { ⌜ (StateOk state) × (StandsOrPast state gone) ⌝ }
-    ensures { λ r. ⌜ (BacksOk r) × (backsOf r ≡ backsLeft (stateOf state) (goneIn state gone)) ⌝ }
+    ensures { λ r. ⌜ (BacksOk r) × (backsOf r ≡ backsLeft (downIf (stateOf state) down) (goneIn state gone)) ⌝ }
 {
     if gone < MAX_HELD {
-        return abort::backs_of(state, gone);
+        return abort::backs_of(state, gone, down);
     }
     answers::no_backs()
 }
@@ -130,15 +131,6 @@ pub fn with_failure(state: HubState, device: u8, gone: usize) -> HubState
         next = left;
     }
     next
-}
-
-// What a failure puts back: its device is down by then.
-pub fn failure_backs(state: HubState, device: u8, gone: usize) -> PutBacks
-    requires { ⌜ (StateOk state) × (device < maxDevices) × (StandsOrPast state gone) ⌝ }
-    ensures { λ r. ⌜ (BacksOk r) × (backsOf r ≡ backsLeft (downWith (stateOf state) device) (goneIn state gone)) ⌝ }
-{
-    let down = leaving::with_up(state, device, false);
-    backs_if(down, gone)
 }
 
 // The abort; the event is attached to D's mark; "On a restart D then becomes up at the setting it reports."

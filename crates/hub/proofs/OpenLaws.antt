@@ -107,6 +107,8 @@ module _ (n k first : ℕ) where
     ids-fit = g;
     links-ok = e .valid;
     slots-ok = λ x s. let z : count x (slotsOf links) ≡ 0 = ap (count x) (e .slots) in absurd (omega arith);
+    ids-below = λ x s. let z : count x (slotsOf links) ≡ 0 = ap (count x) (e .slots) in absurd (omega arith);
+    ids-differ = λ x y s t i. let z : count x (slotsOf links) ≡ 0 = ap (count x) (e .slots) in absurd (omega arith);
   }
 
   pub fresh-view : (links : Links) → Empty links → stateOf (freshState links) ≡ newHub n k first

@@ -3,6 +3,7 @@ use crate::Hub;
 use crate::Outcome;
 use answers::Answer;
 use answers::PutBacks;
+use routine::MAX_DEVICES;
 use routine::Routine;
 use state::Change;
 use state::Decision;
@@ -17,7 +18,10 @@ ghost use Rattle.hub.specs.Valid.{Valid};
 ghost use Rattle.hub.specs.Contract.{Gives};
 ghost use Rattle.hub.specs.Carrying.{LeavingOk, Carries, settlesAfter};
 
-// What a decision puts back. What an abort does is known from the hub that it leaves.
+// No device fails.
+const NO_DEVICE: u8 = MAX_DEVICES as u8;
+
+// What a decision puts back. What an abort does is read off the rows as they are.
 pub fn backs_of(state: HubState, decision: Decision) -> PutBacks
     requires { ⌜ (StateOk state) × (LeavingOk state (decision .change)) ⌝ }
     ensures { λ r. ⌜ (BacksOk r) × (backsOf r ≡ backsOfDecision state decision) ⌝ }
@@ -29,9 +33,9 @@ pub fn backs_of(state: HubState, decision: Decision) -> PutBacks
         Change::Stage(_) => answers::at_most_one(back),
         Change::Commit(_) => answers::at_most_one(back),
         Change::Join(_) => answers::at_most_one(back),
-        Change::Abort(at) => abort::backs_of(state, at),
-        Change::Fail(device, gone) => events::failure_backs(state, device, gone),
-        Change::Restart(_, _, gone) => events::backs_if(state, gone),
+        Change::Abort(at) => abort::backs_of(state, at, NO_DEVICE),
+        Change::Fail(device, gone) => events::backs_if(state, gone, device),
+        Change::Restart(_, _, gone) => events::backs_if(state, gone, NO_DEVICE),
     }
 }
 

@@ -163,7 +163,8 @@ pub fn due_setting(hub: Hub, device: u8) -> i16
     let state = hub.state;
     let devices = state.device;
     let stages = state.stage;
-    due::due_setting(state, &devices, &stages, device)
+    let settings = state.setting;
+    due::due_setting(state, &devices, &stages, &settings, device)
 }
 
 // The due settings of all devices, in one pass; past the last device as at the opening.

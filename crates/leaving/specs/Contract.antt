@@ -1,25 +1,27 @@
 -- What a leaving promises. Document 02, item 8: "A single placement or leaving changes no links but its own and its neighbours', and moves
 -- no other routine." Assumes nothing.
 use mathlib.Core.Path.{_≡_}
-use mathlib.Core.List.{List, _++_}
+use mathlib.Core.List.{List}
 use Prim.Native.Nat.{ℕ}
 use lib.Dec.{eqb}
 use lib.IntN.{ℤ}
 use Rattle.routine.specs.Choice.{if_then_else_}
-use Rattle.rules.specs.Sequence.{withSequence}
-use Rattle.rules.specs.Attach.{later}
+use Rattle.rules.specs.Attach.{later, attachTo}
+use Rattle.rules.specs.Abort.{leave}
+use Rattle.sequence.specs.Links.{aheadOf, Stands}
 use Rattle.sequence.specs.Contract.{Leaves}
 use Rattle.state.specs.View.{restartsAt, memberAt, stateOf, there}
 use Rattle.state.specs.Valid.{StateOk}
 use Rattle.state.specs.declared.HubState.{HubState}
 
--- A routine has left the links. `links`: of all links only its own and its neighbours' are others. `others`: every routine is in the slot
--- where it was, unchanged.
-pub record Unlinks (h : HubState) (at : ℕ) (r : HubState) : Type 0 where
+-- A routine has left the sequence. `links`: of all links only its own and its neighbours' are others. `others`: every other routine is in the slot where it was,
+-- unchanged; only the one before gets its events.
+pub record LeavesHub (h : HubState) (at : ℕ) (r : HubState) : Type 0 where
   pub valid : StateOk r
-  pub gives : stateOf r ≡ withSequence (stateOf h) (there h at .ahead ++ there h at .behind)
+  pub gives : stateOf r ≡ leave (stateOf h) (there h at)
   pub links : Leaves (h .links) at (r .links)
-  pub others : (x : ℕ) → memberAt r x ≡ memberAt h x
+  pub others : (x : ℕ) → Stands (h .links) x → (x ≡ at → ⊥) →
+      memberAt r x ≡ (if eqb x (aheadOf (h .links) at) then attachTo (memberAt h at .restarts) (memberAt h x) else memberAt h x)
 
 -- The restarts of one slot stand behind those of another.
 abbrev pub MovesRestarts : List ℤ → ℕ → ℕ → List ℤ → Type 0

@@ -3,12 +3,12 @@
 pub mod settling;
 
 use routine::MAX_DEVICES;
+use sequence::MAX_HELD;
 use sequence::keep;
 use state::HubState;
 use state::NO_RESTART;
 use state::Place;
 use state::RESTARTS;
-use state::readers;
 ghost use mathlib.Core.Path.{_≡_};
 ghost use mathlib.Core.Bool.{true, false};
 ghost use Prim.Native.Nat.{_<_};
@@ -17,11 +17,10 @@ ghost use Rattle.rules.specs.State.{maxHeld};
 ghost use Rattle.rules.specs.Tables.{put};
 ghost use Rattle.rules.specs.Sequence.{moveMarks, withUp};
 ghost use Rattle.rules.specs.Attach.{oneRestart, attach};
-ghost use Rattle.rules.specs.Abort.{leave};
 ghost use Rattle.sequence.specs.Links.{Stands};
 ghost use Rattle.state.specs.View.{marksOf, isRestart, stateOf, there};
 ghost use Rattle.state.specs.Valid.{StateOk};
-ghost use Rattle.leaving.specs.Contract.{Unlinks, MovesRestarts};
+ghost use Rattle.leaving.specs.Contract.{LeavesHub, MovesRestarts};
 
 // Marks that were one id become another.
 pub fn moved_marks(marks: [u32; MAX_DEVICES], from: u32, to: u32) -> [u32; MAX_DEVICES]
@@ -59,43 +58,59 @@ fn moved_restarts(row: [i16; RESTARTS], from: usize, to: usize) -> [i16; RESTART
     moved
 }
 
-// "R leaves the sequence."
-fn unlinked(state: HubState, at: usize) -> HubState
-    requires { ⌜ (StateOk state) × (Stands (state .links) at) ⌝ }
-    ensures { λ r. ⌜ Unlinks state at r ⌝ }
-{
-    let links = state.links;
-    let left = keep::leave(links, at as u8);
-    let mut changed = state;
-    changed.links = left;
-    changed
-}
-
-// "Marks that were R become the routine before it in the sequence, or 0; events attached to R move there"
+// "R leaves the sequence. Marks that were R become the routine before it in the sequence, or 0; events attached to R move there"
 pub fn left(state: HubState, at: usize) -> HubState
     requires { ⌜ (StateOk state) × (Stands (state .links) at) ⌝ }
-    ensures { λ r. ⌜ (StateOk r) × (stateOf r ≡ leave (stateOf state) (there state at)) ⌝ }
+    ensures { λ r. ⌜ LeavesHub state at r ⌝ }
 {
     let ids = state.ids;
+    let passed = state.passed;
+    let committed = state.committed;
+    let counts = state.counts;
+    let answered = state.answered;
+    let due_then = state.due_then;
+    let device = state.device;
+    let tag = state.tag;
+    let setting = state.setting;
+    let stage = state.stage;
+    let up = state.up;
     let marks = state.mark;
-    let before = readers::id_ahead(state, at);
-    let moved = moved_marks(marks, ids[at], before);
-    let mut gone = unlinked(state, at);
-    gone.mark = moved;
-    let row = gone.restarts;
-    if before == 0 {
-        let table = gone.settled;
-        let settled = due::after_restarts(table, &row, at);
-        gone.settled = settled;
-        return gone;
+    let mut settled = state.settled;
+    let mut restarts = state.restarts;
+    let links_before = state.links;
+    let ahead = links_before.ahead;
+    let before = ahead[at] as usize;
+    let mut to: u32 = 0;
+    if before < MAX_HELD {
+        to = ids[before];
+        let moved = moved_restarts(restarts, at, before);
+        restarts = moved;
+    } else {
+        let after = due::after_restarts(settled, &restarts, at);
+        settled = after;
     }
-    let place = search::with_id(gone, before);
-    let Place::At(to) = place else {
-        return gone;
-    };
-    let restarts = moved_restarts(row, at, to);
-    gone.restarts = restarts;
-    gone
+    let mark = moved_marks(marks, ids[at], to);
+    let links = keep::leave(links_before, at as u8);
+    HubState {
+        devices: state.devices,
+        pass_limit: state.pass_limit,
+        next_id: state.next_id,
+        links,
+        ids,
+        passed,
+        committed,
+        counts,
+        answered,
+        due_then,
+        device,
+        tag,
+        setting,
+        stage,
+        restarts,
+        settled,
+        up,
+        mark,
+    }
 }
 
 // A restart of one device, attached to an id: to 0, the settled part, or to the routine that has it.

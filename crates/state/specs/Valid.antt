@@ -48,6 +48,8 @@ pub record StateOk (h : HubState) : Type 0 where
   pub ids-fit : h .«next_id» ≤ suc highestId
   pub links-ok : LinksOk (h .links)
   pub slots-ok : (x : ℕ) → Stands (h .links) x → SlotOk h x
+  pub ids-below : (x : ℕ) → Stands (h .links) x → getD (h .ids) x 0 < h .«next_id»
+  pub ids-differ : (x y : ℕ) → Stands (h .links) x → Stands (h .links) y → getD (h .ids) x 0 ≡ getD (h .ids) y 0 → x ≡ y
 
 abbrev pub PlaceOk : HubState → Place → Type 0
 PlaceOk h (At x) = Stands (h .links) x

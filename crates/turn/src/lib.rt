@@ -45,7 +45,7 @@ fn send<'a>(
     let tags = state.tag;
     let settings = state.setting;
     let setting = settings[k];
-    let due_then = due::due_setting(state, device, stage, wanted);
+    let due_then = due::due_setting(state, device, stage, &settings, wanted);
     let begun = search::has_begun(state, device, at, wanted);
     let change = Staged {
         at,
