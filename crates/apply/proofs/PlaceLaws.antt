@@ -312,13 +312,38 @@ module _ (h : HubState) (q : Routine) (after : ℕ) (v : StateOk h) (ok : JoinOk
           }
 
       -- a slot that is held now was held, or is the newcomer's
-      slot-now : (x : ℕ) → Stands (j .links) x → SlotOk now x
-      slot-now x t =
+      stood : (x : ℕ) → Stands (j .links) x → (x ≡ j .slot → ⊥) → Stands (h .links) x
+      stood x t n =
           let c : count x (slotsOf (j .links)) ≡ same x (j .slot) + count x (slotsOf (h .links))
           = ap (count x) (a .slots) ∙ count-placed after (j .slot) x noSlot (slotsOf (h .links)) (ok .place) in
+          omega (arith, same-other x (j .slot) n)
+
+      slot-now : (x : ℕ) → Stands (j .links) x → SlotOk now x
+      slot-now x t =
           byEq x (j .slot)
           (λ e. subst (SlotOk now) (sym e) slot-new)
-          (λ n. slot-stays x (omega (arith, same-other x (j .slot) n)))
+          (λ n. slot-stays x (stood x t n))
+
+      -- the newcomer has the next id, which is above all others
+      id-new : (x : ℕ) → x ≡ j .slot → getD (now .ids) x 0 ≡ h .«next_id»
+      id-new x e = let i = a .slot in rw e (getD-set-same (h .ids) (j .slot) (h .«next_id») 0 (omega (arith, l .ids)))
+
+      id-stays : (x : ℕ) → (x ≡ j .slot → ⊥) → getD (now .ids) x 0 ≡ getD (h .ids) x 0
+      id-stays x n = getD-set-other (h .ids) (j .slot) x (h .«next_id») 0 n
+
+      id-under : (x : ℕ) → Stands (j .links) x → (x ≡ j .slot → ⊥) → getD (now .ids) x 0 < h .«next_id»
+      id-under x t n = rw (id-stays x n) (v .ids-below x (stood x t n))
+
+      below-now : (x : ℕ) → Stands (j .links) x → getD (now .ids) x 0 < now .«next_id»
+      below-now x t = byEq x (j .slot) (λ e. omega (arith, id-new x e)) (λ n. omega (arith, id-under x t n))
+
+      differ-now : (x y : ℕ) → Stands (j .links) x → Stands (j .links) y → getD (now .ids) x 0 ≡ getD (now .ids) y 0 → x ≡ y
+      differ-now x y t u q =
+          byEq x (j .slot)
+          (λ e. byEq y (j .slot) (λ k. e ∙ sym k) (λ n. absurd (omega (arith, id-new x e, id-under y u n))))
+          (λ m. byEq y (j .slot)
+          (λ k. absurd (omega (arith, id-new y k, id-under x t m)))
+          (λ n. v .ids-differ x y (stood x t m) (stood y u n) (sym (id-stays x m) ∙ q ∙ id-stays y n)))
 
       valid-now : StateOk now
       valid-now =
@@ -328,6 +353,8 @@ module _ (h : HubState) (q : Routine) (after : ℕ) (v : StateOk h) (ok : JoinOk
             ids-fit = omega (arith, ok .id-left);
             links-ok = a .valid;
             slots-ok = slot-now;
+            ids-below = below-now;
+            ids-differ = differ-now;
           }
 
       pub join-places : Places h cs after now

@@ -76,6 +76,8 @@ module _ (h : HubState) (x : ℕ) (v : StateOk h) (s : Stands (h .links) x) (n :
         links-ok = v .links-ok;
         slots-ok = λ y t. let w = v .slots-ok y t in
             record { fits = w .fits; devices-fit = w .devices-fit; come-so-far = w .come-so-far; has-id = w .has-id };
+        ids-below = v .ids-below;
+        ids-differ = v .ids-differ;
       }
 
   pub commit-applied : (StateOk nowCommitted) × (stateOf nowCommitted ≡ committedAt h x)
@@ -225,7 +227,15 @@ module _ (h : HubState) (c : Staged) (v : StateOk h) (ok : StageOk h c) where
 
       stage-valid : StateOk nowStaged
       stage-valid =
-          record { devices-fit = v .devices-fit; some-id = v .some-id; ids-fit = v .ids-fit; links-ok = v .links-ok; slots-ok = stage-slot }
+          record {
+            devices-fit = v .devices-fit;
+            some-id = v .some-id;
+            ids-fit = v .ids-fit;
+            links-ok = v .links-ok;
+            slots-ok = stage-slot;
+            ids-below = v .ids-below;
+            ids-differ = v .ids-differ;
+          }
 
       pub stage-applied : marksOf mark ≡ (if c .begins then put (marksOf (h .mark)) (c .device) (c .id) else marksOf (h .mark)) →
           (StateOk nowStaged) × (stateOf nowStaged ≡ staged h c)
