@@ -1,7 +1,7 @@
 -- What one line does: for each way that a line can go, what the line program does of it, and the hub afterwards. Assumes nothing.
 use mathlib.Core.Path.{_≡_, refl, sym, ap, _∙_, subst}
 use mathlib.Core.Logic.{_≢_}
-use mathlib.Core.Bool.{Bool, true, _||_}
+use mathlib.Core.Bool.{Bool, true, false, _||_}
 use mathlib.Core.List.{List, [], _∷_, _++_, append-nil, append-assoc}
 use mathlib.Core.Option.{Option, none, some}
 use Prim.Native.Nat.{ℕ, _+_, _-_, _≤_, _<_, _^_}
@@ -16,37 +16,47 @@ use Rattle.routine.specs.Refusals.{command-count, devices-out-of-range, pass-li
 use Rattle.routine.specs.Refusals.{_andThen_}
 use Rattle.routine.specs.Routine.{maxDevices, maxCommands, commandsOf, routineOf, noRoutine, withCommand}
 use Rattle.routine.specs.declared.Command.{Command}
-use Rattle.routine.specs.declared.Refusal.{Refusal}
 use Rattle.routine.specs.declared.Routine.{Routine}
 use Rattle.routine.specs.declared.Verdict.{Verdict}
 use Rattle.routine.specs.declared.Verdict.the-variants.{Accepted, Refused}
 use Rattle.routine.proofs.Laws.{byTest, both-accept, not-refused, or-false, length-commandsOf, routineOf-commands, routineOf-count}
 use Rattle.routine.proofs.Laws.{with-more, check-long}
 use Rattle.rules.specs.State.{highestPassLimit, State}
-use Rattle.rules.specs.Answers.{Call as Told, submit, turn, report, failure, restart, cancel, Result, turnedDown}
+use Rattle.rules.specs.Answers.{Call as Told, submit, turn, report, failure, restart, cancel, Answer, placed, Result}
+use Rattle.rules.specs.Answers.{unlessRefused, turnedDown}
 use Rattle.rules.specs.Open.{opened, not-opened, openCheck, newHub, closedHub, openIf, openOf}
-use Rattle.rules.specs.Submit.{submitOf}
+use Rattle.rules.specs.Settle.{settle, settling}
+use Rattle.rules.specs.Submit.{blocks, upToLast, place, submitOf}
+use Rattle.rules.specs.Sequence.{lastIdOr}
 use Rattle.rules.specs.Calls.{resultOf}
+use Rattle.rules.proofs.Lists.{t≠f}
 use Rattle.rules.proofs.Theorem.{devices-kept}
-use Rattle.submit.proofs.Laws.{check-routine, submit-refused}
+use Rattle.submit.proofs.Laws.{check-routine}
 use Rattle.answers.specs.View.{changesNothing}
-use Rattle.hub.specs.View.{view, answersIn}
+use Rattle.state.specs.View.{firstCommitted}
+use Rattle.state.specs.Contract.{appliedTo, ChangeOk, toldBy, settledUnlessNothing, Decides}
+use Rattle.state.specs.declared.HubState.{HubState}
+use Rattle.state.specs.declared.Change.{Change}
+use Rattle.state.specs.declared.Change.the-variants.{Nothing, Stage, Commit, Join, Abort, Fail, Restart}
+use Rattle.state.specs.declared.Decision.{Decision}
+use Rattle.state.proofs.Laws.{settle-idle}
+use Rattle.hub.specs.View.{view}
 use Rattle.hub.specs.Valid.{Valid}
-use Rattle.hub.specs.Contract.{Opens, Gives}
+use Rattle.hub.specs.Contract.{Opens}
+use Rattle.hub.specs.Carrying.{LeavingOk, Carries}
 use Rattle.hub.specs.declared.Hub.{Hub}
 use Rattle.hub.specs.declared.Opened.{Opened}
-use Rattle.hub.specs.declared.Outcome.{Outcome}
 use Rattle.line_rules.specs.Text.{bytes}
 use Rattle.line_rules.specs.Reading.{Line as Said, opening, calling, unread}
-use Rattle.line_rules.specs.Printing.{asLine, refusalText, answersText}
+use Rattle.line_rules.specs.Printing.{asLine, answersText}
 use Rattle.line_rules.specs.Program.{printsUnread, printsOpening, printsResult, printsCall, step}
 use Rattle.line_reader.specs.Held.{together, heldCall, heldRoutine, heldLine}
 use Rattle.line_reader.specs.declared.Call.{Call}
 use Rattle.line_reader.specs.declared.Line.{Line}
 use Rattle.line_reader.specs.declared.Line.the-variants.{Open, Calling, Unread}
-use Rattle.line_reader.specs.declared.LineRead.{LineRead}
 use Rattle.line_reader.proofs.Line.{the-type as line-type}
-use Rattle.line.specs.View.{hubIn, heardOf, callIn}
+use Rattle.line.specs.View.{hubIn, heardOf, callIn, FitsCall}
+use Rattle.line.specs.Contract.{isAccepted, openingText}
 
 -- ---- a submission's commands, put together one by one
 
@@ -71,7 +81,13 @@ together-many r (c ∷ cs) h =
 
 -- a routine of more than eight commands is turned down for its count
 submit-long : (s : State) (cs : List Command) → maxCommands < length cs → submitOf s cs ≡ turnedDown (refusalOf command-count) s
-submit-long s cs h = sym (submit-refused s cs _ (check-routine s cs _ (check-long (s .devices) cs h)))
+unfolding submitOf
+submit-long s cs h =
+    ap
+    (λ (v : Verdict). unlessRefused v s
+    (settling
+    (record { state = place s cs; answers = placed (s .nextId) (lastIdOr 0 (upToLast (blocks s cs) (s .sequence))) ∷ [] })))
+    (check-routine s cs _ (check-long (s .devices) cs h))
 
 -- so that the rules give the same
 submit-together : (s : State) (cs : List Command) → submitOf s (commandsOf (together noRoutine cs)) ≡ submitOf s cs
@@ -171,6 +187,10 @@ open-some n k first e =
     let a = both-accept (refuse devices-out-of-range when (eqb n 0 || ltb maxDevices n)) rest e .0 in
     eqb-false n 0 (or-false (eqb n 0) (ltb maxDevices n) (not-refused devices-out-of-range _ a) .0)
 
+opened-as : (v : Verdict) (s : State) {t : State} → openIf v s ≡ opened t → opened s ≡ opened t
+opened-as Accepted s e = e
+opened-as (Refused r) s e = let z : _≡_ {A = ℕ} 0 1 = cc in absurd (omega arith)
+
 opened-some : (n k first : ℕ) (s : State) → openOf n k first ≡ opened s → s .devices ≢ 0
 unfolding openOf newHub
 opened-some n k first s = go (openCheck n k first) refl
@@ -179,10 +199,40 @@ opened-some n k first s = go (openCheck n k first) refl
     go Accepted a e = let same : newHub n k first ≡ s = cc in subst (λ (t : State). t .devices ≢ 0) same (open-some n k first a)
     go (Refused r) a e = let z : _≡_ {A = ℕ} 0 1 = cc in absurd (omega arith)
 
+-- ---- what the call that a line makes comes to
+
+-- a call that is no submission has no commands beside it
+fits-held : (c : Told) → FitsCall (heldCall c) (heldRoutine c)
+unfolding commandsOf routineOf
+fits-held (submit cs) = tt
+fits-held (turn i) = refl
+fits-held (report i code) = refl
+fits-held (failure d) = refl
+fits-held (restart d v) = refl
+fits-held (cancel i) = refl
+
+pub fits-line : (h : Hub) (q : Said) (call : Call) (r : Routine) → heardOf (heldLine q .line) (view h .devices) ≡ Calling call →
+    r ≡ heldLine q .routine → FitsCall call r
+fits-line h (opening n k first) call r e f = let z : _≡_ {A = ℕ} 0 1 = cc in absurd (omega arith)
+fits-line h (calling c) call r e f =
+    byTest (λ (t : Bool). heardIf t c ≡ Calling call → FitsCall call r) (eqb (view h .devices) 0)
+    (λ _ k. let z : _≡_ {A = ℕ} 0 1 = cc in absurd (omega arith))
+    (λ _ k.
+    let same : heldCall c ≡ call = cc in
+    subst (λ (x : Call). FitsCall x r) same (subst (λ (x : Routine). FitsCall (heldCall c) x) (sym f) (fits-held c)))
+    e
+fits-line h unread call r e f = let z : _≡_ {A = ℕ} 0 1 = cc in absurd (omega arith)
+
+pub fits-as : (r : Routine) {c x : Call} → c ≡ x → FitsCall c r → FitsCall x r
+fits-as r e k = subst (λ (y : Call). FitsCall y r) e k
+
 -- which call it is
-pub as-call : {h : Hub} {o : Outcome} (r : Routine) {c d : Call} → c ≡ d → Gives h o (resultOf (view h) (callIn d r)) →
-    Gives h o (resultOf (view h) (callIn c r))
-as-call {h} {o} r e g = subst (λ (x : Call). Gives h o (resultOf (view h) (callIn x r))) (sym e) g
+pub as-call : (h : Hub) (r : Routine) {d : Decision} {cs : List Command} {c x : Call} → c ≡ x → cs ≡ commandsOf r →
+    Decides (h .state) cs d (resultOf (view h) (callIn x r)) →
+    Decides (h .state) (commandsOf r) d (resultOf (view h) (callIn c r))
+as-call h r {d} {cs} {c} {x} e f w =
+    subst (λ (y : Call). Decides (h .state) (commandsOf r) d (resultOf (view h) (callIn y r))) (sym e)
+    (subst (λ (l : List Command). Decides (h .state) l d (resultOf (view h) (callIn x r))) f w)
 
 -- what is heard by a hub of no devices, and by one with devices
 pub heard-none : (l : Line) (n : ℕ) → n ≡ 0 → OneOf (0 ∷ 2 ∷ []) (tagOf line-type l) → l ≡ heardOf l n
@@ -206,42 +256,135 @@ pub does-unread : (h : Hub) (q : Said) → Valid h → heardOf (heldLine q .line
     Does h q h (asLine (bytes "unread"))
 does-unread h q v e = record { valid = v; is = line-unread h q e; unopened = λ _. refl }
 
-module _ (h : Hub) (q : Said) (n k first : ℕ) (e : heardOf (heldLine q .line) (view h .devices) ≡ Open n k first) (o : Opened)
-    (w : Opens n k first o) where
-  pub does-open : o .verdict ≡ Accepted → Does h q (o .hub) (asLine (bytes "opened"))
-  does-open a =
-      let f : openOf n k first ≡ opened (view (o .hub)) = sym (w .gives) ∙ ap (λ (v : Verdict). openIf v (view (o .hub))) a in
-      let there = hub-some (o .hub) (opened-some n k first (view (o .hub)) f) in
-      record {
-        valid = w .valid;
-        is = line-opening h q n k first e ∙ ap (printsOpening (hubIn h)) f
-            ∙ ap (λ (s : Option State). record { hub = s; text = asLine (bytes "opened") }) (sym there);
-        unopened = λ z. not-none there z;
-      }
+-- an opening: the verdict is the rules'
+module _ (h : Hub) (q : Said) (n k first : ℕ) (e : heardOf (heldLine q .line) (view h .devices) ≡ Open n k first) (v : Verdict)
+    (same : v ≡ openCheck n k first) where
+  pub does-open : (o : Opened) → Opens n k first o → isAccepted v ≡ true → Does h q (o .hub) (openingText v)
+  unfolding openOf
+  does-open o w t = go v same t
+    where
+      go : (u : Verdict) → u ≡ openCheck n k first → isAccepted u ≡ true → Does h q (o .hub) (openingText u)
+      go Accepted a _ =
+          let accepted : openOf n k first ≡ opened (newHub n k first) = ap (λ (x : Verdict). openIf x (newHub n k first)) (sym a) in
+          let f = accepted ∙ sym (opened-as (o .verdict) (view (o .hub)) (w .gives ∙ accepted)) in
+          let there = hub-some (o .hub) (opened-some n k first (view (o .hub)) f) in
+          record {
+            valid = w .valid;
+            is = line-opening h q n k first e ∙ ap (printsOpening (hubIn h)) f
+                ∙ ap (λ (s : Option State). record { hub = s; text = asLine (bytes "opened") }) (sym there);
+            unopened = λ z. not-none there z;
+          }
+      go (Refused r) a u = t≠f (sym u)
 
-  pub does-not-open : Valid h → (r : Refusal) → o .verdict ≡ Refused r → Does h q h (asLine (refusalText r))
-  does-not-open v r a =
-      let f : openOf n k first ≡ not-opened r = sym (w .gives) ∙ ap (λ (u : Verdict). openIf u (view (o .hub))) a in
-      record { valid = v; is = line-opening h q n k first e ∙ ap (printsOpening (hubIn h)) f; unopened = λ _. refl }
+  pub does-not-open : Valid h → isAccepted v ≡ false → Does h q h (openingText v)
+  unfolding openOf
+  does-not-open valid t = go v same t
+    where
+      go : (u : Verdict) → u ≡ openCheck n k first → isAccepted u ≡ false → Does h q h (openingText u)
+      go Accepted a u = t≠f u
+      go (Refused r) a _ =
+          let f : openOf n k first ≡ not-opened r = ap (λ (x : Verdict). openIf x (newHub n k first)) (sym a) in
+          record { valid = valid; is = line-opening h q n k first e ∙ ap (printsOpening (hubIn h)) f; unopened = λ _. refl }
 
-module _ (h : Hub) (q : Said) (call : Call) (e : heardOf (heldLine q .line) (view h .devices) ≡ Calling call) (o : Outcome) {r : LineRead}
-    (f : r ≡ heldLine q)
-    (g : Gives h o (resultOf (view h) (callIn call (r .routine)))) where
-  gives-it : Gives h o (resultOf (view h) (callIn call (heldLine q .routine)))
-  gives-it = subst (λ (x : LineRead). Gives h o (resultOf (view h) (callIn call (x .routine)))) f g
+-- ---- a call: its change is made, and then the hub settles
 
-  pub does-call : Does h q (o .hub) (answersText (answersIn o))
-  does-call =
+-- what is asked before it is told what is put back
+pub leaving-ok : (h : HubState) (cs : List Command) (c : Change) → ChangeOk h cs c → LeavingOk h c
+leaving-ok h cs Nothing k = tt
+leaving-ok h cs (Stage c) k = tt
+leaving-ok h cs (Commit x) k = tt
+leaving-ok h cs (Join after) k = tt
+leaving-ok h cs (Abort x) k = k
+leaving-ok h cs (Fail d x) k = k
+leaving-ok h cs (Restart d v x) k = k
+
+-- an applier asks for no more than the decision has
+pub change-as : (h : HubState) (cs : List Command) {c x : Change} → c ≡ x → ChangeOk h cs c → ChangeOk h cs x
+change-as h cs e k = subst (λ (y : Change). ChangeOk h cs y) e k
+
+-- and makes the change
+pub carries-nothing : (h : Hub) (cs : List Command) {c : Change} → Valid h → c ≡ Nothing → Carries h cs c h
+carries-nothing h cs v e =
+    record { valid = v; gives = ap (λ (y : Change). appliedTo (h .state) cs y) (sym e); same-hub = λ _. refl }
+
+abbrev isChange : Change → Bool
+isChange Nothing = false
+isChange (Stage c) = true
+isChange (Commit x) = true
+isChange (Join after) = true
+isChange (Abort x) = true
+isChange (Fail d x) = true
+isChange (Restart d v x) = true
+
+pub carries : (h : Hub) (cs : List Command) {c : Change} (x : Change) {next : Hub} → c ≡ x → isChange x ≡ true →
+    (Valid next) × (view next ≡ appliedTo (h .state) cs x) → Carries h cs c next
+carries h cs x e t k = record {
+  valid = k .0;
+  gives = k .1 ∙ ap (λ (y : Change). appliedTo (h .state) cs y) (sym e);
+  same-hub = λ z. t≠f (sym t ∙ ap isChange (sym e ∙ z));
+}
+
+pub carries-as : {h : Hub} {cs : List Command} {c : Change} {next next′ : Hub} → next′ ≡ next → Carries h cs c next → Carries h cs c next′
+carries-as {h} {cs} {c} e k = subst (λ (x : Hub). Carries h cs c x) (sym e) k
+
+-- after a change the hub settles
+settled-unless : (c : Change) (r : Result) → (c ≡ Nothing → ⊥) → settledUnlessNothing c r ≡ settling r
+settled-unless Nothing r n = absurd (n refl)
+settled-unless (Stage c) r n = refl
+settled-unless (Commit x) r n = refl
+settled-unless (Join after) r n = refl
+settled-unless (Abort x) r n = refl
+settled-unless (Fail d x) r n = refl
+settled-unless (Restart d v x) r n = refl
+
+module _ (h : Hub) (q : Said) (call : Call) (e : heardOf (heldLine q .line) (view h .devices) ≡ Calling call) {r : Routine}
+    (f : r ≡ heldLine q .routine) (d : Decision)
+    (w : Decides (h .state) (commandsOf r) d (resultOf (view h) (callIn call r))) (made : Hub)
+    (m : Carries h (commandsOf r) (d .change) made) where
+  abbrev told : List Answer
+  told = toldBy (h .state) d
+
+  does-call : (next : Hub) → Valid next → record { state = view next; answers = told } ≡ resultOf (view h) (callIn call r) →
+      Does h q next (answersText told)
+  does-call next valid gives =
       let l = line-calling h q call e in
-      let same : view (o .hub) .devices ≡ view h .devices =
-      ap (λ (x : Result). x .state .devices) (gives-it .gives) ∙ devices-kept (view h) (callIn call (heldLine q .routine)) in
-      let there = hub-some (o .hub) (subst (λ (d : ℕ). d ≢ 0) (sym same) (l .0)) in
+      let g : record { state = view next; answers = told } ≡ resultOf (view h) (callIn call (heldLine q .routine)) =
+      gives ∙ ap (λ (x : Routine). resultOf (view h) (callIn call x)) f in
+      let same : view next .devices ≡ view h .devices =
+      ap (λ (x : Result). x .state .devices) g ∙ devices-kept (view h) (callIn call (heldLine q .routine)) in
+      let there = hub-some next (subst (λ (n : ℕ). n ≢ 0) (sym same) (l .0)) in
       record {
-        valid = g .valid;
-        is = l .1 ∙ ap printsResult (sym (gives-it .gives))
-            ∙ ap (λ (s : Option State). record { hub = s; text = answersText (answersIn o) }) (sym there);
+        valid = valid;
+        is = l .1 ∙ ap printsResult (sym g) ∙ ap (λ (s : Option State). record { hub = s; text = answersText told }) (sym there);
         unopened = λ z. not-none there z;
       }
 
-  pub does-same : changesNothing (o .answer) ≡ true → Does h q h (answersText (answersIn o))
-  does-same s = subst (λ (x : Hub). Does h q x (answersText (answersIn o))) (g .same-hub s) does-call
+  settles-by : changesNothing (d .answer) ≡ false →
+      record { state = settle (view made); answers = told } ≡ resultOf (view h) (callIn call r)
+  settles-by t =
+      ap (λ (s : State). record { state = settle s; answers = told }) (m .gives)
+      ∙ sym (settled-unless (d .change) _ (w .something-told t))
+      ∙ w .gives
+
+  -- the first is committed
+  pub does-settle : changesNothing (d .answer) ≡ false → (next : Hub) → (Valid next) × (view next ≡ settle (view made)) →
+      Does h q next (answersText told)
+  does-settle t next k =
+      does-call next (k .0) (ap (λ (s : State). record { state = s; answers = told }) (k .1) ∙ settles-by t)
+
+  -- it is not
+  pub does-change : changesNothing (d .answer) ≡ false → firstCommitted (view made .sequence) ≡ false →
+      Does h q made (answersText told)
+  does-change t idle =
+      does-call made (m .valid)
+      (ap (λ (s : State). record { state = s; answers = told }) (sym (settle-idle (view made) idle)) ∙ settles-by t)
+
+  -- a refusal or a wait
+  pub does-same : changesNothing (d .answer) ≡ true → Does h q made (answersText told)
+  does-same t =
+      let none = w .nothing-told t in
+      does-call made (m .valid)
+      (ap (λ (s : State). record { state = s; answers = told }) (m .gives)
+      ∙ sym (ap (λ (c : Change). settledUnlessNothing c
+      (record { state = appliedTo (h .state) (commandsOf r) (d .change); answers = told })) none)
+      ∙ w .gives)

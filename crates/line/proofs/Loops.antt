@@ -36,6 +36,7 @@ use Rattle.line.specs.View.{hubIn}
 use Rattle.line.specs.Contract.{maxEnd, Wrote, Ample, RunsLines, Measures}
 use Rattle.line.specs.declared.running.Lines.{Lines}
 use Rattle.line.proofs.Laws.{Does}
+use Rattle.line.proofs.Told.{same-room, end-is, stands-there}
 
 -- ---- lines in turn
 
@@ -79,14 +80,38 @@ pub record Goes (h : Hub) (q : Said) (out : List ℕ) (at : ℕ) (next : Hub) (o
   pub does : Does h q next text
   pub put : PutShort maxText out out′ at at′ text
 
-pub goes : {h : Hub} {q : Said} {out out′ out″ : List ℕ} {at at′ at″ : ℕ} {next next′ : Hub} {text : List ℕ} →
-    Does h q next text → PutShort maxText out out′ at at′ text → out″ ≡ out′ → next′ ≡ next → at″ ≡ at′ → Goes h q out at next′ out″ at″
-goes {h} {q} {out} {out′ = out′} {at = at} {at″ = at″} {text = text} d p a b c = record {
-  text = text;
-  does = subst (λ (x : Hub). Does h q x text) (sym b) d;
-  put = subst (λ (l : List ℕ). PutShort maxText out l at at″ text) (sym a)
-      (subst (λ (n : ℕ). PutShort maxText out out′ at n text) (sym c) p);
-}
+-- What a line prints stands at the beginning of the text's buffer, in which any text fits; and it leaves this hub.
+pub record Prints (h : Hub) (q : Said) (next : Hub) (buffer : List ℕ) (printed : ℕ) : Type 0 where
+  pub does : Does h q next (take printed buffer)
+  pub short : printed ≤ maxText
+  pub long : length buffer ≡ maxText
+
+pub prints : {h : Hub} {q : Said} {next next′ : Hub} {buffer buffer′ buffer″ : List ℕ} {printed printed′ : ℕ} {text : List ℕ} →
+    Does h q next text → PutShort maxText buffer buffer′ 0 printed text → length buffer ≡ maxText → next′ ≡ next → buffer″ ≡ buffer′ →
+    printed′ ≡ printed → Prints h q next′ buffer″ printed′
+prints {h} {q} {next} {next′} {buffer} {buffer′} {buffer″} {printed} {printed′} {text} d p room a b c =
+    let there : take printed′ buffer″ ≡ text = (λ i. take (c i) (b i)) ∙ stands-there p (omega arith) in
+    record {
+      does = subst (λ (x : Hub). Does h q x (take printed′ buffer″)) (sym a) (subst (λ (t : List ℕ). Does h q next t) (sym there) d);
+      short = omega (arith, end-is p, p .short);
+      long = ap length b ∙ same-room p ∙ room;
+    }
+
+module _ {h : Hub} {q : Said} {next : Hub} {buffer : List ℕ} {printed : ℕ} (p : Prints h q next buffer printed) where
+  pub printed-fits : printed ≤ length buffer
+  printed-fits = omega (arith, p .short, p .long)
+
+  pub printed-long : length (take printed buffer) ≡ printed
+  printed-long = length-take-le printed buffer printed-fits
+
+  -- it is copied
+  pub goes : {out out′ : List ℕ} {at at′ : ℕ} → Put out out′ at at′ (take printed buffer) → Goes h q out at next out′ at′
+  goes put = record {
+    text = take printed buffer;
+    does = p .does;
+    put =
+        record { put = put; short = omega (arith, p .short, printed-long) };
+  }
 
 -- one line more
 pub ran-more : {h : Hub} {input buffer out out′ : List ℕ} {room : ℕ} {now next : Hub} {at at′ from : ℕ} (end : ℕ) →
@@ -256,9 +281,9 @@ unfolding stateOf
 devices-are h = refl
 
 -- no hub has no devices
-pub end-is : (h : Hub) → endText (hubIn h) ≡ deviceLines (view h) 0 (view h .devices)
+pub end-text : (h : Hub) → endText (hubIn h) ≡ deviceLines (view h) 0 (view h .devices)
 unfolding hubIn endText deviceLines
-end-is h =
+end-text h =
     byTest (λ (t : Bool). endText (if t then none else some (view h)) ≡ deviceLines (view h) 0 (view h .devices)) (eqb (view h .devices) 0)
     (λ e. ap (deviceLines (view h) 0) (sym (eqb-true (view h .devices) 0 e))) (λ _. refl)
 

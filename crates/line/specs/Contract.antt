@@ -1,17 +1,31 @@
 -- The contracts of the line program's calls. Assumes nothing.
 use mathlib.Core.Path.{_≡_}
-use mathlib.Core.List.{List}
+use mathlib.Core.Bool.{Bool, true, false}
+use mathlib.Core.List.{List, []}
 use mathlib.Core.Option.{none}
-use Prim.Native.Nat.{ℕ, suc, _+_, _*_, _<_, _≤_}
+use Prim.Native.Nat.{ℕ, suc, _+_, _-_, _*_, _<_, _≤_}
 use lib.IntN.{ℤ}
-use lib.ListN.{length}
+use lib.ListN.{length, take, drop}
 use Rattle.routine.specs.Routine.{maxDevices}
-use Rattle.line_rules.specs.Pieces.{linesOf}
+use Rattle.routine.specs.declared.Verdict.{Verdict}
+use Rattle.routine.specs.declared.Verdict.the-variants.{Accepted, Refused as TurnedDown}
+use Rattle.rules.specs.Answers.{Back}
+use Rattle.answers.specs.View.{answerOf}
+use Rattle.answers.specs.declared.Answer.{Answer}
+use Rattle.answers.specs.declared.Answer.the-variants.{Refused, Placed, Wait, Sent, Done, Skipped, Committed, Aborted, Down, Up}
+use Rattle.answers.specs.declared.First.{First}
+use Rattle.answers.specs.declared.First.the-variants.{NoAbort, Abort}
+use Rattle.line_rules.specs.Text.{lineEnd, bytes}
+use Rattle.line_rules.specs.Pieces.{reach, linesOf}
+use Rattle.line_rules.specs.Reading.{readLine}
+use Rattle.line_rules.specs.Printing.{asLine, refusalText}
 use Rattle.line_rules.specs.Program.{Printed, steps, lengthOr21, bufferWith, hubWith}
+use Rattle.line_reader.specs.Held.{heldLine}
 use Rattle.line_printer.specs.Put.{maxText, maxDeviceLine, Put}
 use Rattle.hub.specs.Valid.{Valid}
 use Rattle.hub.specs.declared.Hub.{Hub}
-use Rattle.line.specs.View.{hubIn}
+use Rattle.line.specs.View.{hubIn, heardOf}
+use Rattle.line.specs.declared.lines.NextLine.{NextLine}
 use Rattle.line.specs.declared.running.Lines.{Lines}
 
 -- ---- the calls that others make
@@ -63,3 +77,39 @@ pub record Measures (text input : List ℕ) (room long : ℕ) : Type 0 where
   pub fits : length text ≤ room → long ≡ length text
   pub past : room < length text → room < long
   pub enough : Ample input room → length text ≤ room
+
+-- ---- one line
+
+-- The line that begins at a place: where it ends, what of it a hub of so many devices hears, and the routine beside that.
+pub record ReadsNext (input : List ℕ) (from devices : ℕ) (r : NextLine) : Type 0 where
+  pub ends : r .end ≡ from + reach lineEnd (drop from input)
+  pub hears : r .said ≡ heardOf (heldLine (readLine (take (r .end - from) (drop from input))) .line) devices
+  pub beside : r .routine ≡ heldLine (readLine (take (r .end - from) (drop from input))) .routine
+
+abbrev pub isAccepted : Verdict → Bool
+isAccepted Accepted = true
+isAccepted (TurnedDown r) = false
+
+-- What an opening prints.
+abbrev pub openingText : Verdict → List ℕ
+openingText Accepted = asLine (bytes "opened")
+openingText (TurnedDown r) = asLine (refusalText r)
+
+-- Does a routine abort by this call: before its answer, or by the call itself?
+abbrev pub isAbort : First → Answer → Bool
+isAbort (Abort i) a = true
+isAbort NoAbort (Refused r) = false
+isAbort NoAbort (Placed p) = false
+isAbort NoAbort (Wait i j) = false
+isAbort NoAbort (Sent x) = false
+isAbort NoAbort (Done i) = false
+isAbort NoAbort (Skipped i) = false
+isAbort NoAbort (Committed i) = false
+isAbort NoAbort (Aborted i) = true
+isAbort NoAbort (Down d i) = false
+isAbort NoAbort (Up d i) = false
+
+-- What is put back stands beside the abort alone: behind an abort comes an answer that puts nothing back.
+abbrev pub BacksOnce : First → Answer → List Back → Type 0
+BacksOnce (Abort i) a l = answerOf a [] ≡ answerOf a l
+BacksOnce NoAbort a l = (i : ℕ) × (a ≡ Aborted i)

@@ -1,4 +1,6 @@
 -- A hub read as the hub of the last accepted `O`, and a line's call as one of the rules. Assumes nothing.
+use mathlib.Core.Path.{_≡_}
+use mathlib.Core.List.{[]}
 use mathlib.Core.Option.{Option, none, some}
 use Prim.Native.Nat.{ℕ}
 use lib.Dec.{eqb}
@@ -32,3 +34,12 @@ callIn (Report i code) r = report i code
 callIn (Cancel i) r = cancel i
 callIn (Fail d) r = failure d
 callIn (Restart d v) r = restart d v
+
+-- A call that is no submission has no commands beside it.
+abbrev pub FitsCall : Call → Routine → Type 0
+FitsCall Submit r = Unit {0}
+FitsCall (Turn i) r = commandsOf r ≡ []
+FitsCall (Report i code) r = commandsOf r ≡ []
+FitsCall (Cancel i) r = commandsOf r ≡ []
+FitsCall (Fail d) r = commandsOf r ≡ []
+FitsCall (Restart d v) r = commandsOf r ≡ []

@@ -4,24 +4,27 @@ use answers::First;
 use answers::OneBack;
 use answers::PutBacks;
 use hub::Hub;
+use line_printer::MAX_DEVICE_LINE;
 use line_reader::Call;
 use line_reader::Line;
-use line_printer::MAX_DEVICE_LINE;
 use routine::Routine;
 use routine::Verdict;
 use state::Decision;
 ghost use mathlib.Core.Path.{_≡_};
-ghost use Prim.Native.Nat.{_+_, _<_, _^_};
+ghost use Prim.Native.Nat.{_+_, _<_, _≤_, _^_};
+ghost use lib.ListN.{length};
+ghost use Rattle.routine.specs.Routine.{commandsOf};
 ghost use Rattle.rules.specs.Calls.{resultOf};
-ghost use Rattle.line_rules.specs.Printing.{asLine, deviceText};
+ghost use Rattle.answers.specs.View.{backsOf, answersOf, BacksOk, changesNothing};
+ghost use Rattle.state.specs.Contract.{toldBy, WellTold, Decides};
+ghost use Rattle.line_rules.specs.Printing.{answersText};
 ghost use Rattle.line_rules.specs.Program.{endText};
-ghost use Rattle.line_printer.specs.Put.{maxDeviceLine, PutShort};
-ghost use Rattle.answers.specs.View.{changesNothing};
+ghost use Rattle.line_printer.specs.Put.{maxText, PutShort};
 ghost use Rattle.hub.specs.View.{view};
 ghost use Rattle.hub.specs.Valid.{Valid};
-ghost use Rattle.hub.specs.Contract.{Gives};
-ghost use Rattle.line.specs.View.{hubIn, heardOf, callIn};
-ghost use Rattle.line.specs.Contract.{maxEnd};
+ghost use Rattle.hub.specs.Carrying.{LeavingOk};
+ghost use Rattle.line.specs.View.{hubIn, heardOf, callIn, FitsCall};
+ghost use Rattle.line.specs.Contract.{maxEnd, ReadsNext, isAccepted, openingText, isAbort, BacksOnce};
 
 // A call before an accepted `O` is not read: there is no hub, that is, one of no devices.
 pub fn heard(line: Line, devices: u8) -> Line
@@ -38,8 +41,8 @@ pub fn heard(line: Line, devices: u8) -> Line
 
 // What the call that a line makes comes to.
 pub fn decided(hub: Hub, call: Call, routine: Routine) -> Decision
-    requires { ⌜ Valid hub ⌝ }
-    ensures { λ r. ⌜ Decides (hub .state) (commandsFor call routine) r (resultOf (view hub) (callIn call routine)) ⌝ }
+    requires { ⌜ (Valid hub) × (FitsCall call routine) ⌝ }
+    ensures { λ r. ⌜ Decides (hub .state) (commandsOf routine) r (resultOf (view hub) (callIn call routine)) ⌝ }
 {
     match call {
         Call::Submit => hub::decide_submit(hub, routine),
@@ -92,7 +95,10 @@ pub struct NextLine {
     pub end: usize,
 }
 
+// The line that begins at a place.
 pub fn next_line(input: &[u8], from: usize, devices: u8) -> NextLine
+    requires { ⌜ from < length (now input) ⌝ }
+    ensures { λ r. ⌜ ReadsNext (now (input .entry)) from devices r ⌝ }
 {
     let end = line_reader::line_end(input, from);
     let read = line_reader::read_line(&input[from..end]);
@@ -102,7 +108,9 @@ pub fn next_line(input: &[u8], from: usize, devices: u8) -> NextLine
     NextLine { said, routine, end }
 }
 
+// Is this opening accepted?
 pub fn is_accepted(verdict: Verdict) -> bool
+    ensures { λ r. ⌜ r ≡ isAccepted verdict ⌝ }
 {
     let Verdict::Accepted = verdict else {
         return false;
@@ -110,7 +118,10 @@ pub fn is_accepted(verdict: Verdict) -> bool
     true
 }
 
+// What an opening prints.
 pub fn put_opening(text: &mut [u8], verdict: Verdict) -> usize
+    requires { ⌜ maxText ≤ length (now text) ⌝ }
+    ensures { λ r. ⌜ PutShort maxText (now (text .entry)) (now (text .exit)) 0 r (openingText verdict) ⌝ }
 {
     match verdict {
         Verdict::Accepted => line_printer::put_opened(text, 0),
@@ -120,6 +131,7 @@ pub fn put_opening(text: &mut [u8], verdict: Verdict) -> usize
 
 // Is this the decision of an abort, or of an event that brings one?
 fn aborts(decision: Decision) -> bool
+    ensures { λ r. ⌜ r ≡ isAbort (decision .first) (decision .answer) ⌝ }
 {
     let first = decision.first;
     let First::NoAbort = first else {
@@ -134,6 +146,8 @@ fn aborts(decision: Decision) -> bool
 
 // The answers of a call by which a routine aborts: the abort on a line, and behind it the answer of an event.
 fn put_aborts(text: &mut [u8], first: First, answer: Answer, backs: PutBacks) -> usize
+    requires { ⌜ (maxText ≤ length (now text)) × (BacksOk backs) × (BacksOnce first answer (backsOf backs)) ⌝ }
+    ensures { λ r. ⌜ PutShort maxText (now (text .entry)) (now (text .exit)) 0 r (answersText (answersOf first answer backs)) ⌝ }
 {
     let First::Abort(id) = first else {
         let Answer::Aborted(own) = answer else {
@@ -147,6 +161,9 @@ fn put_aborts(text: &mut [u8], first: First, answer: Answer, backs: PutBacks) ->
 
 // The answers of a call.
 pub fn put_answers(text: &mut [u8], hub: Hub, decision: Decision) -> usize
+    requires { ⌜ (Valid hub) × (LeavingOk (hub .state) (decision .change))
+        × (WellTold (decision .first) (decision .answer) (decision .change)) × (maxText ≤ length (now text)) ⌝ }
+    ensures { λ r. ⌜ PutShort maxText (now (text .entry)) (now (text .exit)) 0 r (answersText (toldBy (hub .state) decision)) ⌝ }
 {
     let first = decision.first;
     let answer = decision.answer;

@@ -29,8 +29,9 @@ pub struct Lines {
     pub at: usize,
 }
 
-// Lines in turn, until what they print goes past the room. A line's text is put together in a buffer of its own, in which everything fits, and then copied. A
-// call decides on the hub as it is, its answers are put, and the arms of the match make the next hub: so it is changed in its place and not copied.
+// Lines in turn, until what they print goes past the room. A line's text is put together in a buffer of its own, in which everything fits,
+// and then copied. A call decides on the hub as it is, its answers are put, and the arms of the match make the next hub: so it is changed
+// in its place and not copied.
 pub fn run_lines(hub: Hub, input: &[u8], out: &mut [u8], room: usize) -> Lines
     requires { ⌜ (Valid hub) × (room < 2 ^ 63) ⌝ }
     ensures { λ r. ⌜ RunsLines hub (now (input .entry)) room (now (out .entry)) (now (out .exit)) r ⌝ }
@@ -68,7 +69,12 @@ pub fn run_lines(hub: Hub, input: &[u8], out: &mut [u8], room: usize) -> Lines
                     Change::Join(after) => now = hub::with_routine(now, after, routine),
                     Change::Abort(slot) => now = hub::with_abort(now, slot),
                     Change::Fail(device, slot) => now = hub::with_failure(now, device, slot),
-                    Change::Restart(device, setting, slot) => now = hub::with_restart(now, device, setting, slot),
+                    Change::Restart(device, setting, slot) => now = hub::with_restart(
+                        now,
+                        device,
+                        setting,
+                        slot,
+                    ),
                 }
                 if !lines::keeps_hub(answer) && hub::settles(now) {
                     now = hub::settled(now);

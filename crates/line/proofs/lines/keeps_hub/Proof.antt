@@ -1,6 +1,6 @@
 -- `line::lines::keeps_hub` meets its contract. Assumes nothing.
 use mathlib.Core.Path.{sym}
-use Rattle.hub.proofs.Laws.{changes}
+use Rattle.line.proofs.Told.{changes}
 use borrow.Author.Needs.{needs}
 use Rattle.line.proofs.lines.keeps_hub.Statement.{statement}
 use Rattle.line.proofs.lines.keeps_hub.Tie as tie

@@ -1,173 +1,360 @@
 -- `line::running::run_lines` meets its contract. The loop's invariant: the lines up to a place are done, and what is left gives the rest.
 -- Assumes nothing.
-use mathlib.Core.Path.{_≡_, sym, _∙_}
-use Prim.Native.Nat.{_+_, _-_, _≤_, _<_, _^_}
-use native.Mathlib.Omega.{arith}
-use borrow.Author.Needs.{needs}
-use borrow.Author.Tests.{not-false}
+use mathlib.Core.Path.{_≡_, refl, sym, ap, _∙_}
+use mathlib.Core.List.{List}
 use mathlib.Core.Logic.{⊎-elim}
+use Prim.Native.Nat.{_-_, _≤_}
+use native.Mathlib.Omega.{arith}
+use borrow.Author.Tests.{not-true, not-false}
+use mir.Syntax.{w16}
+use mir.Val.{toZ, ofZ}
 use lib.ListN.{length, take, drop}
+use Rattle.routine.specs.Routine.{commandsOf}
+use Rattle.routine.specs.declared.Command.{Command}
+use Rattle.rules.specs.Settle.{settle}
+use Rattle.state.specs.View.{isRestart}
+use Rattle.state.specs.Contract.{ChangeOk, toldBy}
+use Rattle.state.specs.declared.Change.{Change}
+use Rattle.state.specs.declared.Change.the-variants.{Stage, Commit, Join, Abort, Fail, Restart}
 use Rattle.line_rules.specs.Reading.{Line as Said, readLine}
+use Rattle.line_rules.specs.Printing.{answersText}
 use Rattle.line_reader.specs.Held.{heldLine}
+use Rattle.line_reader.specs.declared.Line.the-variants.{Calling}
 use Rattle.line_printer.specs.Put.{maxText}
 use Rattle.hub.specs.View.{view}
+use Rattle.hub.specs.Valid.{Valid}
+use Rattle.hub.specs.Carrying.{Carries}
+use Rattle.hub.specs.declared.Hub.{Hub}
 use Rattle.line.specs.View.{heardOf}
-use Rattle.line.proofs.Laws.{does-unread, does-open, does-not-open, does-call, does-same}
-use Rattle.line.proofs.Loops.{Goes, goes, Ran, ran-none, ran-more, ran-length, ran-past, ran-all, end-within}
+use Rattle.line.proofs.Laws.{Does, does-unread, does-open, does-not-open, does-settle, does-change, does-same, fits-line}
+use Rattle.line.proofs.Laws.{leaving-ok, change-as, carries-nothing, carries, carries-as}
+use Rattle.line.proofs.Told.{same-room}
+use Rattle.line.proofs.Loops.{Prints, prints, printed-fits, printed-long, goes}
+use Rattle.line.proofs.Loops.{Ran, ran-none, ran-more, ran-length, ran-past, ran-all, end-within}
+use borrow.Author.Needs.{needs}
 use Rattle.line.proofs.running.run_lines.Statement.{statement}
 use Rattle.line.proofs.running.run_lines.Tie as tie
 
 abbrev Inv-loop : tie.InvT-loop
-Inv-loop input out₀ room now₀ at₀ from₀ out now at from = Ran now₀ input out₀ out room now at from
+Inv-loop input out₀ room now₀ text₀ at₀ from₀ out now text at from = (length text ≡ maxText) × Ran now₀ input out₀ out room now at from
 
 abbrev μ-loop : tie.MeasureT-loop
-μ-loop input out₀ room now₀ at₀ from₀ out now at from = length input - from
+μ-loop input out₀ room now₀ text₀ at₀ from₀ out now text at from = length input - from
 
--- the line ends within the input
-ends : (c : tie.After-line-end Inv-loop μ-loop) →
-    c .line-end .result ≤ length (c .before .before .before .before .before .before .args .input .now)
-ends c =
-    let o = c .before .before .before in
+-- ---- places, from the last back
+
+abbrev loop-of : tie.After-next-line Inv-loop μ-loop → tie.At-loop Inv-loop μ-loop
+loop-of n = n .before .before .before .before
+
+abbrev line-of : tie.After-text2 Inv-loop μ-loop → tie.After-next-line Inv-loop μ-loop
+line-of x = x .before .before .before .before
+
+abbrev heard-of : tie.After-decided Inv-loop μ-loop → tie.After-text2 Inv-loop μ-loop
+heard-of d = d .before .before .before .before
+
+abbrev decided-of : tie.After-text6 Inv-loop μ-loop → tie.After-decided Inv-loop μ-loop
+decided-of y = y .before .before .before
+
+-- ---- the line
+
+abbrev nowAt : tie.After-next-line Inv-loop μ-loop → Hub
+nowAt n = loop-of n .loop .now
+
+-- what it says
+abbrev says : tie.After-next-line Inv-loop μ-loop → Said
+says n =
+    let o = loop-of n in
+    readLine (take (n .next-line .result .end - o .loop .from) (drop (o .loop .from) (o .before .before .before .args .input .now)))
+
+-- it ends within the input
+ends : (n : tie.After-next-line Inv-loop μ-loop) → n .next-line .result .end ≤ length (loop-of n .before .before .before .args .input .now)
+ends n =
+    let i = n .before .before .before in
+    let o = i .before in
     omega (
       arith,
-      c .line-end .ensures,
+      n .next-line .ensures .ends,
       end-within (o .before .before .before .args .input .now) (o .loop .from)
-          (c .before .before .loop-test .taken),
+          (i .loop-test .taken),
     )
 
--- there is room for a line's text
-room-left : (c : tie.Else1 Inv-loop μ-loop) → c .before .before .loop .at + maxText < 2 ^ 64
-room-left c = omega (arith, c .before .before .before .before .before .pre, c .if1 .left)
+-- what of it is heard
+heard : (x : tie.After-text2 Inv-loop μ-loop) →
+    let n = line-of x in
+    heardOf (heldLine (says n) .line) (view (nowAt n) .devices) ≡ n .next-line .result .said
+heard x =
+    let n = line-of x in
+    sym (n .next-line .ensures .hears ∙ (λ i. heardOf (heldLine (says n) .line) (n .before .device-count .ensures i)))
 
--- what the line says
-abbrev says : tie.After-line-end Inv-loop μ-loop → Said
-says l =
-    let o = l .before .before .before in
-    readLine (take (l .line-end .result - o .loop .from) (drop (o .loop .from) (o .before .before .before .args .input .now)))
+-- any text fits into its buffer
+room : (x : tie.After-text2 Inv-loop μ-loop) → length (x .before .put-unread .last .0) ≡ maxText
+room x = same-room (x .before .put-unread .ensures) ∙ loop-of (line-of x) .loop .inv .0
 
-line-read : (c : tie.After-read-line Inv-loop μ-loop) → c .read-line .result ≡ heldLine (says (c .before .before))
-line-read c = c .read-line .ensures
+valid : (x : tie.After-text2 Inv-loop μ-loop) → Valid (nowAt (line-of x))
+valid x = loop-of (line-of x) .loop .inv .1 .valid
 
--- and what of it is heard
-line-heard : (c : tie.After-heard Inv-loop μ-loop) →
-    let l = c .before .before .before .before in
-    heardOf (heldLine (says l) .line) (view (l .before .before .before .loop .now) .devices) ≡ c .heard .result
-line-heard c = sym (c .heard .ensures ∙ (λ i. heardOf (line-read (c .before .before) i .line) (c .before .device-count .ensures i)))
+-- ---- a call
 
--- each way that it can go
-line-goes : (c : tie.At-match-came Inv-loop μ-loop) →
-    let l = c .before .before .before .before .before in
-    let o = l .before .before .before in
-    Goes (o .loop .now) (says l) (o .loop .out) (o .loop .at) (c .match .now) (c .match .out) (c .match .at)
-line-goes c =
-    let h = c .before in
-    let r = h .before .before in
-    let l = r .before .before in
-    let o = l .before .before .before in
-    let now = o .loop .now in
-    let valid = o .loop .inv .valid in
+-- which one
+calls : (d : tie.After-decided Inv-loop μ-loop) →
+    let n = line-of (heard-of d) in
+    heardOf (heldLine (says n) .line) (view (nowAt n) .devices) ≡ Calling (d .before .before .said2 .given .0 .0)
+calls d = heard (heard-of d) ∙ d .before .before .said2 .given .1
+
+abbrev commandsAt : tie.After-decided Inv-loop μ-loop → List Command
+commandsAt d = commandsOf (line-of (heard-of d) .next-line .result .routine)
+
+-- its change can be made
+change-is : (y : tie.After-text6 Inv-loop μ-loop) (c : Change) →
+    let d = decided-of y in
+    d .decided .result .change ≡ c → ChangeOk (nowAt (line-of (heard-of d)) .state) (commandsAt d) c
+change-is y c e = change-as _ _ e (decided-of y .decided .ensures .change-ok)
+
+-- and is made
+made : (m : tie.At-match2-came Inv-loop μ-loop) →
+    let d = decided-of (m .before) in
+    Carries (nowAt (line-of (heard-of d))) (commandsAt d) (d .decided .result .change) (m .match2 .now)
+made m =
+    let x = heard-of (decided-of (m .before)) in
+    ⊎-elim (λ w. carries-as (w .2) (carries-nothing _ _ (valid x) (w .1 .given .1)))
+    (⊎-elim (λ w. carries-as (w .4) (carries _ _ (Stage _) (w .1 .given .1) refl (w .3 .ensures)))
+    (⊎-elim (λ w. carries-as (w .4) (carries _ _ (Commit _) (w .1 .given .1) refl (w .3 .ensures)))
+    (⊎-elim (λ w. carries-as (w .4) (carries _ _ (Join _) (w .1 .given .1) refl (w .3 .ensures)))
+    (⊎-elim (λ w. carries-as (w .4) (carries _ _ (Abort _) (w .1 .given .1) refl (w .3 .ensures)))
+    (⊎-elim (λ w. carries-as (w .4) (carries _ _ (Fail _ _) (w .1 .given .1) refl (w .3 .ensures)))
+    (λ w.
+    let v = w .1 .given .0 .1 .0 in
+    let held : toZ w16 (ofZ w16 v) ≡ v = search needs in
+    carries-as (w .4) (carries _ _ (Restart _ _ _) (w .1 .given .1) refl (rw held at (w .3 .ensures)))))))))
+    (m .match2 .came)
+
+-- its answers, and the hub that it leaves
+abbrev Leaves : tie.At-match2-came Inv-loop μ-loop → Hub → Type 0
+Leaves m next =
+    let d = decided-of (m .before) in
+    let n = line-of (heard-of d) in
+    Does (nowAt n) (says n) next (answersText (toldBy (nowAt n .state) (d .decided .result)))
+
+leaves-settled : (t : tie.Then4 Inv-loop μ-loop) (next : Hub) →
+    (Valid next) × (view next ≡ settle (view (t .before .before .before .before .match2 .now))) →
+    Leaves (t .before .before .before .before) next
+leaves-settled t next settled =
+    let k = t .before .before .before in
+    let d = decided-of (k .before .before) in
+    let n = line-of (heard-of d) in
+    does-settle _ (says n) _ (calls d) (n .next-line .ensures .beside) (d .decided .result) (d .decided .ensures) _ (made (k .before))
+    (sym (k .keeps-hub .ensures) ∙ not-true _ (t .before .before .if3 .taken)) next settled
+
+leaves-joined : (j : tie.Joined3 Inv-loop μ-loop) → Leaves (j .before .before) (j .before .before .match2 .now)
+leaves-joined j =
+    let k = j .before in
+    let d = decided-of (k .before .before) in
+    let n = line-of (heard-of d) in
     ⊎-elim
-    (λ w. goes (does-open now (says l) _ _ _ (line-heard h ∙ w .1 .given .1) (w .3 .result) (w .3 .ensures) (w .5 .given .1))
-    (w .7 .ensures) (w .11) (w .12) (w .13))
+    (λ w. does-change _ (says n) _ (calls d) (n .next-line .ensures .beside) (d .decided .result) (d .decided .ensures) _
+    (made (k .before)) (sym (k .keeps-hub .ensures) ∙ not-true _ (w .0 .taken)) (sym (w .1 .ensures) ∙ w .2 .left))
+    (λ w. does-same _ (says n) _ (calls d) (n .next-line .ensures .beside) (d .decided .result) (d .decided .ensures) _
+    (made (k .before)) (sym (k .keeps-hub .ensures) ∙ not-false _ (w .left)))
+    (j .if3 .came)
+
+-- ---- each way that the line can go
+
+line-prints : (c : tie.At-match-came Inv-loop μ-loop) →
+    let n = line-of (c .before) in
+    Prints (nowAt n) (says n) (c .match .now) (c .match .text) (c .match .printed)
+line-prints c =
+    let x = c .before in
+    let n = line-of x in
+    ⊎-elim
+    (λ w. prints
+    (does-open (nowAt n) (says n) _ _ _ (heard x ∙ w .1 .given .1) (w .3 .result) (w .3 .ensures) (w .9 .result) (w .9 .ensures)
+    (sym (w .7 .ensures) ∙ w .8 .taken))
+    (w .5 .ensures) (room x) (w .11) (w .12) (w .13))
     (⊎-elim
-    (λ w. goes (does-not-open now (says l) _ _ _ (line-heard h ∙ w .1 .given .1) (w .3 .result) (w .3 .ensures) valid _ (w .5 .given .1))
-    (w .8 .ensures) (w .11) (w .12) (w .13))
+    (λ w. prints
+    (does-not-open (nowAt n) (says n) _ _ _ (heard x ∙ w .1 .given .1) (w .3 .result) (w .3 .ensures) (valid x)
+    (sym (w .7 .ensures) ∙ w .8 .left))
+    (w .5 .ensures) (room x) (w .9) (w .10) (w .11))
     (⊎-elim
-    (λ w. goes (does-call now (says l) (w .1 .given .0 .0) (line-heard h ∙ w .1 .given .1) (w .4 .result) (line-read r) (w .4 .ensures))
-    (w .7 .ensures) (w .13) (w .14) (w .15))
+    (λ w. prints (leaves-settled (record { before = _; if4 = w .11 }) (w .12 .result) (w .12 .ensures)) (w .5 .ensures) (room x)
+    (w .13) (w .14) (w .15))
     (⊎-elim
-    (λ w. goes (does-same now (says l) (w .1 .given .0 .0) (line-heard h ∙ w .1 .given .1) (w .4 .result) (line-read r) (w .4 .ensures)
-    (sym (w .10 .ensures) ∙ not-false _ (w .11 .left)))
-    (w .7 .ensures) (w .12) (w .13) (w .14))
-    (λ w. goes (does-unread now (says l) valid (line-heard h ∙ w .1 .given .1)) (w .3 .ensures) (w .6) (w .7) (w .8)))))
+    (λ w. prints (leaves-joined (record { before = _; if3 = w .9 })) (w .5 .ensures) (room x) (w .10) (w .11) (w .12))
+    (λ w. prints (does-unread (nowAt n) (says n) (valid x) (heard x ∙ w .1 .given .1)) (x .before .put-unread .ensures)
+    (loop-of n .loop .inv .0) (w .2) (w .3) (w .4)))))
     (c .match .came)
 
+-- ---- the needs
+
 loop-holds : tie.Need-loop-holds Inv-loop μ-loop
-loop-holds c = ran-none _ _ _ _ (c .before .before .pre .0)
+loop-holds c = (refl, ran-none _ _ _ _ (c .before .before .pre .0))
 
 same-length : tie.Need-same-length Inv-loop μ-loop
-same-length c = ran-length (c .before .before .loop .inv)
+same-length c = ran-length (c .before .before .loop .inv .1)
 
 returns : tie.Need-returns Inv-loop μ-loop
-returns c = ran-past (c .before .before .loop .inv) (c .if1 .taken)
-
-line-end-requires : tie.Need-line-end-requires Inv-loop μ-loop
-line-end-requires c κs = search needs
-
-sub-read-line : tie.Need-sub-read-line Inv-loop μ-loop
-sub-read-line c = omega (arith, c .line-end .ensures)
-
-part-read-line-start : tie.Need-part-read-line-start Inv-loop μ-loop
-part-read-line-start c = search needs
-
-part-read-line-end : tie.Need-part-read-line-end Inv-loop μ-loop
-part-read-line-end c = let h = ends c in search needs
-
-read-line-requires : tie.Need-read-line-requires Inv-loop μ-loop
-read-line-requires c κs = search needs
+returns c = ran-past (c .before .before .loop .inv .1) (c .if1 .taken)
 
 device-count-requires : tie.Need-device-count-requires Inv-loop μ-loop
 device-count-requires c κs = search needs
 
-heard-requires : tie.Need-heard-requires Inv-loop μ-loop
-heard-requires c κs = search needs
+next-line-requires : tie.Need-next-line-requires Inv-loop μ-loop
+next-line-requires c κs = search needs
+
+slice-aggregate-put-unread : tie.Need-slice-aggregate-put-unread Inv-loop μ-loop
+slice-aggregate-put-unread c = sym (c .before .before .before .before .before .before .loop .inv .0)
+
+put-unread-requires : tie.Need-put-unread-requires Inv-loop μ-loop
+put-unread-requires c κs = omega (arith, c .before .before .before .before .before .before .loop .inv .0)
 
 enum-known-said : tie.Need-enum-known-said Inv-loop μ-loop
 enum-known-said c = search needs
 
+check-opening-requires : tie.Need-check-opening-requires Inv-loop μ-loop
+check-opening-requires c κs = search needs
+
+slice-aggregate-put-opening : tie.Need-slice-aggregate-put-opening Inv-loop μ-loop
+slice-aggregate-put-opening c = sym (room (c .before .before .before .before .before))
+
+put-opening-requires : tie.Need-put-opening-requires Inv-loop μ-loop
+put-opening-requires c κs = omega (arith, room (c .before .before .before .before .before))
+
+is-accepted-requires : tie.Need-is-accepted-requires Inv-loop μ-loop
+is-accepted-requires c κs = search needs
+
 open-requires : tie.Need-open-requires Inv-loop μ-loop
 open-requires c κs = search needs
-
-enum-told : tie.Need-enum-told Inv-loop μ-loop
-enum-told c = search needs
-
-put-opened-requires : tie.Need-put-opened-requires Inv-loop μ-loop
-put-opened-requires c κs = room-left (c .before .before .before .before .before .before .before .before .before .before .before .before)
-
-enum-known-verdict : tie.Need-enum-known-verdict Inv-loop μ-loop
-enum-known-verdict c = search needs
-
-put-refusal-requires : tie.Need-put-refusal-requires Inv-loop μ-loop
-put-refusal-requires c κs =
-    room-left (c .before .before .before .before .before .before .before .before .before .before .before .before .before)
 
 enum-known-said-2 : tie.Need-enum-known-said-2 Inv-loop μ-loop
 enum-known-said-2 c = search needs
 
-called-requires : tie.Need-called-requires Inv-loop μ-loop
-called-requires c κs = c .before .before .before .before .before .before .before .before .before .before .before .loop .inv .valid
+decided-requires : tie.Need-decided-requires Inv-loop μ-loop
+decided-requires c κs =
+    let x = c .before .before .before in
+    let n = line-of x in
+    (valid x, fits-line (nowAt n) (says n) _ _ (heard x ∙ c .before .said2 .given .1) (n .next-line .ensures .beside))
+
+slice-aggregate-put-answers : tie.Need-slice-aggregate-put-answers Inv-loop μ-loop
+slice-aggregate-put-answers c = sym (room (c .before .before .before .before .before))
 
 put-answers-requires : tie.Need-put-answers-requires Inv-loop μ-loop
 put-answers-requires c κs =
-    let h = c .before .before .before .before .before .before .before in
-    (room-left (h .before .before .before .before .before), c .before .before .called .ensures .backs-fit)
+    let d = c .before in
+    let x = heard-of d in (
+      valid x,
+      leaving-ok (nowAt (line-of x) .state) (commandsAt d) (d .decided .result .change) (d .decided .ensures .change-ok),
+      d .decided .ensures .well-told,
+      omega (arith, room x),
+    )
+
+enum-told : tie.Need-enum-told Inv-loop μ-loop
+enum-told c = search needs
+
+enum-known-change : tie.Need-enum-known-change Inv-loop μ-loop
+enum-known-change c = search needs
+
+with-stage-requires : tie.Need-with-stage-requires Inv-loop μ-loop
+with-stage-requires c κs =
+    let y = c .before .before .before in
+    let k = change-is y (Stage _) (c .before .change .given .1) in
+    (valid (heard-of (decided-of y)), k)
+
+enum-known-change-2 : tie.Need-enum-known-change-2 Inv-loop μ-loop
+enum-known-change-2 c = search needs
+
+with-commit-requires : tie.Need-with-commit-requires Inv-loop μ-loop
+with-commit-requires c κs =
+    let y = c .before .before .before in
+    let k = change-is y (Commit _) (c .before .change2 .given .1) in
+    (valid (heard-of (decided-of y)), k)
+
+enum-known-change-3 : tie.Need-enum-known-change-3 Inv-loop μ-loop
+enum-known-change-3 c = search needs
+
+with-routine-requires : tie.Need-with-routine-requires Inv-loop μ-loop
+with-routine-requires c κs =
+    let y = c .before .before .before in
+    let k = change-is y (Join _) (c .before .change3 .given .1) in
+    (valid (heard-of (decided-of y)), k)
+
+enum-known-change-4 : tie.Need-enum-known-change-4 Inv-loop μ-loop
+enum-known-change-4 c = search needs
+
+with-abort-requires : tie.Need-with-abort-requires Inv-loop μ-loop
+with-abort-requires c κs =
+    let y = c .before .before .before in
+    let k = change-is y (Abort _) (c .before .change4 .given .1) in
+    (valid (heard-of (decided-of y)), k)
+
+enum-known-change-5 : tie.Need-enum-known-change-5 Inv-loop μ-loop
+enum-known-change-5 c = search needs
+
+with-failure-requires : tie.Need-with-failure-requires Inv-loop μ-loop
+with-failure-requires c κs =
+    let y = c .before .before .before in
+    let k = change-is y (Fail _ _) (c .before .change5 .given .1) in
+    (valid (heard-of (decided-of y)), k .0, k .1)
+
+enum-known-change-6 : tie.Need-enum-known-change-6 Inv-loop μ-loop
+enum-known-change-6 c = search needs
+
+with-restart-requires : tie.Need-with-restart-requires Inv-loop μ-loop
+with-restart-requires c κs =
+    let y = c .before .before .before in
+    let v = c .before .change6 .given .0 .1 .0 in
+    let held : toZ w16 (ofZ w16 v) ≡ v = search needs in
+    let k = change-is y (Restart _ _ _) (c .before .change6 .given .1) in
+    (valid (heard-of (decided-of y)), k .0, ap isRestart held ∙ k .1, k .2)
 
 keeps-hub-requires : tie.Need-keeps-hub-requires Inv-loop μ-loop
 keeps-hub-requires c κs = search needs
 
+settles-requires : tie.Need-settles-requires Inv-loop μ-loop
+settles-requires c κs = made (c .before .before) .valid
+
+settled-requires : tie.Need-settled-requires Inv-loop μ-loop
+settled-requires c κs = made (c .before .before .before .before) .valid
+
 enum-told-2 : tie.Need-enum-told-2 Inv-loop μ-loop
 enum-told-2 c = search needs
 
-put-unread-requires : tie.Need-put-unread-requires Inv-loop μ-loop
-put-unread-requires c κs = room-left (c .before .before .before .before .before .before .before .before)
+array-share-prefix-text : tie.Need-array-share-prefix-text Inv-loop μ-loop
+array-share-prefix-text c = printed-fits (line-prints (c .before))
+
+slice-aggregate-put-text : tie.Need-slice-aggregate-put-text Inv-loop μ-loop
+slice-aggregate-put-text c = sym (printed-long (line-prints (c .before .before)))
+
+put-text-requires : tie.Need-put-text-requires Inv-loop μ-loop
+put-text-requires c κs =
+    let m = c .before .before in
+    let e = m .before .before .before .before .before .before .before in
+    omega (arith, printed-long (line-prints m), line-prints m .short, e .if1 .left, e .before .before .before .before .before .pre)
 
 add-from : tie.Need-add-from Inv-loop μ-loop
-add-from c = let h = ends (c .before .before .before .before .before) in search needs
+add-from c = let h = ends (c .before .before .before .before .before .before .before .before .before .before .before) in search needs
 
 loop-less : tie.Need-loop-less Inv-loop μ-loop
-loop-less c = let l = c .before .before .before .before .before in omega (arith, l .line-end .ensures, l .before .before .loop-test .taken)
+loop-less c =
+    let n = c .before .before .before .before .before .before .before .before .before .before .before in
+    omega (arith, n .next-line .ensures .ends, n .before .before .before .loop-test .taken)
 
 loop-again : tie.Need-loop-again Inv-loop μ-loop
 loop-again c =
-    let l = c .before .before .before .before .before in
-    ran-more (l .line-end .result) (l .before .before .before .loop .inv) (l .before .before .loop-test .taken) (l .before .if1 .left)
-    (l .line-end .ensures) (line-goes c)
+    let t = c .before .before .before in
+    let m = t .before .before .before in
+    let n = m .before .before .before .before .before in
+    let i = n .before .before .before in
+    let p = line-prints m in (
+      p .long,
+      ran-more (n .next-line .result .end) (i .before .loop .inv .1) (i .loop-test .taken) (n .before .before .if1 .left)
+          (n .next-line .ensures .ends) (goes p (t .put-text .ensures)),
+    )
 
 same-length-2 : tie.Need-same-length-2 Inv-loop μ-loop
-same-length-2 c = ran-length (c .before .loop .inv)
+same-length-2 c = ran-length (c .before .loop .inv .1)
 
 returns-2 : tie.Need-returns-2 Inv-loop μ-loop
-returns-2 c = ran-all (c .before .loop .inv) (c .loop-test .left)
+returns-2 c = ran-all (c .before .loop .inv .1) (c .loop-test .left)
 
 pub run-lines-spec : {M : Type 1} → statement M
 run-lines-spec =
@@ -178,25 +365,40 @@ run-lines-spec =
     loop-holds
     same-length
     returns
-    line-end-requires
-    sub-read-line
-    part-read-line-start
-    part-read-line-end
-    read-line-requires
     device-count-requires
-    heard-requires
-    enum-known-said
-    open-requires
-    enum-told
-    put-opened-requires
-    enum-known-verdict
-    put-refusal-requires
-    enum-known-said-2
-    called-requires
-    put-answers-requires
-    keeps-hub-requires
-    enum-told-2
+    next-line-requires
+    slice-aggregate-put-unread
     put-unread-requires
+    enum-known-said
+    check-opening-requires
+    slice-aggregate-put-opening
+    put-opening-requires
+    is-accepted-requires
+    open-requires
+    enum-known-said-2
+    decided-requires
+    slice-aggregate-put-answers
+    put-answers-requires
+    enum-told
+    enum-known-change
+    with-stage-requires
+    enum-known-change-2
+    with-commit-requires
+    enum-known-change-3
+    with-routine-requires
+    enum-known-change-4
+    with-abort-requires
+    enum-known-change-5
+    with-failure-requires
+    enum-known-change-6
+    with-restart-requires
+    keeps-hub-requires
+    settles-requires
+    settled-requires
+    enum-told-2
+    array-share-prefix-text
+    slice-aggregate-put-text
+    put-text-requires
     add-from
     loop-less
     loop-again

@@ -1,0 +1,198 @@
+-- What a line prints: the answers of a call, one behind another, as its decision tells them. Assumes nothing.
+use mathlib.Core.Path.{_≡_, refl, sym, ap, _∙_, subst}
+use mathlib.Core.Bool.{true, false}
+use mathlib.Core.List.{List, [], _∷_, _++_}
+use Prim.Native.Nat.{ℕ, _+_, _≤_}
+use native.Mathlib.Omega.{arith}
+use native.Mathlib.Nat.{zero-add}
+use types.Run.{OneOf, miss}
+use denote.Enum.Declared.{tagOf}
+use lib.ListN.{length, take, drop}
+use lib.Seq.{sets-eq, length-sets, take-at}
+use Rattle.rules.specs.Answers.{Back, Answer as Said, aborted}
+use Rattle.rules.proofs.Lists.{t≠f}
+use Rattle.answers.specs.View.{backsOf, oneOf, firstOf, answerOf, answersOf, changesNothing}
+use Rattle.answers.specs.declared.Answer.{Answer}
+use Rattle.answers.specs.declared.Answer.the-variants.{Refused, Placed, Wait, Sent, Done, Skipped, Committed, Aborted, Down, Up}
+use Rattle.answers.specs.declared.First.{First}
+use Rattle.answers.specs.declared.First.the-variants.{NoAbort, Abort as AbortFirst}
+use Rattle.answers.specs.declared.PutBacks.{PutBacks}
+use Rattle.answers.proofs.Answer.{the-type as answer-type}
+use Rattle.state.specs.Contract.{backsBy, backsOfDecision, toldBy, WellTold}
+use Rattle.state.specs.declared.HubState.{HubState}
+use Rattle.state.specs.declared.Change.{Change}
+use Rattle.state.specs.declared.Change.the-variants.{Nothing, Stage, Commit, Join, Abort, Fail, Restart}
+use Rattle.state.specs.declared.Decision.{Decision}
+use Rattle.line_rules.specs.Printing.{asLine, answerText, answersText}
+use Rattle.line_printer.specs.Put.{halfText, maxText, Put, PutShort}
+use Rattle.line_printer.proofs.Laws.{short-then, within, as-text, answers-one, answers-append}
+use Rattle.line.specs.Contract.{isAbort, BacksOnce}
+
+-- ---- a text in a buffer in which it fits
+
+module _ {most : ℕ} {before after : List ℕ} {end : ℕ} {text : List ℕ} (p : PutShort most before after 0 end text) where
+  pub same-room : length after ≡ length before
+  same-room = ap length (p .put .is) ∙ length-sets before 0 text
+
+  pub end-is : end ≡ length text
+  end-is = p .put .ends ∙ zero-add (length text)
+
+  -- what stands there is the text
+  pub stands-there : most ≤ length before → take end after ≡ text
+  stands-there fits =
+      ap (take end) (p .put .is ∙ sets-eq text before 0 (omega (arith, p .short)))
+      ∙ take-at text (drop (0 + length text) before) end (sym end-is)
+
+  pub end-fits : most ≤ length before → end ≤ length after
+  end-fits fits = omega (arith, p .short, end-is, same-room)
+
+  -- and so it is put where it is copied to
+  pub copied : {out out′ : List ℕ} {at at′ : ℕ} → most ≤ length before → Put out out′ at at′ (take end after) →
+      PutShort most out out′ at at′ text
+  copied {out} {out′} {at} {at′} fits q =
+      record { put = subst (λ (t : List ℕ). Put out out′ at at′ t) (stands-there fits) q; short = p .short }
+
+-- ---- the cases of an answer
+
+-- the answers that are no refusal, no wait and no abort, by their numbers
+abbrev pub notRefused : List ℕ
+notRefused = 1 ∷ 2 ∷ 3 ∷ 4 ∷ 5 ∷ 6 ∷ 7 ∷ 8 ∷ 9 ∷ []
+
+abbrev pub notWait : List ℕ
+notWait = 0 ∷ 1 ∷ 3 ∷ 4 ∷ 5 ∷ 6 ∷ 7 ∷ 8 ∷ 9 ∷ []
+
+abbrev pub notAborted : List ℕ
+notAborted = 0 ∷ 1 ∷ 2 ∷ 3 ∷ 4 ∷ 5 ∷ 6 ∷ 8 ∷ 9 ∷ []
+
+-- an answer that is neither refusal nor wait changes something
+pub changes : (a : Answer) → OneOf notRefused (tagOf answer-type a) → OneOf notWait (tagOf answer-type a) → changesNothing a ≡ false
+changes (Refused x) h k = absurd (miss notRefused 0 tt h)
+changes (Placed x) h k = refl
+changes (Wait i j) h k = absurd (miss notWait 2 tt k)
+changes (Sent x) h k = refl
+changes (Done i) h k = refl
+changes (Skipped i) h k = refl
+changes (Committed i) h k = refl
+changes (Aborted i) h k = refl
+changes (Down d i) h k = refl
+changes (Up d i) h k = refl
+
+-- one that is no abort
+pub no-abort : (a : Answer) {f : First} → f ≡ NoAbort → OneOf notAborted (tagOf answer-type a) → isAbort f a ≡ false
+no-abort (Refused x) e h = ap (λ (f : First). isAbort f (Refused x)) e
+no-abort (Placed x) e h = ap (λ (f : First). isAbort f (Placed x)) e
+no-abort (Wait i j) e h = ap (λ (f : First). isAbort f (Wait i j)) e
+no-abort (Sent x) e h = ap (λ (f : First). isAbort f (Sent x)) e
+no-abort (Done i) e h = ap (λ (f : First). isAbort f (Done i)) e
+no-abort (Skipped i) e h = ap (λ (f : First). isAbort f (Skipped i)) e
+no-abort (Committed i) e h = ap (λ (f : First). isAbort f (Committed i)) e
+no-abort (Aborted i) e h = absurd (miss notAborted 7 tt h)
+no-abort (Down d i) e h = ap (λ (f : First). isAbort f (Down d i)) e
+no-abort (Up d i) e h = ap (λ (f : First). isAbort f (Up d i)) e
+
+-- ---- the answers of an abort
+
+-- there is one
+pub put-neither : {first : First} (answer : Answer) (backs : PutBacks) {P : Type 0} → first ≡ NoAbort →
+    BacksOnce first answer (backsOf backs) →
+    OneOf notAborted (tagOf answer-type answer) → P
+put-neither answer backs e k h =
+    let own = subst (λ (f : First). BacksOnce f answer (backsOf backs)) e k in
+    t≠f (ap (isAbort NoAbort) (sym (own .1)) ∙ no-abort answer refl h)
+
+module _ {first : First} (answer : Answer) (backs : PutBacks) {a b : List ℕ} {m : ℕ} where
+  -- the call's own
+  pub put-own : (i : ℕ) → first ≡ NoAbort → answer ≡ Aborted i →
+      PutShort halfText a b 0 m (asLine (answerText (aborted i (backsOf backs)))) →
+      PutShort maxText a b 0 m (answersText (answersOf first answer backs))
+  put-own i e k p =
+      as-text
+      (sym (answers-one (aborted i (backsOf backs))) ∙ (λ j. answersText (answersOf (sym e j) (sym k j) backs)))
+      (within (omega arith) p)
+
+  -- one before the answer
+  pub put-both : {c : List ℕ} {end : ℕ} (i : ℕ) → first ≡ AbortFirst i → BacksOnce first answer (backsOf backs) →
+      PutShort halfText a b 0 m (asLine (answerText (aborted i (backsOf backs)))) →
+      PutShort halfText b c m end (asLine (answerText (answerOf answer []))) →
+      PutShort maxText a c 0 end (answersText (answersOf first answer backs))
+  put-both i e k p q =
+      let l = backsOf backs in
+      let once = subst (λ (f : First). BacksOnce f answer l) e k in
+      as-text
+      (sym
+      (ap (λ (f : First). answersText (answersOf f answer backs)) e
+      ∙ answers-append (aborted i l ∷ []) (answerOf answer l ∷ [])
+      ∙ (λ j. answers-one (aborted i l) j ++ answers-one (sym once j) j)))
+      (short-then p q)
+
+-- ---- the answers of a decision
+
+-- where a routine aborts, what is put back stands beside that alone
+once-plain : (f : First) (a : Answer) (l : List Back) → f ≡ NoAbort → isAbort f a ≡ true → BacksOnce f a l
+once-plain (AbortFirst i) a l e t = let z : _≡_ {A = ℕ} 0 1 = cc in absurd (omega arith)
+once-plain NoAbort (Refused x) l e t = t≠f (sym t)
+once-plain NoAbort (Placed x) l e t = t≠f (sym t)
+once-plain NoAbort (Wait i j) l e t = t≠f (sym t)
+once-plain NoAbort (Sent x) l e t = t≠f (sym t)
+once-plain NoAbort (Done i) l e t = t≠f (sym t)
+once-plain NoAbort (Skipped i) l e t = t≠f (sym t)
+once-plain NoAbort (Committed i) l e t = t≠f (sym t)
+once-plain NoAbort (Aborted i) l e t = (i, refl)
+once-plain NoAbort (Down d i) l e t = t≠f (sym t)
+once-plain NoAbort (Up d i) l e t = t≠f (sym t)
+
+-- the answer of an event puts nothing back
+once-event : (f : First) (a : Answer) (l : List Back) → isAbort NoAbort a ≡ false → answerOf a [] ≡ answerOf a l → isAbort f a ≡ true →
+    BacksOnce f a l
+once-event NoAbort a l n e t = t≠f (sym t ∙ n)
+once-event (AbortFirst i) a l n e t = e
+
+no-backs : {a : Answer} (x : Answer) (l m : List Back) → a ≡ x → answerOf x l ≡ answerOf x m → answerOf a l ≡ answerOf a m
+no-backs x l m e k = subst (λ (y : Answer). answerOf y l ≡ answerOf y m) (sym e) k
+
+pub backs-once : (f : First) (a : Answer) (c : Change) (l : List Back) → WellTold f a c → isAbort f a ≡ true → BacksOnce f a l
+backs-once f a Nothing l w t = once-plain f a l w t
+backs-once f a (Stage c) l w t = once-plain f a l w t
+backs-once f a (Commit x) l w t = once-plain f a l w t
+backs-once f a (Join after) l w t = once-plain f a l w t
+backs-once f a (Abort x) l w t = once-plain f a l (w .0) t
+backs-once f a (Fail d x) l w t = once-event f a l (ap (isAbort NoAbort) (w .1)) (no-backs (Down d (w .0)) [] l (w .1) refl) t
+backs-once f a (Restart d v x) l w t = once-event f a l (ap (isAbort NoAbort) (w .1)) (no-backs (Up d (w .0)) [] l (w .1) refl) t
+
+-- no abort: one answer, with what the decision has
+told-plain : (f : First) (a : Answer) (l m : List Back) → isAbort f a ≡ false → answerOf a m ≡ answerOf a l →
+    firstOf f m ++ (answerOf a m ∷ []) ≡ answerOf a l ∷ []
+told-plain NoAbort a l m t e = ap (λ (x : Said). x ∷ []) e
+told-plain (AbortFirst i) a l m t e = t≠f t
+
+told-one : (h : HubState) (f : First) (a : Answer) (c : Change) (l : List Back) → WellTold f a c → isAbort f a ≡ false →
+    firstOf f (backsBy h l c) ++ (answerOf a (backsBy h l c) ∷ []) ≡ answerOf a l ∷ []
+told-one h f a Nothing l w t = told-plain f a l l t refl
+told-one h f a (Stage c) l w t = told-plain f a l l t refl
+told-one h f a (Commit x) l w t = told-plain f a l l t refl
+told-one h f a (Join after) l w t = told-plain f a l l t refl
+told-one h f a (Abort x) l w t =
+    let yes : isAbort f a ≡ true = λ j. isAbort (w .0 j) (w .1 .1 j) in
+    t≠f (sym yes ∙ t)
+told-one h f a (Fail d x) l w t =
+    let m = backsBy h l (Fail d x) in
+    told-plain f a l m t (no-backs (Down d (w .0)) m l (w .1) refl)
+told-one h f a (Restart d v x) l w t =
+    let m = backsBy h l (Restart d v x) in
+    told-plain f a l m t (no-backs (Up d (w .0)) m l (w .1) refl)
+
+pub put-told : (h : HubState) (d : Decision) {a b : List ℕ} {end : ℕ} → WellTold (d .first) (d .answer) (d .change) →
+    isAbort (d .first) (d .answer) ≡ false →
+    PutShort halfText a b 0 end (asLine (answerText (answerOf (d .answer) (oneOf (d .back))))) →
+    PutShort maxText a b 0 end (answersText (toldBy h d))
+put-told h d w t p =
+    as-text
+    (sym (answers-one (answerOf (d .answer) (oneOf (d .back))))
+    ∙ ap answersText (sym (told-one h (d .first) (d .answer) (d .change) (oneOf (d .back)) w t)))
+    (within (omega arith) p)
+
+-- an abort, with what it puts back
+pub put-left : (h : HubState) (d : Decision) (backs : PutBacks) {a b : List ℕ} {end : ℕ} → backsOf backs ≡ backsOfDecision h d →
+    PutShort maxText a b 0 end (answersText (answersOf (d .first) (d .answer) backs)) →
+    PutShort maxText a b 0 end (answersText (toldBy h d))
+put-left h d backs e p = as-text (ap (λ (l : List Back). answersText (firstOf (d .first) l ++ (answerOf (d .answer) l ∷ []))) e) p
