@@ -1,5 +1,5 @@
-// Document 01, "Abort of R" and "Cancel aborts R": what an abort puts back, from the due settings before and after it. How the routine leaves stands in crate
-// `leaving`.
+// Document 01, "Abort of R" and "Cancel aborts R": what an abort puts back, from the due settings before and after it. How the routine
+// leaves stands in crate `leaving`.
 use answers::Answer;
 use answers::PutBack;
 use answers::PutBacks;
@@ -28,7 +28,8 @@ ghost use Rattle.state.specs.Valid.{StateOk};
 ghost use Rattle.state.specs.Contract.{backsLeft, Decides};
 ghost use Rattle.abort.specs.PutBacks.{downIf, isBackBy, backsBy, TablesAre};
 
-// The tables that tell which devices are put back: up; with a command in flight of those left, and of the one that left; and due before and after.
+// The tables that tell which devices are put back: up; with a command in flight of those left, and of the one that left; and due before and
+// after.
 pub struct Tables {
     pub up: [bool; MAX_DEVICES],
     pub others: [bool; MAX_DEVICES],
@@ -37,8 +38,8 @@ pub struct Tables {
     pub after: [i16; MAX_DEVICES],
 }
 
-// "A device that is up, with no command of another routine in flight on it, is sent its due setting exactly if that changed by the abort or R had a
-// command in flight on it"
+// "A device that is up, with no command of another routine in flight on it, is sent its due setting exactly if that changed by the abort or
+// R had a command in flight on it"
 fn is_put_back(up: bool, others: bool, own: bool, before: i16, after: i16) -> bool
     ensures { λ r. ⌜ r ≡ (up && not others && (not (sameSetting before after) || own)) ⌝ }
 {
@@ -98,8 +99,8 @@ fn own_flights(state: HubState, at: usize) -> [bool; MAX_DEVICES]
     own
 }
 
-// The tables of an abort of the routine in a slot, while the device `down` fails; a number past the devices is none. They are read off the rows as they are: the
-// routine's commands are left out.
+// The tables of an abort of the routine in a slot, while the device `down` fails; a number past the devices is none. They are read off the
+// rows as they are: the routine's commands are left out.
 fn tables_of(state: HubState, at: usize, down: u8) -> Tables
     requires { ⌜ (StateOk state) × (Stands (state .links) at) ⌝ }
     ensures { λ r. ⌜ TablesAre state at down r ⌝ }

@@ -26,7 +26,7 @@ use Rattle.state.specs.declared.Change.{Change}
 use Rattle.state.specs.declared.Change.the-variants.{Nothing, Stage, Commit, Join, Abort, Fail, Restart}
 use Rattle.state.specs.declared.Decision.{Decision}
 use Rattle.state.proofs.Laws.{settle-idle}
-use Rattle.hub.specs.View.{view, answersIn, resultIn}
+use Rattle.hub.specs.View.{view, answersIn}
 use Rattle.hub.specs.Valid.{Valid}
 use Rattle.hub.specs.Contract.{Gives}
 use Rattle.hub.specs.Carrying.{LeavingOk, Carries, settlesAfter}
@@ -139,7 +139,8 @@ module _ (h : Hub) (cs : List Command) (d : Decision) (backs : PutBacks) (n : Hu
   settled-result : changesNothing (d .answer) ≡ false →
       resultBy (h .state) cs d ≡ record { state = settle (view n); answers = toldBy (h .state) d }
   settled-result f =
-      settles-change (d .change) (record { state = appliedTo (h .state) cs (d .change); answers = toldBy (h .state) d }) (k .something-told f)
+      settles-change (d .change) (record { state = appliedTo (h .state) cs (d .change); answers = toldBy (h .state) d })
+      (k .something-told f)
       ∙ ap (λ (s : State). record { state = settle s; answers = toldBy (h .state) d }) (sym (c .gives))
 
   pub settled-gives : (r : Hub) (o : Outcome) → Wraps r d backs o → settlesAfter (d .answer) (view n) ≡ true → Valid r →
@@ -157,7 +158,8 @@ module _ (h : Hub) (cs : List Command) (d : Decision) (backs : PutBacks) (n : Hu
       let same = c .same-hub nothing in
       wraps-gives n o w (c .valid)
       (ap (λ (s : State). record { state = s; answers = toldBy (h .state) d }) (ap view same)
-      ∙ sym (ap (λ (x : Change). settledUnlessNothing x (record { state = appliedTo (h .state) cs x; answers = toldBy (h .state) d })) nothing))
+      ∙ sym (ap (λ (x : Change). settledUnlessNothing x (record { state = appliedTo (h .state) cs x; answers = toldBy (h .state) d }))
+      nothing))
       (λ _. same))
       (λ f _.
       wraps-gives n o w (c .valid)
@@ -175,7 +177,8 @@ pub backs-as : (h : HubState) (d : Decision) {c : Change} {l : List Back} → d 
 backs-as h d e f = f ∙ sym (ap (backsBy h (oneOf (d .back))) e)
 
 -- a change that is this one is carried out
-pub carries-as : {h : Hub} {cs : List Command} {c x : Change} {r : Hub} → c ≡ x → (x ≡ Nothing → ⊥) → Valid r → view r ≡ appliedTo (h .state) cs x →
+pub carries-as : {h : Hub} {cs : List Command} {c x : Change} {r : Hub} → c ≡ x → (x ≡ Nothing → ⊥) → Valid r →
+    view r ≡ appliedTo (h .state) cs x →
     Carries h cs c r
 carries-as {h} {cs} e n v g = record { valid = v; gives = g ∙ sym (ap (appliedTo (h .state) cs) e); same-hub = λ k. absurd (n (sym e ∙ k)) }
 

@@ -1,7 +1,7 @@
 -- The links are the sequence: document 02, item 8, along every chain of the hub's calls. Assumes nothing.
 use mathlib.Core.Path.{_≡_, refl, sym, ap, ap₂, _∙_}
 use mathlib.Core.List.{List, [], _∷_, map, reverse, reverseAux}
-use Prim.Native.Nat.{ℕ, _+_}
+use Prim.Native.Nat.{ℕ}
 use native.Mathlib.Omega.{arith}
 use Rattle.routine.specs.declared.Verdict.{Verdict}
 use Rattle.routine.specs.declared.Verdict.the-variants.{Accepted, Refused}
@@ -38,7 +38,8 @@ keeps h s v e =
       read = read;
       read-back = ap (map (memberAt (h .state))) back ∙ map-onto (memberAt (h .state)) l [] ∙ ap reverse read;
       once = v .links-ok .once;
-      once-back = λ x. ap (count x) back ∙ (let i = count-reverse-onto x l [] in let z : count x (reverseAux l []) ≡ count x l = omega arith in z);
+      once-back = λ x. ap (count x) back
+          ∙ (let i = count-reverse-onto x l [] in let z : count x (reverseAux l []) ≡ count x l = omega arith in z);
     }
 
 -- ---- along a chain

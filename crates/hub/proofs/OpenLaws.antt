@@ -19,7 +19,7 @@ use Rattle.rules.specs.Open.{openCheck, newHub, closedHub, openIf, openOf}
 use Rattle.rules.specs.Calls.{TurnsAllDown}
 use Rattle.rules.proofs.Closed.{closed-turns-all-down}
 use Rattle.sequence.specs.Lists.{count}
-use Rattle.sequence.specs.Links.{slotsOf, Stands}
+use Rattle.sequence.specs.Links.{slotsOf}
 use Rattle.sequence.specs.Contract.{Empty}
 use Rattle.sequence.specs.declared.Links.{Links}
 use Rattle.state.specs.View.{memberAt, membersOf, stateOf}

@@ -2,7 +2,7 @@
 use mathlib.Core.Path.{_≡_}
 use mathlib.Core.Bool.{Bool, true, false}
 use mathlib.Core.List.{List}
-use Prim.Native.Nat.{ℕ, _<_}
+use Prim.Native.Nat.{_<_}
 use Rattle.routine.specs.Choice.{if_then_else_}
 use Rattle.routine.specs.Routine.{maxDevices}
 use Rattle.routine.specs.declared.Command.{Command}
@@ -15,7 +15,6 @@ use Rattle.state.specs.Contract.{appliedTo, StandsOrPast}
 use Rattle.state.specs.declared.HubState.{HubState}
 use Rattle.state.specs.declared.Change.{Change}
 use Rattle.state.specs.declared.Change.the-variants.{Nothing, Stage, Commit, Join, Abort, Fail, Restart}
-use Rattle.state.specs.declared.Decision.{Decision}
 use Rattle.hub.specs.View.{view}
 use Rattle.hub.specs.Valid.{Valid}
 use Rattle.hub.specs.declared.Hub.{Hub}
@@ -36,7 +35,7 @@ pub record Carries (h : Hub) (cs : List Command) (c : Change) (r : Hub) : Type 0
   pub gives : view r ≡ appliedTo (h .state) cs c
   pub same-hub : c ≡ Nothing → r ≡ h
 
--- Does a routine settle after this answer? Document 01, "Settling": "After each call, while the first in the sequence is committed"; but a refusal and a wait
--- change nothing.
+-- Does a routine settle after this answer? Document 01, "Settling": "After each call, while the first in the sequence is committed"; but a
+-- refusal and a wait change nothing.
 abbrev pub settlesAfter : Answer → State → Bool
 settlesAfter a s = if changesNothing a then false else firstCommitted (s .sequence)

@@ -1,7 +1,8 @@
--- Document 02, item 8, "Links for the sequence": from an opening on, along every chain of calls, the answers and the sequence read along the links are those
--- of a packed list, which is how the rules keep it; along the other links it is the same list from its end; and the links run through each held routine a
--- single time. What a single placement or leaving changes is a contract: `Joins` and `Leaves` of crate `sequence`, `Places` of crate `apply`, `Unlinks` of
--- crate `leaving`. The proof is `links-are-the-sequence` of `proofs/Links.antt`. Assumes nothing.
+-- Document 02, item 8, "Links for the sequence": from an opening on, along every chain of calls, the answers and the sequence read along
+-- the links are those of a packed list, which is how the rules keep it; along the other links it is the same list from its end; and the
+-- links run through each held routine a single time. What a single placement or leaving changes is a contract: `Joins` and `Leaves` of
+-- crate `sequence`, `Places` of crate `apply`, `Unlinks` of crate `leaving`. The proof is `links-are-the-sequence` of `proofs/Links.antt`.
+-- Assumes nothing.
 use mathlib.Core.Path.{_≡_}
 use mathlib.Core.List.{List, [], _∷_, map, reverse}
 use Prim.Native.Nat.{ℕ, _+_}
@@ -42,7 +43,8 @@ alongLinks h = map (memberAt (h .state)) (slotsOf (h .state .links))
 abbrev pub backLinks : Hub → List Member
 backLinks h = map (memberAt (h .state)) (backOf (h .state .links))
 
--- The links of the hub keep this packed list. `once`: each slot is met along the links or is free, just one of the two and that once, and no other number is.
+-- The links of the hub keep this packed list. `once`: each slot is met along the links or is free, just one of the two and that once, and
+-- no other number is.
 pub record KeepsPacked (h : Hub) (packed : List Member) : Type 0 where
   pub read : alongLinks h ≡ packed
   pub read-back : backLinks h ≡ reverse packed

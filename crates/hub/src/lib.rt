@@ -1,6 +1,7 @@
-// The plot hub, by value: document 01, "The steps". Here stand the public calls with their contracts. A call decides, on a hub that stays as it is, what it comes
-// to (crates `submit`, `turn`, `report`, `events` and, the cancel, `abort`); an applier makes the next hub (crates `apply`, `leaving`, `abort`, `events`), which
-// then settles. `specs/` reads a hub as the state of the rules, and an outcome as their answers.
+// The plot hub, by value: document 01, "The steps". Here stand the public calls with their contracts. A call decides, on a hub that stays
+// as it is, what it comes to (crates `submit`, `turn`, `report`, `events` and, the cancel, `abort`); an applier makes the next hub (crates
+// `apply`, `leaving`, `abort`, `events`), which then settles. `specs/` reads a hub as the state of the rules, and an outcome as their
+// answers.
 mod carrying;
 mod opening;
 
@@ -33,7 +34,8 @@ ghost use Rattle.rules.specs.Calls.{TurnsAllDown};
 ghost use Rattle.sequence.specs.Links.{Stands};
 ghost use Rattle.answers.specs.View.{backsOf, BacksOk};
 ghost use Rattle.state.specs.View.{settingsOf, isRestart, there, firstCommitted};
-ghost use Rattle.state.specs.Contract.{staged, committedAt, joinedBehind, goneIn, leftBy, downWith, upWith, StandsOrPast, StageOk, JoinOk, Decides, backsOfDecision};
+ghost use Rattle.state.specs.Contract.{staged, committedAt, joinedBehind, goneIn, leftBy, downWith, upWith, StandsOrPast, StageOk, JoinOk};
+ghost use Rattle.state.specs.Contract.{Decides, backsOfDecision};
 ghost use Rattle.hub.specs.View.{view};
 ghost use Rattle.hub.specs.Valid.{Valid};
 ghost use Rattle.hub.specs.Contract.{Opens, Submitted, Turned, Reported, Cancelled, Failed, Restarted};
@@ -183,8 +185,8 @@ pub fn closed() -> Hub
     opening::new_hub(0, 0, 1)
 }
 
-// ---- the same in two steps, for those who hold one hub and change it line by line: each call decides on a hub that stays as it is, and an applier makes the
-// next hub. An applier asks for a change that was decided on this very hub.
+// ---- the same in two steps, for those who hold one hub and change it line by line: each call decides on a hub that stays as it is, and an
+// applier makes the next hub. An applier asks for a change that was decided on this very hub.
 
 // What a submission comes to.
 pub fn decide_submit(hub: Hub, routine: Routine) -> Decision

@@ -14,8 +14,8 @@ use Rattle.state.specs.View.{restartsAt, memberAt, stateOf, there}
 use Rattle.state.specs.Valid.{StateOk}
 use Rattle.state.specs.declared.HubState.{HubState}
 
--- A routine has left the sequence. `links`: of all links only its own and its neighbours' are others. `others`: every other routine is in the slot where it was,
--- unchanged; only the one before gets its events.
+-- A routine has left the sequence. `links`: of all links only its own and its neighbours' are others. `others`: every other routine is in
+-- the slot where it was, unchanged; only the one before gets its events.
 pub record LeavesHub (h : HubState) (at : ℕ) (r : HubState) : Type 0 where
   pub valid : StateOk r
   pub gives : stateOf r ≡ leave (stateOf h) (there h at)

@@ -46,12 +46,14 @@ all-backs (b ∷ l) = ap (λ (m : List Back). b ∷ m) (all-backs l)
 module _ (h : HubState) (cs : List Command) (result : Result) where
   -- a call is turned down
   pub refused-decides : (r : Refusal) → turnedDown r (stateOf h) ≡ result → Decides h cs (plainly (Refused r) Nothing) result
-  refused-decides r e = record { change-ok = tt; gives = e; backs-told = refl; well-told = refl; nothing-told = λ t. refl; something-told = λ t k. t≠f t }
+  refused-decides r e =
+      record { change-ok = tt; gives = e; backs-told = refl; well-told = refl; nothing-told = λ t. refl; something-told = λ t k. t≠f t }
 
   -- it waits
   pub wait-decides : (i j : ℕ) → record { state = stateOf h; answers = wait i j ∷ [] } ≡ result →
       Decides h cs (plainly (Wait i j) Nothing) result
-  wait-decides i j e = record { change-ok = tt; gives = e; backs-told = refl; well-told = refl; nothing-told = λ t. refl; something-told = λ t k. t≠f t }
+  wait-decides i j e =
+      record { change-ok = tt; gives = e; backs-told = refl; well-told = refl; nothing-told = λ t. refl; something-told = λ t k. t≠f t }
 
   -- one answer that puts nothing back, and a change
   module _ (a : Answer) (t : changesNothing a ≡ false) where

@@ -1,7 +1,7 @@
 -- `answers::at_most_one` meets its contract. Assumes nothing.
 use borrow.Author.Needs.{needs}
 use native.Mathlib.Omega.{arith}
-use mathlib.Core.Path.{_≡_, sym, ap, _∙_}
+use mathlib.Core.Path.{sym, ap, _∙_}
 use mathlib.Core.List.{List, [], _∷_, _++_}
 use Rattle.rules.specs.Answers.{Back}
 use Rattle.answers.specs.View.{oneOf, backOf}
@@ -27,8 +27,7 @@ returns-2 : tie.Need-returns-2
 returns-2 c =
     let w = c .with-back .ensures in
     let b = c .before .before in
-    let n = b .before .before .no-backs .ensures in
-    (
+    let n = b .before .before .no-backs .ensures in (
       omega (arith, w .0, n .0),
       w .1 ∙ ap (λ (l : List Back). l ++ (backOf (b .back .given .0 .0) ∷ [])) (n .1) ∙ sym (ap oneOf (b .back .given .1)),
     )

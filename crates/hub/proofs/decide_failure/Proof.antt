@@ -2,15 +2,10 @@
 use borrow.Author.Needs.{needs}
 use Rattle.hub.proofs.decide_failure.Statement.{statement}
 use Rattle.hub.proofs.decide_failure.Tie as tie
-use Rattle.hub.proofs.decide_failure.Reads as reads
-use Rattle.hub.proofs.decide_failure.Lts as lts
-use Rattle.events.proofs.decide_failure.Reads as decide-failure-reads
 
--- src/lib.rt:230:5
 decide-failure-requires : tie.Need-decide-failure-requires
 decide-failure-requires c κs = search needs
 
--- src/lib.rt:225:1
 returns : tie.Need-returns
 returns c = search needs
 

@@ -10,20 +10,16 @@ use Rattle.state.specs.Contract.{Decides}
 use Rattle.hub.specs.View.{view}
 use Rattle.hub.proofs.decide_restart.Statement.{statement}
 use Rattle.hub.proofs.decide_restart.Tie as tie
-use Rattle.hub.proofs.decide_restart.Reads as reads
-use Rattle.hub.proofs.decide_restart.Lts as lts
-use Rattle.events.proofs.decide_restart.Reads as decide-restart-reads
 
--- src/lib.rt:239:5
 decide-restart-requires : tie.Need-decide-restart-requires
 decide-restart-requires c κs = search needs
 
--- src/lib.rt:234:1
 returns : tie.Need-returns
 returns c =
     let a = c .before .before .args in
     let e : toZ w16 (ofZ w16 (a .setting)) ≡ a .setting = search needs in
-    subst (λ (z : ℤ). Decides (a .hub .state) [] (c .decide-restart .result) (restartOf (view (a .hub)) (a .device) z)) e (c .decide-restart .ensures)
+    subst (λ (z : ℤ). Decides (a .hub .state) [] (c .decide-restart .result) (restartOf (view (a .hub)) (a .device) z)) e
+    (c .decide-restart .ensures)
 
 pub decide-restart-spec : {M : Type 1} → statement M
 decide-restart-spec = tie.close (tie.spec decide-restart-requires returns)

@@ -11,17 +11,10 @@ use Rattle.hub.specs.View.{view}
 use Rattle.hub.proofs.Laws.{decides-none, gives-none}
 use Rattle.hub.proofs.restart.Statement.{statement}
 use Rattle.hub.proofs.restart.Tie as tie
-use Rattle.hub.proofs.restart.Reads as reads
-use Rattle.hub.proofs.restart.Lts as lts
-use Rattle.hub.proofs.carrying.carried_out.Reads as carried-out-reads
-use Rattle.hub.proofs.decide_restart.Reads as decide-restart-reads
-use Rattle.routine.proofs.empty.Reads as empty-reads
 
--- src/lib.rt:137:9
 decide-restart-requires : tie.Need-decide-restart-requires
 decide-restart-requires c κs = search needs
 
--- src/lib.rt:138:9
 empty-requires : tie.Need-empty-requires
 empty-requires c κs = search needs
 
@@ -31,12 +24,12 @@ decided : (c : tie.After-decide-restart) →
 decided c =
     let a = c .before .args in
     let e : toZ w16 (ofZ w16 (a .setting)) ≡ a .setting = search needs in
-    subst (λ (z : ℤ). Decides (a .hub .state) [] (c .decide-restart .result) (restartOf (view (a .hub)) (a .device) z)) e (c .decide-restart .ensures)
+    subst (λ (z : ℤ). Decides (a .hub .state) [] (c .decide-restart .result) (restartOf (view (a .hub)) (a .device) z)) e
+    (c .decide-restart .ensures)
 
 carried-out-requires : tie.Need-carried-out-requires
 carried-out-requires c κs = (c .before .before .pre, decides-none _ (c .empty .ensures) (decided (c .before)))
 
--- src/lib.rt:133:1
 returns : tie.Need-returns
 returns c =
     let e = c .before in

@@ -5,119 +5,92 @@ use Rattle.hub.specs.Carrying.{LeavingOk}
 use Rattle.hub.proofs.Laws.{backs-as}
 use Rattle.hub.proofs.carrying.backs_of.Statement.{statement}
 use Rattle.hub.proofs.carrying.backs_of.Tie as tie
-use Rattle.hub.proofs.carrying.backs_of.Reads as reads
-use Rattle.hub.proofs.carrying.backs_of.Lts as lts
-use Rattle.abort.proofs.backs_of.Reads as backs-of-reads
-use Rattle.answers.proofs.at_most_one.Reads as at-most-one-reads
-use Rattle.events.proofs.backs_if.Reads as backs-if-reads
-use Rattle.events.proofs.failure_backs.Reads as failure-backs-reads
 
--- src/carrying.rt:28:28
 enum-told : tie.Need-enum-told
 enum-told c = search needs
 
--- src/carrying.rt:28:28
 at-most-one-requires : tie.Need-at-most-one-requires
 at-most-one-requires c κs = search needs
 
--- src/carrying.rt:29:29
 enum-told-2 : tie.Need-enum-told-2
 enum-told-2 c = search needs
 
--- src/carrying.rt:29:29
 at-most-one-requires-2 : tie.Need-at-most-one-requires-2
 at-most-one-requires-2 c κs = search needs
 
--- src/carrying.rt:30:30
 enum-told-3 : tie.Need-enum-told-3
 enum-told-3 c = search needs
 
--- src/carrying.rt:30:30
 at-most-one-requires-3 : tie.Need-at-most-one-requires-3
 at-most-one-requires-3 c κs = search needs
 
--- src/carrying.rt:31:28
 enum-told-4 : tie.Need-enum-told-4
 enum-told-4 c = search needs
 
--- src/carrying.rt:31:28
 at-most-one-requires-4 : tie.Need-at-most-one-requires-4
 at-most-one-requires-4 c κs = search needs
 
--- src/carrying.rt:32:23
 enum-known-change : tie.Need-enum-known-change
 enum-known-change c = search needs
 
--- src/carrying.rt:32:30
 backs-of-requires : tie.Need-backs-of-requires
 backs-of-requires c κs =
     let p = c .before .before .before .pre in
     (p .0, subst (LeavingOk _) (c .before .change .given .1) (p .1))
 
--- src/carrying.rt:33:22
 enum-known-change-2 : tie.Need-enum-known-change-2
 enum-known-change-2 c = search needs
 
--- src/carrying.rt:33:39
 failure-backs-requires : tie.Need-failure-backs-requires
 failure-backs-requires c κs =
     let p = c .before .before .before .pre in
     let q = subst (LeavingOk _) (c .before .change2 .given .1) (p .1) in
     (p .0, q .0, q .1)
 
--- src/carrying.rt:34:31
 enum-known-change-3 : tie.Need-enum-known-change-3
 enum-known-change-3 c = search needs
 
--- src/carrying.rt:34:40
 backs-if-requires : tie.Need-backs-if-requires
 backs-if-requires c κs =
     let p = c .before .before .before .pre in
     (p .0, subst (LeavingOk _) (c .before .change3 .given .1) (p .1) .2)
 
--- src/carrying.rt:21:1
 returns : tie.Need-returns
 returns c =
     let b = c .before in
     let a = b .before .before .args in
     (c .at-most-one .ensures .0, backs-as (a .state) (a .decision) (b .enum-told .given .1) (c .at-most-one .ensures .1))
 
--- src/carrying.rt:21:1
 returns-2 : tie.Need-returns-2
 returns-2 c =
     let b = c .before in
     let a = b .before .before .args in
     (c .at-most-one2 .ensures .0, backs-as (a .state) (a .decision) (b .enum-told2 .given .1) (c .at-most-one2 .ensures .1))
 
--- src/carrying.rt:21:1
 returns-3 : tie.Need-returns-3
 returns-3 c =
     let b = c .before in
     let a = b .before .before .args in
     (c .at-most-one3 .ensures .0, backs-as (a .state) (a .decision) (b .enum-told3 .given .1) (c .at-most-one3 .ensures .1))
 
--- src/carrying.rt:21:1
 returns-4 : tie.Need-returns-4
 returns-4 c =
     let b = c .before in
     let a = b .before .before .args in
     (c .at-most-one4 .ensures .0, backs-as (a .state) (a .decision) (b .enum-told4 .given .1) (c .at-most-one4 .ensures .1))
 
--- src/carrying.rt:21:1
 returns-5 : tie.Need-returns-5
 returns-5 c =
     let b = c .before .before in
     let a = b .before .before .args in
     (c .backs-of .ensures .0, backs-as (a .state) (a .decision) (b .change .given .1) (c .backs-of .ensures .1))
 
--- src/carrying.rt:21:1
 returns-6 : tie.Need-returns-6
 returns-6 c =
     let b = c .before .before in
     let a = b .before .before .args in
     (c .failure-backs .ensures .0, backs-as (a .state) (a .decision) (b .change2 .given .1) (c .failure-backs .ensures .1))
 
--- src/carrying.rt:21:1
 returns-7 : tie.Need-returns-7
 returns-7 c =
     let b = c .before .before in

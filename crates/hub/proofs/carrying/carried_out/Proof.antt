@@ -5,35 +5,23 @@ use Rattle.routine.specs.Routine.{commandsOf}
 use Rattle.hub.proofs.Laws.{leaving-ok, settled-gives, stands-gives}
 use Rattle.hub.proofs.carrying.carried_out.Statement.{statement}
 use Rattle.hub.proofs.carrying.carried_out.Tie as tie
-use Rattle.hub.proofs.carrying.carried_out.Reads as reads
-use Rattle.hub.proofs.carrying.carried_out.Lts as lts
-use Rattle.hub.proofs.carrying.changed.Reads as changed-reads
-use Rattle.hub.proofs.carrying.is_due.Reads as is-due-reads
-use Rattle.hub.proofs.carrying.outcome_with.Reads as outcome-with-reads
-use Rattle.hub.proofs.put_backs.Reads as put-backs-reads
-use Rattle.hub.proofs.settled.Reads as settled-reads
 
--- src/carrying.rt:87:9
 put-backs-requires : tie.Need-put-backs-requires
-put-backs-requires c κs = (c .pre .0, leaving-ok (c .args .hub .state) (commandsOf (c .args .routine)) (c .args .decision .change) (c .pre .1 .change-ok))
+put-backs-requires c κs =
+    (c .pre .0, leaving-ok (c .args .hub .state) (commandsOf (c .args .routine)) (c .args .decision .change) (c .pre .1 .change-ok))
 
--- src/carrying.rt:89:9
 changed-requires : tie.Need-changed-requires
 changed-requires c κs = search needs
 
--- src/carrying.rt:91:8
 is-due-requires : tie.Need-is-due-requires
 is-due-requires c κs = search needs
 
--- src/carrying.rt:92:13
 settled-requires : tie.Need-settled-requires
 settled-requires c κs = search needs
 
--- src/carrying.rt:93:9
 outcome-with-requires : tie.Need-outcome-with-requires
 outcome-with-requires c κs = search needs
 
--- src/carrying.rt:93:9
 returns : tie.Need-returns
 returns c =
     let d = c .before .before .before in
@@ -41,14 +29,13 @@ returns c =
     let p = n .before in
     let b = p .put-backs .ensures in
     let a = p .before .args in
-    settled-gives (a .hub) (commandsOf (a .routine)) (a .decision) (p .put-backs .result) (n .changed .result) (p .before .pre .1) (b .0) (b .1) (n .changed .ensures) _ _ (c .outcome-with .ensures)
+    settled-gives (a .hub) (commandsOf (a .routine)) (a .decision) (p .put-backs .result) (n .changed .result) (p .before .pre .1) (b .0)
+    (b .1) (n .changed .ensures) _ _ (c .outcome-with .ensures)
     (sym (d .is-due .ensures) ∙ c .before .before .if1 .taken) (c .before .settled .ensures .0) (c .before .settled .ensures .1)
 
--- src/carrying.rt:95:5
 outcome-with-requires-2 : tie.Need-outcome-with-requires-2
 outcome-with-requires-2 c κs = search needs
 
--- src/carrying.rt:83:1
 returns-2 : tie.Need-returns-2
 returns-2 c =
     let d = c .before .before in
@@ -56,7 +43,8 @@ returns-2 c =
     let p = n .before in
     let b = p .put-backs .ensures in
     let a = p .before .args in
-    stands-gives (a .hub) (commandsOf (a .routine)) (a .decision) (p .put-backs .result) (n .changed .result) (p .before .pre .1) (b .0) (b .1) (n .changed .ensures) _ (c .outcome-with2 .ensures)
+    stands-gives (a .hub) (commandsOf (a .routine)) (a .decision) (p .put-backs .result) (n .changed .result) (p .before .pre .1) (b .0)
+    (b .1) (n .changed .ensures) _ (c .outcome-with2 .ensures)
     (sym (d .is-due .ensures) ∙ c .before .if1 .left)
 
 pub carried-out-spec : {M : Type 1} → statement M

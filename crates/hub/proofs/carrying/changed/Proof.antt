@@ -13,71 +13,51 @@ use Rattle.hub.specs.View.{view}
 use Rattle.hub.proofs.Laws.{carries-as, carries-nothing}
 use Rattle.hub.proofs.carrying.changed.Statement.{statement}
 use Rattle.hub.proofs.carrying.changed.Tie as tie
-use Rattle.hub.proofs.carrying.changed.Reads as reads
-use Rattle.hub.proofs.carrying.changed.Lts as lts
-use Rattle.hub.proofs.with_abort.Reads as with-abort-reads
-use Rattle.hub.proofs.with_commit.Reads as with-commit-reads
-use Rattle.hub.proofs.with_failure.Reads as with-failure-reads
-use Rattle.hub.proofs.with_restart.Reads as with-restart-reads
-use Rattle.hub.proofs.with_routine.Reads as with-routine-reads
-use Rattle.hub.proofs.with_stage.Reads as with-stage-reads
 
--- src/carrying.rt:44:28
 enum-told : tie.Need-enum-told
 enum-told c = search needs
 
--- src/carrying.rt:45:23
 enum-known-change : tie.Need-enum-known-change
 enum-known-change c = search needs
 
--- src/carrying.rt:45:34
 with-stage-requires : tie.Need-with-stage-requires
 with-stage-requires c κs =
     let p = c .before .before .before .pre in
     (p .0, subst (ChangeOk _ _) (c .before .change .given .1) (p .1))
 
--- src/carrying.rt:46:24
 enum-known-change-2 : tie.Need-enum-known-change-2
 enum-known-change-2 c = search needs
 
--- src/carrying.rt:46:31
 with-commit-requires : tie.Need-with-commit-requires
 with-commit-requires c κs =
     let p = c .before .before .before .pre in
     (p .0, subst (ChangeOk _ _) (c .before .change2 .given .1) (p .1))
 
--- src/carrying.rt:47:22
 enum-known-change-3 : tie.Need-enum-known-change-3
 enum-known-change-3 c = search needs
 
--- src/carrying.rt:47:32
 with-routine-requires : tie.Need-with-routine-requires
 with-routine-requires c κs =
     let p = c .before .before .before .pre in
     (p .0, subst (ChangeOk _ _) (c .before .change3 .given .1) (p .1))
 
--- src/carrying.rt:48:23
 enum-known-change-4 : tie.Need-enum-known-change-4
 enum-known-change-4 c = search needs
 
--- src/carrying.rt:48:30
 with-abort-requires : tie.Need-with-abort-requires
 with-abort-requires c κs =
     let p = c .before .before .before .pre in
     (p .0, subst (ChangeOk _ _) (c .before .change4 .given .1) (p .1))
 
--- src/carrying.rt:49:22
 enum-known-change-5 : tie.Need-enum-known-change-5
 enum-known-change-5 c = search needs
 
--- src/carrying.rt:49:39
 with-failure-requires : tie.Need-with-failure-requires
 with-failure-requires c κs =
     let p = c .before .before .before .pre in
     let q = subst (ChangeOk _ _) (c .before .change5 .given .1) (p .1) in
     (p .0, q .0, q .1)
 
--- src/carrying.rt:50:25
 enum-known-change-6 : tie.Need-enum-known-change-6
 enum-known-change-6 c = search needs
 
@@ -91,36 +71,34 @@ with-restart-requires c κs =
     let q = subst (ChangeOk _ _) (c .before .change6 .given .1) (p .1) in
     (p .0, q .0, subst (λ (z : ℤ). isRestart z ≡ true) (sym (same-setting c)) (q .1), q .2)
 
--- src/carrying.rt:39:1
 returns : tie.Need-returns
 returns c = carries-nothing (c .enum-told .given .1) (c .before .before .pre .0)
 
--- src/carrying.rt:39:1
 returns-2 : tie.Need-returns-2
 returns-2 c =
-    carries-as (c .before .before .change .given .1) (λ e. let z : _≡_ {A = ℕ} 0 1 = cc in omega arith) (c .with-stage .ensures .0) (c .with-stage .ensures .1)
+    carries-as (c .before .before .change .given .1) (λ e. let z : _≡_ {A = ℕ} 0 1 = cc in omega arith) (c .with-stage .ensures .0)
+    (c .with-stage .ensures .1)
 
--- src/carrying.rt:39:1
 returns-3 : tie.Need-returns-3
 returns-3 c =
-    carries-as (c .before .before .change2 .given .1) (λ e. let z : _≡_ {A = ℕ} 0 1 = cc in omega arith) (c .with-commit .ensures .0) (c .with-commit .ensures .1)
+    carries-as (c .before .before .change2 .given .1) (λ e. let z : _≡_ {A = ℕ} 0 1 = cc in omega arith) (c .with-commit .ensures .0)
+    (c .with-commit .ensures .1)
 
--- src/carrying.rt:39:1
 returns-4 : tie.Need-returns-4
 returns-4 c =
-    carries-as (c .before .before .change3 .given .1) (λ e. let z : _≡_ {A = ℕ} 0 1 = cc in omega arith) (c .with-routine .ensures .0) (c .with-routine .ensures .1)
+    carries-as (c .before .before .change3 .given .1) (λ e. let z : _≡_ {A = ℕ} 0 1 = cc in omega arith) (c .with-routine .ensures .0)
+    (c .with-routine .ensures .1)
 
--- src/carrying.rt:39:1
 returns-5 : tie.Need-returns-5
 returns-5 c =
-    carries-as (c .before .before .change4 .given .1) (λ e. let z : _≡_ {A = ℕ} 0 1 = cc in omega arith) (c .with-abort .ensures .0) (c .with-abort .ensures .1)
+    carries-as (c .before .before .change4 .given .1) (λ e. let z : _≡_ {A = ℕ} 0 1 = cc in omega arith) (c .with-abort .ensures .0)
+    (c .with-abort .ensures .1)
 
--- src/carrying.rt:39:1
 returns-6 : tie.Need-returns-6
 returns-6 c =
-    carries-as (c .before .before .change5 .given .1) (λ e. let z : _≡_ {A = ℕ} 0 1 = cc in omega arith) (c .with-failure .ensures .0) (c .with-failure .ensures .1)
+    carries-as (c .before .before .change5 .given .1) (λ e. let z : _≡_ {A = ℕ} 0 1 = cc in omega arith) (c .with-failure .ensures .0)
+    (c .with-failure .ensures .1)
 
--- src/carrying.rt:39:1
 returns-7 : tie.Need-returns-7
 returns-7 c =
     let b = c .before .before in

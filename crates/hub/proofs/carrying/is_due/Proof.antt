@@ -5,9 +5,6 @@ use Rattle.hub.specs.View.{view}
 use Rattle.hub.proofs.Laws.{none-after, due-after}
 use Rattle.hub.proofs.carrying.is_due.Statement.{statement}
 use Rattle.hub.proofs.carrying.is_due.Tie as tie
-use Rattle.hub.proofs.carrying.is_due.Reads as reads
-use Rattle.hub.proofs.carrying.is_due.Lts as lts
-use Rattle.hub.proofs.settles.Reads as settles-reads
 
 enum-told : tie.Need-enum-told
 enum-told c = search needs
@@ -15,21 +12,17 @@ enum-told c = search needs
 enum-told-2 : tie.Need-enum-told-2
 enum-told-2 c = search needs
 
--- src/carrying.rt:61:13
 settles-requires : tie.Need-settles-requires
 settles-requires c κs = search needs
 
--- src/carrying.rt:61:13
 returns : tie.Need-returns
 returns c =
     let a = c .before .before .before .args in
     c .settles .ensures ∙ sym (due-after (a .answer) (view (a .hub)) (c .before .before .match .keys2) (c .before .match2 .keys2))
 
--- src/carrying.rt:63:9
 returns-2 : tie.Need-returns-2
 returns-2 c = sym (none-after _ _ (view (c .before .before .before .args .hub)) (c .enum-told2 .given .1) refl)
 
--- src/carrying.rt:55:1
 returns-3 : tie.Need-returns-3
 returns-3 c = sym (none-after _ _ (view (c .before .before .args .hub)) (c .enum-told .given .1) refl)
 
