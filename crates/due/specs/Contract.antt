@@ -2,11 +2,11 @@
 use mathlib.Core.Path.{_≡_}
 use mathlib.Core.List.{List, [], map}
 use Prim.Native.Nat.{ℕ, suc, _-_, _≤_, _<_}
+use lib.Dec.{eqb}
 use lib.IntN.{ℤ, pos}
 use lib.ListN.{getD}
-use Rattle.routine.specs.Routine.{maxDevices}
-use lib.Dec.{eqb}
 use Rattle.routine.specs.Choice.{if_then_else_}
+use Rattle.routine.specs.Routine.{maxDevices}
 use Rattle.rules.specs.State.{Member}
 use Rattle.rules.specs.Progress.{withSteps}
 use Rattle.rules.specs.Due.{afterSteps, afterMembers}

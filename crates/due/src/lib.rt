@@ -130,8 +130,8 @@ pub fn after_restarts<'a>(
     after
 }
 
-// What all devices are due, in one pass. The commands of the routine in the slot `but` do not count, the events attached to it do; a number past the slots is no
-// routine.
+// What all devices are due, in one pass. The commands of the routine in the slot `but` do not count, the events attached to it do; a number
+// past the slots is no routine.
 pub fn due_settings_but(state: HubState, but: usize) -> [i16; MAX_DEVICES]
     requires { ⌜ StateOk state ⌝ }
     ensures { λ r. ⌜ settingsOf r ≡ dueBut state but ⌝ }

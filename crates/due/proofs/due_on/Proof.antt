@@ -26,13 +26,13 @@ use Rattle.due.proofs.due_on.Statement.{statement}
 use Rattle.due.proofs.due_on.Tie as tie
 
 abbrev Inv-loop : tie.InvT-loop
-Inv-loop device stage wanted settled ahead answered setting restarts d i₀ i =
+Inv-loop device stage setting wanted settled ahead answered restarts d i₀ i =
     (Walks ahead i)
     × (Within (along ahead i) (along ahead i₀))
     × (BackTo ahead device stage setting restarts answered wanted i₀ (toZ w16 settled) i)
 
 abbrev μ-loop : tie.MeasureT-loop
-μ-loop device stage wanted settled ahead answered setting restarts d i₀ i = length (along ahead i)
+μ-loop device stage setting wanted settled ahead answered restarts d i₀ i = length (along ahead i)
 
 -- the row of restarts
 long : (c : tie.Start Inv-loop μ-loop) → length (c .args .state .restarts) ≡ maxHeld * maxDevices
@@ -40,32 +40,32 @@ long c = search (needs, length-mapped)
 
 -- the slot that the walk has come to is held
 stands : (c : tie.In-loop Inv-loop μ-loop) →
-    Stands (c .before .before .before .before .before .before .before .before .args .state .links) (c .before .loop .i)
-stands c = let s = c .before .before .before .before .before .before .before .before in
+    Stands (c .before .before .before .before .before .before .before .args .state .links) (c .before .loop .i)
+stands c = let s = c .before .before .before .before .before .before .before in
     let v = c .before .loop .inv in
     back-stands (s .args .state) (s .pre .0) _ (walk-here (v .0) (v .1) (c .loop-test .taken))
 
 -- where its answered commands end
 ends : (c : tie.In-loop Inv-loop μ-loop) →
-    c .before .loop .i * maxCommands + getD (c .before .before .before .before .before .before .before .before .args .state .answered)
+    c .before .loop .i * maxCommands + getD (c .before .before .before .before .before .before .before .args .state .answered)
     (c .before .loop .i) 0 ≤ maxHeld * maxCommands
-ends c = let s = c .before .before .before .before .before .before .before .before in
+ends c = let s = c .before .before .before .before .before .before .before in
     answered-end (s .args .state) _ (s .pre .0) (stands c)
 
 -- all slots together
 whole : (c : tie.Start Inv-loop μ-loop) →
-    backSlots (c .args .device .now) (c .args .stage .now) (c .args .state .setting) (c .args .state .restarts) (c .args .state .answered)
+    backSlots (c .args .device .now) (c .args .stage .now) (c .args .setting .now) (c .args .state .restarts) (c .args .state .answered)
     (c .args .wanted)
     (backOf (c .args .state .links)) (toZ w16 (ofZ w16 (c .args .settled)))
     ≡ afterMembers (c .args .wanted) (membersOf (c .args .state)) (c .args .settled)
-whole c = due-lent (c .args .state) (c .pre .0) _ _ _ (c .pre .1) (c .pre .2) _ _ (search needs)
+whole c = due-lent (c .args .state) (c .pre .0) _ _ _ _ (c .pre .1) (c .pre .2) (c .pre .3) _ _ (search needs)
 
 -- the slot has no restart of the device
 absent : (c : tie.Joined1 Inv-loop μ-loop) →
-    restartsAt (c .before .before .before .before .before .before .before .before .before .args .state .restarts)
-    (c .before .before .loop .i) (c .before .before .before .before .before .before .before .before .before .args .wanted) ≡ none
+    restartsAt (c .before .before .before .before .before .before .before .before .args .state .restarts)
+    (c .before .before .loop .i) (c .before .before .before .before .before .before .before .before .args .wanted) ≡ none
 absent c = let l = c .before in
-    let s = l .before .before .before .before .before .before .before .before in
+    let s = l .before .before .before .before .before .before .before in
     let r = getD (s .args .state .restarts) (l .before .loop .i * maxDevices + s .args .wanted) (pos 0) in
     ⊎-elim
     (λ w. let g = w .1 .given in
@@ -79,7 +79,7 @@ cast-i c = search needs
 
 loop-holds : tie.Need-loop-holds Inv-loop μ-loop
 loop-holds c =
-    (walks-ahead _ (c .before .before .before .before .before .before .pre .0 .links-ok), within-self _, back-yet _ _ _ _ _ _ _ _ _)
+    (walks-ahead _ (c .before .before .before .before .before .pre .0 .links-ok), within-self _, back-yet _ _ _ _ _ _ _ _ _)
 
 mul-restart : tie.Need-mul-restart Inv-loop μ-loop
 mul-restart c = search needs
@@ -96,7 +96,7 @@ array-copy-out-restart c = search needs
 returns : tie.Need-returns Inv-loop μ-loop
 returns c = let i = c .before .before in
     let l = i .before in
-    let s = l .before .before .before .before .before .before .before .before in
+    let s = l .before .before .before .before .before .before .before in
     let v = l .before .loop .inv in
     let r = getD (s .args .state .restarts) (l .before .loop .i * maxDevices + s .args .wanted) (pos 0) in
     let b : toZ w16 (ofZ w16 r) ≡ r = search needs in
@@ -124,15 +124,15 @@ sub-result c = search needs
 mul-result : tie.Need-mul-result Inv-loop μ-loop
 mul-result c = let h = ends (c .before .before .before) in omega (arith, c .before .last-done .ensures .within)
 
-array-copy-out-result : tie.Need-array-copy-out-result Inv-loop μ-loop
-array-copy-out-result c = let h = ends (c .before .before .before) in omega (arith, c .before .last-done .ensures .within)
+element-copy-out-result : tie.Need-element-copy-out-result Inv-loop μ-loop
+element-copy-out-result c = let h = ends (c .before .before .before) in omega (arith, c .before .last-done .ensures .within)
 
 returns-2 : tie.Need-returns-2 Inv-loop μ-loop
 returns-2 c = let k = c .before .before in
     let l = k .before .before in
-    let s = l .before .before .before .before .before .before .before .before in
+    let s = l .before .before .before .before .before .before .before in
     let v = l .before .loop .inv in
-    let r = getD (s .args .state .setting) (k .last-done .result - 1) (pos 0) in
+    let r = getD (s .args .setting .now) (k .last-done .result - 1) (pos 0) in
     let b : toZ w16 (ofZ w16 r) ≡ r = search needs in
     b ∙ back-found (v .0) (v .2) (l .loop-test .taken) (absent (k .before)) (k .last-done .ensures) (c .before .if3 .taken) ∙ whole s
 
@@ -161,7 +161,7 @@ loop-again c = let k = c .before in
 
 returns-3 : tie.Need-returns-3 Inv-loop μ-loop
 returns-3 c = let v = c .before .loop .inv in
-    back-done (v .0) (v .2) (c .loop-test .left) ∙ whole (c .before .before .before .before .before .before .before .before)
+    back-done (v .0) (v .2) (c .loop-test .left) ∙ whole (c .before .before .before .before .before .before .before)
 
 pub due-on-spec : {M : Type 1} → statement M
 due-on-spec =
@@ -183,7 +183,7 @@ due-on-spec =
     last-done-requires
     sub-result
     mul-result
-    array-copy-out-result
+    element-copy-out-result
     returns-2
     array-read-i
     cast-i-2

@@ -1,117 +1,15 @@
--- `due::due_settings` meets its contract. The loop's invariant: the slots that are left leave each device as all slots do. Assumes nothing.
+-- `due::due_settings` meets its contract: no held slot has the number that is left out. Assumes nothing.
 use borrow.Author.Needs.{needs}
-use native.Mathlib.Omega.{arith}
-use mathlib.Core.Path.{_≡_}
-use Prim.Native.Nat.{_+_, _*_, _≤_}
-use lib.ListN.{length, getD}
-use Rattle.routine.specs.Routine.{maxDevices, maxCommands}
-use Rattle.routine.proofs.Laws.{length-mapped}
-use Rattle.rules.specs.State.{maxHeld}
-use Rattle.sequence.specs.Links.{along, Walks, Stands}
-use Rattle.sequence.proofs.ReadLaws.{walks-behind}
-use Rattle.sequence.proofs.WalkLaws.{walks-spot, walks-next, walks-less}
-use Rattle.due.proofs.Slots.{Within, within-self, walk-within, walk-here, answered-end, answered-devices, DueTo, due-yet, due-more}
-use Rattle.due.proofs.Slots.{due-end, due-all}
+use mathlib.Core.Path.{_∙_}
+use Rattle.due.proofs.Slots.{due-whole}
 use Rattle.due.proofs.due_settings.Statement.{statement}
 use Rattle.due.proofs.due_settings.Tie as tie
 
-abbrev Inv-loop : tie.InvT-loop
-Inv-loop behind answered device stage setting restarts table₀ i₀ table i =
-    (Walks behind i) × (Within (along behind i) (along behind i₀)) × (DueTo behind device stage setting restarts answered i₀ table₀ i table)
+due-settings-but-requires : tie.Need-due-settings-but-requires
+due-settings-but-requires c κs = search needs
 
-abbrev μ-loop : tie.MeasureT-loop
-μ-loop behind answered device stage setting restarts table₀ i₀ table i = length (along behind i)
-
--- the row of restarts
-long : (c : tie.Start Inv-loop μ-loop) → length (c .args .state .restarts) ≡ maxHeld * maxDevices
-long c = search (needs, length-mapped)
-
--- the slot that the walk has come to is held
-stands : (c : tie.In-loop Inv-loop μ-loop) →
-    Stands (c .before .before .before .before .before .before .before .before .before .before .before .args .state .links)
-    (c .before .loop .i)
-stands c = let v = c .before .loop .inv in walk-here (v .0) (v .1) (c .loop-test .taken)
-
--- where its answered commands end
-ends : (c : tie.In-loop Inv-loop μ-loop) →
-    c .before .loop .i * maxCommands + getD
-    (c .before .before .before .before .before .before .before .before .before .before .before .args .state .answered)
-    (c .before .loop .i) 0
-    ≤ maxHeld * maxCommands
-ends c = let s = c .before .before .before .before .before .before .before .before .before .before .before in
-    answered-end (s .args .state) _ (s .pre) (stands c)
-
-cast-i : tie.Need-cast-i Inv-loop μ-loop
-cast-i c = search needs
-
-loop-holds : tie.Need-loop-holds Inv-loop μ-loop
-loop-holds c = let s = c .before .before .before .before .before .before .before .before .before in
-    (walks-behind _ (s .pre .links-ok), within-self _, due-yet _ _ _ _ _ _ _ _)
-
-mul-from : tie.Need-mul-from Inv-loop μ-loop
-mul-from c = search needs
-
-array-read-end : tie.Need-array-read-end Inv-loop μ-loop
-array-read-end c = search needs
-
-cast-end : tie.Need-cast-end Inv-loop μ-loop
-cast-end c = let h = ends c in omega arith
-
-add-end : tie.Need-add-end Inv-loop μ-loop
-add-end c = let h = ends c in omega arith
-
-after-done-requires : tie.Need-after-done-requires Inv-loop μ-loop
-after-done-requires c κs = let l = c .before .before .before in
-    let s = l .before .before .before .before .before .before .before .before .before .before .before in
-    (omega arith, ends l, answered-devices (s .args .state) _ (s .pre) (stands l))
-
-after-restarts-requires : tie.Need-after-restarts-requires Inv-loop μ-loop
-after-restarts-requires c κs = let l = c .before .before .before .before .before in
-    (l .loop-test .taken, long (l .before .before .before .before .before .before .before .before .before .before .before))
-
-array-read-i : tie.Need-array-read-i Inv-loop μ-loop
-array-read-i c = search needs
-
-cast-i-2 : tie.Need-cast-i-2 Inv-loop μ-loop
-cast-i-2 c = let l = c .before .before .before .before .before .before in
-    let s = walks-spot (walks-next (l .before .loop .inv .0) (l .loop-test .taken) .1) in
-    omega arith
-
-loop-less : tie.Need-loop-less Inv-loop μ-loop
-loop-less c = let l = c .before .before .before .before .before .before in
-    walks-less (l .before .loop .inv .0) (l .loop-test .taken)
-
-loop-again : tie.Need-loop-again Inv-loop μ-loop
-loop-again c = let l = c .before .before .before .before .before .before in
-    let h = l .loop-test .taken in
-    let v = l .before .loop .inv in (
-      walks-next (v .0) h .1,
-      walk-within (v .0) (v .1) h,
-      due-more (v .0) (v .2) h (c .before .before .after-done .result) _ (c .before .before .after-done .ensures)
-          (c .after-restarts .ensures),
-    )
-
-returns : tie.Need-returns Inv-loop μ-loop
-returns c = let s = c .before .before .before .before .before .before .before .before .before .before .before in
-    let v = c .before .loop .inv in
-    due-all _ (s .pre) (c .before .loop .table) (due-end (v .0) (v .2) (c .loop-test .left))
+returns : tie.Need-returns
+returns c = c .due-settings-but .ensures ∙ due-whole _ (c .before .pre)
 
 pub due-settings-spec : {M : Type 1} → statement M
-due-settings-spec =
-    tie.close
-    (tie.spec
-    Inv-loop
-    μ-loop
-    cast-i
-    loop-holds
-    mul-from
-    array-read-end
-    cast-end
-    add-end
-    after-done-requires
-    after-restarts-requires
-    array-read-i
-    cast-i-2
-    loop-less
-    loop-again
-    returns)
+due-settings-spec = tie.close (tie.spec due-settings-but-requires returns)

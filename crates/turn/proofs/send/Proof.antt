@@ -1,6 +1,6 @@
 -- `turn::send` meets its contract. Assumes nothing.
 use borrow.Author.Needs.{needs}
-use mathlib.Core.Path.{_≡_, _∙_}
+use mathlib.Core.Path.{_≡_, refl, _∙_}
 use Prim.Native.Nat.{_*_, _<_}
 use native.Mathlib.Omega.{arith}
 use mir.Val.{toZ, ofZ}
@@ -27,20 +27,20 @@ array-copy-out-setting : tie.Need-array-copy-out-setting
 array-copy-out-setting c = within (c .before .before .before)
 
 due-setting-requires : tie.Need-due-setting-requires
-due-setting-requires c κs = let p = c .before .before .before .before .pre in (p .0, p .4, p .5)
+due-setting-requires c κs = let p = c .before .before .before .before .before .pre in (p .0, p .4, p .5, refl)
 
 has-begun-requires : tie.Need-has-begun-requires
-has-begun-requires c κs = let p = c .before .before .before .before .before .pre in (p .0, p .1, p .4, p .2 .no-flight)
+has-begun-requires c κs = let p = c .before .before .before .before .before .before .pre in (p .0, p .1, p .4, p .2 .no-flight)
 
 array-read-t18 : tie.Need-array-read-t18
-array-read-t18 c = within (c .before .before .before .before .before .before)
+array-read-t18 c = within (c .before .before .before .before .before .before .before)
 
 plain-requires : tie.Need-plain-requires
 plain-requires c κs = search needs
 
 returns : tie.Need-returns
 returns c =
-    let l = c .before .before .before .before .before .before .before in
+    let l = c .before .before .before .before .before .before .before .before in
     let h = l .args .state in
     let k = l .args .k in
     let p = l .pre in
