@@ -3,16 +3,16 @@ use mathlib.Core.Path.{_≡_, refl, sym, ap, _∙_, subst, fun-ext}
 use mathlib.Core.Logic.{inl, inr}
 use mathlib.Core.Bool.{Bool, true, false, not, _&&_, _||_, or-true, or-false}
 use mathlib.Core.List.{List, [], _∷_, _++_, append-assoc, append-nil}
-use mathlib.Core.Option.{Option, none, some}
+use mathlib.Core.Option.{none, some}
 use Prim.Native.Nat.{ℕ, zero, suc, _+_, _-_, _*_, _<_, _≤_}
 use native.Mathlib.Numerals.{add-one}
 use native.Mathlib.Omega.{arith}
 use types.Run.{OneOf}
 use denote.Enum.Declared.{tagOf}
-use borrow.Author.Tests.{not-true, not-false, eqb-true, eq-eqb, ne-eqb}
+use borrow.Author.Tests.{not-true, not-false, eq-eqb, ne-eqb, lt-ltb, le-ltb}
 use mir.Val.{toZ, ofZ}
 use mir.Syntax.{w16}
-use lib.Dec.{eqb}
+use lib.Dec.{eqb, ltb}
 use lib.IntN.{ℤ, pos, negsuc}
 use lib.ListN.{length, getD, set, replicate, length-replicate}
 use Rattle.routine.specs.Choice.{if_then_else_}
@@ -20,11 +20,12 @@ use Rattle.routine.specs.Refusals.{refusalOf}
 use Rattle.routine.specs.Routine.{maxCommands, maxDevices}
 use Rattle.routine.specs.declared.Command.{Command}
 use Rattle.routine.specs.declared.Refusal.the-variants.{Number}
-use Rattle.routine.proofs.Laws.{and-true}
+use Rattle.routine.proofs.Laws.{byTest}
 use Rattle.rules.specs.Tables.{put, anyOf, sameSetting}
 use Rattle.rules.specs.State.{maxHeld, Member, State}
 use Rattle.rules.specs.Answers.{Back, Result, turnedDown}
-use Rattle.rules.specs.Sequence.{Found, onto, find, isRunning, runs}
+use Rattle.rules.specs.Sequence.{runs, withUp}
+use Rattle.rules.specs.Attach.{attach}
 use Rattle.rules.specs.Progress.{flight, inFlightOn}
 use Rattle.rules.specs.Due.{due}
 use Rattle.rules.specs.Abort.{leave, isPutBack, putBacks}
@@ -32,10 +33,10 @@ use Rattle.rules.specs.Cancel.{cancelFound, cancelOf}
 use Rattle.rules.proofs.Lists.{t≠f, this-or-other, same-setting, put-same, put-other}
 use Rattle.sequence.specs.Links.{Stands}
 use Rattle.answers.specs.declared.Answer.the-variants.{Refused, Aborted}
-use Rattle.state.specs.View.{settingsOf, flagsOf, upOf, rowsOf, stepsAt, memberAt, stateOf, there, foundAt}
-use Rattle.state.specs.Valid.{StateOk, PlaceOk}
+use Rattle.state.specs.View.{settingsOf, flagsOf, upOf, rowsOf, stepsAt, memberAt, stateOf, there}
+use Rattle.state.specs.Valid.{StateOk}
 use Rattle.state.specs.Open.{answeredAt, OpenInFlight, OpenIs}
-use Rattle.state.specs.Contract.{backsLeft, plainly, Decides}
+use Rattle.state.specs.Contract.{backsLeft, downWith, plainly, Decides}
 use Rattle.state.specs.declared.HubState.{HubState}
 use Rattle.state.specs.declared.Open.{Open}
 use Rattle.state.specs.declared.Open.the-variants.{Nothing, ToDo, InFlight}
@@ -51,7 +52,7 @@ use Rattle.state.proofs.Laws.{refused-decides, abort-decides}
 use Rattle.due.proofs.Tables.{set-put}
 use Rattle.search.specs.Contract.{Finds}
 use Rattle.search.proofs.Found.{found-as, stands-at, found-id}
-use Rattle.abort.specs.PutBacks.{isBackBy, backsBy, TablesAre}
+use Rattle.abort.specs.PutBacks.{isBackBy, backsBy, downIf, TablesAre}
 use Rattle.abort.specs.declared.Tables.{Tables}
 
 -- ---- the test of a device, by its tests in turn
@@ -117,24 +118,52 @@ backs-by s m t d zero = refl
 backs-by s m t d (suc n) =
     ap (λ (r : List Back). if isPutBack s m t d then record { device = d; setting = due t d } ∷ r else r) (backs-by s m t (suc d) n)
 
--- the test by the tables is that of the rules
-test-by : (h : HubState) (x : ℕ) (g : HubState) (t : Tables) → TablesAre h x g t →
-    isBackBy t ≡ isPutBack (stateOf h) (memberAt h x) (stateOf g)
-unfolding isPutBack
-test-by h x g t a =
-    λ i. λ d. a .up-is i d && not (a .others-are i d) && (not (sameSetting (a .before-is i d) (a .after-is i d)) || a .own-are i d)
+-- ---- the device that fails
 
--- what an abort puts back, by the tables
-pub backs-are-by : (h : HubState) (x : ℕ) (g : HubState) (t : Tables) (l : List Back) → TablesAre h x g t →
-    stateOf g ≡ leave (stateOf h) (there h x) →
-    l ≡ backsBy (isBackBy t) (settingsOf (t .after)) 0 (h .devices) →
-    l ≡ backsLeft (stateOf h) (some (there h x))
-unfolding stateOf
-backs-are-by h x g t l a v e =
-    e
-    ∙ (λ j. backsBy (test-by h x g t a j) (a .after-is j) 0 (h .devices))
-    ∙ backs-by (stateOf h) (memberAt h x) (stateOf g) 0 (h .devices)
-    ∙ (λ j. putBacks (stateOf h) (sym (there-it h x) j) (v j) 0 (h .devices))
+module _ (h : HubState) (d : ℕ) where
+  -- it is down then
+  pub up-fails : d < maxDevices → length (h .up) ≡ maxDevices → upOf (set (h .up) d false) ≡ downIf (stateOf h) d .up
+  unfolding stateOf
+  up-fails i n = rw (lt-ltb d maxDevices i) (fun-ext (set-put (h .up) d false true (omega (arith, i, n))))
+
+  -- there is none
+  pub up-stays : maxDevices ≤ d → upOf (h .up) ≡ downIf (stateOf h) d .up
+  unfolding stateOf
+  up-stays i = rw (le-ltb d maxDevices i)
+
+-- while it fails, nothing else of the state is another
+fails-up : (s : State) (d : ℕ) → withUp s (downIf s d .up) ≡ downIf s d
+fails-up s d =
+    byTest (λ (t : Bool). withUp s ((if t then downWith s d else s) .up) ≡ (if t then downWith s d else s)) (ltb d maxDevices)
+    (λ _. refl) (λ _. refl)
+
+-- ---- the put-backs of the rules, by the tables
+
+module _ (h : HubState) (x down : ℕ) (t : Tables) (a : TablesAre h x down t) where
+  -- the state while the device fails
+  abbrev failing : State
+  failing = withUp (stateOf h) (downIf (stateOf h) down .up)
+
+  -- the test by the tables is that of the rules
+  test-by : isBackBy t ≡ isPutBack failing (memberAt h x) (leave failing (there h x))
+  unfolding isPutBack leave attach due
+  test-by =
+      λ i. λ d. a .up-is i d && not (a .others-are i d) && (not (sameSetting (a .before-is i d) (a .after-is i d)) || a .own-are i d)
+
+  after-by : settingsOf (t .after) ≡ due (leave failing (there h x))
+  unfolding leave attach due
+  after-by = a .after-is
+
+  -- what an abort puts back
+  pub backs-are-by : (l : List Back) → l ≡ backsBy (isBackBy t) (settingsOf (t .after)) 0 (h .devices) →
+      l ≡ backsLeft (downIf (stateOf h) down) (some (there h x))
+  unfolding stateOf
+  backs-are-by l e =
+      e
+      ∙ (λ j. backsBy (test-by j) (after-by j) 0 (h .devices))
+      ∙ backs-by failing (memberAt h x) (leave failing (there h x)) 0 (h .devices)
+      ∙ ap (λ (m : Member). putBacks failing m (leave failing (there h x)) 0 (h .devices)) (sym (there-it h x))
+      ∙ ap (λ (s : State). backsLeft s (some (there h x))) (fails-up (stateOf h) down)
 
 -- ---- the devices with a command of a routine in flight
 

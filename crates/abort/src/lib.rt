@@ -28,8 +28,8 @@ ghost use Rattle.state.specs.Valid.{StateOk};
 ghost use Rattle.state.specs.Contract.{backsLeft, Decides};
 ghost use Rattle.abort.specs.PutBacks.{downIf, isBackBy, backsBy, TablesAre};
 
-// The tables that tell which devices are put back: up; with a command in flight of those left, and of the one that left; and due before and
-// after.
+// The tables that tell which devices are put back: up; with a command in flight of those left, and of the one that left; and due before
+// and after.
 pub struct Tables {
     pub up: [bool; MAX_DEVICES],
     pub others: [bool; MAX_DEVICES],

@@ -42,6 +42,7 @@ use Rattle.state.specs.declared.Change.the-variants.{Fail, Restart}
 use Rattle.state.proofs.Members.{state-mark, member-id, there-it, stands-below}
 use Rattle.search.specs.Contract.{Finds}
 use Rattle.search.proofs.Found.{found-as, stands-at}
+use Rattle.leaving.specs.Contract.{LeavesHub}
 use Rattle.events.specs.Contract.{abortTold, IsHalfway}
 use Rattle.events.specs.declared.EventAbort.{EventAbort}
 
@@ -230,40 +231,36 @@ module _ (s : State) (d : ℕ) (v : ℤ) where
 -- ---- the event carried out
 
 module _ (h : HubState) (x : ℕ) where
-  -- what comes of the abort that comes first, if there is one: the state, and what is put back
+  -- what comes of the abort that comes first, if there is one
   abbrev pub LeavesIf : HubState → Type 0
   LeavesIf r = (StateOk r) × (stateOf r ≡ leftBy (stateOf h) (goneIn h x))
 
-  abbrev BacksIf : PutBacks → Type 0
-  BacksIf r = (BacksOk r) × (backsOf r ≡ backsLeft (stateOf h) (goneIn h x))
-
   -- one aborts
-  pub one-leaves : (r : HubState) → x < maxHeld → (StateOk r) × (stateOf r ≡ leave (stateOf h) (there h x)) → LeavesIf r
-  one-leaves r i a = (a .0, a .1 ∙ ap (leftBy (stateOf h)) (sym (gone-there h x i)))
-
-  pub one-backs : (r : PutBacks) → x < maxHeld → (BacksOk r) × (backsOf r ≡ backsLeft (stateOf h) (some (there h x))) → BacksIf r
-  one-backs r i a = (a .0, a .1 ∙ ap (backsLeft (stateOf h)) (sym (gone-there h x i)))
+  pub one-leaves : (r : HubState) → x < maxHeld → LeavesHub h x r → LeavesIf r
+  one-leaves r i a = (a .valid, a .gives ∙ ap (leftBy (stateOf h)) (sym (gone-there h x i)))
 
   -- none does
   pub none-leaves : StateOk h → maxHeld ≤ x → LeavesIf h
   none-leaves v i = (v, ap (leftBy (stateOf h)) (sym (gone-past h x i)))
 
-  pub none-backs : (r : PutBacks) → maxHeld ≤ x → BacksOk r → backsOf r ≡ [] → BacksIf r
-  none-backs r i fit k = (fit, k ∙ ap (backsLeft (stateOf h)) (sym (gone-past h x i)))
+  -- what it puts back, in the state s
+  module _ (s : State) (r : PutBacks) where
+    abbrev BacksIf : Type 0
+    BacksIf = (BacksOk r) × (backsOf r ≡ backsLeft s (goneIn h x))
+
+    pub one-backs : x < maxHeld → (BacksOk r) × (backsOf r ≡ backsLeft s (some (there h x))) → BacksIf
+    one-backs i a = (a .0, a .1 ∙ ap (backsLeft s) (sym (gone-there h x i)))
+
+    pub none-backs : maxHeld ≤ x → BacksOk r → backsOf r ≡ [] → BacksIf
+    none-backs i fit k = (fit, k ∙ ap (backsLeft s) (sym (gone-past h x i)))
 
 -- g: the hub with the device down
 pub stands-down : (h g : HubState) (x : ℕ) → g .links ≡ h .links → StandsOrPast h x → StandsOrPast g x
 stands-down h g x k s i = subst (λ (l : Links). Stands l x) (sym k) (s i)
 
-module _ (h g : HubState) (d x : ℕ) (e : stateOf g ≡ downWith (stateOf h) d) (t : there g ≡ there h) where
-  gone-down : goneIn g x ≡ goneIn h x
-  gone-down = λ i. if ltb x maxHeld then some (t i x) else none
-
-  pub failure-leaves : (r : HubState) → LeavesIf g x r → (StateOk r) × (stateOf r ≡ leftBy (downWith (stateOf h) d) (goneIn h x))
-  failure-leaves r a = (a .0, a .1 ∙ (λ i. leftBy (e i) (gone-down i)))
-
-  pub failure-puts : (r : PutBacks) → BacksIf g x r → (BacksOk r) × (backsOf r ≡ backsLeft (downWith (stateOf h) d) (goneIn h x))
-  failure-puts r a = (a .0, a .1 ∙ (λ i. backsLeft (e i) (gone-down i)))
+pub failure-leaves : (h g : HubState) (d x : ℕ) → stateOf g ≡ downWith (stateOf h) d → there g ≡ there h → (r : HubState) → LeavesIf g x r →
+    (StateOk r) × (stateOf r ≡ leftBy (downWith (stateOf h) d) (goneIn h x))
+failure-leaves h g d x e t r a = (a .0, a .1 ∙ (λ i. leftBy (e i) (if ltb x maxHeld then some (t i x) else none)))
 
 -- g: after the abort, if there is one; t: with the restart attached; u: with the device up
 pub restart-gives : (h g t u : HubState) (x d : ℕ) (v : ℤ) → LeavesIf h x g →

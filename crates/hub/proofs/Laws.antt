@@ -2,11 +2,12 @@
 use mathlib.Core.Path.{_≡_, refl, sym, ap, _∙_, subst}
 use mathlib.Core.Bool.{Bool, true, false}
 use mathlib.Core.List.{List, [], _∷_, _++_}
-use Prim.Native.Nat.{ℕ}
+use Prim.Native.Nat.{ℕ, _<_}
+use borrow.Author.Tests.{lt-ltb}
 use types.Run.{OneOf, miss}
 use denote.Enum.Declared.{tagOf}
 use Rattle.routine.specs.Choice.{if_then_else_}
-use Rattle.routine.specs.Routine.{commandsOf, routineOf, noRoutine}
+use Rattle.routine.specs.Routine.{maxDevices, commandsOf, routineOf, noRoutine}
 use Rattle.routine.specs.declared.Command.{Command}
 use Rattle.routine.specs.declared.Routine.{Routine}
 use Rattle.routine.proofs.Laws.{byTest}
@@ -20,7 +21,8 @@ use Rattle.answers.specs.declared.Answer.the-variants.{Refused, Placed, Wait, S
 use Rattle.answers.specs.declared.PutBacks.{PutBacks}
 use Rattle.answers.proofs.Answer.{the-type}
 use Rattle.state.specs.View.{firstCommitted}
-use Rattle.state.specs.Contract.{appliedTo, backsBy, ChangeOk, backsOfDecision, toldBy, settledUnlessNothing, resultBy, Decides}
+use Rattle.abort.specs.PutBacks.{downIf}
+use Rattle.state.specs.Contract.{downWith, appliedTo, backsBy, ChangeOk, backsOfDecision, toldBy, settledUnlessNothing, resultBy, Decides}
 use Rattle.state.specs.declared.HubState.{HubState}
 use Rattle.state.specs.declared.Change.{Change}
 use Rattle.state.specs.declared.Change.the-variants.{Nothing, Stage, Commit, Join, Abort, Fail, Restart}
@@ -175,6 +177,10 @@ module _ (h : Hub) (cs : List Command) (d : Decision) (backs : PutBacks) (n : Hu
 pub backs-as : (h : HubState) (d : Decision) {c : Change} {l : List Back} → d .change ≡ c → l ≡ backsBy h (oneOf (d .back)) c →
     l ≡ backsOfDecision h d
 backs-as h d e f = f ∙ sym (ap (backsBy h (oneOf (d .back))) e)
+
+-- a device that fails is down by then
+pub down-is : (s : State) (d : ℕ) → d < maxDevices → downIf s d ≡ downWith s d
+down-is s d h = ap (λ (t : Bool). if t then downWith s d else s) (lt-ltb d maxDevices h)
 
 -- a change that is this one is carried out
 pub carries-as : {h : Hub} {cs : List Command} {c x : Change} {r : Hub} → c ≡ x → (x ≡ Nothing → ⊥) → Valid r →

@@ -4,9 +4,6 @@ use Rattle.abort.proofs.Laws.{backs-are-by}
 use Rattle.abort.proofs.backs_of.Statement.{statement}
 use Rattle.abort.proofs.backs_of.Tie as tie
 
-left-requires : tie.Need-left-requires
-left-requires c κs = search needs
-
 tables-of-requires : tie.Need-tables-of-requires
 tables-of-requires c κs = search needs
 
@@ -16,12 +13,10 @@ put-backs-requires c κs = search needs
 returns : tie.Need-returns
 returns c =
     let t = c .before in
-    let g = t .before in
-    let a = g .before .args in (
+    let a = t .before .args in (
       c .put-backs .ensures .0,
-      backs-are-by (a .state) (a .at) (g .left .result) (t .tables-of .result) _ (t .tables-of .ensures) (g .left .ensures .1)
-          (c .put-backs .ensures .1),
+      backs-are-by (a .state) (a .at) (a .down) (t .tables-of .result) (t .tables-of .ensures) _ (c .put-backs .ensures .1),
     )
 
 pub backs-of-spec : {M : Type 1} → statement M
-backs-of-spec = tie.close (tie.spec left-requires tables-of-requires put-backs-requires returns)
+backs-of-spec = tie.close (tie.spec tables-of-requires put-backs-requires returns)

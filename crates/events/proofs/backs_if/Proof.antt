@@ -11,7 +11,7 @@ backs-of-requires c κs = let p = c .before .pre in (p .0, p .1 (c .if1 .taken))
 returns : tie.Need-returns
 returns c =
     let a = c .before .before .args in
-    one-backs (a .state) (a .gone) (c .backs-of .result) (c .before .if1 .taken) (c .backs-of .ensures)
+    one-backs (a .state) (a .gone) _ (c .backs-of .result) (c .before .if1 .taken) (c .backs-of .ensures)
 
 no-backs-requires : tie.Need-no-backs-requires
 no-backs-requires c κs = search needs
@@ -20,7 +20,7 @@ returns-2 : tie.Need-returns-2
 returns-2 c =
     let a = c .before .before .args in
     let z = c .no-backs .ensures .0 in
-    none-backs (a .state) (a .gone) (c .no-backs .result) (c .before .if1 .left) (omega (arith, z)) (c .no-backs .ensures .1)
+    none-backs (a .state) (a .gone) _ (c .no-backs .result) (c .before .if1 .left) (omega (arith, z)) (c .no-backs .ensures .1)
 
 pub backs-if-spec : {M : Type 1} → statement M
 backs-if-spec = tie.close (tie.spec backs-of-requires returns no-backs-requires returns-2)

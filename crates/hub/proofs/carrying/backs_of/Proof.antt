@@ -1,8 +1,13 @@
 -- `hub::carrying::backs_of` meets its contract. Assumes nothing.
 use borrow.Author.Needs.{needs}
-use mathlib.Core.Path.{subst}
+use mathlib.Core.Path.{ap, _∙_, subst}
+use Prim.Native.Nat.{_<_}
+use Rattle.routine.specs.Routine.{maxDevices}
+use Rattle.rules.specs.State.{State}
+use Rattle.state.specs.View.{stateOf}
+use Rattle.state.specs.Contract.{goneIn, backsLeft, StandsOrPast}
 use Rattle.hub.specs.Carrying.{LeavingOk}
-use Rattle.hub.proofs.Laws.{backs-as}
+use Rattle.hub.proofs.Laws.{backs-as, down-is}
 use Rattle.hub.proofs.carrying.backs_of.Statement.{statement}
 use Rattle.hub.proofs.carrying.backs_of.Tie as tie
 
@@ -41,17 +46,20 @@ backs-of-requires c κs =
 enum-known-change-2 : tie.Need-enum-known-change-2
 enum-known-change-2 c = search needs
 
-failure-backs-requires : tie.Need-failure-backs-requires
-failure-backs-requires c κs =
-    let p = c .before .before .before .pre in
-    let q = subst (LeavingOk _) (c .before .change2 .given .1) (p .1) in
-    (p .0, q .0, q .1)
+-- a failure is of a device, and aborts one that stands
+fails-ok : (c : tie.After-known-told2) →
+    let a = c .before .before .before .args in
+    let x = c .before .change2 .given .0 in (x .0 < maxDevices) × StandsOrPast (a .state) (x .1 .0)
+fails-ok c = subst (LeavingOk _) (c .before .change2 .given .1) (c .before .before .before .pre .1)
+
+backs-if-requires : tie.Need-backs-if-requires
+backs-if-requires c κs = (c .before .before .before .pre .0, fails-ok c .1)
 
 enum-known-change-3 : tie.Need-enum-known-change-3
 enum-known-change-3 c = search needs
 
-backs-if-requires : tie.Need-backs-if-requires
-backs-if-requires c κs =
+backs-if-requires-2 : tie.Need-backs-if-requires-2
+backs-if-requires-2 c κs =
     let p = c .before .before .before .pre in
     (p .0, subst (LeavingOk _) (c .before .change3 .given .1) (p .1) .2)
 
@@ -89,13 +97,19 @@ returns-6 : tie.Need-returns-6
 returns-6 c =
     let b = c .before .before in
     let a = b .before .before .args in
-    (c .failure-backs .ensures .0, backs-as (a .state) (a .decision) (b .change2 .given .1) (c .failure-backs .ensures .1))
+    let x = b .change2 .given .0 in
+    (
+      c .backs-if .ensures .0,
+      backs-as (a .state) (a .decision) (b .change2 .given .1)
+          (c .backs-if .ensures .1
+          ∙ ap (λ (s : State). backsLeft s (goneIn (a .state) (x .1 .0))) (down-is (stateOf (a .state)) (x .0) (fails-ok (c .before) .0))),
+    )
 
 returns-7 : tie.Need-returns-7
 returns-7 c =
     let b = c .before .before in
     let a = b .before .before .args in
-    (c .backs-if .ensures .0, backs-as (a .state) (a .decision) (b .change3 .given .1) (c .backs-if .ensures .1))
+    (c .backs-if2 .ensures .0, backs-as (a .state) (a .decision) (b .change3 .given .1) (c .backs-if2 .ensures .1))
 
 pub backs-of-spec : {M : Type 1} → statement M
 backs-of-spec =
@@ -112,9 +126,9 @@ backs-of-spec =
     enum-known-change
     backs-of-requires
     enum-known-change-2
-    failure-backs-requires
-    enum-known-change-3
     backs-if-requires
+    enum-known-change-3
+    backs-if-requires-2
     returns
     returns-2
     returns-3
