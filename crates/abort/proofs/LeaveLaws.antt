@@ -9,7 +9,6 @@ use native.Mathlib.Omega.{arith}
 use borrow.Author.Tests.{eq-eqb, ne-eqb}
 use lib.Dec.{eqb}
 use lib.IntN.{ℤ}
-use lib.ListN.{getD}
 use Rattle.routine.specs.Choice.{if_then_else_}
 use Rattle.routine.proofs.Laws.{byTest}
 use Rattle.rules.specs.Tables.{anyOf}
@@ -27,7 +26,7 @@ use Rattle.sequence.proofs.ReadLaws.{once-held}
 use Rattle.state.specs.View.{settingsOf, memberAt, stateOf, there}
 use Rattle.state.specs.Valid.{StateOk}
 use Rattle.state.specs.declared.HubState.{HubState}
-use Rattle.state.proofs.Members.{state-settled, member-id, there-left, map-same}
+use Rattle.state.proofs.Members.{state-settled, member-id, there-left, map-same, last-id, last-in}
 use Rattle.due.specs.Contract.{membersBut, noneDone, dueBut}
 
 -- ---- commands in flight: attaching events changes no commands
@@ -102,15 +101,6 @@ unfolding due leave attach
 due-left s f d k = due-attached d (f .it .restarts) (f .ahead) (f .behind) (s .settled) k
 
 -- ---- those ahead of it in their slots
-
--- the id of the last, by its slot; and that slot is one of the list
-last-id : (h : HubState) (y : ℕ) (l : List ℕ) → getD (h .ids) (lastOr y l) 0 ≡ lastIdOr (memberAt h y .id) (map (memberAt h) l)
-last-id h y [] = sym (member-id h y)
-last-id h y (z ∷ l) = last-id h z l
-
-last-in : (y : ℕ) (l : List ℕ) → 1 ≤ count (lastOr y l) (y ∷ l)
-last-in y [] = omega (arith, same-self y)
-last-in y (z ∷ l) = let i = last-in z l in omega arith
 
 module _ (h : HubState) (v : StateOk h) where
   -- held slots, each once

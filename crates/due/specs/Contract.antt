@@ -12,7 +12,7 @@ use Rattle.rules.specs.Progress.{withSteps}
 use Rattle.rules.specs.Due.{afterSteps, afterMembers}
 use Rattle.sequence.specs.Lists.{without}
 use Rattle.sequence.specs.Links.{slotsOf}
-use Rattle.state.specs.View.{settingsOf, Rows, stepsFrom, memberAt}
+use Rattle.state.specs.View.{settingsOf, stepsFrom, memberAt}
 use Rattle.state.specs.declared.HubState.{HubState}
 
 -- A table after the done commands from one place of the rows up to another. Their tags do not count, nor the due setting of one in flight.

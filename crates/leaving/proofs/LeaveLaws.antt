@@ -24,7 +24,7 @@ use Rattle.sequence.proofs.ReadLaws.{once-held, stands-slot, ahead-last, ahead-
 use Rattle.state.specs.View.{settingsOf, marksOf, stepsAt, restartsAt, memberAt, membersOf, stateOf, there}
 use Rattle.state.specs.Valid.{StateOk}
 use Rattle.state.specs.declared.HubState.{HubState}
-use Rattle.state.proofs.Members.{member-id, member-restarts, member-same, map-same, there-left, id-in-row, id-not-in-row}
+use Rattle.state.proofs.Members.{member-id, member-restarts, member-same, map-same, there-left, id-in-row, id-not-in-row, last-in}
 use Rattle.leaving.specs.Contract.{LeavesHub, MovesRestarts}
 use Rattle.leaving.proofs.StateLaws.{tablesIn, valid-linked, attach-zero, attach-routine, attachedIn, attached-each}
 
@@ -38,11 +38,6 @@ module _ (k : Links) (at : ℕ) (r : Links) (s : Stands k at) (e : Leaves k at r
       omega (arith, count-without at x (slotsOf k) s)
 
 -- ---- the slot before it
-
--- the last of a list is one of it
-last-in : (y : ℕ) (l : List ℕ) → 1 ≤ count (lastOr y l) (y ∷ l)
-last-in y [] = omega (arith, same-self y)
-last-in y (z ∷ l) = let i = last-in z l in omega arith
 
 -- b is the slot before it
 module _ (h : HubState) (at : ℕ) (v : StateOk h) (s : Stands (h .links) at) (b : ℕ) (q : b ≡ getD (h .links .ahead) at 0) where

@@ -144,12 +144,12 @@ module _ (h : HubState) (x : ℕ) (v : StateOk h) (s : Stands (h .links) x) wher
 
 -- ---- the id of the last
 
-last-id : (h : HubState) (y : ℕ) (l : List ℕ) → getD (h .ids) (lastOr y l) 0 ≡ lastIdOr (memberAt h y .id) (map (memberAt h) l)
+pub last-id : (h : HubState) (y : ℕ) (l : List ℕ) → getD (h .ids) (lastOr y l) 0 ≡ lastIdOr (memberAt h y .id) (map (memberAt h) l)
 last-id h y [] = sym (member-id h y)
 last-id h y (z ∷ l) = last-id h z l
 
 -- the last of a list is one of it
-last-in : (y : ℕ) (l : List ℕ) → 1 ≤ count (lastOr y l) (y ∷ l)
+pub last-in : (y : ℕ) (l : List ℕ) → 1 ≤ count (lastOr y l) (y ∷ l)
 last-in y [] = omega (arith, same-self y)
 last-in y (z ∷ l) = let i = last-in z l in omega arith
 

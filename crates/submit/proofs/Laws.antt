@@ -32,7 +32,7 @@ use Rattle.state.specs.Contract.{JoinOk, joinedBehind, plainly, Decides}
 use Rattle.state.specs.declared.HubState.{HubState}
 use Rattle.state.specs.declared.Change.the-variants.{Nothing, Join}
 use Rattle.state.specs.declared.Decision.{Decision}
-use Rattle.state.proofs.Members.{member-id, stands-below}
+use Rattle.state.proofs.Members.{stands-below, last-id}
 use Rattle.state.proofs.Laws.{refused-decides, join-decides}
 use Rattle.search.specs.Contract.{Latest}
 
@@ -143,10 +143,6 @@ module _ (s : State) (cs : List Command) (k : s .passLimit ≤ highestPassed) wh
   past-pass l = all-pass (pastLast (blocks s cs) l) (past-none (blocks s cs) l)
 
 -- ---- the id that the newcomer follows
-
-last-id : (h : HubState) (y : ℕ) (l : List ℕ) → getD (h .ids) (lastOr y l) 0 ≡ lastIdOr (memberAt h y .id) (map (memberAt h) l)
-last-id h y [] = sym (member-id h y)
-last-id h y (z ∷ l) = last-id h z l
 
 last-slot : (h : HubState) (x : ℕ) (l : List ℕ) → lastOr none l ≡ x → (x ≡ none → ⊥) → getD (h .ids) x 0 ≡ lastIdOr 0 (map (memberAt h) l)
 last-slot h x [] e n = absurd (n (sym e))

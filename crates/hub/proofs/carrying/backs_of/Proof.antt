@@ -97,8 +97,7 @@ returns-6 : tie.Need-returns-6
 returns-6 c =
     let b = c .before .before in
     let a = b .before .before .args in
-    let x = b .change2 .given .0 in
-    (
+    let x = b .change2 .given .0 in (
       c .backs-if .ensures .0,
       backs-as (a .state) (a .decision) (b .change2 .given .1)
           (c .backs-if .ensures .1
