@@ -85,7 +85,8 @@ fn outcome_with(hub: Hub, decision: Decision, backs: PutBacks) -> Outcome
 
 // What is put back, the change, then settling.
 pub fn carried_out(hub: Hub, decision: Decision, routine: Routine) -> Outcome
-    requires { ⌜ (Valid hub) × (Decides (hub .state) (commandsOf routine) decision (resultBy (hub .state) (commandsOf routine) decision)) ⌝ }
+    requires { ⌜ (Valid hub)
+        × (Decides (hub .state) (commandsOf routine) decision (resultBy (hub .state) (commandsOf routine) decision)) ⌝ }
     ensures { λ r. ⌜ Gives hub r (resultBy (hub .state) (commandsOf routine) decision) ⌝ }
 {
     let backs = crate::put_backs(hub, decision);
