@@ -1,8 +1,8 @@
 -- Document 02, item 8, "Links for the sequence": from an opening on, along every chain of calls, the answers and the sequence read along
 -- the links are those of a packed list, which is how the rules keep it; along the other links it is the same list from its end; and the
 -- links run through each held routine a single time. What a single placement or leaving changes is a contract: `Joins` and `Leaves` of
--- crate `sequence`, `Places` of crate `apply`, `Unlinks` of crate `leaving`. The proof is `links-are-the-sequence` of `proofs/Links.antt`.
--- Assumes nothing.
+-- crate `sequence`, `Places` of crate `apply`, `LeavesHub` of crate `leaving`. The proof is `links-are-the-sequence` of
+-- `proofs/Links.antt`. Assumes nothing.
 use mathlib.Core.Path.{_≡_}
 use mathlib.Core.List.{List, [], _∷_, map, reverse}
 use Prim.Native.Nat.{ℕ, _+_}

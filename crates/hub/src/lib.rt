@@ -1,6 +1,6 @@
 // The plot hub, by value: document 01, "The steps". Here stand the public calls with their contracts. A call decides, on a hub that stays
 // as it is, what it comes to (crates `submit`, `turn`, `report`, `events` and, the cancel, `abort`); an applier makes the next hub (crates
-// `apply`, `leaving`, `abort`, `events`), which then settles. `specs/` reads a hub as the state of the rules, and an outcome as their
+// `apply`, `leaving`, `events`), which then settles. `specs/` reads a hub as the state of the rules, and an outcome as their
 // answers.
 mod carrying;
 mod opening;
