@@ -30,7 +30,7 @@ pub data Cause : Type 0 where
   book-cut-short : Cause  -- book ends inside count or pairs, or count above 64
   book-misplaced : Cause  -- pair not where the layout puts it, past the end, or bytes left over
   book-length : ℕ → Cause  -- length not 4 to 32 in fours; the routine's index
-  no-room : Cause  -- over 64 routines to write, or buffer too short
+  no-room : Cause  -- over 64 routines to write, or buffer too short; a list of settings shorter than N (document 02, item 14)
 
 -- The table: the number of each cause, and the index that comes with it, if one does.
 unfoldable pub refusalOf : Cause → Refusal

@@ -61,5 +61,5 @@ pub const MISPLACED: u8 = 19;
 // length not 4 to 32 in fours
 pub const LENGTH: u8 = 20;
 
-// over 64 routines to write, or buffer too short
+// over 64 routines to write, or buffer too short; a list of settings shorter than N (document 02, item 14)
 pub const NO_ROOM: u8 = 21;

@@ -31,6 +31,7 @@ pub mod DeviceKept
 -- The hub of no devices; demand 3; each number under its cause alone; worlds that meet the premise, and worlds in which a wrong rule shows.
 pub mod Closed
 pub mod Theorem
+pub mod AllDue
 pub mod Exact
 pub mod Worlds
 pub mod Controls

@@ -1,24 +1,28 @@
 -- Document 01, "When a call is turned down": the causes of the opening and of the hub's calls, each said by itself in the table's words
 -- over the state and the call; the order in which they are tested; and what `exact-opening` .. `exact-restart` (proofs/Exact.antt) say:
--- each number under its cause alone. Causes 4 to 7, and what "each under its cause alone" means, stand in `specs/Causes.antt` of crate
--- `routine`. Assumes nothing.
+-- each number under its cause alone. The same of the reading of all due settings (`exact-list`). Causes 4 to 7, and what "each under its
+-- cause alone" means, stand in `specs/Causes.antt` of crate `routine`. Assumes nothing.
 use mathlib.Core.Path.{_≡_}
 use mathlib.Core.Bool.{true, false}
 use mathlib.Core.Logic.{_⊎_}
 use mathlib.Core.List.{List, [], _∷_, _++_}
 use Prim.Native.Nat.{ℕ, _<_, _≤_}
-use lib.IntN.{ℤ}
-use lib.ListN.{length}
+use lib.IntN.{ℤ, pos}
+use lib.ListN.{length, getD}
 use Rattle.routine.specs.Refusals.{Cause, devices-out-of-range, pass-limit-out-of-range, first-id-0, sequence-full, ids-used-up}
 use Rattle.routine.specs.Refusals.{not-running}
 use Rattle.routine.specs.Refusals.{turn-in-flight, none-in-flight, report-code-out-of-range, event-device, failure-of-down, restart-of-up}
-use Rattle.routine.specs.Refusals.{restart-setting}
+use Rattle.routine.specs.Refusals.{restart-setting, no-room}
 use Rattle.routine.specs.Routine.{maxDevices}
 use Rattle.routine.specs.Causes.{NoneOf, FirstIn, Exactly, itself, OutOfRange, RoutineCause, routineCauses}
 use Rattle.routine.specs.declared.Command.{Command}
 use Rattle.routine.specs.declared.Refusal.{Refusal}
+use Rattle.routine.specs.declared.Verdict.{Verdict}
+use Rattle.routine.specs.declared.Verdict.the-variants.{Accepted, Refused}
 use Rattle.rules.specs.State.{highestPassLimit, maxHeld, highestId, in-flight, Step, Member, State}
 use Rattle.rules.specs.Answers.{Call, submit, turn, report, failure, restart, cancel, Answer, refused}
+use Rattle.rules.specs.Due.{due}
+use Rattle.rules.specs.AllDue.{listCheck, listAfter}
 use Rattle.rules.specs.Open.{opened, not-opened, newHub, openOf}
 use Rattle.rules.specs.Report.{codeFailed}
 use Rattle.rules.specs.Calls.{resultOf}
@@ -138,6 +142,31 @@ ExactFailure = (s : State) (d : ℕ) → ExactCall s (failure d)
 
 abbrev pub ExactRestart : Type 0
 ExactRestart = (s : State) (d : ℕ) (v : ℤ) → ExactCall s (restart d v)
+
+-- ---- all due settings into a lent list: document 02, item 14
+
+-- The cause of this reading, with a list of so many entries.
+pub data ListCause (s : State) (room : ℕ) : Cause → Type 0 where
+  -- 21: "A list shorter than N"
+  list-is-short : room < s .devices → ListCause s room no-room
+
+abbrev pub listCauses : List Cause
+listCauses = no-room ∷ []
+
+-- The reading is turned down with r exactly if the cause holds and has r, and then the list is as it was. Else each device, up or down, has
+-- its due setting at its place in the list. The entries from N on, and how many there are, are the same in either case.
+pub record ExactList (s : State) (before after : List ℤ) (verdict : Verdict) : Type 0 where
+  pub exact : Exactly (ListCause s (length before)) itself listCauses (λ r. verdict ≡ Refused r) (verdict ≡ Accepted)
+  pub left-as-it-was : (r : Refusal) → verdict ≡ Refused r → after ≡ before
+  pub each-due : verdict ≡ Accepted → (d : ℕ) → d < s .devices → getD after d (pos 0) ≡ due s d
+  pub rest-untouched : (d : ℕ) → s .devices ≤ d → getD after d (pos 0) ≡ getD before d (pos 0)
+  pub as-long : length after ≡ length before
+
+-- So for every verdict and every list that the contract of `hub::due_settings` gives.
+abbrev pub ExactListing : Type 0
+ExactListing =
+    (s : State) (before after : List ℤ) (verdict : Verdict) →
+    verdict ≡ listCheck s (length before) → after ≡ listAfter s before → ExactList s before after verdict
 
 -- ---- "the routine with this id"
 

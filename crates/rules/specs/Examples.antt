@@ -12,11 +12,13 @@ use Rattle.routine.specs.Refusals.{refusalOf}
 use Rattle.routine.specs.Routine.{commandCheck, commandsCheck, routineCheck}
 use Rattle.routine.specs.declared.Command.{Command}
 use Rattle.routine.specs.declared.Refusal.the-variants.{Number, Indexed}
+use Rattle.routine.specs.declared.Verdict.the-variants.{Accepted, Refused}
 use Rattle.rules.specs.State.{State}
 use Rattle.rules.specs.Answers.{Call, submit, turn, report, failure, restart, cancel, Back, Answer, refused, placed, wait, send}
 use Rattle.rules.specs.Answers.{done, skipped, committed, aborted, down, up}
 use Rattle.rules.specs.Progress.{begun, finished, inFlightOn}
 use Rattle.rules.specs.Due.{afterMember, due}
+use Rattle.rules.specs.AllDue.{allDue, listCheck, listAfter}
 use Rattle.rules.specs.Sequence.{isRunning, runs, moveMarks}
 use Rattle.rules.specs.Attach.{oneRestart, attachTo, settleRestarts, attach}
 use Rattle.rules.specs.Settle.{joinSettled, settle}
@@ -226,3 +228,24 @@ lastIds = record {
 pub last-ids : Holds lastIds
 unfolding calc
 last-ids = (refl, refl, refl)
+
+-- ---- all due settings in one list (document 02, item 14)
+
+-- Routine 1 did device 0 = 50 and has device 1 left; device 0 has failed.
+abbrev pub oneDown : State
+oneDown = stateAfter (newHub 3 2 1) (submit (must 0 (pos 50) ∷ must 1 (pos 20) ∷ []) ∷ turn 1 ∷ report 1 0 ∷ failure 0 ∷ [])
+
+abbrev pub nines : ℕ → List ℤ
+nines n = replicate n (pos 9)
+
+-- Longer than N, just N, one short, none.
+abbrev pub ListsHold : Type 0
+ListsHold =
+    (listCheck oneDown 5 ≡ Accepted) × (listAfter oneDown (nines 5) ≡ pos 50 ∷ pos 0 ∷ pos 0 ∷ pos 9 ∷ pos 9 ∷ [])
+    × (listCheck oneDown 3 ≡ Accepted) × (listAfter oneDown (nines 3) ≡ pos 50 ∷ pos 0 ∷ pos 0 ∷ [])
+    × (listCheck oneDown 2 ≡ Refused (Number 21)) × (listAfter oneDown (nines 2) ≡ nines 2)
+    × (listCheck oneDown 0 ≡ Refused (Number 21)) × (listAfter oneDown [] ≡ [])
+
+pub lists-hold : ListsHold
+unfolding calc allDue listCheck listAfter
+lists-hold = (refl, refl, refl, refl, refl, refl, refl, refl)

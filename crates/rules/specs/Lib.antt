@@ -3,6 +3,7 @@ pub mod State
 pub mod Answers
 pub mod Progress
 pub mod Due
+pub mod AllDue
 pub mod Sequence
 pub mod Attach
 pub mod Settle
