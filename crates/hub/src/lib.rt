@@ -9,7 +9,6 @@ use answers::Answer;
 use answers::First;
 use answers::PutBacks;
 use leaving::settling;
-use routine::MAX_DEVICES;
 use routine::Routine;
 use routine::Verdict;
 use state::Decision;
@@ -20,10 +19,12 @@ ghost use mathlib.Core.Path.{_≡_};
 ghost use mathlib.Core.Bool.{true};
 ghost use mathlib.Core.List.{[]};
 ghost use Prim.Native.Nat.{_<_};
+ghost use lib.ListN.{length};
 ghost use Rattle.routine.specs.Routine.{maxDevices, commandsOf};
 ghost use Rattle.rules.specs.Abort.{leave};
 ghost use Rattle.rules.specs.Cancel.{cancelOf};
 ghost use Rattle.rules.specs.Due.{due};
+ghost use Rattle.rules.specs.AllDue.{listCheck, listAfter};
 ghost use Rattle.rules.specs.Events.{failureOf, restartOf};
 ghost use Rattle.rules.specs.Open.{closedHub, openCheck};
 ghost use Rattle.rules.specs.Report.{reportOf};
@@ -33,7 +34,7 @@ ghost use Rattle.rules.specs.Turn.{turnOf};
 ghost use Rattle.rules.specs.Calls.{TurnsAllDown};
 ghost use Rattle.sequence.specs.Links.{Stands};
 ghost use Rattle.answers.specs.View.{backsOf, BacksOk};
-ghost use Rattle.state.specs.View.{settingsOf, isRestart, there, firstCommitted};
+ghost use Rattle.state.specs.View.{isRestart, there, firstCommitted};
 ghost use Rattle.state.specs.Contract.{staged, committedAt, joinedBehind, goneIn, leftBy, downWith, upWith, StandsOrPast, StageOk, JoinOk};
 ghost use Rattle.state.specs.Contract.{Decides, backsOfDecision};
 ghost use Rattle.hub.specs.View.{view};
@@ -169,13 +170,15 @@ pub fn due_setting(hub: Hub, device: u8) -> i16
     due::due_setting(state, &devices, &stages, &settings, device)
 }
 
-// The due settings of all devices, in one pass; past the last device as at the opening.
-pub fn due_settings(hub: Hub) -> [i16; MAX_DEVICES]
+// The due settings of all devices, up or down, into a lent list, from one pass along the sequence: document 02, item 14. Entries past the
+// last device are untouched; a list shorter than N is turned down (21) and unchanged.
+pub fn due_settings(hub: Hub, list: &mut [i16]) -> Verdict
     requires { ⌜ Valid hub ⌝ }
-    ensures { λ r. ⌜ settingsOf r ≡ due (view hub) ⌝ }
+    ensures answers { λ r. ⌜ r ≡ listCheck (view hub) (length (now (list .entry))) ⌝ }
+    ensures leaves { λ _. ⌜ now (list .exit) ≡ listAfter (view hub) (now (list .entry)) ⌝ }
 {
     let state = hub.state;
-    due::due_settings(state)
+    due::put_due_settings(state, list)
 }
 
 // A hub of no devices: one that is not opened. Every call on it is turned down.

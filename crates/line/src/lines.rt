@@ -7,6 +7,7 @@ use hub::Hub;
 use line_printer::MAX_DEVICE_LINE;
 use line_reader::Call;
 use line_reader::Line;
+use routine::MAX_DEVICES;
 use routine::Routine;
 use routine::Verdict;
 use state::Decision;
@@ -72,7 +73,8 @@ pub fn put_devices(hub: Hub, out: &mut [u8], at: usize) -> usize
     requires { ⌜ (Valid hub) × (at + maxEnd < 2 ^ 64) ⌝ }
     ensures { λ r. ⌜ PutShort maxEnd (now (out .entry)) (now (out .exit)) at r (endText (hubIn hub)) ⌝ }
 {
-    let table = hub::due_settings(hub);
+    let mut table = [0i16; MAX_DEVICES];
+    hub::due_settings(hub, &mut table);
     let count = hub::device_count(hub);
     let mut text = [0u8; MAX_DEVICE_LINE];
     let mut to = at;
