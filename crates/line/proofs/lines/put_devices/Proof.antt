@@ -1,15 +1,17 @@
 -- `line::lines::put_devices` meets its contract. The loop's invariant: the lines of the first devices are put. Assumes nothing.
 use mathlib.Core.Path.{_≡_, refl, sym, ap, _∙_}
+use mathlib.Core.List.{List}
 use Prim.Native.Nat.{_-_, _*_, _<_, _≤_}
 use native.Mathlib.Omega.{arith}
 use borrow.Author.Needs.{needs}
 use mir.Syntax.{w16}
 use mir.Val.{toZ, ofZ}
 use lib.Seq.{length-take-le}
-use lib.IntN.{pos}
+use lib.IntN.{ℤ, pos}
 use lib.ListN.{length, take, getD}
 use Rattle.routine.specs.Routine.{maxDevices}
 use Rattle.rules.specs.Due.{due}
+use Rattle.rules.proofs.AllDue.{list-entry}
 use Rattle.hub.specs.View.{view}
 use Rattle.line_rules.specs.Printing.{asLine, deviceTextOf, deviceText, deviceLines}
 use Rattle.line_printer.specs.Put.{maxDeviceLine, PutShort}
@@ -31,12 +33,26 @@ abbrev μ-loop : tie.MeasureT-loop
 few : (c : tie.In-loop Inv-loop μ-loop) → c .before .loop .device < maxDevices
 few c =
     let n = c .before .before in
-    let s = n .before .before .before in
+    let s = n .before .before .before .before .before in
     omega (arith, s .pre .0 .devices-fit, devices-are (s .args .hub), n .device-count .ensures, c .loop-test .taken)
+
+-- and has its due setting there
+told : (c : tie.In-loop Inv-loop μ-loop) →
+    getD (c .before .before .before .before .due-settings .last .1 .0) (c .before .loop .device) (pos 0)
+    ≡ due (view (c .before .before .before .before .before .before .before .args .hub)) (c .before .loop .device)
+told c =
+    let n = c .before .before in
+    let s = n .before .before .before .before .before in
+    ap (λ (l : List ℤ). getD l (c .before .loop .device) (pos 0)) (n .before .before .due-settings .ensures .1)
+    ∙ list-entry (view (s .args .hub)) _ (omega (arith, s .pre .0 .devices-fit, devices-are (s .args .hub))) (c .before .loop .device)
+    (omega (arith, devices-are (s .args .hub), n .device-count .ensures, c .loop-test .taken))
 
 -- and the text a place for a line
 room : (c : tie.After-put-device Inv-loop μ-loop) → maxDeviceLine ≤ length (c .before .before .before .before .before .loop .text)
 room c = omega (arith, c .before .before .before .before .before .loop .inv .2)
+
+slice-aggregate-due-settings : tie.Need-slice-aggregate-due-settings Inv-loop μ-loop
+slice-aggregate-due-settings c = refl
 
 due-settings-requires : tie.Need-due-settings-requires Inv-loop μ-loop
 due-settings-requires c κs = search needs
@@ -46,11 +62,11 @@ device-count-requires c κs = search needs
 
 loop-holds : tie.Need-loop-holds Inv-loop μ-loop
 unfolding deviceLines
-loop-holds c = (
+loop-holds c = let s = c .before .before .before .before .before in (
   omega arith,
   refl,
   refl,
-  record { put = put-none (c .before .before .before .args .out .now) (c .before .before .before .args .at); short = omega arith },
+  record { put = put-none (s .args .out .now) (s .args .at); short = omega arith },
 )
 
 cast-d : tie.Need-cast-d Inv-loop μ-loop
@@ -85,7 +101,7 @@ put-text-requires c κs =
     let p = c .before .before .before in
     let i = p .before .before .before .before in
     let l = i .before in
-    let s = l .before .before .before .before in
+    let s = l .before .before .before .before .before .before in
     let e : length (take (p .put-device .result) (p .put-device .last .0)) ≤ p .put-device .result =
     omega (arith, length-take-le (p .put-device .result) (p .put-device .last .0) (end-fits (p .put-device .ensures) (room p))) in
     omega (arith, s .pre, few i, reaches (p .put-device .ensures), reaches (l .loop .inv .3))
@@ -103,12 +119,12 @@ loop-again c =
     let p = t .before .before .before .before in
     let u = p .before .before in
     let l = u .before .before .before in
-    let n = l .before .before in
-    let a = n .before .before .args in
+    let n = l .before .before .before in
+    let a = n .before .before .before .args in
     let d = l .loop .device in
-    let held : toZ w16 (ofZ w16 (getD (n .due-settings .result) d (pos 0))) ≡ getD (n .due-settings .result) d (pos 0) = search needs in
-    let set : toZ w16 (ofZ w16 (getD (n .due-settings .result) d (pos 0))) ≡ due (view (a .hub)) d =
-    held ∙ (λ i. n .due-settings .ensures i d) in (
+    let table = n .due-settings .last .1 .0 in
+    let held : toZ w16 (ofZ w16 (getD table d (pos 0))) ≡ getD table d (pos 0) = search needs in
+    let set : toZ w16 (ofZ w16 (getD table d (pos 0))) ≡ due (view (a .hub)) d = held ∙ told (u .before .before) in (
       omega arith,
       t .put-text .kept .0 ∙ l .loop .inv .1,
       same-room (p .put-device .ensures) ∙ l .loop .inv .2,
@@ -125,7 +141,7 @@ same-length c = c .before .loop .inv .1
 returns : tie.Need-returns Inv-loop μ-loop
 returns c =
     let l = c .before in
-    let s = l .before .before .before .before in
+    let s = l .before .before .before .before .before .before in
     let e : l .loop .device ≡ view (s .args .hub) .devices = omega (arith, l .before .device-count .ensures) in
     as-text
     (ap (deviceLines (view (s .args .hub)) 0) e ∙ sym (end-text (s .args .hub)))
@@ -137,6 +153,7 @@ put-devices-spec =
     (tie.spec
     Inv-loop
     μ-loop
+    slice-aggregate-due-settings
     due-settings-requires
     device-count-requires
     loop-holds
