@@ -9,17 +9,18 @@ use Rattle.rules.specs.Due.{due}
 use Rattle.rules.specs.Open.{opened, openIf, openOf}
 use Rattle.rules.specs.Calls.{resultOf}
 use Rattle.rules.specs.Order.{entries}
-use Rattle.rules.specs.Serial.{allUp}
+use Rattle.rules.specs.Serial.{DeviceState, allUp}
 use Rattle.rules.specs.World.{World, accounts, Act, calls, takes-one, afterCall, worldAfter, worldAfterAll, Premised, PremiseAll}
 use Rattle.rules.specs.Demand3.{orderIn, EndState, Begins, CommandsStand, Demand3}
 use Rattle.rules.specs.HubOrder.{IsHubs}
 use Rattle.rules.proofs.Theorem.{demand-3, hub-order}
+use Rattle.rules.proofs.AllDue.{list-entry}
 use Rattle.hub.specs.View.{view, resultIn}
 use Rattle.hub.specs.Valid.{Valid}
 use Rattle.hub.specs.Contract.{Opens, Gives}
 use Rattle.hub.specs.Demand3.{HubCall, submits, turns, reports, fails, restarts, cancels, callOf, Meets, HubAct, called}
 use Rattle.hub.specs.Demand3.{device-takes, Chain, hubAfter, worldThenAll, PremiseThenAll, newWorldOf, HubDemand3, HubStatement}
-use Rattle.hub.specs.Demand3.{ReadersStatement}
+use Rattle.hub.specs.Demand3.{ReadersStatement, ListStatement}
 use Rattle.hub.specs.declared.Hub.{Hub}
 use Rattle.hub.specs.declared.Opened.{Opened}
 use Rattle.hub.specs.declared.Outcome.{Outcome}
@@ -113,3 +114,8 @@ hub-readers n k first o op accepted acts ch d =
     let i = subst IsHubs (sym (worlds (newWorldOf h) h acts refl ch))
     (hub-order n k first (view h) (opens-as n k first o op accepted) (map actOf acts)) in
     i .devices-are d ∙ ap (λ (s : State). record { up = s .up d; setting = due s d }) (state-then (newWorldOf h) h acts refl)
+
+pub hub-list : ListStatement
+hub-list n k first o op accepted acts ch list h d below =
+    list-entry (view (hubAfter (o .hub) acts)) list h d below
+    ∙ sym (ap (λ (x : DeviceState). x .setting) (hub-readers n k first o op accepted acts ch d))

@@ -2,13 +2,15 @@
 -- public call, with the answers that the contracts give. The proof is `hub-demand-3` of `proofs/Theorem.antt`. Assumes nothing.
 use mathlib.Core.Path.{_≡_}
 use mathlib.Core.List.{List, [], _∷_, _++_}
-use Prim.Native.Nat.{ℕ}
-use lib.IntN.{ℤ}
+use Prim.Native.Nat.{ℕ, _<_, _≤_}
+use lib.IntN.{ℤ, pos}
+use lib.ListN.{length, getD}
 use Rattle.routine.specs.Routine.{commandsOf}
 use Rattle.routine.specs.declared.Routine.{Routine}
 use Rattle.routine.specs.declared.Verdict.the-variants.{Accepted}
 use Rattle.rules.specs.Answers.{Call, submit, turn, report, failure, restart, cancel}
 use Rattle.rules.specs.Due.{due}
+use Rattle.rules.specs.AllDue.{listAfter}
 use Rattle.rules.specs.Order.{entries}
 use Rattle.rules.specs.Serial.{allUp, serialRun}
 use Rattle.rules.specs.World.{World, accounts, takes-one, worldAfter, afterCall, Premised, newWorld}
@@ -112,3 +114,15 @@ HubStatement = (n k first : ℕ) (o : Opened) → Opens n k first o → o .verdi
 abbrev pub ReadersStatement : Type 0
 ReadersStatement = (n k first : ℕ) (o : Opened) → Opens n k first o → o .verdict ≡ Accepted → (acts : List HubAct) → Chain (o .hub) acts →
     ReadersTell (o .hub) acts
+
+-- And the list that `hub::due_settings` leaves, if it is long enough: at each device, up or down, the setting that the same run gives.
+abbrev pub ListTells : Hub → List HubAct → Type 0
+ListTells h acts =
+    let s = view (hubAfter h acts) in
+    (list : List ℤ) → s .devices ≤ length list → (d : ℕ) → d < s .devices →
+    getD (listAfter s list) d (pos 0) ≡ serialRun (entries (orderIn (worldThenAll (newWorldOf h) acts))) allUp d .setting
+
+-- The proof is `hub-list`.
+abbrev pub ListStatement : Type 0
+ListStatement = (n k first : ℕ) (o : Opened) → Opens n k first o → o .verdict ≡ Accepted → (acts : List HubAct) → Chain (o .hub) acts →
+    ListTells (o .hub) acts
