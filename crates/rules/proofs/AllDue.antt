@@ -17,7 +17,7 @@ use Rattle.routine.specs.declared.Verdict.the-variants.{Accepted, Refused}
 use Rattle.routine.proofs.Exact.{less, agree, Outcome, one, exactly}
 use Rattle.rules.specs.State.{State}
 use Rattle.rules.specs.Due.{due}
-use Rattle.rules.specs.AllDue.{settingsFrom, allDue, listCheck, listWith, listAfter}
+use Rattle.rules.specs.AllDue.{settingsFrom, allDue, listCheck, listAfter}
 use Rattle.rules.specs.Causes.{ListCause, list-is-short, listCauses, ExactListing}
 
 -- ---- the settings of a table as a list
@@ -62,10 +62,8 @@ module _ (s : State) (list : List ℤ) where
 
   -- the list afterwards, and the same as one made by stores
   list-is : s .devices ≤ length list → listAfter s list ≡ allDue s ++ drop (s .devices) list
-  unfolding listCheck listAfter allDue
-  list-is h =
-      rw (le-ltb (length list) (s .devices) h)
-      (ap (λ (k : ℕ). settingsFrom (due s) 0 (s .devices) ++ drop k list) (length-settings (due s) 0 (s .devices)))
+  unfolding listAfter
+  list-is h = rw (le-ltb (length list) (s .devices) h) refl
 
   pub list-stored : s .devices ≤ length list → sets list 0 (settingsFrom (due s) 0 (s .devices)) ≡ listAfter s list
   unfolding allDue

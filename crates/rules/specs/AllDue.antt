@@ -4,9 +4,9 @@ use Prim.Native.Nat.{ℕ, zero, suc}
 use lib.Dec.{ltb}
 use lib.IntN.{ℤ}
 use lib.ListN.{length, drop}
+use Rattle.routine.specs.Choice.{if_then_else_}
 use Rattle.routine.specs.Refusals.{no-room, refuse_when_}
 use Rattle.routine.specs.declared.Verdict.{Verdict}
-use Rattle.routine.specs.declared.Verdict.the-variants.{Accepted, Refused}
 use Rattle.rules.specs.State.{State}
 use Rattle.rules.specs.Due.{due}
 
@@ -23,11 +23,7 @@ allDue s = settingsFrom (due s) 0 (s .devices)
 unfoldable pub listCheck : State → ℕ → Verdict
 listCheck s room = refuse no-room when ltb room (s .devices)
 
-abbrev pub listWith : Verdict → List ℤ → List ℤ → List ℤ
-listWith Accepted settings list = settings ++ drop (length settings) list
-listWith (Refused r) settings list = list
-
 -- The lent list afterwards: the due settings over its first entries, "entries past the last device are untouched"; one that is too short
 -- "is unchanged".
 unfoldable pub listAfter : State → List ℤ → List ℤ
-listAfter s list = listWith (listCheck s (length list)) (allDue s) list
+listAfter s list = if ltb (length list) (s .devices) then list else allDue s ++ drop (s .devices) list
