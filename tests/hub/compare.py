@@ -1,9 +1,10 @@
 #!/usr/bin/env python3
 """Compares the running hub with the model of tests/rules, on random histories.
 
-    tests/hub/compare.py [COUNT] [SEED]
+    tests/hub/compare.py [COUNT] [SEED] [PROGRAM]
 
-Runs target/bin/hub_vectors, which `rt check` builds, on COUNT histories (2000 if none is given). The seed is printed. Exit status 0: all agree.
+Runs target/bin/hub_vectors, which `rt check` builds, or another, on COUNT histories without readings of due settings and COUNT with them (2000 if no
+number is given). The seed is printed. Exit status 0: all agree.
 """
 import os
 import random
@@ -12,14 +13,14 @@ import sys
 
 from make_vectors import ROOT, vectors
 
-BATCH = 500
+BATCH = 250
 
 
 def main():
     count = int(sys.argv[1]) if len(sys.argv) > 1 else 2000
     seed = int(sys.argv[2]) if len(sys.argv) > 2 else random.SystemRandom().randrange(10**9)
-    print(f"{count} histories, seed {seed}")
-    program = os.path.join(ROOT, "target", "bin", "hub_vectors")
+    print(f"2 times {count} histories, seed {seed}")
+    program = sys.argv[3] if len(sys.argv) > 3 else os.path.join(ROOT, "target", "bin", "hub_vectors")
     for start in range(0, count, BATCH):
         given, expected = vectors(min(BATCH, count - start), seed + start)
         printed = subprocess.run([program], input=given, capture_output=True, check=True).stdout

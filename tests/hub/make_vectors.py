@@ -8,6 +8,10 @@ A record (two bytes of length before it) is kind, N, K, the first id in four byt
 and then four bytes of id, two of setting, or four for each command; all low byte first. Or kind 1 and a book. What is printed for it are
 the lines of document 01's line program; of a book, a line for each routine and then `end`, or the refusal. The output of the examples is
 that of document 01; the model must give it too. That of the histories is the model's.
+
+Two more letters are readings of due settings. `V`, and a device: `due` and its setting. `L`, a number of entries and two bytes: all due
+settings into the first so many entries (document 02, item 14) of a list of 40 that holds the two bytes' number everywhere; printed are the
+refusal, if there is one, and `list` with all 40. They stand in COUNT further histories, which end with a list of each length from 0 to 40 in turn, one of N entries and one of N - 1.
 """
 import os
 import random
@@ -21,6 +25,7 @@ from histories import history  # noqa: E402
 from model import Hub, Refused  # noqa: E402
 
 CALL_SIZE = 40
+LIST_ROOM = 40
 
 
 # ---- examples
@@ -67,11 +72,15 @@ def call_bytes(call):
         body = bytes([call[1]])
     elif word == "restart":
         body = bytes([call[1]]) + low_first(call[2], 2)
+    elif word == "one":
+        body = bytes([call[1]])
+    elif word == "list":
+        body = bytes([call[1]]) + low_first(call[2], 2)
     elif word == "report":
         body = bytes([call[2]]) + low_first(call[1], 4)
     else:
         body = b"\0" + low_first(call[1], 4)
-    letter = {"submit": b"S", "turn": b"N", "report": b"P", "cancel": b"C", "failure": b"F", "restart": b"R"}[word]
+    letter = {"submit": b"S", "turn": b"N", "report": b"P", "cancel": b"C", "failure": b"F", "restart": b"R", "one": b"V", "list": b"L"}[word]
     return (letter + body).ljust(CALL_SIZE, b"\0")
 
 
@@ -105,6 +114,25 @@ def device_lines(lines):
     return [f"device {d} down" if s is None else f"device {d} up {s}" for d, s in enumerate(lines)]
 
 
+def list_lines(hub, lent, before):
+    """What is printed of a reading into the first entries of a list."""
+    first, rest = [before] * lent, [before] * (LIST_ROOM - lent)
+    lines = []
+    try:
+        hub.settings(first)
+    except Refused as refusal:
+        lines = [answer_text(refusal.answer)]
+    return lines + [" ".join(["list"] + [str(s) for s in first + rest])]
+
+
+def call_lines(hub, call):
+    if call[0] == "one":
+        return [f"due {hub.due(call[1])}"]
+    if call[0] == "list":
+        return list_lines(hub, *call[1:])
+    return [answer_text(a) for a in hub.call(call)]
+
+
 def output(opening, calls):
     """What the model prints."""
     try:
@@ -113,8 +141,27 @@ def output(opening, calls):
         return [answer_text(refusal.answer)]
     lines = ["opened"]
     for call in calls:
-        lines += [answer_text(a) for a in hub.call(call)]
+        lines += call_lines(hub, call)
     return lines + device_lines(hub.lines())
+
+
+# ---- readings
+
+def any_reading(rng, n):
+    if rng.random() < 0.3:
+        return ("one", rng.choice([0, n - 1, n, 31, 32, 255, rng.randrange(n)]))
+    return ("list", rng.choice([0, n - 1, n, n + 1, LIST_ROOM, rng.randrange(LIST_ROOM + 1)]), rng.choice([7, -1, 20000, -32768, 32767]))
+
+
+def with_readings(rng, index):
+    """A history with readings among the calls and at the end, where the length is the index's: 41 in a row have all lengths."""
+    opening, calls, _, _ = history(rng)
+    mixed = []
+    for call in calls:
+        mixed.append(call)
+        if rng.random() < 0.25:
+            mixed.append(any_reading(rng, opening[0]))
+    return opening, mixed + [("list", index % (LIST_ROOM + 1), -7), ("list", opening[0], 8), ("list", opening[0] - 1, 9)]
 
 
 # ---- all vectors
@@ -138,6 +185,11 @@ def vectors(count, seed):
         opening, calls, _, _ = history(rng)
         records.append(record(opening, calls))
         lines += output(opening, calls)
+    rng = random.Random(f"readings {seed}")
+    for index in range(count):
+        opening, calls = with_readings(rng, index)
+        records.append(record(opening, calls))
+        lines += output(opening, calls)
     return b"".join(records), "".join(line + "\n" for line in lines).encode()
 
 
@@ -153,7 +205,7 @@ def main():
     for name, content in (("stdin", given), ("stdout", expected)):
         with open(os.path.join(crate, name), "wb") as f:
             f.write(content)
-    print(f"{len(examples())} examples and {count} histories, seed {seed}: {len(given)} bytes in, {len(expected)} out")
+    print(f"{len(examples())} examples and 2 times {count} histories, seed {seed}: {len(given)} bytes in, {len(expected)} out")
     return 0
 
 

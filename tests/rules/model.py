@@ -69,6 +69,12 @@ class Hub:
     def lines(self):
         return [self.due(d) if self.up[d] else None for d in range(self.n)]
 
+    def settings(self, lent):
+        """Document 02, item 14: all due settings, over the first entries of a lent list."""
+        if len(lent) < self.n:
+            raise Refused(21)
+        lent[:self.n] = [self.due(d) for d in range(self.n)]
+
     def running(self, rid):
         for r in self.sequence:
             if r.id == rid and not r.committed:

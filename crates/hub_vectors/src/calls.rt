@@ -1,5 +1,5 @@
 // A record of the hub: kind, N, K, the first id in four bytes; then the calls, each of the same size: its letter, a byte (a count of
-// commands, a code or a device), and four bytes of id, two of setting, or the commands.
+// commands, a code, a device, or how many entries are lent), and four bytes of id, two of setting, or the commands.
 use hub::Hub;
 use hub::Opened;
 use hub::Outcome;
@@ -12,6 +12,11 @@ pub const OPENING_SIZE: usize = 7;
 
 pub const CALL_SIZE: usize = 40;
 
+// The letters of the readings: of one due setting; of all, into a lent list.
+pub const ONE: usize = 86;
+
+pub const LIST: usize = 76;
+
 // The letters of the calls; any other is a cancel.
 const SUBMIT: usize = 83;
 
@@ -23,7 +28,7 @@ const FAIL: usize = 70;
 
 const RESTART: usize = 82;
 
-fn small_at(bytes: &[u8], at: usize) -> u8 {
+pub fn small_at(bytes: &[u8], at: usize) -> u8 {
     if at < bytes.len() { bytes[at] } else { 0 }
 }
 
@@ -35,7 +40,7 @@ fn id_at(bytes: &[u8], at: usize) -> u32
     (low + 65536 * high) as u32
 }
 
-fn setting_at(bytes: &[u8], at: usize) -> i16
+pub fn setting_at(bytes: &[u8], at: usize) -> i16
     requires { ⌜ at < 65536 ⌝ }
 {
     layout::setting_of(small_at(bytes, at), small_at(bytes, at + 1))

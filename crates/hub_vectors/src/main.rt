@@ -2,7 +2,9 @@
 // tests/hub/make_vectors.py says what a record holds and what is printed for it.
 mod calls;
 mod print;
+mod readings;
 
+use hub::Hub;
 use libc::STDOUT_FILENO;
 use routine::Verdict;
 ghost use Rattle.hub.specs.Valid.{Valid};
@@ -10,16 +12,36 @@ ghost use Rattle.hub.specs.Valid.{Valid};
 // A record's first byte: is it a book?
 const BOOK: usize = 1;
 
+// A call, or a reading of due settings. The hub after it.
+fn run_call(hub: Hub, call: &[u8]) -> Hub
+    requires { ⌜ Valid hub ⌝ }
+    ensures { λ r. ⌜ Valid r ⌝ }
+{
+    let letter = records::byte_at(call, 0);
+    let small = calls::small_at(call, 1);
+    if letter == calls::ONE {
+        readings::print_one(hub, small);
+        return hub;
+    }
+    if letter == calls::LIST {
+        let before = calls::setting_at(call, 2);
+        readings::print_list(hub, small, before);
+        return hub;
+    }
+    let outcome = calls::called(hub, call);
+    print::print_outcome(outcome);
+    outcome.hub
+}
+
 // The calls behind the opening, and then the device lines.
-fn run_calls(opened: hub::Hub, bytes: &[u8])
+fn run_calls(opened: Hub, bytes: &[u8])
     requires { ⌜ Valid opened ⌝ }
 {
     let mut now = opened;
     let mut at = calls::OPENING_SIZE;
     while at < bytes.len() {
-        let outcome = calls::called(now, &bytes[at..]);
-        print::print_outcome(outcome);
-        now = outcome.hub;
+        let next = run_call(now, &bytes[at..]);
+        now = next;
         at += calls::CALL_SIZE;
     }
     print::print_devices(now);

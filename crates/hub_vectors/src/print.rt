@@ -130,15 +130,12 @@ pub fn print_outcome(outcome: Outcome) {
     print_answer(answer, backs);
 }
 
-fn print_device(hub: Hub, device: u8)
-    requires { ⌜ Valid hub ⌝ }
-{
+fn print_device(device: u8, up: bool, due: i16) {
     io::write_all(STDOUT_FILENO, b"device");
     print_number(device as u64);
-    if hub::is_up(hub, device) {
+    if up {
         io::write_all(STDOUT_FILENO, b" up");
-        let setting = hub::due_setting(hub, device);
-        print_setting(setting);
+        print_setting(due);
     } else {
         io::write_all(STDOUT_FILENO, b" down");
     }
@@ -149,10 +146,17 @@ fn print_device(hub: Hub, device: u8)
 pub fn print_devices(hub: Hub)
     requires { ⌜ Valid hub ⌝ }
 {
+    let mut table = [0i16; MAX_DEVICES];
+    hub::due_settings(hub, &mut table);
     let count = hub::device_count(hub);
-    let mut device = 0;
+    let mut device: u8 = 0;
     while device < count {
-        print_device(hub, device);
+        let d = device as usize;
+        if d < MAX_DEVICES {
+            let due = table[d];
+            let up = hub::is_up(hub, device);
+            print_device(device, up, due);
+        }
         device += 1;
     }
 }

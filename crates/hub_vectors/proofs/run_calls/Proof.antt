@@ -15,20 +15,18 @@ abbrev μ-loop : tie.MeasureT-loop
 loop-holds : tie.Need-loop-holds Inv-loop μ-loop
 loop-holds c = search needs
 
-sub-called : tie.Need-sub-called Inv-loop μ-loop
-sub-called c = search needs
+sub-run-call : tie.Need-sub-run-call Inv-loop μ-loop
+sub-run-call c = search needs
 
-part-called-start : tie.Need-part-called-start Inv-loop μ-loop
-part-called-start c = search needs
+part-run-call-start : tie.Need-part-run-call-start Inv-loop μ-loop
+part-run-call-start c = search needs
 
-part-called-end : tie.Need-part-called-end Inv-loop μ-loop
-part-called-end c = search needs
+part-run-call-end : tie.Need-part-run-call-end Inv-loop μ-loop
+part-run-call-end c = search needs
 
-called-requires : tie.Need-called-requires Inv-loop μ-loop
-called-requires c κs = search needs
+run-call-requires : tie.Need-run-call-requires Inv-loop μ-loop
+run-call-requires c κs = search needs
 
-print-outcome-requires : tie.Need-print-outcome-requires Inv-loop μ-loop
-print-outcome-requires c κs = search needs
 
 add-at : tie.Need-add-at Inv-loop μ-loop
 add-at c = search needs
@@ -52,11 +50,10 @@ run-calls-spec =
     Inv-loop
     μ-loop
     loop-holds
-    sub-called
-    part-called-start
-    part-called-end
-    called-requires
-    print-outcome-requires
+    sub-run-call
+    part-run-call-start
+    part-run-call-end
+    run-call-requires
     add-at
     loop-less
     loop-again
