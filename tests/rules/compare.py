@@ -3,8 +3,8 @@
 
     tests/rules/compare.py [COUNT] [SEED]
 
-Writes COUNT histories (100 if none is given) as examples of crate `rules`, with the answers and device lines of the model, into a temporary copy of the
-crates, and has the checker compute each. The seed is printed. Exit status 0: all agree.
+Writes COUNT histories (100 if none is given) as examples of crate `rules`, with the answers and device lines of the model and all due settings read into a
+list, into a temporary copy of the crates, and has the checker compute each. The seed is printed. Exit status 0: all agree.
 """
 import os
 import random
@@ -14,8 +14,11 @@ import sys
 import tempfile
 
 from histories import CALLS, history
+from model import Refused
 
 ROOT = os.path.dirname(os.path.dirname(os.path.dirname(os.path.abspath(__file__))))
+
+LONGEST_LIST = 40
 
 
 # ---- as text of the definitions
@@ -51,25 +54,49 @@ def answer_text(a):
 
 
 def example(i, h):
-    (n, k, first), calls, answers, lines = h
-    settings = [f"some ({whole(s)})" if s is not None else "none" for s in lines]
+    (n, k, first), calls, answers, hub = h
+    settings = [f"some ({whole(s)})" if s is not None else "none" for s in hub.lines()]
     return f"""
+abbrev c{i} : List Call
+c{i} = {listed([call_text(c) for c in calls])}
+
 h{i} : Holds (record {{ devices = {n}; passLimit = {k}; firstId = {first};
-  calls = {listed([call_text(c) for c in calls])};
+  calls = c{i};
   answers = {listed([listed([answer_text(x) for x in a]) for a in answers])};
   settings = {listed(settings)} }})
 unfolding calc
 h{i} = (refl, refl, refl)
+""" + reading(i, n, k, first, hub)
+
+
+def reading(i, n, k, first, hub):
+    """All due settings into a list, of one length after another (document 02, item 14)."""
+    size = i % (LONGEST_LIST + 1)
+    lent, verdict = [7] * size, "Accepted"
+    try:
+        hub.settings(lent)
+    except Refused as refusal:
+        verdict = f"Refused (Number {refusal.answer[1]})"
+    return f"""
+l{i} : let s = stateAfter (newHub {n} {k} {first}) c{i} in
+  (listCheck s {size} ≡ {verdict}) × (listAfter s (replicate {size} (pos 7)) ≡ {listed([whole(s) for s in lent])})
+unfolding calc allDue listCheck listAfter
+l{i} = (refl, refl)
 """
 
 
 HEADER = """-- Random histories, with the answers of an independent model.
-use mathlib.Core.Path.{refl}
-use mathlib.Core.List.{[], _∷_}
+use mathlib.Core.Path.{_≡_, refl}
+use mathlib.Core.List.{List, [], _∷_}
 use mathlib.Core.Option.{none, some}
 use lib.IntN.{pos, negsuc}
+use lib.ListN.{replicate}
 use Rattle.routine.specs.declared.Refusal.the-variants.{Number, Indexed}
-use Rattle.rules.specs.Answers.{submit, turn, report, failure, restart, cancel, refused, placed, wait, send, done, skipped, committed, aborted, down, up}
+use Rattle.routine.specs.declared.Verdict.the-variants.{Accepted, Refused}
+use Rattle.rules.specs.AllDue.{allDue, listCheck, listAfter}
+use Rattle.rules.specs.Open.{newHub}
+use Rattle.rules.specs.Calls.{stateAfter}
+use Rattle.rules.specs.Answers.{Call, submit, turn, report, failure, restart, cancel, refused, placed, wait, send, done, skipped, committed, aborted, down, up}
 use Rattle.rules.specs.Examples.{calc, Holds, back}
 """
 

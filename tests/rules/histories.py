@@ -1,4 +1,4 @@
-"""Random histories of a hub: an opening and calls, most of them fitting and some odd, with the answers and device lines of the model."""
+"""Random histories of a hub: an opening and calls, most of them fitting and some odd, with the answers of the model and its hub after them."""
 from model import Hub, LAST_ID
 
 CALLS = 60
@@ -17,7 +17,7 @@ def history(rng):
         call = any_call(rng, hub, devices, weights)
         calls.append(call)
         answers.append(hub.call(call))
-    return (n, k, first), calls, answers, hub.lines()
+    return (n, k, first), calls, answers, hub
 
 
 def pick(rng, fitting, hub):
