@@ -1,7 +1,7 @@
 # The parts of tests/run: a function each. tests/run has set
-#   $archive, $program, $show_book   what is tested, by its whole path
-#   $out, $bin, $log                 what is built for the tests, its programs, the logs
-#   $scratch                         an empty folder for the part that runs
+#   $archive, $program, $show_book, $hub_vectors   what is tested, by its whole path
+#   $out, $bin, $log                               what is built for the tests, its programs, the logs
+#   $scratch                                       an empty folder for the part that runs
 #   $seed
 # Status 0: passed. 77: it cannot run here, and the last line that it prints says why. Any other: failed.
 
@@ -159,4 +159,16 @@ starters() {
         fi
         [ ! -s "$scratch/printed" ] && grep "rt check $name" "$scratch/said" || { echo "it says:" && cat "$scratch/said" && return 1; }
     done
+}
+
+# ---- the hub's calls from Rattle
+
+# Due settings, one by one and all into a list (document 02, item 14), against the reference and against the model.
+readings() {
+    local from
+    for from in "$seed" "$((seed + 1))" "$((seed + 2))" "$((seed + 3))"; do
+        "$bin/make_readings" "$from" 150 "$scratch/stdin" "$scratch/stdout" &&
+            "$hub_vectors" <"$scratch/stdin" | cmp - "$scratch/stdout" || return 1
+    done
+    python3 tests/hub/compare.py 500 "$seed" "$hub_vectors"
 }

@@ -403,6 +403,17 @@ impl Hub {
         last.unwrap_or(self.settled[device as usize])
     }
 
+    /// All due settings, into the first entries of a list: document 02, item 14. A refused call leaves the list as it was.
+    pub fn due_settings(&self, list: &mut [i16]) -> Result<(), Refusal> {
+        let Some(first) = list.get_mut(..self.device_count as usize) else {
+            return refused(21);
+        };
+        for (device, entry) in first.iter_mut().enumerate() {
+            *entry = self.due_setting(device as u8);
+        }
+        Ok(())
+    }
+
     /// The routines of the sequence, in its order.
     pub fn routines(&self) -> impl Iterator<Item = Glance> + '_ {
         self.sequence.iter().map(|r| Glance {
