@@ -1,7 +1,8 @@
-//! Writes an input for timing: `bench_inputs busy|waits|refused LINES`. The same words always give the same bytes.
+//! Writes an input for timing: `bench_inputs busy|waits|refused LINES` or `bench_inputs devices`. The same words always give the
+//! same bytes.
 
 use reference::histories::{submission, Random};
-use reference::hub::{Answer, Command, Hub, BEST_EFFORT, MOST_ROUTINES, MUST};
+use reference::hub::{Answer, Command, Hub, BEST_EFFORT, MOST_COMMANDS, MOST_ROUTINES, MUST};
 use reference::line::Program;
 use std::io::{self, Write};
 use std::process::exit;
@@ -10,9 +11,13 @@ const SEED: u64 = 20;
 
 fn main() -> io::Result<()> {
     let words: Vec<String> = std::env::args().skip(1).collect();
+    let mut bench = Bench { random: Random::new(SEED, 0), text: Vec::new(), program: Program::new(), printed: Vec::new() };
+    if words == ["devices"] {
+        bench.devices();
+        return io::stdout().lock().write_all(&bench.text);
+    }
     let [kind, lines] = words.as_slice() else { usage() };
     let Ok(lines) = lines.parse::<usize>() else { usage() };
-    let mut bench = Bench { random: Random::new(SEED, 0), text: Vec::new(), program: Program::new(), printed: Vec::new() };
     let (open, step): (&str, fn(&mut Bench)) = match kind.as_str() {
         "busy" => ("O 32 4 1", Bench::busy),
         "waits" => ("O 32 0 1", Bench::waits),
@@ -29,7 +34,7 @@ fn main() -> io::Result<()> {
 }
 
 fn usage() -> ! {
-    eprintln!("bench_inputs busy|waits|refused LINES");
+    eprintln!("bench_inputs busy|waits|refused LINES, or bench_inputs devices");
     exit(2)
 }
 
@@ -57,7 +62,12 @@ impl Bench {
     }
 
     fn submit(&mut self, most_commands: i64, devices: usize) {
-        let commands: Vec<Command> = (0..self.random.between(1, most_commands))
+        let count = self.random.between(1, most_commands);
+        self.submit_all(count, devices);
+    }
+
+    fn submit_all(&mut self, count: i64, devices: usize) {
+        let commands: Vec<Command> = (0..count)
             .map(|_| Command {
                 device: self.random.below(devices) as u8,
                 tag: if self.random.percent(30) { BEST_EFFORT } else { MUST },
@@ -111,6 +121,20 @@ impl Bench {
             (0..=39, Some(device)) => self.say(format!("R {device} 5").as_bytes()),
             _ => self.advance(),
         }
+    }
+
+    /// A short sitting that ends with 32 device lines: a full sequence of full routines, all of whose commands were done, and none of
+    /// which commits.
+    fn devices(&mut self) {
+        self.say(b"O 32 8 1");
+        for id in 1..=MOST_ROUTINES {
+            self.submit_all(MOST_COMMANDS as i64, 32);
+            for _ in 0..MOST_COMMANDS {
+                self.say(format!("N {id}").as_bytes());
+                self.say(format!("D {id}").as_bytes());
+            }
+        }
+        assert!(self.is_full() && self.hub().routines().all(|r| r.running && r.answered == MOST_COMMANDS));
     }
 
     /// Routines that all want the same few devices: fifteen turns in sixteen wait.
