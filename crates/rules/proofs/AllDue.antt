@@ -1,7 +1,7 @@
 -- Laws of the reading of all due settings (specs/AllDue.antt), and `exact-list` of specs/Causes.antt. Assumes nothing.
 use mathlib.Core.Path.{_≡_, refl, sym, ap, _∙_}
 use mathlib.Core.Bool.{Bool, true, false}
-use mathlib.Core.List.{List, [], _∷_, _++_}
+use mathlib.Core.List.{List, _++_}
 use Prim.Native.Nat.{ℕ, zero, suc, _+_, _-_, _≤_, _<_}
 use native.Mathlib.Omega.{arith}
 use borrow.Author.Tests.{lt-ltb, le-ltb, ltb-true, ltb-false}
@@ -12,7 +12,6 @@ use lib.Seq.{sets, sets-eq, getD-append-add, getD-drop}
 use Rattle.routine.specs.Refusals.{no-room, refusalOf, refuse_when_}
 use Rattle.routine.specs.Causes.{itself}
 use Rattle.routine.specs.declared.Refusal.{Refusal}
-use Rattle.routine.specs.declared.Verdict.{Verdict}
 use Rattle.routine.specs.declared.Verdict.the-variants.{Accepted, Refused}
 use Rattle.routine.proofs.Exact.{less, agree, Outcome, one, exactly}
 use Rattle.rules.specs.State.{State}

@@ -28,15 +28,16 @@ pub mod Messages
 pub mod Devices
 pub mod DeviceAborts
 pub mod DeviceKept
--- The hub of no devices; demand 3; each number under its cause alone; worlds that meet the premise, and worlds in which a wrong rule shows.
+-- The hub of no devices; demand 3; all due settings in one list; each number under its cause alone; worlds that meet the premise, and
+-- worlds in which a wrong rule shows.
 pub mod Closed
 pub mod Theorem
 pub mod AllDue
 pub mod Exact
 pub mod Worlds
 pub mod Controls
--- The waiting promise (document 02, item 1): computed schedules; what is told is what the hub holds; the measure that falls; what holds between
--- calls; what a call does to the measure; the promise; rounds exist.
+-- The waiting promise (document 02, item 1): computed schedules; what is told is what the hub holds; the measure that falls; what holds
+-- between calls; what a call does to the measure; the promise; rounds exist.
 pub mod Schedules
 pub mod Told
 pub mod Measure

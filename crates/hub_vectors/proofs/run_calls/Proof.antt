@@ -27,7 +27,6 @@ part-run-call-end c = search needs
 run-call-requires : tie.Need-run-call-requires Inv-loop μ-loop
 run-call-requires c κs = search needs
 
-
 add-at : tie.Need-add-at Inv-loop μ-loop
 add-at c = search needs
 
