@@ -63,15 +63,15 @@ impl Bench {
 
     fn submit(&mut self, most_commands: i64, devices: usize) {
         let count = self.random.between(1, most_commands);
-        self.submit_all(count, devices);
+        self.submit_all(count, devices, (-1000, 1000));
     }
 
-    fn submit_all(&mut self, count: i64, devices: usize) {
+    fn submit_all(&mut self, count: i64, devices: usize, settings: (i64, i64)) {
         let commands: Vec<Command> = (0..count)
             .map(|_| Command {
                 device: self.random.below(devices) as u8,
                 tag: if self.random.percent(30) { BEST_EFFORT } else { MUST },
-                setting: self.random.between(-1000, 1000) as i16,
+                setting: self.random.between(settings.0, settings.1) as i16,
             })
             .collect();
         self.say(submission(&commands).as_bytes());
@@ -124,11 +124,11 @@ impl Bench {
     }
 
     /// A short sitting that ends with 32 device lines: a full sequence of full routines, all of whose commands were done, and none of
-    /// which commits.
+    /// which commits. (Settings of one digit: sixteen commands have to fit a line.)
     fn devices(&mut self) {
         self.say(b"O 32 8 1");
         for id in 1..=MOST_ROUTINES {
-            self.submit_all(MOST_COMMANDS as i64, 32);
+            self.submit_all(MOST_COMMANDS as i64, 32, (0, 9));
             for _ in 0..MOST_COMMANDS {
                 self.say(format!("N {id}").as_bytes());
                 self.say(format!("D {id}").as_bytes());
