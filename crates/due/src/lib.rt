@@ -2,9 +2,6 @@
 // in one pass (`due_settings_but`), which is the only one.
 use routine::MAX_COMMANDS;
 use routine::MAX_DEVICES;
-use routine::Refusal;
-use routine::Verdict;
-use routine::refusals::NO_ROOM;
 use sequence::MAX_HELD;
 use state::DONE;
 use state::HubState;
@@ -20,7 +17,6 @@ ghost use Rattle.rules.specs.State.{maxHeld};
 ghost use Rattle.rules.specs.Tables.{anyOf};
 ghost use Rattle.rules.specs.Progress.{inFlightOn};
 ghost use Rattle.rules.specs.Due.{afterMembers, due};
-ghost use Rattle.rules.specs.AllDue.{listCheck, listAfter};
 ghost use Rattle.rules.specs.Attach.{settleRestarts};
 ghost use Rattle.state.specs.View.{settingsOf, flagsOf, restartsAt, stateOf, membersOf};
 ghost use Rattle.state.specs.Valid.{StateOk};
@@ -169,25 +165,6 @@ pub fn due_settings(state: HubState) -> [i16; MAX_DEVICES]
     ensures { λ r. ⌜ settingsOf r ≡ due (stateOf state) ⌝ }
 {
     due_settings_but(state, MAX_HELD)
-}
-
-// What all devices are due, into a lent list: document 02, item 14. "A list shorter than N gets 21 and is unchanged."
-pub fn put_due_settings(state: HubState, list: &mut [i16]) -> Verdict
-    requires { ⌜ StateOk state ⌝ }
-    ensures answers { λ r. ⌜ r ≡ listCheck (stateOf state) (length (now (list .entry))) ⌝ }
-    ensures leaves { λ _. ⌜ now (list .exit) ≡ listAfter (stateOf state) (now (list .entry)) ⌝ }
-{
-    let count = state.devices as usize;
-    if list.len() < count {
-        return Verdict::Refused(Refusal::Number(NO_ROOM));
-    }
-    let table = due_settings(state);
-    let mut d: usize = 0;
-    while d < count {
-        list[d] = table[d];
-        d += 1;
-    }
-    Verdict::Accepted
 }
 
 // The devices with a command in flight of a routine that is not in the slot `but`.

@@ -178,7 +178,7 @@ pub fn due_settings(hub: Hub, list: &mut [i16]) -> Verdict
     ensures leaves { λ _. ⌜ now (list .exit) ≡ listAfter (view hub) (now (list .entry)) ⌝ }
 {
     let state = hub.state;
-    due::put_due_settings(state, list)
+    all_due::put_settings(state, list)
 }
 
 // A hub of no devices: one that is not opened. Every call on it is turned down.

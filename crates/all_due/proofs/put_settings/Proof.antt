@@ -1,4 +1,4 @@
--- `due::put_due_settings` meets its contract. The loop's invariant: with the settings that are left stored, the list is what it is with all
+-- `all_due::put_settings` meets its contract. The loop's invariant: with the settings that are left stored, the list is what it is with all
 -- of them stored. Assumes nothing.
 use borrow.Author.Needs.{needs}
 use native.Mathlib.Omega.{arith}
@@ -14,8 +14,8 @@ use Rattle.routine.specs.Routine.{maxDevices}
 use Rattle.rules.specs.AllDue.{settingsFrom}
 use Rattle.rules.proofs.AllDue.{settings-next, settings-end, list-refused, list-accepted, list-stored}
 use Rattle.state.specs.View.{settingsOf, stateOf}
-use Rattle.due.proofs.put_due_settings.Statement.{statement}
-use Rattle.due.proofs.put_due_settings.Tie as tie
+use Rattle.all_due.proofs.put_settings.Statement.{statement}
+use Rattle.all_due.proofs.put_settings.Tie as tie
 
 abbrev Inv-loop : tie.InvT-loop
 Inv-loop list₀ count table d₀ list d =
@@ -94,8 +94,8 @@ returns-2 c =
           ∙ list-stored h list (l .before .before .if1 .left),
     )
 
-pub put-due-settings-spec : {M : Type 1} → statement M
-put-due-settings-spec =
+pub put-settings-spec : {M : Type 1} → statement M
+put-settings-spec =
     tie.close
     (tie.spec
     Inv-loop
