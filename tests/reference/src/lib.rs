@@ -1,4 +1,5 @@
-//! The plot hub and its line program once more, in plain Rust, written from document 01 alone.
+//! The plot hub and its line program once more, in plain Rust, written from document 01 and, where a request changed them, document 02
+//! alone.
 //!
 //! The product is compared with it, byte for byte, and timed against it. It shares no code with the product.
 

@@ -40,7 +40,8 @@ fn main() {
             stop(&format!("{path}: {error}"));
         }
     }
-    println!("{} records, seed {seed}: {} readings of one device, {} of all, {} of them refused", made.records, made.ones, made.lists, made.refused);
+    let Made { records, ones, lists, refused, .. } = made;
+    println!("{records} records, seed {seed}: {ones} readings of one device, {lists} of all, {refused} of them refused");
 }
 
 #[derive(Default)]
