@@ -28,27 +28,30 @@ use Rattle.routine.proofs.Exact as Made
 use Rattle.rules.specs.Tables.{put}
 use Rattle.rules.specs.State.{highestPassLimit, maxHeld, highestId, Status, to-do, in-flight, was-done, was-skipped, Step, Member}
 use Rattle.rules.specs.State.{State}
-use Rattle.rules.specs.Answers.{Call, submit, turn, report, failure, restart, cancel, Answer, refused, placed, wait, send, done}
+use Rattle.rules.specs.Answers.{Call, submit, turn, report, failure, restart, cancel, limit, Answer, refused, placed, wait, send}
+use Rattle.rules.specs.Answers.{done}
 use Rattle.rules.specs.Answers.{skipped, committed}
-use Rattle.rules.specs.Answers.{aborted, down, up, Result, turnedDown, unlessRefused}
+use Rattle.rules.specs.Answers.{aborted, down, up, limited, Result, turnedDown, unlessRefused}
 use Rattle.rules.specs.Progress.{isMust, next, Flight, flightOr, flight}
-use Rattle.rules.specs.Sequence.{Found, onto, find, isRunning, runs, withUp}
+use Rattle.rules.specs.Sequence.{Found, onto, find, isRunning, runs, withUp, withPassLimit}
 use Rattle.rules.specs.Settle.{settling}
 use Rattle.rules.specs.Abort.{abort}
-use Rattle.rules.specs.Open.{opened, not-opened, openCheck, newHub, openIf, openOf}
+use Rattle.rules.specs.Open.{opened, not-opened, limitCheck, openCheck, newHub, openIf, openOf}
 use Rattle.rules.specs.Submit.{submitCheck, submitOf}
 use Rattle.rules.specs.Turn.{firstHolding, commitTurn, sendTurn, skipTurn, proceed, waitOr, turnNext, turnFlight, turnFound, turnOf}
 use Rattle.rules.specs.Report.{codeDone, codeFailed, doneReport, skipReport, reported, reportFlight, reportFound, reportOf}
 use Rattle.rules.specs.Events.{isHalfway, abortIfAny, abortHalfway, failureResult, restartResult, failureOf, restartOf}
 use Rattle.rules.specs.Cancel.{cancelFound, cancelOf}
+use Rattle.rules.specs.Limit.{limitOf}
 use Rattle.rules.specs.Calls.{resultOf}
 use Rattle.rules.specs.Causes.{RunsUnder, NoneRunsUnder, InFlight, OneInFlight, NoneInFlight, IsRefusal, openingCauses, callCauses}
 use Rattle.rules.specs.Causes.{OpeningCause, devices-are-out, limit-is-out, id-is-0}
 use Rattle.rules.specs.Causes.{CallCause, routine-is-out, is-full, ids-are-used-up, turn-of-none, cancel-of-none, report-on-none}
 use Rattle.rules.specs.Causes.{one-flies}
 use Rattle.rules.specs.Causes.{none-flies, code-is-out, failure-is-out, restart-is-out, is-down, is-up, restart-setting-is-out}
+use Rattle.rules.specs.Causes.{new-limit-is-out}
 use Rattle.rules.specs.Causes.{ExactOpening, ExactCall, ExactSubmission, ExactTurn, ExactReport, ExactCancel, ExactFailure}
-use Rattle.rules.specs.Causes.{ExactRestart}
+use Rattle.rules.specs.Causes.{ExactRestart, ExactLimit}
 use Rattle.rules.proofs.Lists.{byIf, t≠f}
 
 -- ---- the first of a list
@@ -146,6 +149,7 @@ isRefused (committed i) = false
 isRefused (aborted i l) = false
 isRefused (down d i) = false
 isRefused (up d i) = false
+isRefused (limited k) = false
 
 no-refusal : (a : Answer) → isRefused a ≡ false → ¬ (IsRefusal a)
 no-refusal a e h = t≠f (sym (ap isRefused (h .1)) ∙ e)
@@ -482,6 +486,19 @@ restart-judged : (s : State) (d : ℕ) (v : ℤ) → Judged (restartVerdict s d 
 unfolding restartOf
 restart-judged s d v = judged-unless (restartVerdict s d v) s (settling (restartResult s d v)) (restart-fine s d v)
 
+-- ---- a new pass limit
+
+new-limit-said : (s : State) (k : ℕ) → CallCause s (limit k) pass-limit-out-of-range → highestPassLimit < k
+new-limit-said s k (new-limit-is-out h) = h
+
+limit-outcome : (s : State) (k : ℕ) → Outcome (CallCause s (limit k)) itself (callCauses (limit k)) (limitCheck k)
+limit-outcome s k =
+    one (CallCause s (limit k)) itself pass-limit-out-of-range _ (agree (less highestPassLimit k) new-limit-is-out (new-limit-said s k))
+
+limit-judged : (s : State) (k : ℕ) → Judged (limitCheck k) s (limitOf s k)
+unfolding limitOf
+limit-judged s k = judged-unless (limitCheck k) s (record { state = withPassLimit s k; answers = limited k ∷ [] }) (no-refusal _ refl, tt)
+
 -- ---- the theorems
 
 -- every call has its verdict
@@ -492,6 +509,7 @@ judge s (report i code) = report-verdicted s i code
 judge s (failure d) = record { verdict = failureVerdict s d; made = failure-outcome s d; judged = failure-judged s d }
 judge s (restart d v) = record { verdict = restartVerdict s d v; made = restart-outcome s d v; judged = restart-judged s d v }
 judge s (cancel i) = cancel-verdicted s i
+judge s (limit k) = record { verdict = limitCheck k; made = limit-outcome s k; judged = limit-judged s k }
 
 pub exact-calls : (s : State) (c : Call) → ExactCall s c
 exact-calls s c = let j = judge s c in exact-call s c (j .verdict) (j .made) (j .judged)
@@ -513,6 +531,9 @@ exact-failure s d = exact-calls s (failure d)
 
 pub exact-restart : ExactRestart
 exact-restart s d v = exact-calls s (restart d v)
+
+pub exact-limit : ExactLimit
+exact-limit s k = exact-calls s (limit k)
 
 -- ---- one refusal, or none
 

@@ -10,7 +10,7 @@ use Rattle.routine.specs.Choice.{if_then_else_}
 use Rattle.routine.specs.declared.Command.{Command}
 use Rattle.rules.specs.Tables.{anyOf, Each}
 use Rattle.rules.specs.State.{State}
-use Rattle.rules.specs.Answers.{Call, submit, turn, report, failure, restart, cancel}
+use Rattle.rules.specs.Answers.{Call, submit, turn, report, failure, restart, cancel, limit}
 use Rattle.rules.specs.Progress.{begun, finished, inFlightOn, Flight, flight}
 use Rattle.rules.specs.Due.{due}
 use Rattle.rules.specs.Report.{codeDone}
@@ -190,3 +190,4 @@ PremiseOnCall a ds (report i code) = anyOf (sameOrigin (sent-for i (a i .sends))
 PremiseOnCall a ds (failure d) = Unit {0}
 PremiseOnCall a ds (restart d v) = v ≡ ds d .setting
 PremiseOnCall a ds (cancel i) = Unit {0}
+PremiseOnCall a ds (limit k) = Unit {0}

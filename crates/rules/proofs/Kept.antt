@@ -72,7 +72,7 @@ hub-moves s l h (restarts d v r lead k _ _ g) = let j = hub-gone s d l h g in hu
 -- ---- commands in flight
 
 -- a change of the state that leaves up what was up
-no-flight-on-up : (s t : State) → ((d : ℕ) → s .up d ≡ true → t .up d ≡ true) → (l : List Group) → Each (InFlightIsUp s) l →
+pub no-flight-on-up : (s t : State) → ((d : ℕ) → s .up d ≡ true → t .up d ≡ true) → (l : List Group) → Each (InFlightIsUp s) l →
     Each (InFlightIsUp t) l
 no-flight-on-up s t u l f = each-map (InFlightIsUp s) (InFlightIsUp t) (λ g q. record { flies-up = λ d e. u d (q .flies-up d e) }) l f
 

@@ -6,7 +6,7 @@ use mathlib.Core.Bool.{Bool, true, false, not, _&&_, _||_}
 use mathlib.Core.List.{List, [], _∷_, _++_}
 use Prim.Native.Nat.{ℕ, suc, _+_, _-_, _*_, _<_, _≤_}
 use native.Mathlib.Omega.{arith}
-use borrow.Author.Tests.{eqb-true, eq-eqb, leb-false}
+use borrow.Author.Tests.{eqb-true, leb-false}
 use lib.Dec.{leb, eqb}
 use lib.ListN.{length}
 use Rattle.routine.specs.Choice.{if_then_else_}
@@ -190,17 +190,11 @@ module _ (k i : ℕ) where
       omega arith)
       (λ t q. at-most-behind g (a ++ b) (a ++ (x ∷ passAll b)) (place-at-most n s cs e a x b (d .3) q f o w))
 
-  -- ---- the measure at the beginning
+  -- ---- the measure at any time
 
-  pub first-measure : (a : List Group) (x : Group) (b : List Group) → Each FewLeft a → FewLeft x → x .member .id ≡ i →
-      x .member .passed ≡ 0 →
-      measure k i (a ++ (x ∷ b)) ≤ fullWeight * (suc (length a) + k)
-  first-measure [] x b h w e p =
-      let own : further x (measure k i b) ≡ fullWeight * (k - x .member .passed) = rw (eq-eqb (x .member .id) i e) refl in
-      let most = most-weight x w in
-      omega arith
-  first-measure (g ∷ a) x b h w e p =
+  pub most-measure : (l : List Group) → Each FewLeft l → measure k i l ≤ fullWeight * (length l + k)
+  most-measure [] h = omega arith
+  most-measure (g ∷ l) h =
       let most = most-weight g (h .0) in
-      let rest = first-measure a x b (h .1) w e p in
-      byIf (λ y. weight (g .member) + y ≤ fullWeight * (suc (suc (length a)) + k)) (eqb (g .member .id) i) (λ _. omega arith)
-      (λ _. omega arith)
+      let rest = most-measure l (h .1) in
+      byIf (λ y. weight (g .member) + y ≤ fullWeight * (suc (length l) + k)) (eqb (g .member .id) i) (λ _. omega arith) (λ _. omega arith)

@@ -11,7 +11,7 @@ use lib.ListN.{length}
 use Rattle.routine.specs.declared.Command.{Command}
 use Rattle.rules.specs.Tables.{anyOf}
 use Rattle.rules.specs.State.{Step, State}
-use Rattle.rules.specs.Answers.{Call, submit, turn, report, failure, restart, cancel, Result}
+use Rattle.rules.specs.Answers.{Call, submit, turn, report, failure, restart, cancel, limit, Result}
 use Rattle.rules.specs.Progress.{Flight, flight}
 use Rattle.rules.specs.Due.{due}
 use Rattle.rules.specs.Sequence.{isRunning}
@@ -35,7 +35,7 @@ use Rattle.rules.proofs.Ready.{new-few-left, Ready}
 
 -- ---- the measure and a call
 
--- calls of a schedule: no failure, restart or cancel
+-- calls of a schedule by which no measure rises: no failure, restart, cancel or new pass limit
 abbrev pub OfSchedule : Call → Type 0
 OfSchedule (submit cs) = Unit {0}
 OfSchedule (turn i) = Unit {0}
@@ -43,6 +43,7 @@ OfSchedule (report i code) = Unit {0}
 OfSchedule (failure d) = ⊥
 OfSchedule (restart d v) = ⊥
 OfSchedule (cancel i) = ⊥
+OfSchedule (limit k) = ⊥
 
 -- who runs among some runs among more
 runs-more : (i : ℕ) (a : List Group) (g : Group) (b : List Group) → Runs i (a ++ b) → Runs i (a ++ (g ∷ b))
@@ -91,7 +92,8 @@ less-weight g h c r q e =
     let y : weight (h .member) ≡ suc (length (leftSteps (h .member .steps))) = rw q refl in
     omega arith
 
-module _ (k i : ℕ) (s : State) (h : List Told) (l : List Group) (y : Ready k s h l) (given : i < s .nextId) where
+module _ (k i : ℕ) (s : State) (in-force : s .passLimit ≡ k) (h : List Told) (l : List Group) (y : Ready s h l)
+    (given : i < s .nextId) where
   pub moves-at-most : {c : Call} {r : Result} {lead : List Event} {m : List Group} → Moves s l c r lead m → OfSchedule c → NotRaised k i l m
   unfolding newcomer commit isRunning
   moves-at-most (places cs a b q e u p n) of = λ r.
@@ -102,7 +104,7 @@ module _ (k i : ℕ) (s : State) (h : List Told) (l : List Group) (y : Ready k s
       sym (any-drop isRunning i a new b (other-has isRunning i new other)) ∙ any-same isRunning same-runs i (same-placed a new b) ∙ r in (
         subst (Runs i) (sym e) runs,
         subst (λ z. measure k i (a ++ (new ∷ passAll b)) ≤ measure k i z) (sym e)
-            (place-at-most k i (s .nextId) s cs (y .limit) a new b (w .ids-ok) runs n other (most-weight new (new-few-left s cs q))),
+            (place-at-most k i (s .nextId) s cs in-force a new b (w .ids-ok) runs n other (most-weight new (new-few-left s cs q))),
       )
   moves-at-most (commits j a g b e n r f q) of =
       subst (λ z. NotRaised k i z (a ++ (with g (commit (g .member)) ∷ b))) (sym e)
@@ -176,6 +178,7 @@ IsTurn (report i code) = ⊥
 IsTurn (failure d) = ⊥
 IsTurn (restart d v) = ⊥
 IsTurn (cancel i) = ⊥
+IsTurn (limit k) = ⊥
 
 -- it is a turn of routine j, or a report on it
 abbrev pub Asks : ℕ → Call → Type 0
@@ -185,6 +188,7 @@ Asks j (report i code) = i ≡ j
 Asks j (failure d) = ⊥
 Asks j (restart d v) = ⊥
 Asks j (cancel i) = ⊥
+Asks j (limit k) = ⊥
 
 pub asks-of-schedule : (j : ℕ) (c : Call) → Asks j c → OfSchedule c
 asks-of-schedule j (submit cs) h = tt
@@ -193,6 +197,7 @@ asks-of-schedule j (report i code) h = tt
 asks-of-schedule j (failure d) h = h
 asks-of-schedule j (restart d v) h = h
 asks-of-schedule j (cancel i) h = h
+asks-of-schedule j (limit k) h = h
 
 -- a command of these is in flight
 abbrev pub Flies : List Step → Type 0
@@ -203,7 +208,7 @@ pub data Own (k j : ℕ) (c : Call) (l m : List Group) : Type 0 where
   falls : ((i : ℕ) → Runs i m → measure k i m < measure k i l) → Own k j c l m
   flies : IsTurn c → (steps : List Step) → HeadIs j steps m → Flies steps → Own k j c l m
 
-module _ (k : ℕ) (s : State) (h : List Told) (l : List Group) (y : Ready k s h l) where
+module _ (k : ℕ) (s : State) (h : List Told) (l : List Group) (y : Ready s h l) where
   module _ (j : ℕ) (steps : List Step) (hd : HeadIs j steps l) where
     -- about another
     pub others-move : {c : Call} {r : Result} {lead : List Event} {m : List Group} (i : ℕ) → Moves s l c r lead m → Asks i c → i ≢ j →

@@ -16,7 +16,7 @@ use Rattle.rules.specs.Tables.{anyOf, Each}
 use Rattle.rules.specs.State.{Member, State}
 use Rattle.rules.specs.Answers.{Result}
 use Rattle.rules.specs.Progress.{isOn, isAnswered, begun, finished}
-use Rattle.rules.specs.Sequence.{isRunning, lastIdOr, withSequence, withSettled, withUp, moveMarks}
+use Rattle.rules.specs.Sequence.{isRunning, lastIdOr, withSequence, withSettled, withUp, withPassLimit, moveMarks}
 use Rattle.rules.specs.Settle.{joinSettled, settle}
 use Rattle.rules.specs.Abort.{leave, abort}
 use Rattle.rules.specs.Submit.{blocks, upToLast, pastLast, stepOf, newcomer, place}
@@ -371,6 +371,18 @@ hub-up s u l h =
       nothing-left-all = h .nothing-left-all;
       turns =
           h .turns;
+      some-id = h .some-id;
+    }
+
+-- a new pass limit
+pub hub-limit : (s : State) (k : ℕ) (l : List Group) → HubOk s l → HubOk (withPassLimit s k) l
+hub-limit s k l h =
+    record {
+      sequence-is = h .sequence-is;
+      ids-ok = h .ids-ok;
+      marks = h .marks;
+      nothing-left-all = h .nothing-left-all;
+      turns = h .turns;
       some-id = h .some-id;
     }
 

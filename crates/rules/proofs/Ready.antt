@@ -1,17 +1,21 @@
 -- What holds between calls of the hub and of what was told: the ground of the waiting promise. It is kept by every call. Assumes nothing.
 use mathlib.Core.Path.{_≡_, refl, sym, ap, _∙_, subst}
-use mathlib.Core.List.{List, [], _∷_}
+use mathlib.Core.List.{List, [], _∷_, _++_}
 use Prim.Native.Nat.{ℕ, suc, _<_, _≤_}
 use native.Mathlib.Omega.{arith}
+use borrow.Author.Tests.{leb-false}
+use lib.Dec.{leb}
 use lib.ListN.{length}
+use Rattle.routine.specs.Refusals.{sequence-full, refuse_when_}
 use Rattle.routine.specs.Routine.{maxCommands, routineCheck}
 use Rattle.routine.specs.declared.Command.{Command}
 use Rattle.routine.specs.declared.Verdict.the-variants.{Accepted}
-use Rattle.routine.proofs.Laws.{both-accept, check-accepted}
+use Rattle.routine.proofs.Laws.{both-accept, not-refused, check-accepted}
 use Rattle.rules.specs.Tables.{Each}
-use Rattle.rules.specs.State.{State}
-use Rattle.rules.specs.Answers.{Call, turn, Answer, refused, wait, Result}
+use Rattle.rules.specs.State.{maxHeld, State}
+use Rattle.rules.specs.Answers.{Call, turn, limit, Answer, refused, wait, limited, Result}
 use Rattle.rules.specs.Due.{due}
+use Rattle.rules.specs.Sequence.{withPassLimit}
 use Rattle.rules.specs.Settle.{settle}
 use Rattle.rules.specs.Abort.{leave, abort}
 use Rattle.rules.specs.Open.{opened, newHub, openOf}
@@ -22,24 +26,24 @@ use Rattle.rules.specs.Calls.{resultOf, stateAfter}
 use Rattle.rules.specs.History.{Told, noteAnswers, accountsOf}
 use Rattle.rules.specs.Order.{Event, failure-of, restart-of}
 use Rattle.rules.specs.Attach.{attach, oneRestart}
-use Rattle.rules.specs.Rounds.{callsTold, toldThen, flyingAfterAll, flyingOf}
-use Rattle.rules.proofs.Lists.{each-mid, each-drop, each-insert, each-swap}
-use Rattle.rules.proofs.Groups.{Group, alone, with, stillHeld, each-held}
-use Rattle.rules.proofs.Same.{Same, same-placed, same-leaving, same-attached, same-each}
+use Rattle.rules.specs.Rounds.{callsTold, toldThen, flyingAfterAll, flyingOf, limitAfter, limitAfterAll, limitTold, KeepsLimit}
+use Rattle.rules.proofs.Lists.{byIf, each-mid, each-drop, each-insert, each-swap}
+use Rattle.rules.proofs.Groups.{Group, members, alone, with, leaving, attachEvent, stillHeld, each-held}
+use Rattle.rules.proofs.Same.{Pairwise, no-pair, pair, Same, same-placed, same-leaving, same-attached, same-each}
 use Rattle.rules.proofs.Steps.{leftSteps, send-step, skip-step, done-step, fail-step, fresh-newcomer}
 use Rattle.rules.proofs.Invariant.{unmarked, HubOk, FirstRuns}
 use Rattle.rules.proofs.View.{sentMember, skippedMember, doneMember, failedMember, Gone}
 use Rattle.rules.proofs.View.{nobody, somebody, Moves, places, commits, sends, skips, dones, misses, aborts, fails, restarts}
-use Rattle.rules.proofs.View.{Seen, is-refused, waits, moves, see}
+use Rattle.rules.proofs.View.{Seen, is-refused, waits, limits, moves, see}
 use Rattle.rules.proofs.Fields.{Fixed, gone-fixed, attach-fixed, settle-fixed}
 use Rattle.rules.proofs.Marks.{in-turn}
-use Rattle.rules.proofs.Moved.{hub-settles}
+use Rattle.rules.proofs.Moved.{hub-limit, hub-settles}
 use Rattle.rules.proofs.Kept.{hub-moves}
 use Rattle.rules.proofs.Serial.{first-runs}
 use Rattle.rules.proofs.Told.{RunsTold}
 use Rattle.rules.proofs.Told.{runs-moves, runs-held, FliesTold, flies-told, flies-held}
 use Rattle.rules.proofs.Measure.{FewLeft}
-use Rattle.rules.proofs.Theorem.{opening}
+use Rattle.rules.proofs.Theorem.{see-any, opening}
 
 -- ---- what holds between calls
 
@@ -116,25 +120,102 @@ fixed-moves s l (restarts d v r lead k n u g) =
     let f = attach-fixed (r .state .mark d) (oneRestart d v) (r .state) ∙ gone-fixed s d l g in
     (ap (λ (x : Fixed). x .passLimit) f, subst (λ (x : Fixed). s .nextId ≤ x .nextId) (sym f) (omega arith))
 
--- the hub in state s after history h, its pass limit being k
-pub record Ready (k : ℕ) (s : State) (h : List Told) (l : List Group) : Type 0 where
+-- ---- how many are held
+
+length-members : (l : List Group) → length (members l) ≡ length l
+length-members [] = refl
+length-members (g ∷ l) = ap suc (length-members l)
+
+same-length : {l k : List Group} → Pairwise Same l k → length k ≡ length l
+same-length no-pair = refl
+same-length (pair r q) = ap suc (same-length q)
+
+held-at-most : (n : ℕ) (l : List Group) → length l ≤ n → length (stillHeld l) ≤ n
+held-at-most n [] h = h
+held-at-most n (g ∷ l) h = byIf (λ k. length k ≤ n) (g .member .committed) (λ _. held-at-most n l (omega arith)) (λ _. h)
+
+-- there was room for the newcomer
+room-for-one : (s : State) (cs : List Command) (l : List Group) → submitCheck s cs ≡ Accepted → s .sequence ≡ members l → length l < maxHeld
+unfolding submitCheck
+room-for-one s cs l e q =
+    let f = both-accept (routineCheck (s .devices) cs) _ e .1 in
+    let g = not-refused sequence-full (leb maxHeld (length (s .sequence)))
+    (both-accept (refuse sequence-full when leb maxHeld (length (s .sequence))) _ f .0) in
+    let n = leb-false maxHeld (length (s .sequence)) g in
+    let m : length (s .sequence) ≡ length l = ap length q ∙ length-members l in
+    omega arith
+
+-- one in the middle
+length-mid : (a : List Group) (g : Group) (b : List Group) → length (a ++ (g ∷ b)) ≡ suc (length (a ++ b))
+length-mid [] g b = refl
+length-mid (x ∷ a) g b = ap suc (length-mid a g b)
+
+-- g becomes h; g leaves
+swapped-room : (a : List Group) (g h : Group) (b : List Group) {l : List Group} → l ≡ a ++ (g ∷ b) → length l ≤ maxHeld →
+    length (a ++ (h ∷ b)) ≤ maxHeld
+swapped-room a g h b e n =
+    let p = length-mid a g b in
+    let q = length-mid a h b in
+    let z = ap length e in
+    omega arith
+
+left-room : (a : List Group) (g : Group) (b : List Group) {l : List Group} → l ≡ a ++ (g ∷ b) → length l ≤ maxHeld →
+    length (leaving a g b) ≤ maxHeld
+left-room a g b e n =
+    let p = length-mid a g b in
+    let q = same-length (same-leaving a g b) in
+    let z = ap length e in
+    omega arith
+
+gone-room : (s : State) (d : ℕ) (l : List Group) {r : Result} {lead : List Event} {k : List Group} → length l ≤ maxHeld →
+    Gone s d l r lead k →
+    length k ≤ maxHeld
+gone-room s d l n (nobody q) = n
+gone-room s d l n (somebody a g b e q) = left-room a g b e n
+
+event-room : (j : ℕ) (x : Event) (l : List Group) → length l ≤ maxHeld → length (attachEvent j x l) ≤ maxHeld
+event-room j x l n = let q = same-length (same-attached j x l) in omega arith
+
+-- the sequence holds no more than it may
+room-moves : (s : State) (l : List Group) {c : Call} {r : Result} {lead : List Event} {k : List Group} → HubOk s l → length l ≤ maxHeld →
+    Moves s l c r lead k → length k ≤ maxHeld
+room-moves s l h t (places cs a b q e u p n) =
+    let new = alone (newcomer (s .nextId) cs) in
+    let w = room-for-one s cs l q (h .sequence-is) in
+    let x = same-length (same-placed a new b) in
+    let y = length-mid a new b in
+    let z = ap length e in
+    omega arith
+room-moves s l h t (commits i a g b e n r f q) = swapped-room a g (with g (commit (g .member))) b e t
+room-moves s l h t (sends i a g b c e n r f q w u) = swapped-room a g (with g (sentMember s g c)) b e t
+room-moves s l h t (skips i a g b c e n r f q w u) = swapped-room a g (with g (skippedMember g)) b e t
+room-moves s l h t (dones i code a g b x e n r f q) = swapped-room a g (with g (doneMember g)) b e t
+room-moves s l h t (misses i code a g b x e n r f q) = swapped-room a g (with g (failedMember g)) b e t
+room-moves s l h t (aborts c a g b e r k) = left-room a g b e t
+room-moves s l h t (fails d r lead k n u w) = event-room (r .state .mark d) (failure-of d) k (gone-room _ d l t w)
+room-moves s l h t (restarts d v r lead k n u w) = event-room (r .state .mark d) (restart-of d v) k (gone-room s d l t w)
+
+-- ---- between calls
+
+-- the hub in state s after history h
+pub record Ready (s : State) (h : List Told) (l : List Group) : Type 0 where
   pub hub : HubOk s l
   pub first : FirstRuns l
   pub running-told : RunsTold (accountsOf h) l
   pub flying-told : FliesTold (flyingOf h) l
   pub few-left : Each FewLeft l
-  pub limit : s .passLimit ≡ k
+  pub room : length l ≤ maxHeld
 
-pub ready-moves : (k : ℕ) (s : State) (h : List Told) (l : List Group) → Ready k s h l →
+pub ready-moves : (s : State) (h : List Told) (l : List Group) → Ready s h l →
     {c : Call} {r : Result} {lead : List Event} {m : List Group} → Moves s l c r lead m →
-    Ready k (settle (r .state)) (record { call = c; answers = r .answers } ∷ h) (stillHeld m)
-ready-moves k s h l y {c = c} {r = r} {m = m} v = record {
+    Ready (settle (r .state)) (record { call = c; answers = r .answers } ∷ h) (stillHeld m)
+ready-moves s h l y {c = c} {r = r} {m = m} v = record {
   hub = hub-settles (r .state) m (hub-moves s l (y .hub) v);
   first = first-runs m;
   running-told = runs-held (noteAnswers c (r .answers) (accountsOf h)) m (runs-moves s (accountsOf h) l (y .hub) (y .running-told) v);
   flying-told = flies-held (flyingAfterAll (r .answers) (flyingOf h)) m (flies-told s (flyingOf h) l (y .hub) (y .flying-told) v);
   few-left = each-held FewLeft m (few-left-moves s l (y .hub) (y .few-left) v);
-  limit = ap (λ (x : Fixed). x .passLimit) (settle-fixed (r .state)) ∙ fixed-moves s l v .0 ∙ y .limit;
+  room = held-at-most maxHeld m (room-moves s l (y .hub) (y .room) v);
 }
 
 -- a call told, with these answers
@@ -142,25 +223,36 @@ abbrev pub saying : Call → List Answer → Told
 saying c answers = record { call = c; answers = answers }
 
 -- a call that tells nothing
-pub untold : (k : ℕ) (s : State) (h : List Told) (l : List Group) (t : Told) → accountsOf (t ∷ h) ≡ accountsOf h →
-    flyingOf (t ∷ h) ≡ flyingOf h → Ready k s h l → Ready k s (t ∷ h) l
-untold k s h l t a f y = record {
+pub untold : (s : State) (h : List Told) (l : List Group) (t : Told) → accountsOf (t ∷ h) ≡ accountsOf h →
+    flyingOf (t ∷ h) ≡ flyingOf h → Ready s h l → Ready s (t ∷ h) l
+untold s h l t a f y = record {
   hub = y .hub;
   first = y .first;
   running-told = subst (λ x. RunsTold x l) (sym a) (y .running-told);
   flying-told = subst (λ x. FliesTold x l) (sym f) (y .flying-told);
   few-left = y .few-left;
-  limit = y .limit;
+  room = y .room;
 }
 
-pub ready-seen : (k : ℕ) (s : State) (h : List Told) (l : List Group) → Ready k s h l → {c : Call} {r : Result} → Seen s l c r →
-    (m : List Group) × Ready k (r .state) (saying c (r .answers) ∷ h) m
-ready-seen k s h l y {c = c} (is-refused r) = (l, untold k s h l (saying c (refused r ∷ [])) refl refl y)
-ready-seen k s h l y (waits i a g b d j e n f) = (l, untold k s h l (saying (turn i) (wait (g .member .id) j ∷ [])) refl refl y)
-ready-seen k s h l y (moves {k = m} v) = (stillHeld m, ready-moves k s h l y v)
+pub ready-seen : (s : State) (h : List Told) (l : List Group) → Ready s h l → {c : Call} {r : Result} → Seen s l c r →
+    (m : List Group) × Ready (r .state) (saying c (r .answers) ∷ h) m
+ready-seen s h l y {c = c} (is-refused r) = (l, untold s h l (saying c (refused r ∷ [])) refl refl y)
+ready-seen s h l y (waits i a g b d j e n f) = (l, untold s h l (saying (turn i) (wait (g .member .id) j ∷ [])) refl refl y)
+ready-seen s h l y (limits j e) = (l, anew)
+  where
+    anew : Ready (withPassLimit s j) (saying (limit j) (limited j ∷ []) ∷ h) l
+    anew = record {
+      hub = hub-limit s j l (y .hub);
+      first = y .first;
+      running-told = y .running-told;
+      flying-told = y .flying-told;
+      few-left = y .few-left;
+      room = y .room;
+    }
+ready-seen s h l y (moves {k = m} v) = (stillHeld m, ready-moves s h l y v)
 
 -- the hub of an accepted opening
-ready-new : (n k first : ℕ) → 0 < first → Ready k (newHub n k first) [] []
+ready-new : (n k first : ℕ) → 0 < first → Ready (newHub n k first) [] []
 unfolding newHub
 ready-new n k first p = record {
   hub = record { sequence-is = refl; ids-ok = tt; marks = λ d. unmarked refl tt; nothing-left-all = tt; turns = tt; some-id = p };
@@ -168,16 +260,68 @@ ready-new n k first p = record {
   running-told = λ i. refl;
   flying-told = λ i. refl;
   few-left = tt;
-  limit = refl;
+  room = omega arith;
 }
 
-pub ready-opened : (n k first : ℕ) (s : State) → openOf n k first ≡ opened s → Ready k s [] []
-ready-opened n k first s e = let o = opening n k first s e in subst (λ x. Ready k x [] []) (o .0) (ready-new n k first (o .1))
+pub ready-opened : (n k first : ℕ) (s : State) → openOf n k first ≡ opened s → Ready s [] []
+ready-opened n k first s e = let o = opening n k first s e in subst (λ x. Ready x [] []) (o .0) (ready-new n k first (o .1))
 
 -- after any calls
-pub ready-calls : (k : ℕ) (s : State) (h : List Told) (l : List Group) → Ready k s h l → (calls : List Call) →
-    (m : List Group) × Ready k (stateAfter s calls) (toldThen h (callsTold s calls)) m
-ready-calls k s h l y [] = (l, y)
-ready-calls k s h l y (c ∷ calls) =
-    let r = ready-seen k s h l y (see s l (y .hub .sequence-is) c) in
-    ready-calls k (resultOf s c .state) (saying c (resultOf s c .answers) ∷ h) (r .0) (r .1) calls
+pub ready-calls : (s : State) (h : List Told) (l : List Group) → Ready s h l → (calls : List Call) →
+    (m : List Group) × Ready (stateAfter s calls) (toldThen h (callsTold s calls)) m
+ready-calls s h l y [] = (l, y)
+ready-calls s h l y (c ∷ calls) =
+    let r = ready-seen s h l y (see s l (y .hub .sequence-is) c) in
+    ready-calls (resultOf s c .state) (saying c (resultOf s c .answers) ∷ h) (r .0) (r .1) calls
+
+-- ---- the pass limit that is told
+
+gone-limit : (s : State) (d : ℕ) (l : List Group) (x : Answer) (n : ℕ) {r : Result} {lead : List Event} {k : List Group} →
+    Gone s d l r lead k →
+    limitAfterAll (r .answers ++ (x ∷ [])) n ≡ limitAfter x n
+unfolding abort
+gone-limit s d l x n (nobody q) = refl
+gone-limit s d l x n (somebody a g b q f) = refl
+
+limit-moves : (s : State) (l : List Group) {c : Call} {r : Result} {lead : List Event} {k : List Group} → Moves s l c r lead k → (n : ℕ) →
+    limitAfterAll (r .answers) n ≡ n
+unfolding commitTurn sendTurn skipTurn doneReport skipReport abort
+limit-moves s l (places cs a b q e u p m) n = refl
+limit-moves s l (commits i a g b e m r f q) n = refl
+limit-moves s l (sends i a g b c e m r f q w u) n = refl
+limit-moves s l (skips i a g b c e m r f q w u) n = refl
+limit-moves s l (dones i code a g b x e m r f q) n = refl
+limit-moves s l (misses i code a g b x e m r f q) n = refl
+limit-moves s l (aborts c a g b e r q) n = refl
+limit-moves s l (fails d r lead k m u g) n = gone-limit _ d l _ n g
+limit-moves s l (restarts d v r lead k m u g) n = gone-limit s d l _ n g
+
+-- a call tells of the hub's pass limit, and only a new one changes it
+limit-seen : (s : State) (l : List Group) {c : Call} {r : Result} → Seen s l c r →
+    (limitAfterAll (r .answers) (s .passLimit) ≡ r .state .passLimit) × (KeepsLimit c → (n : ℕ) → limitAfterAll (r .answers) n ≡ n)
+limit-seen s l (is-refused r) = (refl, λ _ n. refl)
+limit-seen s l (waits i a g b d j e n f) = (refl, λ _ n. refl)
+limit-seen s l (limits k e) = (refl, λ no n. absurd no)
+limit-seen s l (moves {r = r} v) = (
+  limit-moves s l v (s .passLimit) ∙ sym (ap (λ (x : Fixed). x .passLimit) (settle-fixed (r .state)) ∙ fixed-moves s l v .0),
+  λ _. limit-moves s l v,
+)
+
+pub limit-told : (k : ℕ) (s : State) (h : List Told) → limitTold k h ≡ s .passLimit → (calls : List Call) →
+    limitTold k (toldThen h (callsTold s calls)) ≡ stateAfter s calls .passLimit
+limit-told k s h e [] = e
+limit-told k s h e (c ∷ calls) =
+    limit-told k (resultOf s c .state) (saying c (resultOf s c .answers) ∷ h)
+    (ap (limitAfterAll (resultOf s c .answers)) e ∙ limit-seen s _ (see-any s c) .0) calls
+
+pub limit-kept : (k : ℕ) (s : State) (h : List Told) → limitTold k h ≡ k → (calls : List Call) → Each KeepsLimit calls →
+    limitTold k (toldThen h (callsTold s calls)) ≡ k
+limit-kept k s h e [] keeps = e
+limit-kept k s h e (c ∷ calls) keeps =
+    limit-kept k (resultOf s c .state) (saying c (resultOf s c .answers) ∷ h)
+    (ap (limitAfterAll (resultOf s c .answers)) e ∙ limit-seen s _ (see-any s c) .1 (keeps .0) k) calls (keeps .1)
+
+-- the opening's
+pub opened-limit : (n k first : ℕ) (s : State) → openOf n k first ≡ opened s → k ≡ s .passLimit
+unfolding newHub
+opened-limit n k first s e = ap (λ (x : State). x .passLimit) (opening n k first s e .0)

@@ -3,7 +3,7 @@
 use mathlib.Core.Path.{_≡_, refl, sym, ap, _∙_, subst}
 use mathlib.Core.Logic.{_≢_}
 use mathlib.Core.Bool.{Bool, true, false, not, _&&_, _||_, and-assoc}
-use mathlib.Core.List.{List, [], _∷_, _++_, map}
+use mathlib.Core.List.{List, [], _∷_, _++_, map, append-assoc}
 use mathlib.Core.Option.{Option, none, some}
 use Prim.Native.Nat.{ℕ, zero, suc, _+_, _<_, _≤_}
 use native.Mathlib.Omega.{arith}
@@ -14,7 +14,7 @@ use Rattle.routine.specs.declared.Command.{Command}
 use Rattle.routine.proofs.Laws.{byTest}
 use Rattle.rules.specs.Tables.{anyOf, put}
 use Rattle.rules.specs.State.{Status, to-do, in-flight, was-done, was-skipped, Step, Member, State}
-use Rattle.rules.specs.Answers.{Call, submit, turn, report, placed, Result}
+use Rattle.rules.specs.Answers.{Call, submit, turn, report, limit, placed, limited, Result}
 use Rattle.rules.specs.Progress.{isMust, isInFlight, next, Flight, flightOr, flight}
 use Rattle.rules.specs.Sequence.{Found, find, isRunning, runs}
 use Rattle.rules.specs.Abort.{abort}
@@ -25,18 +25,19 @@ use Rattle.rules.specs.Calls.{resultOf, stateAfter}
 use Rattle.rules.specs.History.{Told, Account, accountsOf}
 use Rattle.rules.specs.World.{isAccepted}
 use Rattle.rules.specs.Rounds.{callsTold, toldThen, flyingOf, idleOf, acceptedIn, times, EachOnce, Round, a-submission}
-use Rattle.rules.specs.Rounds.{Schedule, no-more, between, a-round, enoughRounds, ToldIsHeld, AnyOrder, RoundsExist}
+use Rattle.rules.specs.Rounds.{Schedule, begins, between, a-change, a-round, enoughRounds, ToldIsHeld, AnyOrder, RoundsExist}
 use Rattle.rules.proofs.Lists.{byIf, t≠f, and-left, and-right, put-other, each-left, IsNot, NotIn, IdsOk}
 use Rattle.rules.proofs.Groups.{Group, members, ids, foundAt, ids-++, other-ids}
 use Rattle.rules.proofs.Invariant.{HubOk}
 use Rattle.rules.proofs.View.{by-turn, by-report, by-cancel, places, commits, sends, skips, dones, misses, aborts}
-use Rattle.rules.proofs.View.{fails, restarts, Seen, is-refused, waits, moves, see}
+use Rattle.rules.proofs.View.{fails, restarts, Seen, is-refused, waits, limits, moves, see}
 use Rattle.rules.proofs.Schedules.{hasFlight, isFlying, isIdle, idsWith, turnsAt, reportsAt, allDone, busy, Sitting, opensAt}
-use Rattle.rules.proofs.Schedules.{placing, placedState, roundsOf, toldAfter, crowded, crowded-placed, tooFewRounds}
+use Rattle.rules.proofs.Schedules.{placing, placedState, roundsOf, changed, toldAfter, crowded, crowded-placed, tooFewRounds}
+use Rattle.rules.proofs.Schedules.{patient, patient-placed, raisedTo, roundsRaised, patient-still-runs}
 use Rattle.rules.proofs.Schedules.{crowded-still-runs}
 use Rattle.rules.proofs.Schedules.{overtaken, overtaken-placed, calcRounds}
 use Rattle.rules.proofs.Told.{has, Tells, none-has}
-use Rattle.rules.proofs.Ready.{Ready, saying, ready-seen, ready-opened, ready-calls}
+use Rattle.rules.proofs.Ready.{Ready, saying, ready-seen, ready-opened, ready-calls, limit-told, opened-limit}
 use Rattle.rules.proofs.Measured.{Asks}
 
 -- ---- the routines that a round is about
@@ -79,8 +80,8 @@ idle-any n (g ∷ l) d i = go (eqb (g .member .id) i) refl (idle-any n l (d .3) 
         rw (none isRunning, none isFlying, none isIdle) (own (isRunning (g .member)) (hasFlight (flight (g .member .steps))))
     go false e h = h
 
-idle-told : (k : ℕ) (s : State) (h : List Told) (l : List Group) → Ready k s h l → Tells isIdle (idleOf h) l
-idle-told k s h l y i =
+idle-told : (s : State) (h : List Told) (l : List Group) → Ready s h l → Tells isIdle (idleOf h) l
+idle-told s h l y i =
     ap (λ b. b && not (flyingOf h i)) (y .running-told i) ∙ ap (λ b. anyOf (has isRunning i) l && not b) (y .flying-told i)
     ∙ idle-any (s .nextId) l (y .hub .ids-ok) i
 
@@ -108,7 +109,7 @@ any-members q p i e (g ∷ l) =
 pub told-is-held : ToldIsHeld
 unfolding isFlying runs
 told-is-held n k first s e calls i =
-    let r = ready-calls k s [] [] (ready-opened n k first s e) calls in
+    let r = ready-calls s [] [] (ready-opened n k first s e) calls in
     let y = r .1 in
     let same : members (r .0) ≡ stateAfter s calls .sequence = sym (y .hub .sequence-is) in (
       y .running-told i ∙ any-members isRunning (runs i) i (λ m. refl) (r .0) ∙ ap (anyOf (runs i)) same,
@@ -117,6 +118,7 @@ told-is-held n k first s e calls i =
           (λ m. sym (and-assoc (eqb (m .id) i) (isRunning m) (hasFlight (flight (m .steps))))
           ∙ ap (λ b. (eqb (m .id) i && isRunning m) && b) (flight-any (m .steps))) (r .0)
           ∙ ap (anyOf (λ m. runs i m && anyOf (λ x. isInFlight (x .status)) (m .steps))) same,
+      limit-told k s [] (opened-limit n k first s e) calls,
     )
 
 -- ---- calls that are accepted
@@ -175,10 +177,10 @@ report-taken s f code x e c =
     (λ _. byIf (λ (r : Result). isAccepted (r .answers) ≡ true) (isMust (x .command)) (λ _. refl) (λ _. refl)))
 
 -- the routine with id i is found
-found : (q : Member → Bool) (k i : ℕ) (s : State) (h : List Told) (l : List Group) → Ready k s h l → anyOf (has q i) l ≡ true →
+found : (q : Member → Bool) (i : ℕ) (s : State) (h : List Told) (l : List Group) → Ready s h l → anyOf (has q i) l ≡ true →
     ((m : Member) → q m ≡ true → isRunning m ≡ true) →
     (f : Found) × (find (runs i) (s .sequence) ≡ some f) × (q (f .it) ≡ true)
-found q k i s h l y e f =
+found q i s h l y e f =
     let r = located q i l e in
     let a = r .0 in
     let g = r .1 in
@@ -191,21 +193,21 @@ found q k i s h l y e f =
       r .5,
     )
 
-turn-accepted : (k i : ℕ) (s : State) (h : List Told) (l : List Group) → Ready k s h l → idleOf h i ≡ true →
+turn-accepted : (i : ℕ) (s : State) (h : List Told) (l : List Group) → Ready s h l → idleOf h i ≡ true →
     isAccepted (resultOf s (turn i) .answers) ≡ true
 unfolding turnOf isIdle
-turn-accepted k i s h l y e =
-    let r = found isIdle k i s h l y (sym (idle-told k s h l y i) ∙ e)
+turn-accepted i s h l y e =
+    let r = found isIdle i s h l y (sym (idle-told s h l y i) ∙ e)
     (λ m z. and-left (isRunning m) (not (hasFlight (flight (m .steps)))) z) in
     let m = r .0 .it in
     let z = not-true (hasFlight (flight (m .steps))) (and-right (isRunning m) (not (hasFlight (flight (m .steps)))) (r .2)) in
     ap (λ o. isAccepted (turnFound s o .answers)) (r .1) ∙ turn-taken s (r .0) (no-flight-is (flight (m .steps)) z)
 
-report-accepted : (k i code : ℕ) (s : State) (h : List Told) (l : List Group) → Ready k s h l → flyingOf h i ≡ true → code ≤ codeFailed →
+report-accepted : (i code : ℕ) (s : State) (h : List Told) (l : List Group) → Ready s h l → flyingOf h i ≡ true → code ≤ codeFailed →
     isAccepted (resultOf s (report i code) .answers) ≡ true
 unfolding reportOf isFlying
-report-accepted k i code s h l y e c =
-    let r = found isFlying k i s h l y (sym (y .flying-told i) ∙ e) (λ m z. and-left (isRunning m) (hasFlight (flight (m .steps))) z) in
+report-accepted i code s h l y e c =
+    let r = found isFlying i s h l y (sym (y .flying-told i) ∙ e) (λ m z. and-left (isRunning m) (hasFlight (flight (m .steps))) z) in
     let m = r .0 .it in
     let z = flight-is (flight (m .steps)) (and-right (isRunning m) (hasFlight (flight (m .steps))) (r .2)) in
     ap (λ o. isAccepted (reportFound s code o .answers)) (r .1) ∙ report-taken s (r .0) code (z .0) (z .1) c
@@ -222,6 +224,7 @@ module _ (s : State) (h : List Told) (l : List Group) (i j : ℕ) (other : i ≢
   unfolding commitTurn sendTurn skipTurn doneReport skipReport abort
   others-told o (is-refused r) = (refl, refl)
   others-told o (waits w a g b d x e n f) = (refl, refl)
+  others-told o (limits w e) = absurd o
   others-told o (moves (places cs a b q e u p n)) = absurd o
   others-told o (moves (commits w a g b e n r f q)) = (elsewhere (accountsOf h) g _ (n ∙ o), refl)
   others-told o (moves (sends w a g b c e n r f q x u)) = (elsewhere (accountsOf h) g _ (n ∙ o), elsewhere (flyingOf h) g true (n ∙ o))
@@ -262,19 +265,19 @@ rest-passes test after j js once same i =
     let n : times i (j ∷ js) ≡ times i js = rw e refl in
     subst (λ b. times i js ≤ oneIf b) (sym (same i (λ z. eqb-false j i e (sym z)))) (subst (λ m. m ≤ oneIf (test i)) n (once i)))
 
-module _ (k : ℕ) (make : ℕ → Call) (asks : (j : ℕ) → Asks j (make j)) (test : List Told → ℕ → Bool)
-    (ok : (s : State) (h : List Told) (l : List Group) → Ready k s h l → (j : ℕ) → test h j ≡ true →
+module _ (make : ℕ → Call) (asks : (j : ℕ) → Asks j (make j)) (test : List Told → ℕ → Bool)
+    (ok : (s : State) (h : List Told) (l : List Group) → Ready s h l → (j : ℕ) → test h j ≡ true →
     isAccepted (resultOf s (make j) .answers) ≡ true)
     (still : (h : List Told) (t : Told) (i : ℕ) → accountsOf (t ∷ h) i ≡ accountsOf h i → flyingOf (t ∷ h) i ≡ flyingOf h i →
     test (t ∷ h) i ≡ test h i) where
-  asked-once : (s : State) (h : List Told) (l : List Group) → Ready k s h l → (js : List ℕ) →
+  asked-once : (s : State) (h : List Told) (l : List Group) → Ready s h l → (js : List ℕ) →
       ((i : ℕ) → times i js ≤ oneIf (test h i)) →
       (acceptedIn (callsTold s (map make js)) ≡ map make js)
-      × (m : List Group) × Ready k (stateAfter s (map make js)) (toldThen h (callsTold s (map make js))) m
+      × (m : List Group) × Ready (stateAfter s (map make js)) (toldThen h (callsTold s (map make js))) m
   asked-once s h l y [] once = (refl, l, y)
   asked-once s h l y (j ∷ js) once =
       let v = see s l (y .hub .sequence-is) (make j) in
-      let n = ready-seen k s h l y v in
+      let n = ready-seen s h l y v in
       let u = resultOf s (make j) .state in
       let t = saying (make j) (resultOf s (make j) .answers) in
       let rest = acceptedIn (callsTold u (map make js)) in
@@ -286,39 +289,39 @@ module _ (k : ℕ) (make : ℕ → Call) (asks : (j : ℕ) → Asks j (make j)) 
 
 -- ---- a round
 
-once-in : (q : Member → Bool) (t : ℕ → Bool) (k : ℕ) (s : State) (h : List Told) (l : List Group) → Ready k s h l → Tells q t l →
+once-in : (q : Member → Bool) (t : ℕ → Bool) (s : State) (h : List Told) (l : List Group) → Ready s h l → Tells q t l →
     EachOnce t (idsWith q (s .sequence))
-once-in q t k s h l y e i =
+once-in q t s h l y e i =
     ap (λ m. times i (idsWith q m)) (y .hub .sequence-is) ∙ ids-once q (s .nextId) l (y .hub .ids-ok) i ∙ ap oneIf (sym (e i))
 
 -- each of these gets its turn, and what then holds
-turns-made : (k : ℕ) (s : State) (h : List Told) (l : List Group) → Ready k s h l → (js : List ℕ) → EachOnce (idleOf h) js →
+turns-made : (s : State) (h : List Told) (l : List Group) → Ready s h l → (js : List ℕ) → EachOnce (idleOf h) js →
     (acceptedIn (callsTold s (map turn js)) ≡ map turn js)
-    × (m : List Group) × Ready k (stateAfter s (map turn js)) (toldThen h (callsTold s (map turn js))) m
-turns-made k s h l y js once =
-    asked-once k turn (λ j. refl) idleOf (λ s h l y j. turn-accepted k j s h l y)
+    × (m : List Group) × Ready (stateAfter s (map turn js)) (toldThen h (callsTold s (map turn js))) m
+turns-made s h l y js once =
+    asked-once turn (λ j. refl) idleOf (λ s h l y j. turn-accepted j s h l y)
     (λ h t i a f. ap (λ (x : Account). x .running && not (flyingOf (t ∷ h) i)) a ∙ ap (λ b. accountsOf h i .running && not b) f) s h l y js
     (λ i. let e = once i in omega arith)
 
 -- then each of those gets its report
-module _ (k : ℕ) (codes : ℕ → ℕ) (fit : (i : ℕ) → codes i ≤ codeFailed) (s : State) (h : List Told) (l : List Group) (y : Ready k s h l)
+module _ (codes : ℕ → ℕ) (fit : (i : ℕ) → codes i ≤ codeFailed) (s : State) (h : List Told) (l : List Group) (y : Ready s h l)
     (ts : List ℕ) (each-turn : EachOnce (idleOf h) ts) (rs : List ℕ)
     (each-report : EachOnce (flyingOf (toldThen h (callsTold s (map turn ts)))) rs) where
   halves-made :
       let u = stateAfter s (map turn ts) in
       let reports = map (λ i. report i (codes i)) rs in
       (acceptedIn (callsTold u reports) ≡ reports)
-      × (m : List Group) × Ready k (stateAfter u reports) (toldThen (toldThen h (callsTold s (map turn ts))) (callsTold u reports)) m
+      × (m : List Group) × Ready (stateAfter u reports) (toldThen (toldThen h (callsTold s (map turn ts))) (callsTold u reports)) m
   halves-made =
-      let t = turns-made k s h l y ts each-turn in
-      asked-once k (λ i. report i (codes i)) (λ j. refl) flyingOf (λ s h l y j e. report-accepted k j (codes j) s h l y e (fit j))
+      let t = turns-made s h l y ts each-turn in
+      asked-once (λ i. report i (codes i)) (λ j. refl) flyingOf (λ s h l y j e. report-accepted j (codes j) s h l y e (fit j))
       (λ h t i a f. f) (stateAfter s (map turn ts)) (toldThen h (callsTold s (map turn ts))) (t .1) (t .2) rs
       (λ i. let e = each-report i in omega arith)
 
   is-round : Round h (callsTold s (map turn ts)) (callsTold (stateAfter s (map turn ts)) (map (λ i. report i (codes i)) rs))
   is-round = record {
     turned = ts;
-    turns-are = turns-made k s h l y ts each-turn .0;
+    turns-are = turns-made s h l y ts each-turn .0;
     one-turn-each = each-turn;
     reported = rs;
     codes = codes;
@@ -328,47 +331,53 @@ module _ (k : ℕ) (codes : ℕ → ℕ) (fit : (i : ℕ) → codes i ≤ codeFa
 
 pub any-order : AnyOrder
 any-order n k first s e calls codes fit ts each-turn rs each-report =
-    let r = ready-calls k s [] [] (ready-opened n k first s e) calls in
-    is-round k codes fit (stateAfter s calls) (toldThen [] (callsTold s calls)) (r .0) (r .1) ts each-turn rs each-report
+    let r = ready-calls s [] [] (ready-opened n k first s e) calls in
+    is-round codes fit (stateAfter s calls) (toldThen [] (callsTold s calls)) (r .0) (r .1) ts each-turn rs each-report
 
 -- in the sequence's order
-module _ (k : ℕ) (s : State) (h : List Told) (l : List Group) (y : Ready k s h l) where
+module _ (s : State) (h : List Told) (l : List Group) (y : Ready s h l) where
   idle-once : EachOnce (idleOf h) (idsWith isIdle (s .sequence))
-  idle-once = once-in isIdle (idleOf h) k s h l y (idle-told k s h l y)
+  idle-once = once-in isIdle (idleOf h) s h l y (idle-told s h l y)
 
   flying-once : EachOnce (flyingOf h) (idsWith isFlying (s .sequence))
-  flying-once = once-in isFlying (flyingOf h) k s h l y (y .flying-told)
+  flying-once = once-in isFlying (flyingOf h) s h l y (y .flying-told)
 
-flying-after : (k : ℕ) (s : State) (h : List Told) (l : List Group) → Ready k s h l →
+flying-after : (s : State) (h : List Told) (l : List Group) → Ready s h l →
     EachOnce (flyingOf (toldThen h (callsTold s (turnsAt s)))) (idsWith isFlying (stateAfter s (turnsAt s) .sequence))
-flying-after k s h l y =
-    let r = ready-calls k s h l y (turnsAt s) in
-    flying-once k (stateAfter s (turnsAt s)) (toldThen h (callsTold s (turnsAt s))) (r .0) (r .1)
+flying-after s h l y =
+    let r = ready-calls s h l y (turnsAt s) in
+    flying-once (stateAfter s (turnsAt s)) (toldThen h (callsTold s (turnsAt s))) (r .0) (r .1)
 
 -- Rounds exist after every list of calls.
 pub rounds-exist : RoundsExist
 rounds-exist n k first s e calls codes fit =
-    let r = ready-calls k s [] [] (ready-opened n k first s e) calls in
+    let r = ready-calls s [] [] (ready-opened n k first s e) calls in
     let u = stateAfter s calls in
     let h = toldThen [] (callsTold s calls) in (
       turnsAt u,
       reportsAt codes (stateAfter u (turnsAt u)),
-      is-round k codes fit u h (r .0) (r .1) (idsWith isIdle (u .sequence)) (idle-once k u h (r .0) (r .1))
-          (idsWith isFlying (stateAfter u (turnsAt u) .sequence)) (flying-after k u h (r .0) (r .1)),
+      is-round codes fit u h (r .0) (r .1) (idsWith isIdle (u .sequence)) (idle-once u h (r .0) (r .1))
+          (idsWith isFlying (stateAfter u (turnsAt u) .sequence)) (flying-after u h (r .0) (r .1)),
     )
 
 -- ---- schedules
 
-told-calls : (s : State) (a b : List Call) → callsTold s (a ++ b) ≡ callsTold s a ++ callsTold (stateAfter s a) b
-told-calls s [] b = refl
-told-calls s (c ∷ a) b = ap (λ l. saying c (resultOf s c .answers) ∷ l) (told-calls (resultOf s c .state) a b)
+-- what calls tell, and then others
+told-on : (s : State) (h : List Told) (a b : List Call) →
+    toldThen h (callsTold s (a ++ b)) ≡ toldThen (toldThen h (callsTold s a)) (callsTold (stateAfter s a) b)
+told-on s h [] b = refl
+told-on s h (c ∷ a) b = told-on (resultOf s c .state) (saying c (resultOf s c .answers) ∷ h) a b
 
--- the calls of `busy` are n rounds with submissions between them
-pub is-schedule : (k : ℕ) (s : State) (h : List Told) (l : List Group) → Ready k s h l → (n : ℕ) (cs : List Command) →
-    Schedule h (callsTold s (busy n cs s)) n
-is-schedule k s h l y zero cs = no-more
-is-schedule k s h l y (suc n) cs =
-    let r = ready-seen k s h l y (see s l (y .hub .sequence-is) (submit cs)) in
+state-on : (s : State) (a b : List Call) → stateAfter s (a ++ b) ≡ stateAfter (stateAfter s a) b
+state-on s [] b = refl
+state-on s (c ∷ a) b = state-on (resultOf s c .state) a b
+
+-- the calls of `busy` are n rounds more, with submissions between them
+is-schedule : (start : List Told) (s : State) (h : List Told) (l : List Group) → Ready s h l → (m : ℕ) → Schedule start h m →
+    (n : ℕ) (cs : List Command) (total : ℕ) → n + m ≡ total → Schedule start (toldThen h (callsTold s (busy n cs s))) total
+is-schedule start s h l y m w zero cs total e = let f : m ≡ total = omega arith in subst (Schedule start h) f w
+is-schedule start s h l y m w (suc n) cs total e =
+    let r = ready-seen s h l y (see s l (y .hub .sequence-is) (submit cs)) in
     let t = resultOf s (submit cs) .state in
     let g = saying (submit cs) (resultOf s (submit cs) .answers) ∷ h in
     let u = stateAfter t (turnsAt t) in
@@ -376,42 +385,105 @@ is-schedule k s h l y (suc n) cs =
     let fit : (i : ℕ) → allDone i ≤ codeFailed = λ i. omega arith in
     let ts = idsWith isIdle (t .sequence) in
     let rs = idsWith isFlying (u .sequence) in
-    let each-turn = idle-once k t g (r .0) (r .1) in
-    let each-report = flying-after k t g (r .0) (r .1) in
-    let made = halves-made k allDone fit t g (r .0) (r .1) ts each-turn rs each-report in
-    between _ (a-submission cs _)
-    (subst (λ x. Schedule g x (suc n))
-    (sym (told-calls t (turnsAt t) (reportsAt allDone u ++ busy n cs v)
-    ∙ ap (λ x. callsTold t (turnsAt t) ++ x) (told-calls u (reportsAt allDone u) (busy n cs v))))
-    (a-round (callsTold t (turnsAt t)) (callsTold u (reportsAt allDone u))
-    (is-round k allDone fit t g (r .0) (r .1) ts each-turn rs each-report)
-    (is-schedule k v (toldThen (toldThen g (callsTold t (turnsAt t))) (callsTold u (reportsAt allDone u))) (made .1) (made .2) n cs)))
+    let each-turn = idle-once t g (r .0) (r .1) in
+    let each-report = flying-after t g (r .0) (r .1) in
+    let made = halves-made allDone fit t g (r .0) (r .1) ts each-turn rs each-report in
+    let round = is-round allDone fit t g (r .0) (r .1) ts each-turn rs each-report in
+    let more = a-round (between w _ (a-submission cs _)) (callsTold t (turnsAt t)) (callsTold u (reportsAt allDone u)) round in
+    let after = toldThen (toldThen g (callsTold t (turnsAt t))) (callsTold u (reportsAt allDone u)) in
+    let told : toldThen g (callsTold t (turnsAt t ++ (reportsAt allDone u ++ busy n cs v))) ≡ toldThen after (callsTold v (busy n cs v)) =
+    told-on t g (turnsAt t) (reportsAt allDone u ++ busy n cs v)
+    ∙ told-on u (toldThen g (callsTold t (turnsAt t))) (reportsAt allDone u) (busy n cs v) in
+    subst (λ x. Schedule start x total) (sym told)
+    (is-schedule start v after (made .1) (made .2) (suc m) more n cs total (omega arith))
 
--- all that the promise asks of a sitting, for n rounds
-pub record Promised (x : Sitting) (n : ℕ) : Type 0 where
+-- all that the promise asks of a sitting, for these calls after the submission, n rounds of which count
+pub record Promised (x : Sitting) (later : List Call) (n : ℕ) : Type 0 where
   pub accepted : openOf 1 (x .passLimit) 1 ≡ opened (opensAt x)
   pub was-placed : resultOf (stateAfter (opensAt x) (x .before)) (submit (x .commands)) .answers ≡ placed (x .id) (x .follows) ∷ []
-  pub schedule : Schedule (toldThen [] (callsTold (opensAt x) (placing x))) (callsTold (placedState x) (roundsOf x n)) n
+  pub schedule : Schedule (toldAfter x []) (toldAfter x later) n
 
-promised : (x : Sitting) (n : ℕ) → openOf 1 (x .passLimit) 1 ≡ opened (opensAt x) →
-    resultOf (stateAfter (opensAt x) (x .before)) (submit (x .commands)) .answers ≡ placed (x .id) (x .follows) ∷ [] → Promised x n
-promised x n e p =
-    let r = ready-calls (x .passLimit) (opensAt x) [] [] (ready-opened 1 (x .passLimit) 1 (opensAt x) e) (placing x) in
-    record {
-      accepted = e;
-      was-placed = p;
-      schedule = is-schedule (x .passLimit) (placedState x) _ (r .0) (r .1) n (x .newcomers);
-    }
+-- what is told, from the submission on
+told-since : (x : Sitting) (later : List Call) → toldAfter x later ≡ toldThen (toldAfter x []) (callsTold (placedState x) later)
+told-since x later =
+    ap (λ l. toldThen [] (callsTold (opensAt x) l)) (sym (append-assoc (x .before) (submit (x .commands) ∷ []) later))
+    ∙ told-on (opensAt x) [] (placing x) later
+
+module _ (x : Sitting) (e : openOf 1 (x .passLimit) 1 ≡ opened (opensAt x)) where
+  ready-since : (later : List Call) →
+      (l : List Group) × Ready (stateAfter (placedState x) later) (toldThen (toldAfter x []) (callsTold (placedState x) later)) l
+  ready-since later =
+      let r = ready-calls (opensAt x) [] [] (ready-opened 1 (x .passLimit) 1 (opensAt x) e) (placing x) in
+      ready-calls (placedState x) (toldAfter x []) (r .0) (r .1) later
+
+  -- n rounds
+  rounds-told : (n : ℕ) → Schedule (toldAfter x []) (toldThen (toldAfter x []) (callsTold (placedState x) (roundsOf x n))) n
+  rounds-told n =
+      let r = ready-since [] in
+      is-schedule (toldAfter x []) (placedState x) (toldAfter x []) (r .0) (r .1) 0 begins n (x .newcomers) n (omega arith)
+
+  -- so many rounds, a new pass limit that is accepted, and n rounds more
+  changed-told : (earlier : List Call) (m : ℕ) →
+      Schedule (toldAfter x []) (toldThen (toldAfter x []) (callsTold (placedState x) earlier)) m →
+      (k : ℕ) → resultOf (stateAfter (placedState x) earlier) (limit k) .answers ≡ limited k ∷ [] → (n : ℕ) →
+      Schedule (toldAfter x []) (toldThen (toldAfter x []) (callsTold (placedState x) (changed x earlier k n))) n
+  changed-told earlier m w k a n =
+      let s = placedState x in
+      let h = toldThen (toldAfter x []) (callsTold s earlier) in
+      let t = resultOf (stateAfter s earlier) (limit k) .state in
+      let c = saying (limit k) (resultOf (stateAfter s earlier) (limit k) .answers) in
+      let r = ready-since earlier in
+      let y = ready-seen (stateAfter s earlier) h (r .0) (r .1) (see (stateAfter s earlier) (r .0) (r .1 .hub .sequence-is) (limit k)) in
+      let begun : Schedule (toldAfter x []) (c ∷ h) 0 =
+      subst (λ z. Schedule (toldAfter x []) (saying (limit k) z ∷ h) 0) (sym a) (a-change w k) in
+      subst (λ z. Schedule (toldAfter x []) z n) (sym (told-on s (toldAfter x []) earlier (limit k ∷ busy n (x .newcomers) t)))
+      (is-schedule (toldAfter x []) t (c ∷ h) (y .0) (y .1) 0 begun n (x .newcomers) n (omega arith))
+
+  promised : resultOf (stateAfter (opensAt x) (x .before)) (submit (x .commands)) .answers ≡ placed (x .id) (x .follows) ∷ [] →
+      (later : List Call) (n : ℕ) → Schedule (toldAfter x []) (toldThen (toldAfter x []) (callsTold (placedState x) later)) n →
+      Promised x later n
+  promised p later n w = record {
+    accepted = e;
+    was-placed = p;
+    schedule = subst (λ z. Schedule (toldAfter x []) z n) (sym (told-since x later)) w;
+  }
 
 -- Not weak: by a schedule that the promise is about, a routine still runs after rounds that are fewer than promised, and more than half.
 pub needs-most :
-    Promised crowded tooFewRounds × (tooFewRounds < enoughRounds (crowded .passLimit))
+    Promised crowded (roundsOf crowded tooFewRounds) tooFewRounds × (tooFewRounds < enoughRounds (crowded .passLimit))
     × (enoughRounds (crowded .passLimit) < tooFewRounds + tooFewRounds)
-    × (accountsOf (toldAfter crowded tooFewRounds) (crowded .id) .running ≡ true)
+    × (accountsOf (toldAfter crowded (roundsOf crowded tooFewRounds)) (crowded .id) .running ≡ true)
 unfolding calcRounds
-needs-most = (promised crowded tooFewRounds refl crowded-placed, omega arith, omega arith, crowded-still-runs)
+needs-most = (
+  promised crowded refl crowded-placed (roundsOf crowded tooFewRounds) tooFewRounds (rounds-told crowded refl tooFewRounds),
+  omega arith,
+  omega arith,
+  crowded-still-runs,
+)
 
 -- And the schedule in which wrong rules show is one.
-pub wrong-rules-show : Promised overtaken (enoughRounds (overtaken .passLimit))
+pub wrong-rules-show :
+    let n = enoughRounds (overtaken .passLimit) in
+    Promised overtaken (roundsOf overtaken n) n
 unfolding calcRounds
-wrong-rules-show = promised overtaken (enoughRounds (overtaken .passLimit)) refl overtaken-placed
+wrong-rules-show =
+    let n = enoughRounds (overtaken .passLimit) in
+    promised overtaken refl overtaken-placed (roundsOf overtaken n) n (rounds-told overtaken refl n)
+
+-- By the K of its submission, or with that of now but counted from its submission, the promise would be false: K is raised from 0, and the
+-- routine still runs after more rounds than are enough with 0; then K is 0 again, and it still runs.
+pub counted-from-the-change :
+    Promised patient (changed patient [] raisedTo roundsRaised) roundsRaised
+    × Promised patient (changed patient (changed patient [] raisedTo roundsRaised) (patient .passLimit) 1) 1
+    × (enoughRounds (patient .passLimit) < roundsRaised)
+    × (accountsOf (toldAfter patient (changed patient (changed patient [] raisedTo roundsRaised) (patient .passLimit) 1)) (patient .id)
+    .running ≡ true)
+unfolding calcRounds
+counted-from-the-change =
+    let raised = changed-told patient refl [] 0 begins raisedTo refl roundsRaised in
+    let lowered = changed-told patient refl (changed patient [] raisedTo roundsRaised) roundsRaised raised (patient .passLimit) refl 1 in (
+      promised patient refl patient-placed (changed patient [] raisedTo roundsRaised) roundsRaised raised,
+      promised patient refl patient-placed (changed patient (changed patient [] raisedTo roundsRaised) (patient .passLimit) 1) 1 lowered,
+      omega arith,
+      patient-still-runs,
+    )

@@ -10,8 +10,8 @@ use lib.ListN.{replicate}
 use Rattle.routine.specs.Choice.{if_then_else_}
 use Rattle.routine.specs.Routine.{maxCommands}
 use Rattle.routine.specs.declared.Command.{Command}
-use Rattle.rules.specs.State.{maxHeld, Member, State}
-use Rattle.rules.specs.Answers.{Call, submit, turn, report, placed}
+use Rattle.rules.specs.State.{highestPassLimit, maxHeld, Member, State}
+use Rattle.rules.specs.Answers.{Call, submit, turn, report, limit, placed}
 use Rattle.rules.specs.Progress.{Flight, flight}
 use Rattle.rules.specs.Sequence.{isRunning}
 use Rattle.rules.specs.Open.{newHub}
@@ -79,9 +79,14 @@ placedState x = stateAfter (opensAt x) (placing x)
 abbrev pub roundsOf : Sitting → ℕ → List Call
 roundsOf x n = busy n (x .newcomers) (placedState x)
 
--- all that is told after n rounds
-abbrev pub toldAfter : Sitting → ℕ → List Told
-toldAfter x n = toldThen (toldThen [] (callsTold (opensAt x) (placing x))) (callsTold (placedState x) (roundsOf x n))
+-- these calls from the submission on; then a new pass limit; then n rounds
+abbrev pub changed : Sitting → List Call → ℕ → ℕ → List Call
+changed x earlier k n =
+    earlier ++ (limit k ∷ busy n (x .newcomers) (resultOf (stateAfter (placedState x) earlier) (limit k) .state))
+
+-- all that is told, with these calls from the submission on
+abbrev pub toldAfter : Sitting → List Call → List Told
+toldAfter x later = toldThen [] (callsTold (opensAt x) (x .before ++ (submit (x .commands) ∷ later)))
 
 unfoldable pub calcRounds : Unit {0}
 unfolding calc isFlying isIdle
@@ -114,7 +119,7 @@ crowded-placed = refl
 abbrev pub tooFewRounds : ℕ
 tooFewRounds = maxCommands * (maxHeld + crowded .passLimit)
 
-pub crowded-still-runs : accountsOf (toldAfter crowded tooFewRounds) (crowded .id) .running ≡ true
+pub crowded-still-runs : accountsOf (toldAfter crowded (roundsOf crowded tooFewRounds)) (crowded .id) .running ≡ true
 unfolding calcRounds
 crowded-still-runs = refl
 
@@ -138,6 +143,39 @@ overtaken-placed = refl
 
 -- it ends in time. If passes were not counted, or did not keep newcomers back, it would wait for ever; and so would all, if a turn waited
 -- for routines behind its own.
-pub overtaken-ends : Ended (overtaken .id) (toldAfter overtaken (enoughRounds (overtaken .passLimit)))
+pub overtaken-ends : Ended (overtaken .id) (toldAfter overtaken (roundsOf overtaken (enoughRounds (overtaken .passLimit))))
 unfolding calcRounds
 overtaken-ends = refl
+
+-- ---- a new pass limit
+
+-- with K = 0, as many full routines as may be held, on one device, the last submitted last
+abbrev pub patient : Sitting
+patient = record {
+  passLimit = 0;
+  before = replicate (maxHeld - 1) (submit fullRoutine);
+  commands = fullRoutine;
+  id = maxHeld;
+  follows = maxHeld - 1;
+  newcomers = fullRoutine;
+}
+
+pub patient-placed : resultOf (stateAfter (opensAt patient) (patient .before)) (submit (patient .commands)) .answers
+    ≡ placed (patient .id) (patient .follows) ∷ []
+unfolding calcRounds
+patient-placed = refl
+
+-- then K is raised, and newcomers pass it as often as they may
+abbrev pub raisedTo : ℕ
+raisedTo = highestPassLimit
+
+abbrev pub roundsRaised : ℕ
+roundsRaised = maxCommands * (maxHeld + raisedTo) - 1
+
+-- it still runs after so many rounds, and after one more, before which K became 0 again
+pub patient-still-runs :
+    accountsOf (toldAfter patient (changed patient (changed patient [] raisedTo roundsRaised) (patient .passLimit) 1))
+    (patient .id) .running
+    ≡ true
+unfolding calcRounds
+patient-still-runs = refl

@@ -16,8 +16,9 @@ use Rattle.routine.specs.declared.Verdict.the-variants.{Accepted, Refused}
 use Rattle.routine.proofs.Laws.{both-accept, not-refused}
 use Rattle.rules.specs.Tables.{anyOf, Each}
 use Rattle.rules.specs.State.{highestPassLimit, Member, State}
-use Rattle.rules.specs.Answers.{Call, submit, turn, report, failure, restart, cancel, Answer, refused, wait, Result}
+use Rattle.rules.specs.Answers.{Call, submit, turn, report, failure, restart, cancel, limit, Answer, refused, wait, limited, Result}
 use Rattle.rules.specs.Due.{due}
+use Rattle.rules.specs.Sequence.{withPassLimit}
 use Rattle.rules.specs.Settle.{settle, settling}
 use Rattle.rules.specs.Abort.{leave, abort}
 use Rattle.rules.specs.Open.{opened, openCheck, newHub, openIf, openOf}
@@ -38,15 +39,15 @@ use Rattle.rules.proofs.Groups.{Group, members, alone, flat, stillHeld,
 use Rattle.rules.proofs.Invariant.{unmarked, HubOk, InFlightIsUp, FirstRuns, OrderOk, AccountTells, backTo, ReachesSetting, has}
 use Rattle.rules.proofs.Invariant.{goes-back, OneFlightOn, DeviceAt, is-down, none-on-it, one-on-it, DeviceOk, PremiseOnCall}
 use Rattle.rules.proofs.View.{Gone, nobody, somebody, Moves, places, commits, sends, skips, dones, misses, aborts, fails, restarts}
-use Rattle.rules.proofs.View.{Seen, is-refused, waits, moves, see}
+use Rattle.rules.proofs.View.{Seen, is-refused, waits, limits, moves, see}
 use Rattle.rules.proofs.Fields.{Fixed, gone-fixed, attach-fixed, settle-fixed}
-use Rattle.rules.proofs.Moved.{hub-settles}
-use Rattle.rules.proofs.Kept.{hub-moves, flies-moves, flies-settles}
+use Rattle.rules.proofs.Moved.{hub-limit, hub-settles}
+use Rattle.rules.proofs.Kept.{hub-moves, no-flight-on-up, flies-moves, flies-settles}
 use Rattle.rules.proofs.Serial.{serial-setting, serial-up, order-due, bar-entries, bar-stays, first-runs, order-settles}
 use Rattle.rules.proofs.Ordered.{order-moves}
 use Rattle.rules.proofs.Accounts.{accounts-moves, Unsent, unsent-moves, working-moves}
 use Rattle.rules.proofs.Stands.{stands-moves}
-use Rattle.rules.proofs.Messages.{device-takes, device-settles}
+use Rattle.rules.proofs.Messages.{ok-state, device-takes, device-settles}
 use Rattle.rules.proofs.DeviceKept.{device-moves}
 use mathlib.Core.List.{map-append}
 use Rattle.routine.specs.Causes.{NoneOf}
@@ -89,6 +90,7 @@ premise-told w (report i code) t = t
 premise-told w (failure d) t = t
 premise-told w (restart d v) t = t
 premise-told w (cancel i) t = t
+premise-told w (limit k) t = t
 
 gone-accepted : (s : State) (d : ℕ) (l : List Group) (x : Answer) {r : Result} {lead : List Event} {k : List Group} →
     isAccepted (x ∷ []) ≡ true →
@@ -119,13 +121,18 @@ members-alone : (l : List Member) → members (map alone l) ≡ l
 members-alone [] = refl
 members-alone (m ∷ l) = ap (λ k. m ∷ k) (members-alone l)
 
--- whatever the state, a call keeps the number of devices
+-- whatever the state
+pub see-any : (s : State) (c : Call) → Seen s (map alone (s .sequence)) c (resultOf s c)
+see-any s c = see s (map alone (s .sequence)) (sym (members-alone (s .sequence))) c
+
+-- a call keeps the number of devices
 pub devices-kept : (s : State) (c : Call) → resultOf s c .state .devices ≡ s .devices
-devices-kept s c = go (see s (map alone (s .sequence)) (sym (members-alone (s .sequence))) c)
+devices-kept s c = go (see-any s c)
   where
     go : {c : Call} {r : Result} → Seen s (map alone (s .sequence)) c r → r .state .devices ≡ s .devices
     go (is-refused r) = refl
     go (waits i a g b d j w n f) = refl
+    go (limits k e) = refl
     go (moves {r = r} m) = ap (λ (q : Fixed). q .devices) (settle-fixed (r .state)) ∙ moves-same s (map alone (s .sequence)) m .1
 
 -- what holds after a call, and the settled part has only grown
@@ -153,6 +160,37 @@ untold P Q w c x h a k o = record {
   where
     same : moveBar (orderAfter c (accounts w) x (orderIn w)) ≡ orderIn w
     same = ap moveBar o ∙ bar-stays (w .state) (orderIn w) (h .groups) (h .known .order) (h .known .first)
+
+-- the same world, with another pass limit
+abbrev withLimit : World → ℕ → World
+withLimit w k = record { state = withPassLimit (w .state) k; history = w .history; devices = w .devices }
+
+holds-limit : (P : Type 0) (w : World) (k : ℕ) → Holds P w → Holds P (withLimit w k)
+unfolding due
+holds-limit P w k h =
+    let s = w .state in
+    let j = h .known in
+    record {
+      groups = h .groups;
+      known = record {
+        hub = hub-limit s k (h .groups) (j .hub);
+        flies = no-flight-on-up s (withPassLimit s k) (λ d e. e) (h .groups) (j .flies);
+        order = record {
+          unsettled-is = j .order .unsettled-is;
+          settled-is = j .order .settled-is;
+          up-is = j .order .up-is;
+          events-ok = j .order .events-ok;
+          ids-ok = j .order .ids-ok;
+          barred = j .order .barred;
+        };
+        first = j .first;
+        tells = j .tells;
+        unsent = j .unsent;
+        works = j .works;
+        stands = j .stands;
+      };
+      devices = λ p d n. ok-state d s (withPassLimit s k) (accounts w) (h .groups) (w .devices d) refl refl (h .devices p d n);
+    }
 
 -- a call that changes something
 told : (P : Type 0) (w : World) (c : Call) (v : ℤ) (h : Holds P w) {r : Result} {lead : List Event} {k : List Group} →
@@ -212,6 +250,9 @@ seen : (P : Type 0) (w : World) (c : Call) (v : ℤ) (h : Holds P w) {r : Result
     Next (P × Premised w c (r .answers)) w (afterCall w c v r)
 seen P w c v h (is-refused r) = untold P _ w c (refused r) h refl refl refl
 seen P w _ v h (waits i a g b d j e n f) = untold P _ w (turn i) (wait (g .member .id) j) h refl refl refl
+seen P w _ v h (limits k e) =
+    let n = untold P _ (withLimit w k) (limit k) (limited k) (holds-limit P w k h) refl refl refl in
+    record { next = n .next; grows = n .grows; same-devices = n .same-devices }
 seen P w c v h (moves m) = told P w c v h m
 
 -- ---- any act

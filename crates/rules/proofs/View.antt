@@ -1,4 +1,5 @@
--- Every call, seen once: it changes nothing, or it does one of nine things to the state and the groups, and settles. Assumes nothing.
+-- Every call, seen once: it changes nothing, or the pass limit alone, or it does one of nine things to the state and the groups, and
+-- settles. Assumes nothing.
 use mathlib.Core.Path.{_≡_, refl, sym, ap, _∙_, subst}
 use mathlib.Core.Bool.{Bool, true, false, not}
 use mathlib.Core.List.{List, [], _∷_, _++_}
@@ -15,18 +16,21 @@ use Rattle.routine.specs.declared.Verdict.{Verdict}
 use Rattle.routine.specs.declared.Verdict.the-variants.{Accepted, Refused}
 use Rattle.rules.specs.Tables.{anyOf, put, Each}
 use Rattle.rules.specs.State.{in-flight, was-done, was-skipped, Member, State}
-use Rattle.rules.specs.Answers.{Call, submit, turn, report, failure, restart, cancel, refused, placed, wait, down, up, Result}
+use Rattle.rules.specs.Answers.{Call, submit, turn, report, failure, restart, cancel, limit, refused, placed, wait, down, up}
+use Rattle.rules.specs.Answers.{limited, Result}
 use Rattle.rules.specs.Answers.{unlessRefused}
 use Rattle.rules.specs.Progress.{isMust, next, Flight, flight, advance, answerFlight, withSteps}
 use Rattle.rules.specs.Due.{due}
-use Rattle.rules.specs.Sequence.{Found, onto, find, isRunning, runs, lastIdOr, withUp}
+use Rattle.rules.specs.Sequence.{Found, onto, find, isRunning, runs, lastIdOr, withUp, withPassLimit}
 use Rattle.rules.specs.Settle.{settling}
 use Rattle.rules.specs.Abort.{abort}
+use Rattle.rules.specs.Open.{limitCheck}
 use Rattle.rules.specs.Submit.{submitCheck, blocks, upToLast, pastLast, newcomer, place, submitOf}
 use Rattle.rules.specs.Turn.{firstHolding, commit, commitTurn, sendTurn, skipTurn, waitOr, turnNext, turnFlight, turnFound, turnOf}
 use Rattle.rules.specs.Report.{codeDone, codeFailed, doneReport, skipReport, reportFlight, reportFound, reportOf}
 use Rattle.rules.specs.Events.{isHalfway, abortIfAny, abortHalfway, failureResult, restartResult, failureOf, restartOf}
 use Rattle.rules.specs.Cancel.{cancelFound, cancelOf}
+use Rattle.rules.specs.Limit.{limitOf}
 use Rattle.rules.specs.Calls.{resultOf}
 use Rattle.rules.specs.Order.{Event, failure-of, restart-of}
 use Rattle.rules.specs.Attach.{attach, oneRestart}
@@ -102,12 +106,13 @@ pub data Moves (s : State) (l : List Group) : Call → Result → List Event →
       record { state = withUp t (put (t .up) d true); answers = r .answers ++ (up d (r .state .mark d) ∷ []) })
       (leadWith (r .state .mark d) (restart-of d v) lead) (attachEvent (r .state .mark d) (restart-of d v) k)
 
--- a turn waits for a routine ahead of its own
+-- a turn waits for a routine ahead of its own; a new pass limit is in force
 pub data Seen (s : State) (l : List Group) : Call → Result → Type 0 where
   is-refused : {c : Call} (r : Refusal) → Seen s l c (record { state = s; answers = refused r ∷ [] })
   waits : (i : ℕ) (a : List Group) (g : Group) (b : List Group) (d j : ℕ) → l ≡ a ++ (g ∷ b) → g .member .id ≡ i →
       firstHolding d (members a) ≡ some j →
       Seen s l (turn i) (record { state = s; answers = wait (g .member .id) j ∷ [] })
+  limits : (k : ℕ) → limitCheck k ≡ Accepted → Seen s l (limit k) (record { state = withPassLimit s k; answers = limited k ∷ [] })
   moves : {c : Call} {r : Result} {lead : List Event} {k : List Group} → Moves s l c r lead k → Seen s l c (settling r)
 
 -- ---- the groups that a call is about
@@ -261,6 +266,11 @@ module _ (s : State) (l : List Group) (e : s .sequence ≡ members l) where
       running i s l e (λ o. Seen s l (cancel i) (cancelFound s o)) (is-refused _)
       (λ a g b w n u. moves (aborts (cancel i) a g b w u (by-cancel i n)))
 
+-- a new pass limit
+see-limit : (s : State) (l : List Group) (k : ℕ) → Seen s l (limit k) (limitOf s k)
+unfolding limitOf
+see-limit s l k = unless s l (limit k) (limitCheck k) (λ v. limits k v)
+
 pub see : (s : State) (l : List Group) → s .sequence ≡ members l → (c : Call) → Seen s l c (resultOf s c)
 see s l e (submit cs) = see-submit s l e cs
 see s l e (turn i) = see-turn s l e i
@@ -268,3 +278,4 @@ see s l e (report i code) = see-report s l e i code
 see s l e (failure d) = see-failure s l e d
 see s l e (restart d v) = see-restart s l e d v
 see s l e (cancel i) = see-cancel s l e i
+see s l e (limit k) = see-limit s l k

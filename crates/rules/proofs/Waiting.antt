@@ -5,44 +5,42 @@ use mathlib.Core.Logic.{_≢_}
 use mathlib.Core.Bool.{true, false, not, _&&_}
 use mathlib.Core.List.{List, [], _∷_, _++_, map, nil≢cons, cons≢nil, head-eq-of-cons-eq, tail-eq-of-cons-eq}
 use mathlib.Core.Option.{Option, none, some, Option·none-ne-some}
-use Prim.Native.Nat.{ℕ, zero, suc, _+_, _<_, _≤_}
+use Prim.Native.Nat.{ℕ, suc, _-_, _<_, _≤_}
 use native.Mathlib.Omega.{arith}
-use borrow.Author.Tests.{eqb-true, eqb-false, leb-false}
-use lib.Dec.{leb, eqb}
-use lib.ListN.{length, length-append}
+use borrow.Author.Tests.{eqb-true, eqb-false}
+use lib.Dec.{eqb}
 use Rattle.routine.specs.Choice.{if_then_else_}
-use Rattle.routine.specs.Refusals.{sequence-full, refuse_when_}
-use Rattle.routine.specs.Routine.{routineCheck}
 use Rattle.routine.specs.declared.Command.{Command}
-use Rattle.routine.specs.declared.Verdict.the-variants.{Accepted}
-use Rattle.routine.proofs.Laws.{both-accept, not-refused, byTest}
-use Rattle.rules.specs.Tables.{Each}
-use Rattle.rules.specs.State.{maxHeld, Step, State}
-use Rattle.rules.specs.Answers.{Call, submit, turn, report, refused, placed, wait, Result}
+use Rattle.routine.proofs.Laws.{byTest}
+use Rattle.rules.specs.State.{Step, State}
+use Rattle.rules.specs.Answers.{Call, submit, turn, report, limit, refused, placed, wait, limited, Result}
 use Rattle.rules.specs.Progress.{Flight, flight}
 use Rattle.rules.specs.Sequence.{isRunning}
 use Rattle.rules.specs.Settle.{settle}
-use Rattle.rules.specs.Submit.{submitCheck, newcomer, place}
+use Rattle.rules.specs.Submit.{place}
 use Rattle.rules.specs.Turn.{firstHolding}
 use Rattle.rules.specs.Calls.{resultOf, stateAfter}
 use Rattle.rules.specs.History.{Told, accountsOf}
 use Rattle.rules.specs.Order.{Event}
 use Rattle.rules.specs.World.{isAccepted}
-use Rattle.rules.specs.Rounds.{callsTold, toldThen, flyingOf, idleOf, Ended, acceptedIn, times, EachOnce, Round, a-submission}
-use Rattle.rules.specs.Rounds.{a-refusal, Schedule, no-more, between, a-round, enoughRounds, EndedInTime}
-use Rattle.rules.proofs.Lists.{t≠f, each-left}
-use Rattle.rules.proofs.Groups.{Group, members, ids, alone, passAll, stillHeld}
+use Rattle.rules.specs.Rounds.{callsTold, toldThen, flyingOf, idleOf, Ended, limitTold, acceptedIn, times, EachOnce, Round}
+use Rattle.rules.specs.Rounds.{a-submission}
+use Rattle.rules.specs.Rounds.{a-refusal, Schedule, begins, between, a-change, a-round, enoughRounds, EndedInTime}
+use Rattle.rules.specs.Rounds.{EndedInTimeAtOneLimit}
+use Rattle.rules.proofs.Lists.{t≠f}
+use Rattle.rules.proofs.Groups.{Group, members, ids, stillHeld}
 use Rattle.rules.proofs.View.{Aborts}
 use Rattle.rules.proofs.View.{Moves, places, aborts}
-use Rattle.rules.proofs.View.{Seen, is-refused, waits, moves, see}
+use Rattle.rules.proofs.View.{Seen, is-refused, waits, limits, moves, see}
 use Rattle.rules.proofs.Fields.{Fixed, settle-fixed}
 use Rattle.rules.proofs.Kept.{hub-moves}
 use Rattle.rules.proofs.Told.{any-held, told-of}
 use Rattle.rules.proofs.Schedules.{hasFlight, isFlying}
-use Rattle.rules.proofs.Measure.{FewLeft, measure, Runs}
-use Rattle.rules.proofs.Measure.{settle-at-most, runs-positive, first-measure}
+use Rattle.rules.proofs.Measure.{measure, Runs}
+use Rattle.rules.proofs.Measure.{settle-at-most, runs-positive, most-measure}
 use Rattle.rules.proofs.Theorem.{moves-same}
-use Rattle.rules.proofs.Ready.{new-few-left, fixed-moves, Ready, ready-moves, saying, untold, ready-seen, ready-opened}
+use Rattle.rules.proofs.Ready.{fixed-moves, Ready, ready-moves, saying, untold, ready-seen, ready-opened, opened-limit, limit-told}
+use Rattle.rules.proofs.Ready.{limit-kept}
 use Rattle.rules.proofs.Measured.{OfSchedule, NotRaised, not-raised-same, moves-at-most, HeadIs, head-is, head-held, IsTurn, Asks}
 use Rattle.rules.proofs.Measured.{asks-of-schedule}
 use Rattle.rules.proofs.Measured.{Flies}
@@ -50,17 +48,23 @@ use Rattle.rules.proofs.Measured.{Own, falls, flies, others-move, none-
 
 -- ---- one call of a schedule
 
--- the hub after history h, in which the id i has been given
+-- the hub after history h, its pass limit being k, in which the id i has been given
 record Now (k i : ℕ) (s : State) (h : List Told) : Type 0 where
   groups : List Group
-  ready : Ready k s h groups
+  ready : Ready s h groups
+  in-force : s .passLimit ≡ k
   given : i < s .nextId
 
 -- the same hub, after a call that tells nothing
 abbrev same-now : (k i : ℕ) (s : State) (h : List Told) → Now k i s h → (t : Told) → accountsOf (t ∷ h) ≡ accountsOf h →
     flyingOf (t ∷ h) ≡ flyingOf h → Now k i s (t ∷ h)
 same-now k i s h now t a f =
-    record { groups = now .groups; ready = untold k s h (now .groups) t a f (now .ready); given = now .given }
+    record {
+      groups = now .groups;
+      ready = untold s h (now .groups) t a f (now .ready);
+      in-force = now .in-force;
+      given = now .given;
+    }
 
 -- while the routine with id i runs, its measure is at most n
 abbrev Bounded : ℕ → ℕ → List Group → ℕ → Type 0
@@ -95,10 +99,16 @@ module _ (k i : ℕ) (s : State) (h : List Told) (now : Now k i s h) where
       (same-now k i s h now (saying c (refused r ∷ [])) refl refl, not-raised-same k i (now .groups))
   of-schedule of (waits j a g b d w e n f) =
       (same-now k i s h now (saying (turn j) (wait (g .member .id) w ∷ [])) refl refl, not-raised-same k i (now .groups))
+  of-schedule of (limits j e) = absurd of
   of-schedule of (moves {r = r} {k = m} v) = (
-    record { groups = stillHeld m; ready = ready-moves k s h (now .groups) (now .ready) v; given = given-still v },
+    record {
+      groups = stillHeld m;
+      ready = ready-moves s h (now .groups) (now .ready) v;
+      in-force = ap (λ (x : Fixed). x .passLimit) (settle-fixed (r .state)) ∙ fixed-moves s (now .groups) v .0 ∙ now .in-force;
+      given = given-still v;
+    },
     λ q.
-        let a = moves-at-most k i s h (now .groups) (now .ready) (now .given) v of (settled-at-most v .0 q) in
+        let a = moves-at-most k i s (now .in-force) h (now .groups) (now .ready) (now .given) v of (settled-at-most v .0 q) in
         let b = a .1 in
         let z = settled-at-most v .1 q in
         (a .0, omega arith),
@@ -125,6 +135,7 @@ asked k i s h now j o (waits w a g b d x e n f) _ =
             (sym (ap (λ p. firstHolding d (members p)) (none-ahead k s h (now .groups) (now .ready) j steps hd a g b e (n ∙ o))) ∙ f));
       },
     )
+asked k i s h now j o (limits w e) _ = absurd o
 asked k i s h now j {c = c} o (moves {r = r} {k = m} v) _ =
     let u = of-schedule k i s h now {c = c} (asks-of-schedule j c o) (moves v) in (
       u .0,
@@ -184,6 +195,7 @@ refused-same : (k i : ℕ) (s : State) (h : List Told) (now : Now k i s h) {c : 
     isAccepted (r .answers) ≡ false → (P : List Group → Type 0) → P (now .groups) → Reached k i (r .state) (saying c (r .answers) ∷ h) P
 refused-same k i s h now {c = c} (is-refused r) e P p = (same-now k i s h now (saying c (refused r ∷ [])) refl refl, p)
 refused-same k i s h now (waits j a g b d w x n f) e P p = t≠f e
+refused-same k i s h now (limits j x) e P p = t≠f e
 refused-same k i s h now (moves v) e P p = t≠f (sym (moves-same s (now .groups) v .0) ∙ e)
 
 -- every call of this hub, seen
@@ -270,7 +282,7 @@ module _ (k i m f : ℕ) (make : ℕ → Call) (asks : (j : ℕ) → Asks j (mak
 -- ---- a round
 
 -- what is told of the first of the sequence: it runs; is a command of it in flight?
-head-runs : (k : ℕ) (s : State) (h : List Told) (l : List Group) → Ready k s h l → (f : ℕ) (steps : List Step) → HeadIs f steps l →
+head-runs : (k : ℕ) (s : State) (h : List Told) (l : List Group) → Ready s h l → (f : ℕ) (steps : List Step) → HeadIs f steps l →
     accountsOf h f .running ≡ true
 unfolding isRunning
 head-runs k s h _ y f steps (head-is g l e q c) =
@@ -278,7 +290,7 @@ head-runs k s h _ y f steps (head-is g l e q c) =
     ∙ told-of isRunning (λ j. accountsOf h j .running) [] g l (y .hub .ids-ok .2) (y .running-told)
     ∙ ap not c
 
-head-flies : (k : ℕ) (s : State) (h : List Told) (l : List Group) → Ready k s h l → (f : ℕ) (steps : List Step) → HeadIs f steps l →
+head-flies : (k : ℕ) (s : State) (h : List Told) (l : List Group) → Ready s h l → (f : ℕ) (steps : List Step) → HeadIs f steps l →
     flyingOf h f ≡ hasFlight (flight steps)
 unfolding isFlying isRunning
 head-flies k s h _ y f steps (head-is g l e q c) =
@@ -286,7 +298,7 @@ head-flies k s h _ y f steps (head-is g l e q c) =
     ∙ ap (λ b. not b && hasFlight (flight (g .member .steps))) c ∙ ap (λ x. hasFlight (flight x)) q
 
 -- before the turns
-turns-begin : (k i m : ℕ) (s : State) (h : List Told) (l : List Group) → Ready k s h l → (ids : List ℕ) → EachOnce (idleOf h) ids →
+turns-begin : (k i m : ℕ) (s : State) (h : List Told) (l : List Group) → Ready s h l → (ids : List ℕ) → EachOnce (idleOf h) ids →
     Bounded k i l (suc m) → (f : ℕ) × Stage k i m f Flies l ids
 turns-begin k i m s h [] y ids once o = (0, fell (λ r. t≠f (sym r)))
 turns-begin k i m s h (g ∷ l) y ids once o = (g .member .id, go (flight (g .member .steps)) refl)
@@ -307,7 +319,7 @@ turns-begin k i m s h (g ∷ l) y ids once o = (g .member .id, go (flight (g .me
     go (some x) e = was-asked (g .member .steps) hd (x, e) (once f ∙ ap (λ b. if b then 1 else 0) (idle (some x) e)) o
 
 -- between turns and reports: the first has its command in flight
-reports-begin : (k i m : ℕ) (s : State) (h : List Told) (l : List Group) → Ready k s h l → (f : ℕ) (ids : List ℕ) →
+reports-begin : (k i m : ℕ) (s : State) (h : List Told) (l : List Group) → Ready s h l → (f : ℕ) (ids : List ℕ) →
     EachOnce (flyingOf h) ids → Stage k i m f Flies l [] → Stage k i m f (λ steps. ⊥) l ids
 reports-begin k i m s h l y f ids once (fell o) = fell o
 reports-begin k i m s h l y f ids once (not-yet steps hd t o) = absurd (omega arith)
@@ -349,103 +361,156 @@ bounded-ended k i s h now o = byTest (λ b. b ≡ false) (accountsOf h i .runnin
 bounded-more : (k i m n : ℕ) (l : List Group) → m ≤ n → Bounded k i l m → Bounded k i l n
 bounded-more k i m n l e o r = let p = o r in omega arith
 
-waits-out : (k i : ℕ) (h told : List Told) (n : ℕ) → Schedule h told n → (s : State) → AsAnswered s told → (now : Now k i s h) (m : ℕ) →
-    Bounded k i (now .groups) m → m ≤ n → Ended i (toldThen h told)
-waits-out k i h _ _ no-more s answered now m o e = bounded-ended k i s h now (bounded-more k i m 0 (now .groups) e o)
-waits-out k i h _ n (between {l = l} _ (a-submission cs answers) rest) s answered now m o e =
-    let u = of-schedule k i s h now {c = submit cs} tt (seen k i s h now (submit cs)) in
-    let t = saying (submit cs) answers in
-    let r = as-told k i s (resultOf s (submit cs) .state) h t (λ l. Bounded k i l m) (answered .0)
-    (u .0, bounded-still k i m (now .groups) (u .0 .groups) (u .1) o) in
-    waits-out k i (t ∷ h) l n rest (resultOf s (submit cs) .state) (answered .1) (r .0) m (r .1) e
-waits-out k i h _ n (between {l = l} _ (a-refusal t y) rest) s answered now m o e =
-    let r = refused-told k i s h now t (answered .0) y (λ l. Bounded k i l m) o in
-    waits-out k i (t ∷ h) l n rest (resultOf s (t .call) .state) (answered .1) (r .0) m (r .1) e
-waits-out k i h _ _ (a-round {l = l} {n = n} turns reports round rest) s answered now m o e =
-    let p = answered-left s turns (reports ++ l) answered in
-    let q = answered-right s turns (reports ++ l) answered in
-    let less = left-of m e in
-    let r = round-falls k i (less .0) s h now turns reports p (answered-left (stateThen s turns) reports l q) round
-    (bounded-more k i m (suc (less .0)) (now .groups) (less .1) o) in
-    subst (Ended i) (sym (told-++ h turns (reports ++ l) ∙ told-++ (toldThen h turns) reports l))
-    (waits-out k i (toldThen (toldThen h turns) reports) l n rest (stateThen (stateThen s turns) reports)
-    (answered-right (stateThen s turns) reports l q) (r .0) (less .0) (r .1) (less .2))
-  where
-    left-of : (m : ℕ) → m ≤ suc n → (p : ℕ) × (m ≤ suc p) × (p ≤ n)
-    left-of zero e = (0, omega arith, omega arith)
-    left-of (suc p) e = (p, omega arith, omega arith)
+-- ---- a history, the latest first, as the hub s tells it
+
+abbrev stateAt : State → List Told → State
+stateAt s [] = s
+stateAt s (t ∷ h) = resultOf (stateAt s h) (t .call) .state
+
+abbrev ToldBy : State → List Told → Type 0
+ToldBy s [] = Unit {0}
+ToldBy s (t ∷ h) = ToldBy s h × (resultOf (stateAt s h) (t .call) .answers ≡ t .answers)
+
+told-by-calls : (s : State) (h : List Told) → ToldBy s h → (calls : List Call) → ToldBy s (toldThen h (callsTold (stateAt s h) calls))
+told-by-calls s h y [] = y
+told-by-calls s h y (c ∷ calls) = told-by-calls s (saying c (resultOf (stateAt s h) c .answers) ∷ h) (y, refl) calls
+
+-- a first part of it, and the rest
+told-by-first : (s : State) (h l : List Told) → ToldBy s (toldThen h l) → ToldBy s h × AsAnswered (stateAt s h) l
+told-by-first s h [] y = (y, tt)
+told-by-first s h (t ∷ l) y = let r = told-by-first s (t ∷ h) l y in (r .0 .0, (r .0 .1, r .1))
+
+state-at : (s : State) (h l : List Told) → stateAt s (toldThen h l) ≡ stateThen (stateAt s h) l
+state-at s h [] = refl
+state-at s h (t ∷ l) = state-at s (t ∷ h) l
+
+state-calls : (s : State) (h : List Told) (calls : List Call) →
+    stateAt s (toldThen h (callsTold (stateAt s h) calls)) ≡ stateAfter (stateAt s h) calls
+state-calls s h [] = refl
+state-calls s h (c ∷ calls) = state-calls s (saying c (resultOf (stateAt s h) c .answers) ∷ h) calls
+
+-- ---- a schedule
+
+-- after history h, n rounds of which count, with the K in force
+record Counted (i : ℕ) (s : State) (h : List Told) (n : ℕ) : Type 0 where
+  limit-then : ℕ
+  now : Now limit-then i s h
+  bounded : Bounded limit-then i (now .groups) (enoughRounds limit-then - n)
+
+-- at any time the measure is at most as high as the promise has rounds, so that the count may begin
+counts-anew : (k i : ℕ) (s : State) (h : List Told) → Now k i s h → Counted i s h 0
+counts-anew k i s h now = record {
+  limit-then = k;
+  now = now;
+  bounded = λ _.
+      let m = most-measure k i (now .groups) (now .ready .few-left) in
+      let n = now .ready .room in
+      omega arith;
+}
+
+-- a new pass limit
+unaborted : {g : Group} {k : ℕ} → Aborts g (limit k) → ⊥
+unaborted = elim [ ]
+
+changed-now : (m i : ℕ) (s : State) (h : List Told) (now : Now m i s h) (k : ℕ) {r : Result} → Seen s (now .groups) (limit k) r →
+    r .answers ≡ limited k ∷ [] → Now k i (r .state) (saying (limit k) (r .answers) ∷ h)
+changed-now m i s h now k (is-refused r) e = let z : _≡_ {A = ℕ} 0 1 = cc in absurd (omega arith)
+changed-now m i s h now k (limits _ a) e =
+    let r = ready-seen s h (now .groups) (now .ready) (limits k a) in
+    record { groups = r .0; ready = r .1; in-force = refl; given = now .given }
+changed-now m i s h now k (moves (aborts _ a g b f r q)) e = absurd (unaborted q)
+
+counted : (i : ℕ) (s : State) (start now : List Told) (n : ℕ) → Schedule start now n → ToldBy s now →
+    (ToldBy s start → Counted i (stateAt s start) start 0) → Counted i (stateAt s now) now n
+counted i s start _ _ begins y f = f y
+counted i s start _ n (between {now = h} w _ (a-submission cs answers)) y f =
+    let c = counted i s start h n w (y .0) f in
+    let k = c .limit-then in
+    let u = stateAt s h in
+    let m = enoughRounds k - n in
+    let v = of-schedule k i u h (c .now) {c = submit cs} tt (seen k i u h (c .now) (submit cs)) in
+    let r = as-told k i u (resultOf u (submit cs) .state) h (saying (submit cs) answers) (λ l. Bounded k i l m) (y .1)
+    (v .0, bounded-still k i m (c .now .groups) (v .0 .groups) (v .1) (c .bounded)) in
+    record { limit-then = k; now = r .0; bounded = r .1 }
+counted i s start _ n (between {now = h} w _ (a-refusal t e)) y f =
+    let c = counted i s start h n w (y .0) f in
+    let k = c .limit-then in
+    let r = refused-told k i (stateAt s h) h (c .now) t (y .1) e (λ l. Bounded k i l (enoughRounds k - n)) (c .bounded) in
+    record { limit-then = k; now = r .0; bounded = r .1 }
+counted i s start _ _ (a-change {now = h} {n = n} w k) y f =
+    let c = counted i s start h n w (y .0) f in
+    let u = stateAt s h in
+    let now = subst (λ a. Now k i (resultOf u (limit k) .state) (saying (limit k) a ∷ h)) (y .1)
+    (changed-now (c .limit-then) i u h (c .now) k (seen (c .limit-then) i u h (c .now) (limit k)) (y .1)) in
+    counts-anew k i (resultOf u (limit k) .state) (saying (limit k) (limited k ∷ []) ∷ h) now
+counted i s start _ _ (a-round {now = h} {n = n} w turns reports round) y f =
+    let p = told-by-first s (toldThen h turns) reports y in
+    let q = told-by-first s h turns (p .0) in
+    let c = counted i s start h n w (q .0) f in
+    let k = c .limit-then in
+    let u = stateAt s h in
+    let m = enoughRounds k - suc n in
+    let more : enoughRounds k - n ≤ suc m = omega arith in
+    let at : stateAt s (toldThen h turns) ≡ stateThen u turns = state-at s h turns in
+    let r = round-falls k i m u h (c .now) turns reports (q .1) (subst (λ x. AsAnswered x reports) at (p .1)) round
+    (bounded-more k i (enoughRounds k - n) (suc m) (c .now .groups) more (c .bounded)) in
+    subst (λ x. Counted i x (toldThen (toldThen h turns) reports) (suc n))
+    (sym (state-at s (toldThen h turns) reports ∙ ap (λ x. stateThen x reports) at))
+    (record { limit-then = k; now = r .0; bounded = r .1 })
 
 -- ---- the submission
-
-length-members : (l : List Group) → length (members l) ≡ length l
-length-members [] = refl
-length-members (g ∷ l) = ap suc (length-members l)
 
 no-abort : {g : Group} {cs : List Command} → Aborts g (submit cs) → ⊥
 no-abort = elim [ ]
 
--- there was room
-room : (s : State) (cs : List Command) (a b : List Group) → submitCheck s cs ≡ Accepted → s .sequence ≡ members (a ++ b) →
-    suc (length a) ≤ maxHeld
-unfolding submitCheck
-room s cs a b e q =
-    let f = both-accept (routineCheck (s .devices) cs) _ e .1 in
-    let g = not-refused sequence-full (leb maxHeld (length (s .sequence)))
-    (both-accept (refuse sequence-full when leb maxHeld (length (s .sequence))) _ f .0) in
-    let n = leb-false maxHeld (length (s .sequence)) g in
-    let m : length (s .sequence) ≡ length a + length b = ap length q ∙ length-members (a ++ b) ∙ length-append a b in
-    omega arith
-
--- the routine is placed: its measure at the beginning
-place-bounded : (k : ℕ) (s : State) (h : List Told) (l : List Group) → Ready k s h l → (cs : List Command) {r : Result} {lead : List Event}
-    {m : List Group} → Moves s l (submit cs) r lead m →
-    Reached k (s .nextId) (settle (r .state)) (saying (submit cs) (r .answers) ∷ h) (λ n. Bounded k (s .nextId) n (enoughRounds k))
-unfolding place newcomer
-place-bounded k s h l y _ {m = m} (places cs a b q e u p n) = (
-  record {
-    groups = stillHeld m;
-    ready = ready-moves k s h l y (places cs a b q e u p n);
-    given = subst (λ (x : Fixed). s .nextId < x .nextId) (sym (settle-fixed (place s cs))) (omega arith);
-  },
-  λ r.
-      let i = s .nextId in
-      let new = alone (newcomer i cs) in
-      let ok = hub-moves s l (y .hub) (places cs a b q e u p n) .ids-ok in
-      let x = settle-at-most k i (suc i) m ok r in
-      let z = first-measure k i a new (passAll b) (each-left FewLeft a b (subst (Each FewLeft) e (y .few-left)))
-      (new-few-left s cs q) refl refl in
-      let w = room s cs a b q (y .hub .sequence-is ∙ ap members e) in
-      omega arith,
-)
-place-bounded k s h l y _ (aborts _ a g b e r q) = absurd (no-abort q)
-
-placed-bounded : (k i j : ℕ) (s : State) (h : List Told) (l : List Group) → Ready k s h l → (cs : List Command) {r : Result} →
-    Seen s l (submit cs) r → r .answers ≡ placed i j ∷ [] →
-    Reached k i (r .state) (saying (submit cs) (r .answers) ∷ h) (λ m. Bounded k i m (enoughRounds k))
-placed-bounded k i j s h l y cs (is-refused r) e = let z : _≡_ {A = ℕ} 0 1 = cc in absurd (omega arith)
-placed-bounded k i j s h l y cs (moves {r = r} v) e =
-    subst (λ x. Reached k x (settle (r .state)) (saying (submit cs) (r .answers) ∷ h) (λ m. Bounded k x m (enoughRounds k))) (is-next v e)
-    (place-bounded k s h l y cs v)
+-- the routine is placed
+placed-now : (i j : ℕ) (s : State) (h : List Told) (l : List Group) → Ready s h l → (cs : List Command) {r : Result} →
+    Seen s l (submit cs) r → r .answers ≡ placed i j ∷ [] → Now (r .state .passLimit) i (r .state) (saying (submit cs) (r .answers) ∷ h)
+unfolding place
+placed-now i j s h l y cs v e =
+    let n = ready-seen s h l y v in
+    record { groups = n .0; ready = n .1; in-force = refl; given = given v e }
   where
-    is-next : {r : Result} {lead : List Event} {m : List Group} → Moves s l (submit cs) r lead m → r .answers ≡ placed i j ∷ [] →
-        s .nextId ≡ i
-    is-next (places _ a b q f u p n) e = cc
-    is-next (aborts _ a g b f r q) e = absurd (no-abort q)
+    is-given : {r : Result} {lead : List Event} {m : List Group} → Moves s l (submit cs) r lead m → r .answers ≡ placed i j ∷ [] →
+        i < r .state .nextId
+    is-given (places _ a b q f u p n) e = let z : s .nextId ≡ i = cc in omega arith
+    is-given (aborts _ a g b f r q) e = absurd (no-abort q)
+
+    given : {r : Result} → Seen s l (submit cs) r → r .answers ≡ placed i j ∷ [] → i < r .state .nextId
+    given (is-refused r) e = let z : _≡_ {A = ℕ} 0 1 = cc in absurd (omega arith)
+    given (moves {r = r} v) e = subst (λ (x : Fixed). i < x .nextId) (sym (settle-fixed (r .state))) (is-given v e)
 
 -- after any calls and then its submission
-submitted : (k i j : ℕ) (s : State) (h : List Told) (l : List Group) → Ready k s h l → (before : List Call) (cs : List Command) →
+submitted : (i j : ℕ) (s : State) (h : List Told) (l : List Group) → Ready s h l → (before : List Call) (cs : List Command) →
     resultOf (stateAfter s before) (submit cs) .answers ≡ placed i j ∷ [] →
     let calls = before ++ (submit cs ∷ []) in
-    Reached k i (stateAfter s calls) (toldThen h (callsTold s calls)) (λ m. Bounded k i m (enoughRounds k))
-submitted k i j s h l y [] cs e = placed-bounded k i j s h l y cs (see s l (y .hub .sequence-is) (submit cs)) e
-submitted k i j s h l y (c ∷ before) cs e =
-    let r = ready-seen k s h l y (see s l (y .hub .sequence-is) c) in
-    submitted k i j (resultOf s c .state) (saying c (resultOf s c .answers) ∷ h) (r .0) (r .1) before cs e
+    Counted i (stateAfter s calls) (toldThen h (callsTold s calls)) 0
+submitted i j s h l y [] cs e =
+    let r = resultOf s (submit cs) in
+    counts-anew (r .state .passLimit) i (r .state) (saying (submit cs) (r .answers) ∷ h)
+    (placed-now i j s h l y cs (see s l (y .hub .sequence-is) (submit cs)) e)
+submitted i j s h l y (c ∷ before) cs e =
+    let r = ready-seen s h l y (see s l (y .hub .sequence-is) c) in
+    submitted i j (resultOf s c .state) (saying c (resultOf s c .answers) ∷ h) (r .0) (r .1) before cs e
 
 -- The waiting promise.
 pub ended-in-time : EndedInTime
 ended-in-time n k first s e before cs i j p later rounds schedule enough =
-    let calls = before ++ (submit cs ∷ []) in
-    let r = submitted k i j s [] [] (ready-opened n k first s e) before cs p in
-    waits-out k i (toldThen [] (callsTold s calls)) (callsTold (stateAfter s calls) later) rounds schedule (stateAfter s calls)
-    (answered-calls (stateAfter s calls) later) (r .0) (enoughRounds k) (r .1) enough
+    let first-part = before ++ (submit cs ∷ []) in
+    let all = before ++ (submit cs ∷ later) in
+    let start = toldThen [] (callsTold s first-part) in
+    let now = toldThen [] (callsTold s all) in
+    let c = counted i s start now rounds schedule (told-by-calls s [] tt all)
+    (λ _. subst (λ x. Counted i x start 0) (sym (state-calls s [] first-part))
+    (submitted i j s [] [] (ready-opened n k first s e) before cs p)) in
+    let m : limitTold k now ≡ c .limit-then =
+    limit-told k s [] (opened-limit n k first s e) all ∙ ap (λ (x : State). x .passLimit) (sym (state-calls s [] all)) ∙ c .now .in-force in
+    let none : enoughRounds (c .limit-then) - rounds ≤ 0 = omega arith in
+    bounded-ended (c .limit-then) i (stateAt s now) now (c .now)
+    (bounded-more (c .limit-then) i (enoughRounds (c .limit-then) - rounds) 0 (c .now .groups) none (c .bounded))
+
+-- Where no change happens.
+pub ended-in-time-at-one-limit : EndedInTimeAtOneLimit
+ended-in-time-at-one-limit n k first s e before cs i j p later rounds keeps schedule enough =
+    ended-in-time n k first s e before cs i j p later rounds schedule
+    (subst (λ x. enoughRounds x ≤ rounds) (sym (limit-kept k s [] refl (before ++ (submit cs ∷ later)) keeps)) enough)

@@ -1,5 +1,5 @@
 -- The calls of the hub, with any numbers and lists, and their answers as data: every value that document 01 prints, under the word that it
--- prints. Assumes nothing.
+-- prints; and the new pass limit of document 02, item 13, which no line makes. Assumes nothing.
 use mathlib.Core.List.{List, [], _∷_}
 use Prim.Native.Nat.{ℕ}
 use lib.IntN.{ℤ}
@@ -17,6 +17,7 @@ pub data Call : Type 0 where
   failure : ℕ → Call  -- device
   restart : ℕ → ℤ → Call  -- device, setting
   cancel : ℕ → Call  -- id
+  limit : ℕ → Call  -- the new K
 
 -- A setting that a device is put back to.
 pub record Back : Type 0 where
@@ -34,6 +35,7 @@ pub data Answer : Type 0 where
   aborted : ℕ → List Back → Answer  -- id, what is put back, by rising device
   down : ℕ → ℕ → Answer  -- device, the id that the failure follows
   up : ℕ → ℕ → Answer  -- device, the id that the restart follows
+  limited : ℕ → Answer  -- the K now in force
 
 -- What a call gives: the next state and the answers, one for each line that document 01 prints. There are two only where a failure or a
 -- restart aborts a routine: the abort, then its own.

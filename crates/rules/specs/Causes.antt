@@ -1,5 +1,5 @@
 -- Document 01, "When a call is turned down": the causes of the opening and of the hub's calls, each said by itself in the table's words
--- over the state and the call; the order in which they are tested; and what `exact-opening` .. `exact-restart` (proofs/Exact.antt) say:
+-- over the state and the call; the order in which they are tested; and what `exact-opening` .. `exact-limit` (proofs/Exact.antt) say:
 -- each number under its cause alone. The same of the reading of all due settings (`exact-list`). Causes 4 to 7, and what "each under its
 -- cause alone" means, stand in `specs/Causes.antt` of crate `routine`. Assumes nothing.
 use mathlib.Core.Path.{_≡_}
@@ -20,7 +20,7 @@ use Rattle.routine.specs.declared.Refusal.{Refusal}
 use Rattle.routine.specs.declared.Verdict.{Verdict}
 use Rattle.routine.specs.declared.Verdict.the-variants.{Accepted, Refused}
 use Rattle.rules.specs.State.{highestPassLimit, maxHeld, highestId, in-flight, Step, Member, State}
-use Rattle.rules.specs.Answers.{Call, submit, turn, report, failure, restart, cancel, Answer, refused}
+use Rattle.rules.specs.Answers.{Call, submit, turn, report, failure, restart, cancel, limit, Answer, refused}
 use Rattle.rules.specs.Due.{due}
 use Rattle.rules.specs.AllDue.{listCheck, listAfter}
 use Rattle.rules.specs.Open.{opened, not-opened, newHub, openOf}
@@ -79,6 +79,8 @@ pub data CallCause (s : State) : Call → Cause → Type 0 where
   none-flies : {i code : ℕ} → NoneInFlight s i → CallCause s (report i code) none-in-flight
   -- 13: "report code above 1"
   code-is-out : {i code : ℕ} → codeFailed < code → CallCause s (report i code) report-code-out-of-range
+  -- 2: "K above 8", of a new pass limit
+  new-limit-is-out : {k : ℕ} → highestPassLimit < k → CallCause s (limit k) pass-limit-out-of-range
   -- 14: "failure or restart, device not below N"
   failure-is-out : {d : ℕ} → s .devices ≤ d → CallCause s (failure d) event-device
   restart-is-out : {d : ℕ} {v : ℤ} → s .devices ≤ d → CallCause s (restart d v) event-device
@@ -96,7 +98,7 @@ abbrev pub openingCauses : List Cause
 openingCauses = devices-out-of-range ∷ pass-limit-out-of-range ∷ first-id-0 ∷ []
 
 -- "Submission: 4; then the commands in turn, each 5, 6, 7; then 8, 9. Turn: 10, 11. Cancel: 10. Report: 10, 12, 13. Failure: 14, 15.
--- Restart: 14, 16, 17."
+-- Restart: 14, 16, 17." A new pass limit (document 02, item 13): 2.
 abbrev pub callCauses : Call → List Cause
 callCauses (submit cs) = routineCauses ++ (sequence-full ∷ ids-used-up ∷ [])
 callCauses (turn i) = not-running ∷ turn-in-flight ∷ []
@@ -104,6 +106,7 @@ callCauses (cancel i) = not-running ∷ []
 callCauses (report i code) = not-running ∷ none-in-flight ∷ report-code-out-of-range ∷ []
 callCauses (failure d) = event-device ∷ failure-of-down ∷ []
 callCauses (restart d v) = event-device ∷ restart-of-up ∷ restart-setting ∷ []
+callCauses (limit k) = pass-limit-out-of-range ∷ []
 
 -- ---- each number under its cause alone
 
@@ -142,6 +145,9 @@ ExactFailure = (s : State) (d : ℕ) → ExactCall s (failure d)
 
 abbrev pub ExactRestart : Type 0
 ExactRestart = (s : State) (d : ℕ) (v : ℤ) → ExactCall s (restart d v)
+
+abbrev pub ExactLimit : Type 0
+ExactLimit = (s : State) (k : ℕ) → ExactCall s (limit k)
 
 -- ---- all due settings into a lent list: document 02, item 14
 

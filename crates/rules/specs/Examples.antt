@@ -14,8 +14,9 @@ use Rattle.routine.specs.declared.Command.{Command}
 use Rattle.routine.specs.declared.Refusal.the-variants.{Number, Indexed}
 use Rattle.routine.specs.declared.Verdict.the-variants.{Accepted, Refused}
 use Rattle.rules.specs.State.{State}
-use Rattle.rules.specs.Answers.{Call, submit, turn, report, failure, restart, cancel, Back, Answer, refused, placed, wait, send}
-use Rattle.rules.specs.Answers.{done, skipped, committed, aborted, down, up}
+use Rattle.rules.specs.Answers.{Call, submit, turn, report, failure, restart, cancel, limit, Back, Answer, refused, placed, wait}
+use Rattle.rules.specs.Answers.{send}
+use Rattle.rules.specs.Answers.{done, skipped, committed, aborted, down, up, limited}
 use Rattle.rules.specs.Progress.{begun, finished, inFlightOn}
 use Rattle.rules.specs.Due.{afterMember, due}
 use Rattle.rules.specs.AllDue.{allDue, listCheck, listAfter}
@@ -29,6 +30,7 @@ use Rattle.rules.specs.Turn.{holds, markBegun, commit, commitTurn, sendT
 use Rattle.rules.specs.Report.{doneReport, backIfChanged, skippedState, skipReport, reportOf}
 use Rattle.rules.specs.Events.{isHalfway, abortHalfway, failureResult, restartResult, failureOf, restartOf}
 use Rattle.rules.specs.Cancel.{cancelOf}
+use Rattle.rules.specs.Limit.{limitOf}
 use Rattle.rules.specs.Calls.{resultOf, stateAfter}
 
 -- All that a computation with the rules opens.
@@ -37,6 +39,7 @@ unfolding inRange refusalOf commandCheck commandsCheck routineCheck begun finish
     settle attachTo settleRestarts moveMarks leave isPutBack putBacks abort openCheck newHub openOf submitCheck blocks pass newcomer place
     submitOf holds markBegun commit commitTurn sendTurn skipTurn turnOf doneReport backIfChanged skippedState skipReport reportOf isHalfway
     abortHalfway attach oneRestart failureResult restartResult failureOf restartOf cancelOf
+    limitOf
 calc = tt
 
 -- An opening, calls, what each answers, and the device lines at the end: the due setting of a device that is up, none of one that is down.
@@ -228,6 +231,41 @@ lastIds = record {
 pub last-ids : Holds lastIds
 unfolding calc
 last-ids = (refl, refl, refl)
+
+-- ---- a new pass limit (document 02, item 13)
+
+abbrev one : Call
+one = submit (must 0 (pos 5) ∷ [])
+
+-- K = 1: 2 passes 1. 9 is turned down, and K stays 1: 3 follows 1. With K = 2, 4 passes all of them: 1 and 3 have then been passed twice
+-- and once. With K = 1 again 5 follows 3, which has been passed as often as that, and not 1, which has been passed oftener and stands
+-- ahead; 6 follows 3 too, and 5 is passed. With K = 2 the counts still stand: 7 follows 1.
+abbrev pub newLimits : Example
+newLimits = record {
+  devices = 1;
+  passLimit = 1;
+  firstId = 1;
+  calls = one ∷ one ∷ limit 9 ∷ one ∷ limit 2 ∷ one ∷ limit 1 ∷ one ∷ one ∷ limit 2 ∷ one ∷ [];
+  answers = (placed 1 0 ∷ []) ∷ (placed 2 0 ∷ []) ∷ (refused (Number 2) ∷ []) ∷ (placed 3 1 ∷ []) ∷ (limited 2 ∷ []) ∷ (placed 4 0 ∷ [])
+      ∷ (limited 1 ∷ []) ∷ (placed 5 3 ∷ []) ∷ (placed 6 3 ∷ []) ∷ (limited 2 ∷ []) ∷ (placed 7 1 ∷ []) ∷ [];
+  settings = some (pos 0) ∷ [];
+}
+
+-- Passed oftener than the K in force: 1 and 2 have been passed twice and once; with K = 1 none of them may be passed, with K = 0 nobody.
+abbrev pub oftener : Example
+oftener = record {
+  devices = 1;
+  passLimit = 8;
+  firstId = 1;
+  calls = one ∷ one ∷ one ∷ limit 1 ∷ one ∷ limit 0 ∷ one ∷ limit 8 ∷ one ∷ [];
+  answers = (placed 1 0 ∷ []) ∷ (placed 2 0 ∷ []) ∷ (placed 3 0 ∷ []) ∷ (limited 1 ∷ []) ∷ (placed 4 1 ∷ []) ∷ (limited 0 ∷ [])
+      ∷ (placed 5 4 ∷ []) ∷ (limited 8 ∷ []) ∷ (placed 6 0 ∷ []) ∷ [];
+  settings = some (pos 0) ∷ [];
+}
+
+pub limits-hold : Holds newLimits × Holds oftener
+unfolding calc
+limits-hold = ((refl, refl, refl), (refl, refl, refl))
 
 -- ---- all due settings in one list (document 02, item 14)
 

@@ -6,8 +6,9 @@ use Prim.Native.Nat.{ℕ, suc}
 use Rattle.routine.specs.Routine.{zeroCommand}
 use Rattle.routine.specs.declared.Command.{Command}
 use Rattle.rules.specs.Tables.{put}
-use Rattle.rules.specs.Answers.{Call, submit, turn, report, failure, restart, cancel, Answer, refused, placed, wait, send, done}
-use Rattle.rules.specs.Answers.{skipped, committed, aborted, down, up}
+use Rattle.rules.specs.Answers.{Call, submit, turn, report, failure, restart, cancel, limit, Answer, refused, placed, wait, send}
+use Rattle.rules.specs.Answers.{done}
+use Rattle.rules.specs.Answers.{skipped, committed, aborted, down, up, limited}
 
 pub record Told : Type 0 where
   pub call : Call
@@ -43,6 +44,7 @@ submittedBy (report i code) = []
 submittedBy (failure d) = []
 submittedBy (restart d v) = []
 submittedBy (cancel i) = []
+submittedBy (limit k) = []
 
 -- A command is skipped by a report or by a turn.
 abbrev pub skippedBy : Call → Outcome
@@ -52,6 +54,7 @@ skippedBy (report i code) = reported-failed
 skippedBy (failure d) = not-sent
 skippedBy (restart d v) = not-sent
 skippedBy (cancel i) = not-sent
+skippedBy (limit k) = not-sent
 
 abbrev pub placedAccount : List Command → Account
 placedAccount cs = record { running = true; left = cs; lastSent = zeroCommand; sends = 0; answered = [] }
@@ -84,6 +87,7 @@ noteAnswer c (committed i) a = put a i (endedAccount (a i))
 noteAnswer c (aborted i l) a = put a i (endedAccount (a i))
 noteAnswer c (down d j) a = a
 noteAnswer c (up d j) a = a
+noteAnswer c (limited k) a = a
 
 abbrev pub noteAnswers : Call → List Answer → (ℕ → Account) → ℕ → Account
 noteAnswers c [] a = a
@@ -106,6 +110,7 @@ workingAfter (committed i) w = w
 workingAfter (aborted i l) w = w
 workingAfter (down d j) w = put w d false
 workingAfter (up d j) w = put w d true
+workingAfter (limited k) w = w
 
 abbrev pub workingAfterAll : List Answer → (ℕ → Bool) → ℕ → Bool
 workingAfterAll [] w = w

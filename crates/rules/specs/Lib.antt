@@ -14,6 +14,7 @@ pub mod Turn
 pub mod Report
 pub mod Events
 pub mod Cancel
+pub mod Limit
 pub mod Calls
 pub mod Causes
 pub mod History

@@ -7,8 +7,9 @@ use lib.Dec.{eqb}
 use lib.IntN.{ℤ, pos}
 use Rattle.routine.specs.Choice.{if_then_else_}
 use Rattle.routine.specs.declared.Command.{Command}
-use Rattle.rules.specs.Answers.{Call, submit, turn, report, failure, restart, cancel, Answer, refused, placed, wait, send, done}
-use Rattle.rules.specs.Answers.{skipped, committed, aborted, down, up}
+use Rattle.rules.specs.Answers.{Call, submit, turn, report, failure, restart, cancel, limit, Answer, refused, placed, wait, send}
+use Rattle.rules.specs.Answers.{done}
+use Rattle.rules.specs.Answers.{skipped, committed, aborted, down, up, limited}
 use Rattle.rules.specs.History.{Told, Account, accountsOf}
 
 pub data Event : Type 0 where
@@ -82,6 +83,7 @@ settingReported (report i code) = pos 0
 settingReported (failure d) = pos 0
 settingReported (restart d v) = v
 settingReported (cancel i) = pos 0
+settingReported (limit k) = pos 0
 
 -- One answer. `a`: the accounts before the call.
 abbrev pub orderAfter : Call → (ℕ → Account) → Answer → Order → Order
@@ -95,6 +97,7 @@ orderAfter c a (committed i) o = editOrder i (noted i) o
 orderAfter c a (aborted i l) o = editOrder i goes o
 orderAfter c a (down d j) o = putAfter (event (failure-of d)) j o
 orderAfter c a (up d j) o = putAfter (event (restart-of d (settingReported c))) j o
+orderAfter c a (limited k) o = o
 
 abbrev pub orderAfterAll : Call → (ℕ → Account) → List Answer → Order → Order
 orderAfterAll c a [] o = o

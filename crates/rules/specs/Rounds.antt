@@ -1,6 +1,6 @@
--- Document 02, item 1, "Nobody waits for ever": rounds, schedules and the waiting promise. Which routines run, what is in flight and what
--- has ended is told by calls and answers, without a look at the hub. The proof is `ended-in-time` of `proofs/Waiting.antt`;
--- `docs/WAITING.md` walks through it. Assumes nothing.
+-- Document 02, item 1, "Nobody waits for ever", with the new pass limits of item 13: rounds, schedules and the waiting promise. Which
+-- routines run, what is in flight, what has ended and which K is in force is told by calls and answers, without a look at the hub. The
+-- proof is `ended-in-time` of `proofs/Waiting.antt`; `docs/WAITING.md` walks through it. Assumes nothing.
 use mathlib.Core.Path.{_≡_}
 use mathlib.Core.Bool.{Bool, true, false, not, _&&_}
 use mathlib.Core.List.{List, [], _∷_, _++_, map}
@@ -9,10 +9,11 @@ use lib.Dec.{eqb}
 use Rattle.routine.specs.Choice.{if_then_else_}
 use Rattle.routine.specs.Routine.{maxCommands}
 use Rattle.routine.specs.declared.Command.{Command}
-use Rattle.rules.specs.Tables.{anyOf, put}
+use Rattle.rules.specs.Tables.{anyOf, put, Each}
 use Rattle.rules.specs.State.{maxHeld, State}
-use Rattle.rules.specs.Answers.{Call, submit, turn, report, Answer, refused, placed, wait, send, done, skipped, committed, aborted}
-use Rattle.rules.specs.Answers.{down, up}
+use Rattle.rules.specs.Answers.{Call, submit, turn, report, failure, restart, cancel, limit, Answer, refused, placed, wait, send}
+use Rattle.rules.specs.Answers.{done, skipped, committed, aborted}
+use Rattle.rules.specs.Answers.{down, up, limited}
 use Rattle.rules.specs.Progress.{isInFlight}
 use Rattle.rules.specs.Sequence.{runs}
 use Rattle.rules.specs.Open.{opened, openOf}
@@ -45,6 +46,7 @@ flyingAfter (committed i) f = f
 flyingAfter (aborted i l) f = put f i false
 flyingAfter (down d j) f = f
 flyingAfter (up d j) f = f
+flyingAfter (limited k) f = f
 
 abbrev pub flyingAfterAll : List Answer → (ℕ → Bool) → ℕ → Bool
 flyingAfterAll [] f = f
@@ -61,6 +63,28 @@ idleOf history i = accountsOf history i .running && not (flyingOf history i)
 -- "a routine is ended": it was committed or aborted, by the answers.
 abbrev pub Ended : ℕ → List Told → Type 0
 Ended i history = accountsOf history i .running ≡ false
+
+-- "the K then in force": k, which is that of the opening, until a new one is accepted.
+abbrev pub limitAfter : Answer → ℕ → ℕ
+limitAfter (refused r) k = k
+limitAfter (placed i j) k = k
+limitAfter (wait i j) k = k
+limitAfter (send i c) k = k
+limitAfter (done i) k = k
+limitAfter (skipped i l) k = k
+limitAfter (committed i) k = k
+limitAfter (aborted i l) k = k
+limitAfter (down d j) k = k
+limitAfter (up d j) k = k
+limitAfter (limited new) k = new
+
+abbrev pub limitAfterAll : List Answer → ℕ → ℕ
+limitAfterAll [] k = k
+limitAfterAll (x ∷ l) k = limitAfterAll l (limitAfter x k)
+
+abbrev pub limitTold : ℕ → List Told → ℕ
+limitTold k [] = k
+limitTold k (t ∷ earlier) = limitAfterAll (t .answers) (limitTold k earlier)
 
 -- ---- rounds
 
@@ -94,12 +118,15 @@ pub data Between : Told → Type 0 where
   a-submission : (cs : List Command) (answers : List Answer) → Between (record { call = submit cs; answers = answers })
   a-refusal : (t : Told) → isAccepted (t .answers) ≡ false → Between t
 
--- A schedule after a history: what is told then, and how many rounds that is.
-pub data Schedule : List Told → List Told → ℕ → Type 0 where
-  no-more : {history : List Told} → Schedule history [] 0
-  between : {history l : List Told} {n : ℕ} (t : Told) → Between t → Schedule (t ∷ history) l n → Schedule history (t ∷ l) n
-  a-round : {history l : List Told} {n : ℕ} (turns reports : List Told) → Round history turns reports →
-      Schedule (toldThen (toldThen history turns) reports) l n → Schedule history (turns ++ (reports ++ l)) (suc n)
+-- A schedule: the history at its start, the history now, and how many of its rounds count: those since the start or, "if later, the last
+-- change, which falls between rounds".
+pub data Schedule (start : List Told) : List Told → ℕ → Type 0 where
+  begins : Schedule start start 0
+  between : {now : List Told} {n : ℕ} → Schedule start now n → (t : Told) → Between t → Schedule start (t ∷ now) n
+  a-change : {now : List Told} {n : ℕ} → Schedule start now n → (k : ℕ) →
+      Schedule start (record { call = limit k; answers = limited k ∷ [] } ∷ now) 0
+  a-round : {now : List Told} {n : ℕ} → Schedule start now n → (turns reports : List Told) → Round now turns reports →
+      Schedule start (toldThen (toldThen now turns) reports) (suc n)
 
 -- ---- the promise
 
@@ -108,21 +135,41 @@ abbrev pub enoughRounds : ℕ → ℕ
 enoughRounds k = (maxCommands + 1) * (maxHeld + k)
 
 -- The waiting promise, for every accepted opening, every list of calls, every submission then accepted, with id i, and every schedule from
--- there: after so many rounds the routine is ended.
+-- there: once so many rounds count, by the K in force, the routine is ended. Without a new pass limit all rounds count, and K is that of
+-- the opening: so it is the promise of item 1.
 abbrev pub EndedInTime : Type 0
 EndedInTime =
     (n k first : ℕ) (s : State) → openOf n k first ≡ opened s →
     (before : List Call) (cs : List Command) (i j : ℕ) → resultOf (stateAfter s before) (submit cs) .answers ≡ placed i j ∷ [] →
     (later : List Call) (rounds : ℕ) →
-    let first-part = before ++ (submit cs ∷ []) in
-    let history = toldThen [] (callsTold s first-part) in
-    let then-told = callsTold (stateAfter s first-part) later in
-    Schedule history then-told rounds → enoughRounds k ≤ rounds → Ended i (toldThen history then-told)
+    let start = toldThen [] (callsTold s (before ++ (submit cs ∷ []))) in
+    let now = toldThen [] (callsTold s (before ++ (submit cs ∷ later))) in
+    Schedule start now rounds → enoughRounds (limitTold k now) ≤ rounds → Ended i now
+
+-- No new pass limit among these calls.
+abbrev pub KeepsLimit : Call → Type 0
+KeepsLimit (submit cs) = Unit {0}
+KeepsLimit (turn i) = Unit {0}
+KeepsLimit (report i code) = Unit {0}
+KeepsLimit (failure d) = Unit {0}
+KeepsLimit (restart d v) = Unit {0}
+KeepsLimit (cancel i) = Unit {0}
+KeepsLimit (limit k) = ⊥
+
+-- The promise of item 1, of which that is an instance: no change happens, and K is the opening's.
+abbrev pub EndedInTimeAtOneLimit : Type 0
+EndedInTimeAtOneLimit =
+    (n k first : ℕ) (s : State) → openOf n k first ≡ opened s →
+    (before : List Call) (cs : List Command) (i j : ℕ) → resultOf (stateAfter s before) (submit cs) .answers ≡ placed i j ∷ [] →
+    (later : List Call) (rounds : ℕ) → Each KeepsLimit (before ++ (submit cs ∷ later)) →
+    let start = toldThen [] (callsTold s (before ++ (submit cs ∷ []))) in
+    let now = toldThen [] (callsTold s (before ++ (submit cs ∷ later))) in
+    Schedule start now rounds → enoughRounds k ≤ rounds → Ended i now
 
 -- ---- what is told is what the hub holds
 
 -- After every list of calls a routine runs, by the answers, exactly if it does in the hub's sequence; and has a command in flight exactly
--- if it has one there.
+-- if it has one there. The K in force is the hub's.
 abbrev pub ToldIsHeld : Type 0
 ToldIsHeld =
     (n k first : ℕ) (s : State) → openOf n k first ≡ opened s →
@@ -131,6 +178,7 @@ ToldIsHeld =
     let history = toldThen [] (callsTold s calls) in
     (accountsOf history i .running ≡ anyOf (runs i) (now .sequence))
     × (flyingOf history i ≡ anyOf (λ m. runs i m && anyOf (λ x. isInFlight (x .status)) (m .steps)) (now .sequence))
+    × (limitTold k history ≡ now .passLimit)
 
 -- ---- rounds can be made
 

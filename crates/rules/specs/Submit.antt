@@ -22,7 +22,8 @@ submitCheck s cs =
     andThen refuse sequence-full when leb maxHeld (length (s .sequence))
     andThen refuse ids-used-up when ltb highestId (s .nextId)
 
--- What the newcomer must follow: "the marks of its devices; every running routine that has been passed K times"
+-- What the newcomer must follow: "the marks of its devices; every running routine that has been passed K times"; with another K than that
+-- of the opening, "passed as often as the K then in force, or oftener" (document 02, item 13)
 unfoldable pub blocks : State → List Command → Member → Bool
 blocks s cs m = anyOf (λ c. eqb (s .mark (c .device)) (m .id)) cs || (isRunning m && leb (s .passLimit) (m .passed))
 

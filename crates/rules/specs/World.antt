@@ -9,8 +9,9 @@ use lib.IntN.{ℤ, pos}
 use Rattle.routine.specs.Choice.{if_then_else_}
 use Rattle.rules.specs.Tables.{anyOf, put}
 use Rattle.rules.specs.State.{State}
-use Rattle.rules.specs.Answers.{Call, submit, turn, report, failure, restart, cancel, Back, Answer, refused, placed, wait, send}
-use Rattle.rules.specs.Answers.{done, skipped, committed, aborted, down, up, Result}
+use Rattle.rules.specs.Answers.{Call, submit, turn, report, failure, restart, cancel, limit, Back, Answer, refused, placed, wait}
+use Rattle.rules.specs.Answers.{send}
+use Rattle.rules.specs.Answers.{done, skipped, committed, aborted, down, up, limited, Result}
 use Rattle.rules.specs.Report.{codeDone}
 use Rattle.rules.specs.Calls.{resultOf}
 use Rattle.rules.specs.History.{Told, Account, accountsOf}
@@ -68,6 +69,7 @@ dropReported (report i code) a ds = λ d. drops (sent-for i (a i .sends)) (ds d)
 dropReported (failure d) a ds = ds
 dropReported (restart d v) a ds = ds
 dropReported (cancel i) a ds = ds
+dropReported (limit k) a ds = ds
 
 -- What an answer does to the devices. "an accepted failure ends what was sent before and may leave any setting": v. A report that was
 -- answered by `skipped` or `aborted` reported failed. "Refused calls tell nothing."
@@ -83,6 +85,7 @@ devicesAfter c a v (committed i) ds = ds
 devicesAfter c a v (aborted i l) ds = putAllBack l (dropReported c a ds)
 devicesAfter c a v (down d j) ds = put ds d (record { setting = v; sent = []; took = ds d .took })
 devicesAfter c a v (up d j) ds = ds
+devicesAfter c a v (limited k) ds = ds
 
 abbrev pub devicesAfterAll : Call → (ℕ → Account) → ℤ → List Answer → (ℕ → Device) → ℕ → Device
 devicesAfterAll c a v [] ds = ds
@@ -143,6 +146,7 @@ isAccepted (committed i ∷ l) = true
 isAccepted (aborted i b ∷ l) = true
 isAccepted (down d j ∷ l) = true
 isAccepted (up d j ∷ l) = true
+isAccepted (limited k ∷ l) = true
 
 -- The premise on an accepted call. The demand: "a done report means the setting was taken, a failed report means it was not", "a restart
 -- reports the setting it then has".
@@ -153,6 +157,7 @@ Truthful w (report i code) = taken w i ≡ eqb code codeDone
 Truthful w (failure d) = Unit {0}
 Truthful w (restart d v) = v ≡ w .devices d .setting
 Truthful w (cancel i) = Unit {0}
+Truthful w (limit k) = Unit {0}
 
 -- Asked of a call that is accepted with these answers.
 abbrev pub Premised : World → Call → List Answer → Type 0
