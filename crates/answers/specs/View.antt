@@ -6,9 +6,9 @@ use mathlib.Core.List.{List, [], _∷_, _++_, map}
 use Prim.Native.Nat.{_≤_}
 use lib.ListN.{take}
 use Rattle.routine.specs.Routine.{maxDevices}
-use Rattle.rules.specs.Answers.{Back, Answer as Told, refused, placed, wait, send, done, skipped, committed, aborted, down, up}
+use Rattle.rules.specs.Answers.{Back, Answer as Told, refused, placed, wait, send, done, skipped, committed, aborted, down, up, limited}
 use Rattle.answers.specs.declared.Answer.{Answer}
-use Rattle.answers.specs.declared.Answer.the-variants.{Refused, Placed, Wait, Sent, Done, Skipped, Committed, Aborted, Down, Up}
+use Rattle.answers.specs.declared.Answer.the-variants.{Refused, Placed, Wait, Sent, Done, Skipped, Committed, Aborted, Down, Up, Limited}
 use Rattle.answers.specs.declared.First.{First}
 use Rattle.answers.specs.declared.First.the-variants.{NoAbort, Abort}
 use Rattle.answers.specs.declared.OneBack.{OneBack}
@@ -43,6 +43,7 @@ answerOf (Committed i) l = committed i
 answerOf (Aborted i) l = aborted i l
 answerOf (Down d i) l = down d i
 answerOf (Up d i) l = up d i
+answerOf (Limited k) l = limited k
 
 -- The abort that a failure or a restart brings comes first.
 abbrev pub firstOf : First → List Back → List Told
@@ -66,6 +67,7 @@ backsIn (committed i ∷ l) = backsIn l
 backsIn (aborted i b ∷ l) = b ++ backsIn l
 backsIn (down d i ∷ l) = backsIn l
 backsIn (up d i ∷ l) = backsIn l
+backsIn (limited k ∷ l) = backsIn l
 
 -- A refusal and a wait change nothing.
 abbrev pub changesNothing : Answer → Bool
@@ -79,3 +81,4 @@ changesNothing (Committed i) = false
 changesNothing (Aborted i) = false
 changesNothing (Down d i) = false
 changesNothing (Up d i) = false
+changesNothing (Limited k) = false

@@ -21,8 +21,8 @@ pub struct Sent {
     pub command: Command,
 }
 
-// What a call answers. A wait has the id and the id it waits on; an event its device and the id it follows; the others the routine's
-// id.
+// What a call answers. A wait has the id and the id it waits on; an event its device and the id it follows; a new pass limit the K now in
+// force; the others the routine's id.
 pub enum Answer {
     Refused(Refusal),
     Placed(Placed),
@@ -34,6 +34,7 @@ pub enum Answer {
     Aborted(u32),
     Down(u8, u32),
     Up(u8, u32),
+    Limited(u8),
 }
 
 // The routine that a failure or a restart aborted before its own answer.

@@ -15,7 +15,7 @@ use Rattle.routine.proofs.Exact.{reworded}
 use Rattle.rules.proofs.Exact.{exact-opening, exact-calls, refused-opening, accepted-opening, opened-new, RefusedOrNot, refused-or-not}
 use Rattle.answers.specs.View.{backsOf, answerOf, firstOf, changesNothing}
 use Rattle.answers.specs.declared.Answer.{Answer}
-use Rattle.answers.specs.declared.Answer.the-variants.{Refused, Placed, Wait, Sent, Done, Skipped, Committed, Aborted, Down, Up}
+use Rattle.answers.specs.declared.Answer.the-variants.{Refused, Placed, Wait, Sent, Done, Skipped, Committed, Aborted, Down, Up, Limited}
 use Rattle.answers.specs.declared.First.{First}
 use Rattle.answers.specs.declared.First.the-variants.{NoAbort, Abort}
 use Rattle.hub.specs.View.{view, answersIn}
@@ -50,6 +50,7 @@ refusal-read (Committed i) l r e = let z : _≡_ {A = ℕ} 0 1 = cc in absurd (o
 refusal-read (Aborted i) l r e = let z : _≡_ {A = ℕ} 0 1 = cc in absurd (omega arith)
 refusal-read (Down d i) l r e = let z : _≡_ {A = ℕ} 0 1 = cc in absurd (omega arith)
 refusal-read (Up d i) l r e = let z : _≡_ {A = ℕ} 0 1 = cc in absurd (omega arith)
+refusal-read (Limited k) l r e = let z : _≡_ {A = ℕ} 0 1 = cc in absurd (omega arith)
 
 -- so if a refusal is all that the rules read, it is the answer
 alone-read : (first : First) (a : Answer) (l : List Back) (r : Refusal) →

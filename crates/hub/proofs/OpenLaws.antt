@@ -15,9 +15,9 @@ use Rattle.routine.specs.declared.Verdict.{Verdict}
 use Rattle.routine.specs.declared.Verdict.the-variants.{Accepted, Refused as TurnedDown}
 use Rattle.routine.proofs.Laws.{both-accept, not-refused, or-false}
 use Rattle.rules.specs.State.{highestPassLimit, highestId, maxHeld}
-use Rattle.rules.specs.Open.{openCheck, newHub, closedHub, openIf, openOf}
-use Rattle.rules.specs.Calls.{TurnsAllDown}
-use Rattle.rules.proofs.Closed.{closed-turns-all-down}
+use Rattle.rules.specs.Open.{limitCheck, openCheck, newHub, closedHub, openIf, openOf}
+use Rattle.rules.specs.Calls.{StaysClosed}
+use Rattle.rules.proofs.Closed.{closed-stays}
 use Rattle.sequence.specs.Lists.{count}
 use Rattle.sequence.specs.Links.{slotsOf}
 use Rattle.sequence.specs.Contract.{Empty}
@@ -37,9 +37,9 @@ all-same zero v d = refl
 all-same (suc n) v zero = refl
 all-same (suc n) v (suc d) = all-same n v d
 
--- every call on the hub of no devices is turned down
-pub turns-all-down : (h : Hub) → view h ≡ closedHub → TurnsAllDown (view h)
-turns-all-down h e = subst TurnsAllDown (sym e) closed-turns-all-down
+-- what calls on the hub of no devices come to
+pub stays-closed : (h : Hub) → view h ≡ closedHub → StaysClosed (view h)
+stays-closed h e = subst StaysClosed (sym e) (closed-stays 0)
 
 module _ (n k first : ℕ) where
   -- one law for each way out of the check
@@ -51,28 +51,31 @@ module _ (n k first : ℕ) where
   unfolding openCheck
   open-many-devices h = simp (ne-eqb n 0 (λ e. omega arith), lt-ltb maxDevices n h)
 
-  pub open-pass-limit : 0 < n → n ≤ maxDevices → highestPassLimit < k → openCheck n k first ≡ TurnedDown (refusalOf pass-limit-out-of-range)
+  pub open-pass-limit : 0 < n → n ≤ maxDevices → (r : Refusal) → limitCheck k ≡ TurnedDown r → openCheck n k first ≡ TurnedDown r
   unfolding openCheck
-  open-pass-limit h m p = simp (ne-eqb n 0 (λ e. omega arith), le-ltb maxDevices n m, lt-ltb highestPassLimit k p)
+  open-pass-limit h m r p =
+      simp (ne-eqb n 0 (λ e. omega arith), le-ltb maxDevices n m) (ap (λ (v : Verdict). v andThen refuse first-id-0 when eqb first 0) p)
 
-  pub open-first-id : 0 < n → n ≤ maxDevices → k ≤ highestPassLimit → first ≡ 0 → openCheck n k first ≡ TurnedDown (refusalOf first-id-0)
+  pub open-first-id : 0 < n → n ≤ maxDevices → limitCheck k ≡ Accepted → first ≡ 0 → openCheck n k first ≡ TurnedDown (refusalOf first-id-0)
   unfolding openCheck
-  open-first-id h m p f = simp (ne-eqb n 0 (λ e. omega arith), le-ltb maxDevices n m, le-ltb highestPassLimit k p, eq-eqb first 0 f)
+  open-first-id h m p f =
+      simp (ne-eqb n 0 (λ e. omega arith), le-ltb maxDevices n m, eq-eqb first 0 f)
+      (ap (λ (v : Verdict). v andThen TurnedDown (refusalOf first-id-0)) p)
 
-  pub open-fine : 0 < n → n ≤ maxDevices → k ≤ highestPassLimit → 0 < first → openCheck n k first ≡ Accepted
+  pub open-fine : 0 < n → n ≤ maxDevices → limitCheck k ≡ Accepted → 0 < first → openCheck n k first ≡ Accepted
   unfolding openCheck
   open-fine h m p f =
-      simp (ne-eqb n 0 (λ e. omega arith), le-ltb maxDevices n m, le-ltb highestPassLimit k p, ne-eqb first 0 (λ e. omega arith))
+      simp (ne-eqb n 0 (λ e. omega arith), le-ltb maxDevices n m, ne-eqb first 0 (λ e. omega arith))
+      (ap (λ (v : Verdict). v andThen Accepted) p)
 
   -- an accepted opening has these in range
   pub open-fits : openCheck n k first ≡ Accepted → (n ≤ maxDevices) × (0 < first)
   unfolding openCheck
   open-fits e =
       let devices = refuse devices-out-of-range when (eqb n 0 || ltb maxDevices n) in
-      let limit = refuse pass-limit-out-of-range when ltb highestPassLimit k in
       let id = refuse first-id-0 when eqb first 0 in
-      let a = both-accept devices (limit andThen id) e in
-      let b = both-accept limit id (a .1) in
+      let a = both-accept devices (limitCheck k andThen id) e in
+      let b = both-accept (limitCheck k) id (a .1) in
       let m = ltb-false maxDevices n (or-false (eqb n 0) (ltb maxDevices n) (not-refused devices-out-of-range _ (a .0)) .1) in
       let f = eqb-false first 0 (not-refused first-id-0 _ (b .1)) in
       (m, omega (arith, f))
@@ -139,5 +142,5 @@ module _ (n k first : ℕ) where
   opens-not o r c e v w = record {
     valid = v;
     gives = ap (λ (d : Verdict). openIf d (view (o .hub))) e ∙ sym (ap (λ (d : Verdict). openIf d (newHub n k first)) (sym c ∙ e));
-    no-hub = λ s t. (w, turns-all-down (o .hub) w);
+    no-hub = λ s t. (w, stays-closed (o .hub) w);
   }

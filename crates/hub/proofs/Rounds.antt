@@ -1,13 +1,14 @@
 -- The waiting promise of this hub: the theorem of the rules, carried along a chain of calls. Assumes nothing.
 use mathlib.Core.Path.{_≡_, refl, sym, ap, _∙_, subst}
-use mathlib.Core.List.{List, [], _∷_, _++_}
+use mathlib.Core.List.{List, [], _∷_, _++_, append-assoc}
+use Prim.Native.Nat.{_≤_}
 use Rattle.routine.specs.Routine.{commandsOf}
 use Rattle.routine.specs.declared.Command.{Command}
 use Rattle.rules.specs.State.{State}
 use Rattle.rules.specs.Answers.{Call, submit, placed, Result}
 use Rattle.rules.specs.Calls.{resultOf, stateAfter}
 use Rattle.rules.specs.History.{Told}
-use Rattle.rules.specs.Rounds.{callsTold, toldThen, Ended, Schedule}
+use Rattle.rules.specs.Rounds.{callsTold, toldThen, Ended, limitTold, Schedule, enoughRounds}
 use Rattle.rules.proofs.Waiting.{ended-in-time}
 use Rattle.hub.specs.View.{view, answersIn}
 use Rattle.hub.specs.Demand3.{submits, callOf, HubAct, called, device-takes, Chain, hubAfter}
@@ -47,13 +48,17 @@ chain-right h [] rest ch = ch
 chain-right h (called c o v ∷ l) rest ch = chain-right (o .hub) l rest (ch .1)
 chain-right h (device-takes d k ∷ l) rest ch = chain-right h l rest ch
 
+-- a first part of a chain: what happens in it, and one call more
+first-part : (before later : List HubAct) (x : HubAct) → before ++ (x ∷ later) ≡ (before ++ (x ∷ [])) ++ later
+first-part before later x = sym (append-assoc before (x ∷ []) later)
+
 -- The waiting promise.
 pub hub-ended-in-time : HubEndedInTime
 hub-ended-in-time n k first o op accepted before r p v i j was-placed later rounds ch schedule enough =
-    subst (λ x. Promise x (toldIn later)) (sym told-first)
-    (subst (Promise (callsTold s calls)) (sym told-later)
-    (λ x. ended-in-time n k first s (opens-as n k first o op accepted) (callsIn before) cs i j answers (callsIn later) rounds x enough))
-    schedule
+    subst (Ended i) (sym told-all)
+    (ended-in-time n k first s (opens-as n k first o op accepted) (callsIn before) cs i j answers (callsIn later) rounds
+    (subst (λ x. Schedule x now rounds) told-start (subst (λ x. Schedule start x rounds) told-all schedule))
+    (subst (λ x. enoughRounds (limitTold k x) ≤ rounds) told-all enough))
   where
     h : Hub
     h = o .hub
@@ -64,30 +69,27 @@ hub-ended-in-time n k first o op accepted before r p v i j was-placed later roun
     cs : List Command
     cs = commandsOf r
 
-    first-part : List HubAct
-    first-part = before ++ (called (submits r) p v ∷ [])
+    x : HubAct
+    x = called (submits r) p v
 
-    calls : List Call
-    calls = callsIn before ++ (submit cs ∷ [])
+    start : List Told
+    start = toldThen [] (toldIn (before ++ (x ∷ [])))
 
-    Promise : List Told → List Told → Type 0
-    Promise a b = Schedule (toldThen [] a) b rounds → Ended i (toldThen (toldThen [] a) b)
+    now : List Told
+    now = toldThen [] (callsTold s (callsIn before ++ (submit cs ∷ callsIn later)))
 
-    chain-first : Chain h first-part
-    chain-first = chain-left h first-part later ch
+    chain-start : Chain h (before ++ (x ∷ []))
+    chain-start = chain-left h (before ++ (x ∷ [])) later (subst (Chain h) (first-part before later x) ch)
 
-    told-first : toldIn first-part ≡ callsTold s calls
-    told-first = told-is h first-part chain-first ∙ ap (callsTold s) (calls-++ before (called (submits r) p v ∷ []))
+    told-start : start ≡ toldThen [] (callsTold s (callsIn before ++ (submit cs ∷ [])))
+    told-start =
+        ap (toldThen []) (told-is h (before ++ (x ∷ [])) chain-start ∙ ap (callsTold s) (calls-++ before (x ∷ [])))
 
-    told-later : toldIn later ≡ callsTold (stateAfter s calls) (callsIn later)
-    told-later =
-        told-is (hubAfter h first-part) later (chain-right h first-part later ch)
-        ∙ ap (λ x. callsTold x (callsIn later))
-        (state-is h first-part chain-first ∙ ap (stateAfter s) (calls-++ before (called (submits r) p v ∷ [])))
+    told-all : toldThen [] (toldIn (before ++ (x ∷ later))) ≡ now
+    told-all = ap (toldThen []) (told-is h (before ++ (x ∷ later)) ch ∙ ap (callsTold s) (calls-++ before (x ∷ later)))
 
     answers : resultOf (stateAfter s (callsIn before)) (submit cs) .answers ≡ placed i j ∷ []
     answers =
-        ap (λ x. resultOf x (submit cs) .answers) (sym (state-is h before (chain-left h before (called (submits r) p v ∷ []) chain-first)))
-        ∙ ap (λ (x : Result). x .answers)
-        (sym (met (hubAfter h before) (submits r) p (chain-right h before (called (submits r) p v ∷ []) chain-first .0) .gives))
+        ap (λ x. resultOf x (submit cs) .answers) (sym (state-is h before (chain-left h before (x ∷ []) chain-start)))
+        ∙ ap (λ (x : Result). x .answers) (sym (met (hubAfter h before) (submits r) p (chain-right h before (x ∷ []) chain-start .0) .gives))
         ∙ was-placed

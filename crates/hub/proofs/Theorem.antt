@@ -18,7 +18,7 @@ use Rattle.rules.proofs.AllDue.{list-entry}
 use Rattle.hub.specs.View.{view, resultIn}
 use Rattle.hub.specs.Valid.{Valid}
 use Rattle.hub.specs.Contract.{Opens, Gives}
-use Rattle.hub.specs.Demand3.{HubCall, submits, turns, reports, fails, restarts, cancels, callOf, Meets, HubAct, called}
+use Rattle.hub.specs.Demand3.{HubCall, submits, turns, reports, fails, restarts, cancels, limits, callOf, Meets, HubAct, called}
 use Rattle.hub.specs.Demand3.{device-takes, Chain, hubAfter, worldThenAll, PremiseThenAll, newWorldOf, HubDemand3, HubStatement}
 use Rattle.hub.specs.Demand3.{ReadersStatement, ListStatement}
 use Rattle.hub.specs.declared.Hub.{Hub}
@@ -38,6 +38,7 @@ met h (reports i code) o m = m
 met h (fails d) o m = m
 met h (restarts d v) o m = m
 met h (cancels i) o m = m
+met h (limits k) o m = m
 
 met-in : (w : World) (h : Hub) → w .state ≡ view h → (c : HubCall) (o : Outcome) → Meets h c o → resultIn o ≡ resultOf (w .state) (callOf c)
 met-in w h e c o m = met h c o m .gives ∙ ap (λ s. resultOf s (callOf c)) (sym e)

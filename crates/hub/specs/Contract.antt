@@ -9,12 +9,13 @@ use Rattle.routine.specs.declared.Routine.{Routine}
 use Rattle.routine.specs.declared.Verdict.the-variants.{Refused}
 use Rattle.rules.specs.Answers.{Result}
 use Rattle.rules.specs.Open.{closedHub, openIf, openOf}
-use Rattle.rules.specs.Calls.{TurnsAllDown}
+use Rattle.rules.specs.Calls.{StaysClosed}
 use Rattle.rules.specs.Submit.{submitOf}
 use Rattle.rules.specs.Turn.{turnOf}
 use Rattle.rules.specs.Report.{reportOf}
 use Rattle.rules.specs.Events.{failureOf, restartOf}
 use Rattle.rules.specs.Cancel.{cancelOf}
+use Rattle.rules.specs.Limit.{limitOf}
 use Rattle.answers.specs.View.{backsOf, backsIn, BacksOk, changesNothing}
 use Rattle.hub.specs.View.{view, answersIn, resultIn}
 use Rattle.hub.specs.Valid.{Valid}
@@ -23,11 +24,11 @@ use Rattle.hub.specs.declared.Opened.{Opened}
 use Rattle.hub.specs.declared.Outcome.{Outcome}
 
 -- The opening is accepted, with the hub that the rules give, or turned down as they say. "no hub made": beside a refusal
--- stands the hub of no devices, on which every call is turned down.
+-- stands the hub of no devices, on which every call is turned down, but a new pass limit, which leaves a hub of no devices.
 pub record Opens (n k first : ℕ) (o : Opened) : Type 0 where
   pub valid : Valid (o .hub)
   pub gives : openIf (o .verdict) (view (o .hub)) ≡ openOf n k first
-  pub no-hub : (r : Refusal) → o .verdict ≡ Refused r → (view (o .hub) ≡ closedHub) × TurnsAllDown (view (o .hub))
+  pub no-hub : (r : Refusal) → o .verdict ≡ Refused r → (view (o .hub) ≡ closedHub) × StaysClosed (view (o .hub))
 
 -- A call on the hub h gives what the rules give: the answers and, as the rules see it, the next hub, which is valid again. Its list of
 -- put-backs fits its array and is that of the answers. Where nothing changes, it is the same hub, whole.
@@ -55,3 +56,6 @@ Failed h device o = Gives h o (failureOf (view h) device)
 
 abbrev pub Restarted : Hub → ℕ → ℤ → Outcome → Type 0
 Restarted h device setting o = Gives h o (restartOf (view h) device setting)
+
+abbrev pub Limited : Hub → ℕ → Outcome → Type 0
+Limited h k o = Gives h o (limitOf (view h) k)

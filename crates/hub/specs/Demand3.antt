@@ -8,7 +8,7 @@ use lib.ListN.{length, getD}
 use Rattle.routine.specs.Routine.{commandsOf}
 use Rattle.routine.specs.declared.Routine.{Routine}
 use Rattle.routine.specs.declared.Verdict.the-variants.{Accepted}
-use Rattle.rules.specs.Answers.{Call, submit, turn, report, failure, restart, cancel}
+use Rattle.rules.specs.Answers.{Call, submit, turn, report, failure, restart, cancel, limit}
 use Rattle.rules.specs.Due.{due}
 use Rattle.rules.specs.AllDue.{listAfter}
 use Rattle.rules.specs.Order.{entries}
@@ -16,7 +16,7 @@ use Rattle.rules.specs.Serial.{allUp, serialRun}
 use Rattle.rules.specs.World.{World, accounts, takes-one, worldAfter, afterCall, Premised, newWorld}
 use Rattle.rules.specs.Demand3.{orderIn, EndState, Begins, CommandsStand}
 use Rattle.hub.specs.View.{view, answersIn, resultIn}
-use Rattle.hub.specs.Contract.{Opens, Submitted, Turned, Reported, Cancelled, Failed, Restarted}
+use Rattle.hub.specs.Contract.{Opens, Submitted, Turned, Reported, Cancelled, Failed, Restarted, Limited}
 use Rattle.hub.specs.declared.Hub.{Hub}
 use Rattle.hub.specs.declared.Opened.{Opened}
 use Rattle.hub.specs.declared.Outcome.{Outcome}
@@ -29,6 +29,7 @@ pub data HubCall : Type 0 where
   fails : ℕ → HubCall  -- device
   restarts : ℕ → ℤ → HubCall  -- device, setting
   cancels : ℕ → HubCall  -- id
+  limits : ℕ → HubCall  -- the new K
 
 -- The call as the rules have it.
 abbrev pub callOf : HubCall → Call
@@ -38,8 +39,9 @@ callOf (reports i code) = report i code
 callOf (fails d) = failure d
 callOf (restarts d v) = restart d v
 callOf (cancels i) = cancel i
+callOf (limits k) = limit k
 
--- The contract of the call: of `hub::submit`, `turn`, `report`, `fail`, `restart` and `cancel`.
+-- The contract of the call: of `hub::submit`, `turn`, `report`, `fail`, `restart`, `cancel` and `limit`.
 abbrev pub Meets : Hub → HubCall → Outcome → Type 0
 Meets h (submits r) o = Submitted h r o
 Meets h (turns i) o = Turned h i o
@@ -47,6 +49,7 @@ Meets h (reports i code) o = Reported h i code o
 Meets h (fails d) o = Failed h d o
 Meets h (restarts d v) o = Restarted h d v o
 Meets h (cancels i) o = Cancelled h i o
+Meets h (limits k) o = Limited h k o
 
 -- What happens: a call with its outcome; should it be an accepted failure, it leaves its device at the setting given here. Or a device
 -- takes one of what was sent to it, passing over some.

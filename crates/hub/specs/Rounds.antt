@@ -1,5 +1,5 @@
--- Document 02, item 1, "Nobody waits for ever", of this hub: for every chain of its calls, with the answers that its contracts give. Rounds
--- and schedules are those of `specs/Rounds.antt` of crate `rules`. The proof is `hub-ended-in-time` of `proofs/Rounds.antt`. Assumes
+-- Document 02, item 1, "Nobody waits for ever", with the new pass limits of item 13, of this hub: for every chain of its calls, with the
+-- answers that its contracts give. Rounds and schedules are those of `specs/Rounds.antt` of crate `rules`. The proof is `hub-ended-in-time` of `proofs/Rounds.antt`. Assumes
 -- nothing.
 use mathlib.Core.Path.{_≡_}
 use mathlib.Core.List.{List, [], _∷_, _++_}
@@ -9,7 +9,7 @@ use Rattle.routine.specs.declared.Routine.{Routine}
 use Rattle.routine.specs.declared.Verdict.the-variants.{Accepted}
 use Rattle.rules.specs.Answers.{placed}
 use Rattle.rules.specs.History.{Told}
-use Rattle.rules.specs.Rounds.{toldThen, Ended, Schedule, enoughRounds}
+use Rattle.rules.specs.Rounds.{toldThen, Ended, limitTold, Schedule, enoughRounds}
 use Rattle.hub.specs.View.{answersIn}
 use Rattle.hub.specs.Contract.{Opens}
 use Rattle.hub.specs.Demand3.{submits, callOf, HubAct, called, device-takes, Chain}
@@ -22,14 +22,14 @@ toldIn [] = []
 toldIn (called c o v ∷ l) = record { call = callOf c; answers = answersIn o } ∷ toldIn l
 toldIn (device-takes d k ∷ l) = toldIn l
 
--- For every accepted opening, every chain of calls from it, in which a routine is placed, with id i, and every schedule from there: after
--- so many rounds the routine is ended.
+-- For every accepted opening, every chain of calls from it, in which a routine is placed, with id i, and every schedule from there: once so
+-- many rounds count, by the K in force, the routine is ended.
 abbrev pub HubEndedInTime : Type 0
 HubEndedInTime =
     (n k first : ℕ) (o : Opened) → Opens n k first o → o .verdict ≡ Accepted →
     (before : List HubAct) (r : Routine) (p : Outcome) (v : ℤ) (i j : ℕ) → answersIn p ≡ placed i j ∷ [] →
     (later : List HubAct) (rounds : ℕ) →
-    let first-part = before ++ (called (submits r) p v ∷ []) in
-    let history = toldThen [] (toldIn first-part) in
-    Chain (o .hub) (first-part ++ later) → Schedule history (toldIn later) rounds → enoughRounds k ≤ rounds →
-    Ended i (toldThen history (toldIn later))
+    let start = toldThen [] (toldIn (before ++ (called (submits r) p v ∷ []))) in
+    let now = toldThen [] (toldIn (before ++ (called (submits r) p v ∷ later))) in
+    Chain (o .hub) (before ++ (called (submits r) p v ∷ later)) → Schedule start now rounds → enoughRounds (limitTold k now) ≤ rounds →
+    Ended i now

@@ -1,7 +1,7 @@
 // The plot hub, by value: document 01, "The steps". Here stand the public calls with their contracts. A call decides, on a hub that stays
 // as it is, what it comes to (crates `submit`, `turn`, `report`, `events` and, the cancel, `abort`); an applier makes the next hub (crates
-// `apply`, `leaving`, `events`), which then settles. `specs/` reads a hub as the state of the rules, and an outcome as their
-// answers.
+// `apply`, `leaving`, `events`), which then settles. Only a new pass limit (crate `limit`) is made at once. `specs/` reads a hub as the state
+// of the rules, and an outcome as their answers.
 mod carrying;
 mod opening;
 
@@ -31,7 +31,7 @@ ghost use Rattle.rules.specs.Report.{reportOf};
 ghost use Rattle.rules.specs.Settle.{settle};
 ghost use Rattle.rules.specs.Submit.{submitOf};
 ghost use Rattle.rules.specs.Turn.{turnOf};
-ghost use Rattle.rules.specs.Calls.{TurnsAllDown};
+ghost use Rattle.rules.specs.Calls.{StaysClosed};
 ghost use Rattle.sequence.specs.Links.{Stands};
 ghost use Rattle.answers.specs.View.{backsOf, BacksOk};
 ghost use Rattle.state.specs.View.{isRestart, there, firstCommitted};
@@ -39,7 +39,7 @@ ghost use Rattle.state.specs.Contract.{staged, committedAt, joinedBehind, goneI
 ghost use Rattle.state.specs.Contract.{Decides, backsOfDecision};
 ghost use Rattle.hub.specs.View.{view};
 ghost use Rattle.hub.specs.Valid.{Valid};
-ghost use Rattle.hub.specs.Contract.{Opens, Submitted, Turned, Reported, Cancelled, Failed, Restarted};
+ghost use Rattle.hub.specs.Contract.{Opens, Submitted, Turned, Reported, Cancelled, Failed, Restarted, Limited};
 ghost use Rattle.hub.specs.Carrying.{LeavingOk};
 
 // A hub. Others hold it and hand it on; nobody else can make one, look into it or change it.
@@ -142,6 +142,23 @@ pub fn restart(hub: Hub, device: u8, setting: i16) -> Outcome
     carrying::carried_out(hub, decision, routine)
 }
 
+// A new pass limit for a hub that goes on: document 02, item 13. "a K above 8 gets 2".
+pub fn limit(hub: Hub, pass_limit: u8) -> Outcome
+    requires { ⌜ Valid hub ⌝ }
+    ensures { λ r. ⌜ Limited hub «pass_limit» r ⌝ }
+{
+    let state = hub.state;
+    let changed = limit::set_limit(state, pass_limit);
+    let next = changed.state;
+    let backs = answers::no_backs();
+    Outcome {
+        hub: Hub { state: next },
+        first: First::NoAbort,
+        answer: changed.answer,
+        backs,
+    }
+}
+
 // N.
 pub fn device_count(hub: Hub) -> u8
     ensures { λ r. ⌜ r ≡ view hub .devices ⌝ }
@@ -181,9 +198,9 @@ pub fn due_settings(hub: Hub, list: &mut [i16]) -> Verdict
     all_due::put_settings(state, list)
 }
 
-// A hub of no devices: one that is not opened. Every call on it is turned down.
+// A hub of no devices: one that is not opened. Every call on it is turned down, but a new pass limit, which leaves a hub of no devices.
 pub fn closed() -> Hub
-    ensures { λ r. ⌜ (Valid r) × (view r ≡ closedHub) × (TurnsAllDown (view r)) ⌝ }
+    ensures { λ r. ⌜ (Valid r) × (view r ≡ closedHub) × (StaysClosed (view r)) ⌝ }
 {
     opening::new_hub(0, 0, 1)
 }

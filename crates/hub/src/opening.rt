@@ -1,12 +1,10 @@
 // The opening: document 01, "Things and ranges".
 use crate::Hub;
-use routine::HIGHEST_PASS_LIMIT;
 use routine::MAX_DEVICES;
 use routine::Refusal;
 use routine::Verdict;
 use routine::refusals::DEVICES_OUT_OF_RANGE;
 use routine::refusals::FIRST_ID_0;
-use routine::refusals::PASS_LIMIT_OUT_OF_RANGE;
 use sequence::MAX_HELD;
 use sequence::keep;
 use state::HubState;
@@ -29,9 +27,10 @@ pub fn check(devices: u8, pass_limit: u8, first_id: u32) -> Verdict
     if MAX_DEVICES < devices as usize {
         return Verdict::Refused(Refusal::Number(DEVICES_OUT_OF_RANGE));
     }
-    if HIGHEST_PASS_LIMIT < pass_limit {
-        return Verdict::Refused(Refusal::Number(PASS_LIMIT_OUT_OF_RANGE));
-    }
+    let limited = limit::check(pass_limit);
+    let Verdict::Accepted = limited else {
+        return limited;
+    };
     if first_id == 0 {
         return Verdict::Refused(Refusal::Number(FIRST_ID_0));
     }

@@ -1,5 +1,5 @@
 // A record of the hub: kind, N, K, the first id in four bytes; then the calls, each of the same size: its letter, a byte (a count of
-// commands, a code, a device, or how many entries are lent), and four bytes of id, two of setting, or the commands.
+// commands, a code, a device, a new pass limit, or how many entries are lent), and four bytes of id, two of setting, or the commands.
 use hub::Hub;
 use hub::Opened;
 use hub::Outcome;
@@ -27,6 +27,8 @@ const REPORT: usize = 80;
 const FAIL: usize = 70;
 
 const RESTART: usize = 82;
+
+const LIMIT: usize = 75;
 
 pub fn small_at(bytes: &[u8], at: usize) -> u8 {
     if at < bytes.len() { bytes[at] } else { 0 }
@@ -95,6 +97,9 @@ pub fn called(hub: Hub, call: &[u8]) -> Outcome
     if letter == RESTART {
         let setting = setting_at(call, 2);
         return hub::restart(hub, small, setting);
+    }
+    if letter == LIMIT {
+        return hub::limit(hub, small);
     }
     let id = id_at(call, 2);
     if letter == TURN {

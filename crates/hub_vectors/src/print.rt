@@ -87,6 +87,12 @@ fn print_wait(id: u32, other: u32) {
     print_line_end();
 }
 
+fn print_limited(limit: u8) {
+    io::write_all(STDOUT_FILENO, b"limited");
+    print_number(limit as u64);
+    print_line_end();
+}
+
 fn print_answer(answer: Answer, backs: PutBacks) {
     match answer {
         Answer::Refused(refusal) => {
@@ -116,6 +122,7 @@ fn print_answer(answer: Answer, backs: PutBacks) {
             io::write_all(STDOUT_FILENO, b"up");
             print_event(device, id);
         }
+        Answer::Limited(limit) => print_limited(limit),
     }
 }
 

@@ -13,7 +13,7 @@ use Rattle.rules.specs.Rounds.{callsTold, toldThen}
 use Rattle.rules.specs.History.{Told}
 use Rattle.rules.proofs.Lists.{t≠f, or-left, or-right}
 use Rattle.line_rules.specs.Text.{bytes}
-use Rattle.line_rules.specs.Reading.{Line, opening, calling, unread, readLine}
+use Rattle.line_rules.specs.Reading.{asCall, Line, opening, calling, unread, readLine}
 use Rattle.line_rules.specs.Printing.{asLine}
 use Rattle.line_rules.specs.Program.{before, printsOpening, step, steps}
 use Rattle.line_rules.proofs.Parts.{steps-append}
@@ -114,7 +114,7 @@ calls-hub s (l ∷ ls) e =
     go : ((t : State) → steps (some t) ls .hub ≡ some (stateAfter t (callsBy ls))) → (said : Line) → opens said ≡ false →
         steps (hubLeft (some s) said) ls .hub ≡ some (stateAfter s (callBefore said (callsBy ls)))
     go rest (opening n k first) f = ap (λ (t : Option State). steps t ls .hub) (stays s (openOf n k first) f) ∙ rest s
-    go rest (calling c) f = rest (resultOf s c .state)
+    go rest (calling c) f = rest (resultOf s (asCall c) .state)
     go rest unread f = rest s
 
 -- what calls tell behind a history, each on the hub that the one before left
@@ -134,7 +134,8 @@ calls-told earlier s (l ∷ ls) e =
         ≡ toldCalls earlier s (callBefore said (callsBy ls))
     go rest (opening n k first) f =
         ap (λ (t : Option State). toldBehind earlier (repliesTo t ls)) (stays s (openOf n k first) f) ∙ rest earlier s
-    go rest (calling c) f = rest (record { call = c; answers = resultOf s c .answers } ∷ earlier) (resultOf s c .state)
+    go rest (calling c) f =
+        rest (record { call = asCall c; answers = resultOf s (asCall c) .answers } ∷ earlier) (resultOf s (asCall c) .state)
     go rest unread f = rest earlier s
 
 -- ---- the last accepted opening

@@ -19,7 +19,7 @@ use Rattle.rules.specs.World.{World, Act, calls, takes-one, worldAfterAll, Prem
 use Rattle.rules.specs.Demand3.{NoneRuns, isBack, Begins, CommandsStand}
 use Rattle.line_rules.specs.Text.{bytes}
 use Rattle.line_rules.specs.Pieces.{linesOf}
-use Rattle.line_rules.specs.Reading.{Line, opening, calling, unread, readLine}
+use Rattle.line_rules.specs.Reading.{asCall, Line, opening, calling, unread, readLine}
 use Rattle.line_rules.specs.Printing.{refusalText, asLine, answersText, deviceTextOf}
 use Rattle.line_rules.specs.Program.{programText}
 
@@ -38,7 +38,7 @@ replyToCall (some s) c = answered (record { call = c; answers = resultOf s c .an
 
 abbrev pub replyTo : Option State → Line → Reply
 replyTo h (opening n k first) = opening-gave (openOf n k first)
-replyTo h (calling c) = replyToCall h c
+replyTo h (calling c) = replyToCall h (asCall c)
 replyTo h unread = not-read
 
 -- "A later accepted `O` starts a new hub."
@@ -53,7 +53,7 @@ hubCalled (some s) c = some (resultOf s c .state)
 
 abbrev pub hubLeft : Option State → Line → Option State
 hubLeft h (opening n k first) = hubOpened h (openOf n k first)
-hubLeft h (calling c) = hubCalled h c
+hubLeft h (calling c) = hubCalled h (asCall c)
 hubLeft h unread = h
 
 -- The lines in turn: a reply to each.
@@ -167,7 +167,7 @@ PrintedKey = (input : List ℕ) → Key input ⊎ NoHub input
 -- The calls that lines make, in turn.
 abbrev pub callBefore : Line → List Call → List Call
 callBefore (opening n k first) cs = cs
-callBefore (calling c) cs = c ∷ cs
+callBefore (calling c) cs = asCall c ∷ cs
 callBefore unread cs = cs
 
 abbrev pub callsBy : List (List ℕ) → List Call

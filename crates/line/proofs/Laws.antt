@@ -102,13 +102,13 @@ submit-together s cs =
     let h = ltb-false maxCommands (length cs) e in
     ap (λ (r : Routine). submitOf s (commandsOf r)) (together-held [] cs (omega arith)) ∙ ap (submitOf s) (routineOf-commands cs h))
 
-same-call : (s : State) (c : Told) → resultOf s (callIn (heldCall c) (heldRoutine c)) ≡ resultOf s c
-same-call s (submit cs) = submit-together s cs
-same-call s (turn i) = refl
-same-call s (report i code) = refl
-same-call s (failure d) = refl
-same-call s (restart d v) = refl
-same-call s (cancel i) = refl
+same-call : (s : State) (c : LineCall) → resultOf s (callIn (heldCall c) (heldRoutine c)) ≡ resultOf s (asCall c)
+same-call s (submits cs) = submit-together s cs
+same-call s (turns i) = refl
+same-call s (reports i code) = refl
+same-call s (fails d) = refl
+same-call s (restarts d v) = refl
+same-call s (cancels i) = refl
 
 -- ---- what the program does of a line that was read and heard
 
@@ -116,14 +116,14 @@ same-call s (cancel i) = refl
 abbrev hubIf : Bool → Hub → Option State
 hubIf t h = if t then none else some (view h)
 
-abbrev heardIf : Bool → Told → Line
+abbrev heardIf : Bool → LineCall → Line
 heardIf t c = if t then Unread else Calling (heldCall c)
 
 pub line-unread : (h : Hub) (q : Said) → heardOf (heldLine q .line) (view h .devices) ≡ Unread → step (hubIn h) q ≡ printsUnread (hubIn h)
 unfolding step hubIn
 line-unread h (opening n k first) e = let z : _≡_ {A = ℕ} 0 1 = cc in absurd (omega arith)
 line-unread h (calling c) e =
-    byTest (λ (t : Bool). heardIf t c ≡ Unread → printsCall (hubIf t h) c ≡ printsUnread (hubIf t h)) (eqb (view h .devices) 0)
+    byTest (λ (t : Bool). heardIf t c ≡ Unread → printsCall (hubIf t h) (asCall c) ≡ printsUnread (hubIf t h)) (eqb (view h .devices) 0)
     (λ _ _. refl)
     (λ _ f. let z : _≡_ {A = ℕ} 0 1 = cc in absurd (omega arith))
     e
@@ -153,7 +153,7 @@ line-calling h (opening n k first) call e = let z : _≡_ {A = ℕ} 0 1 = cc in 
 line-calling h (calling c) call e =
     byTest
     (λ (t : Bool). heardIf t c ≡ Calling call →
-    (view h .devices ≢ 0) × (printsCall (hubIf t h) c ≡ printsResult (resultOf (view h) (callIn call (heldRoutine c)))))
+    (view h .devices ≢ 0) × (printsCall (hubIf t h) (asCall c) ≡ printsResult (resultOf (view h) (callIn call (heldRoutine c)))))
     (eqb (view h .devices) 0)
     (λ _ f. let z : _≡_ {A = ℕ} 0 1 = cc in absurd (omega arith))
     (λ t f.
@@ -202,14 +202,14 @@ opened-some n k first s = go (openCheck n k first) refl
 -- ---- what the call that a line makes comes to
 
 -- a call that is no submission has no commands beside it
-fits-held : (c : Told) → FitsCall (heldCall c) (heldRoutine c)
+fits-held : (c : LineCall) → FitsCall (heldCall c) (heldRoutine c)
 unfolding commandsOf routineOf
-fits-held (submit cs) = tt
-fits-held (turn i) = refl
-fits-held (report i code) = refl
-fits-held (failure d) = refl
-fits-held (restart d v) = refl
-fits-held (cancel i) = refl
+fits-held (submits cs) = tt
+fits-held (turns i) = refl
+fits-held (reports i code) = refl
+fits-held (fails d) = refl
+fits-held (restarts d v) = refl
+fits-held (cancels i) = refl
 
 pub fits-line : (h : Hub) (q : Said) (call : Call) (r : Routine) → heardOf (heldLine q .line) (view h .devices) ≡ Calling call →
     r ≡ heldLine q .routine → FitsCall call r

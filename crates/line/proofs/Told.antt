@@ -13,7 +13,7 @@ use Rattle.rules.specs.Answers.{Back, Answer as Said, aborted}
 use Rattle.rules.proofs.Lists.{t≠f}
 use Rattle.answers.specs.View.{backsOf, oneOf, firstOf, answerOf, answersOf, changesNothing}
 use Rattle.answers.specs.declared.Answer.{Answer}
-use Rattle.answers.specs.declared.Answer.the-variants.{Refused, Placed, Wait, Sent, Done, Skipped, Committed, Aborted, Down, Up}
+use Rattle.answers.specs.declared.Answer.the-variants.{Refused, Placed, Wait, Sent, Done, Skipped, Committed, Aborted, Down, Up, Limited}
 use Rattle.answers.specs.declared.First.{First}
 use Rattle.answers.specs.declared.First.the-variants.{NoAbort, Abort as AbortFirst}
 use Rattle.answers.specs.declared.PutBacks.{PutBacks}
@@ -56,13 +56,13 @@ module _ {most : ℕ} {before after : List ℕ} {end : ℕ} {text : List ℕ} (p
 
 -- the answers that are no refusal, no wait and no abort, by their numbers
 abbrev pub notRefused : List ℕ
-notRefused = 1 ∷ 2 ∷ 3 ∷ 4 ∷ 5 ∷ 6 ∷ 7 ∷ 8 ∷ 9 ∷ []
+notRefused = 1 ∷ 2 ∷ 3 ∷ 4 ∷ 5 ∷ 6 ∷ 7 ∷ 8 ∷ 9 ∷ 10 ∷ []
 
 abbrev pub notWait : List ℕ
-notWait = 0 ∷ 1 ∷ 3 ∷ 4 ∷ 5 ∷ 6 ∷ 7 ∷ 8 ∷ 9 ∷ []
+notWait = 0 ∷ 1 ∷ 3 ∷ 4 ∷ 5 ∷ 6 ∷ 7 ∷ 8 ∷ 9 ∷ 10 ∷ []
 
 abbrev pub notAborted : List ℕ
-notAborted = 0 ∷ 1 ∷ 2 ∷ 3 ∷ 4 ∷ 5 ∷ 6 ∷ 8 ∷ 9 ∷ []
+notAborted = 0 ∷ 1 ∷ 2 ∷ 3 ∷ 4 ∷ 5 ∷ 6 ∷ 8 ∷ 9 ∷ 10 ∷ []
 
 -- an answer that is neither refusal nor wait changes something
 pub changes : (a : Answer) → OneOf notRefused (tagOf answer-type a) → OneOf notWait (tagOf answer-type a) → changesNothing a ≡ false
@@ -76,6 +76,7 @@ changes (Committed i) h k = refl
 changes (Aborted i) h k = refl
 changes (Down d i) h k = refl
 changes (Up d i) h k = refl
+changes (Limited j) h k = refl
 
 -- one that is no abort
 pub no-abort : (a : Answer) {f : First} → f ≡ NoAbort → OneOf notAborted (tagOf answer-type a) → isAbort f a ≡ false
@@ -89,6 +90,7 @@ no-abort (Committed i) e h = ap (λ (f : First). isAbort f (Committed i)) e
 no-abort (Aborted i) e h = absurd (miss notAborted 7 tt h)
 no-abort (Down d i) e h = ap (λ (f : First). isAbort f (Down d i)) e
 no-abort (Up d i) e h = ap (λ (f : First). isAbort f (Up d i)) e
+no-abort (Limited k) e h = ap (λ (f : First). isAbort f (Limited k)) e
 
 -- ---- the answers of an abort
 
@@ -140,6 +142,7 @@ once-plain NoAbort (Committed i) l e t = t≠f (sym t)
 once-plain NoAbort (Aborted i) l e t = (i, refl)
 once-plain NoAbort (Down d i) l e t = t≠f (sym t)
 once-plain NoAbort (Up d i) l e t = t≠f (sym t)
+once-plain NoAbort (Limited k) l e t = t≠f (sym t)
 
 -- the answer of an event puts nothing back
 once-event : (f : First) (a : Answer) (l : List Back) → isAbort NoAbort a ≡ false → answerOf a [] ≡ answerOf a l → isAbort f a ≡ true →

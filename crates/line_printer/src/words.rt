@@ -161,5 +161,6 @@ pub fn put_words(out: &mut [u8], at: usize, answer: Answer, back: OneBack) -> us
             id as u64,
         ),
         Answer::Up(device, id) => put_two(out, at, b"up ", device as u64, b" after ", id as u64),
+        Answer::Limited(limit) => put_one(out, at, b"limited ", limit as u64),
     }
 }

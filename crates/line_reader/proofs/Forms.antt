@@ -14,7 +14,7 @@ use Rattle.routine.specs.Choice.{if_then_else_}
 use Rattle.routine.specs.Routine.{noRoutine, withCommand}
 use Rattle.routine.specs.declared.Command.{Command}
 use Rattle.routine.specs.declared.Routine.{Routine}
-use Rattle.rules.specs.Answers.{Call, turn, report, failure, restart, cancel}
+use Rattle.line_rules.specs.Reading.{LineCall, turns, reports, fails, restarts, cancels}
 use Rattle.rules.specs.Report.{codeDone, codeFailed}
 use Rattle.rules.proofs.Lists.{byIf, t≠f}
 use Rattle.line_rules.specs.Text.{space, same}
@@ -147,7 +147,7 @@ module _ (line : List ℕ) (at : ℕ) where
       unfolding restartLine
       restart-more h = rw (a .words, b .words, more-words line end h)
 
-      pub restart-all : length line ≤ end → restartLine (wordsFrom line at) ≡ calling (restart d v)
+      pub restart-all : length line ≤ end → restartLine (wordsFrom line at) ≡ calling (restarts d v)
       unfolding restartLine
       restart-all h = rw (a .words, b .words, last-word line end h, a .says, b .says)
 
@@ -253,7 +253,7 @@ unfolding lineWith same
 letter-submit letter ws e = rw e
 
 pub letter-fail : (letter : ℕ) (ws : List (List ℕ)) → letter ≡ letterOf "F" →
-    lineWith (letter ∷ []) ws ≡ oneNumber highest8 (callWith failure) ws
+    lineWith (letter ∷ []) ws ≡ oneNumber highest8 (callWith fails) ws
 unfolding lineWith same
 letter-fail letter ws e = rw e
 
@@ -267,12 +267,12 @@ either true said = refl
 either false said = refl
 
 -- a form for each, or none
-abbrev byId : ℕ → ((ℕ → Call) → Said) → Said
+abbrev byId : ℕ → ((ℕ → LineCall) → Said) → Said
 byId letter form =
-    if eqb letter (letterOf "N") then form turn
-    else if eqb letter (letterOf "D") then form (λ i. report i codeDone)
-    else if eqb letter (letterOf "B") then form (λ i. report i codeFailed)
-    else if eqb letter (letterOf "C") then form cancel
+    if eqb letter (letterOf "N") then form turns
+    else if eqb letter (letterOf "D") then form (λ i. reports i codeDone)
+    else if eqb letter (letterOf "B") then form (λ i. reports i codeFailed)
+    else if eqb letter (letterOf "C") then form cancels
     else unread
 
 id-says : (letter : ℕ) (o : Option ℕ) → byId letter (λ call. callWith call o) ≡ idCallWith letter o
@@ -388,7 +388,7 @@ one-routine highest says h [] = refl
 one-routine highest says h (w ∷ []) = h (numberUpTo highest w)
 one-routine highest says h (w ∷ v ∷ ws) = refl
 
-fail-routine : (o : Option ℕ) → heldLine (callWith failure o) .routine ≡ noRoutine
+fail-routine : (o : Option ℕ) → heldLine (callWith fails o) .routine ≡ noRoutine
 fail-routine none = refl
 fail-routine (some d) = refl
 
@@ -413,7 +413,7 @@ plain-routine letter ws h = go (eqb letter (letterOf "O")) (eqb letter (letterOf
     go true f r a b c = ap routineOf (letter-open letter ws (eqb-true letter (letterOf "O") a)) ∙ open-routine ws
     go false true r a b c =
         ap routineOf (letter-fail letter ws (eqb-true letter (letterOf "F") b))
-        ∙ one-routine highest8 (callWith failure) fail-routine ws
+        ∙ one-routine highest8 (callWith fails) fail-routine ws
     go false false true a b c = ap routineOf (letter-restart letter ws (eqb-true letter (letterOf "R") c)) ∙ restart-routine ws
     go false false false a b c =
         ap routineOf (letter-other letter ws (eqb-false letter (letterOf "O") a) h (eqb-false letter (letterOf "F") b)

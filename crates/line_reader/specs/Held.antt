@@ -9,9 +9,9 @@ use Rattle.routine.specs.Choice.{if_then_else_}
 use Rattle.routine.specs.Routine.{noRoutine, withCommand}
 use Rattle.routine.specs.declared.Command.{Command}
 use Rattle.routine.specs.declared.Routine.{Routine}
-use Rattle.rules.specs.Answers.{Call as Told, submit, turn, report, failure, restart, cancel}
 use Rattle.rules.specs.Report.{codeDone, codeFailed}
-use Rattle.line_rules.specs.Reading.{Line as Said, opening, calling, unread, highest32, oneNumber}
+use Rattle.line_rules.specs.Reading.{LineCall, submits, turns, reports, fails, restarts, cancels, Line as Said, opening, calling}
+use Rattle.line_rules.specs.Reading.{unread, highest32, oneNumber}
 use Rattle.line_reader.specs.declared.Call.{Call}
 use Rattle.line_reader.specs.declared.Call.the-variants.{Submit, Turn, Report, Cancel, Fail, Restart}
 use Rattle.line_reader.specs.declared.Line.the-variants.{Open, Calling, Unread}
@@ -23,21 +23,21 @@ unfoldable pub together : Routine → List Command → Routine
 together r [] = r
 together r (c ∷ cs) = together (withCommand r c) cs
 
-abbrev pub heldCall : Told → Call
-heldCall (submit cs) = Submit
-heldCall (turn i) = Turn i
-heldCall (report i code) = Report i code
-heldCall (failure d) = Fail d
-heldCall (restart d v) = Restart d v
-heldCall (cancel i) = Cancel i
+abbrev pub heldCall : LineCall → Call
+heldCall (submits cs) = Submit
+heldCall (turns i) = Turn i
+heldCall (reports i code) = Report i code
+heldCall (fails d) = Fail d
+heldCall (restarts d v) = Restart d v
+heldCall (cancels i) = Cancel i
 
-abbrev pub heldRoutine : Told → Routine
-heldRoutine (submit cs) = together noRoutine cs
-heldRoutine (turn i) = noRoutine
-heldRoutine (report i code) = noRoutine
-heldRoutine (failure d) = noRoutine
-heldRoutine (restart d v) = noRoutine
-heldRoutine (cancel i) = noRoutine
+abbrev pub heldRoutine : LineCall → Routine
+heldRoutine (submits cs) = together noRoutine cs
+heldRoutine (turns i) = noRoutine
+heldRoutine (reports i code) = noRoutine
+heldRoutine (fails d) = noRoutine
+heldRoutine (restarts d v) = noRoutine
+heldRoutine (cancels i) = noRoutine
 
 abbrev pub heldLine : Said → LineRead
 heldLine (opening n k first) = record { line = Open n k first; routine = noRoutine }
@@ -54,10 +54,10 @@ letterOf (c then s) = code c
 -- A letter that an id follows: `N`, `D`, `B`, `C`. Any other is unread.
 abbrev pub idCall : ℕ → ℕ → Said
 idCall letter i =
-    if eqb letter (letterOf "N") then calling (turn i)
-    else if eqb letter (letterOf "D") then calling (report i codeDone)
-    else if eqb letter (letterOf "B") then calling (report i codeFailed)
-    else if eqb letter (letterOf "C") then calling (cancel i)
+    if eqb letter (letterOf "N") then calling (turns i)
+    else if eqb letter (letterOf "D") then calling (reports i codeDone)
+    else if eqb letter (letterOf "B") then calling (reports i codeFailed)
+    else if eqb letter (letterOf "C") then calling (cancels i)
     else unread
 
 abbrev pub idCallWith : ℕ → Option ℕ → Said

@@ -9,7 +9,7 @@ use Rattle.routine.specs.declared.Refusal.{Refusal}
 use Rattle.routine.specs.declared.Refusal.the-variants.{Number, Indexed}
 use Rattle.rules.specs.State.{State}
 use Rattle.rules.specs.Due.{due}
-use Rattle.rules.specs.Answers.{Back, Answer, refused, placed, wait, send, done, skipped, committed, aborted, down, up}
+use Rattle.rules.specs.Answers.{Back, Answer, refused, placed, wait, send, done, skipped, committed, aborted, down, up, limited}
 use Rattle.line_rules.specs.Text.{lineEnd, bytes, decimal, signed}
 
 -- "Refusals print `refused`, the number and the index if there is one."
@@ -31,7 +31,7 @@ backIfAny [] = []
 backIfAny (b ∷ bs) = backText (b ∷ bs)
 
 -- An answer, without the byte that ends its line: the forms of 01's listing. "`send` has id, device, setting"; "Other forms: `wait 3 on
--- 2`".
+-- 2`". No line is answered by the last.
 unfoldable pub answerText : Answer → List ℕ
 answerText (refused r) = refusalText r
 answerText (placed i after) = bytes "placed " ++ decimal i ++ bytes " after " ++ decimal after
@@ -43,6 +43,7 @@ answerText (committed i) = bytes "committed " ++ decimal i
 answerText (aborted i bs) = bytes "aborted " ++ decimal i ++ backText bs
 answerText (down d after) = bytes "down " ++ decimal d ++ bytes " after " ++ decimal after
 answerText (up d after) = bytes "up " ++ decimal d ++ bytes " after " ++ decimal after
+answerText (limited k) = bytes "limited " ++ decimal k
 
 -- "One line of output each, ended by byte 10"
 abbrev pub asLine : List ℕ → List ℕ

@@ -33,7 +33,7 @@ use Rattle.rules.specs.Answers.{done}
 use Rattle.rules.specs.Answers.{skipped, committed}
 use Rattle.rules.specs.Answers.{aborted, down, up, limited, Result, turnedDown, unlessRefused}
 use Rattle.rules.specs.Progress.{isMust, next, Flight, flightOr, flight}
-use Rattle.rules.specs.Sequence.{Found, onto, find, isRunning, runs, withUp, withPassLimit}
+use Rattle.rules.specs.Sequence.{Found, onto, find, isRunning, runs, withUp}
 use Rattle.rules.specs.Settle.{settling}
 use Rattle.rules.specs.Abort.{abort}
 use Rattle.rules.specs.Open.{opened, not-opened, limitCheck, openCheck, newHub, openIf, openOf}
@@ -42,7 +42,7 @@ use Rattle.rules.specs.Turn.{firstHolding, commitTurn, sendTurn, skipTur
 use Rattle.rules.specs.Report.{codeDone, codeFailed, doneReport, skipReport, reported, reportFlight, reportFound, reportOf}
 use Rattle.rules.specs.Events.{isHalfway, abortIfAny, abortHalfway, failureResult, restartResult, failureOf, restartOf}
 use Rattle.rules.specs.Cancel.{cancelFound, cancelOf}
-use Rattle.rules.specs.Limit.{limitOf}
+use Rattle.rules.specs.Limit.{withPassLimit, limitOf}
 use Rattle.rules.specs.Calls.{resultOf}
 use Rattle.rules.specs.Causes.{RunsUnder, NoneRunsUnder, InFlight, OneInFlight, NoneInFlight, IsRefusal, openingCauses, callCauses}
 use Rattle.rules.specs.Causes.{OpeningCause, devices-are-out, limit-is-out, id-is-0}

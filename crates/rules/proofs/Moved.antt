@@ -16,7 +16,8 @@ use Rattle.rules.specs.Tables.{anyOf, Each}
 use Rattle.rules.specs.State.{Member, State}
 use Rattle.rules.specs.Answers.{Result}
 use Rattle.rules.specs.Progress.{isOn, isAnswered, begun, finished}
-use Rattle.rules.specs.Sequence.{isRunning, lastIdOr, withSequence, withSettled, withUp, withPassLimit, moveMarks}
+use Rattle.rules.specs.Limit.{withPassLimit}
+use Rattle.rules.specs.Sequence.{isRunning, lastIdOr, withSequence, withSettled, withUp, moveMarks}
 use Rattle.rules.specs.Settle.{joinSettled, settle}
 use Rattle.rules.specs.Abort.{leave, abort}
 use Rattle.rules.specs.Submit.{blocks, upToLast, pastLast, stepOf, newcomer, place}

@@ -15,7 +15,7 @@ use Rattle.rules.specs.Tables.{Each}
 use Rattle.rules.specs.State.{maxHeld, State}
 use Rattle.rules.specs.Answers.{Call, turn, limit, Answer, refused, wait, limited, Result}
 use Rattle.rules.specs.Due.{due}
-use Rattle.rules.specs.Sequence.{withPassLimit}
+use Rattle.rules.specs.Limit.{withPassLimit}
 use Rattle.rules.specs.Settle.{settle}
 use Rattle.rules.specs.Abort.{leave, abort}
 use Rattle.rules.specs.Open.{opened, newHub, openOf}

@@ -18,7 +18,7 @@ use Rattle.rules.specs.Tables.{anyOf, Each}
 use Rattle.rules.specs.State.{highestPassLimit, Member, State}
 use Rattle.rules.specs.Answers.{Call, submit, turn, report, failure, restart, cancel, limit, Answer, refused, wait, limited, Result}
 use Rattle.rules.specs.Due.{due}
-use Rattle.rules.specs.Sequence.{withPassLimit}
+use Rattle.rules.specs.Limit.{withPassLimit}
 use Rattle.rules.specs.Settle.{settle, settling}
 use Rattle.rules.specs.Abort.{leave, abort}
 use Rattle.rules.specs.Open.{opened, openCheck, newHub, openIf, openOf}

@@ -21,7 +21,7 @@ use Rattle.rules.specs.Answers.{limited, Result}
 use Rattle.rules.specs.Answers.{unlessRefused}
 use Rattle.rules.specs.Progress.{isMust, next, Flight, flight, advance, answerFlight, withSteps}
 use Rattle.rules.specs.Due.{due}
-use Rattle.rules.specs.Sequence.{Found, onto, find, isRunning, runs, lastIdOr, withUp, withPassLimit}
+use Rattle.rules.specs.Sequence.{Found, onto, find, isRunning, runs, lastIdOr, withUp}
 use Rattle.rules.specs.Settle.{settling}
 use Rattle.rules.specs.Abort.{abort}
 use Rattle.rules.specs.Open.{limitCheck}
@@ -30,7 +30,7 @@ use Rattle.rules.specs.Turn.{firstHolding, commit, commitTurn, sendTurn,
 use Rattle.rules.specs.Report.{codeDone, codeFailed, doneReport, skipReport, reportFlight, reportFound, reportOf}
 use Rattle.rules.specs.Events.{isHalfway, abortIfAny, abortHalfway, failureResult, restartResult, failureOf, restartOf}
 use Rattle.rules.specs.Cancel.{cancelFound, cancelOf}
-use Rattle.rules.specs.Limit.{limitOf}
+use Rattle.rules.specs.Limit.{withPassLimit, limitOf}
 use Rattle.rules.specs.Calls.{resultOf}
 use Rattle.rules.specs.Order.{Event, failure-of, restart-of}
 use Rattle.rules.specs.Attach.{attach, oneRestart}

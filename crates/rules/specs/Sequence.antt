@@ -80,17 +80,6 @@ withMark s m = record {
   mark = m;
 }
 
-abbrev pub withPassLimit : State → ℕ → State
-withPassLimit s k = record {
-  devices = s .devices;
-  passLimit = k;
-  nextId = s .nextId;
-  sequence = s .sequence;
-  settled = s .settled;
-  up = s .up;
-  mark = s .mark;
-}
-
 -- Marks that were i become j.
 unfoldable pub moveMarks : ℕ → ℕ → (ℕ → ℕ) → ℕ → ℕ
 moveMarks i j mark d = if eqb (mark d) i then j else mark d

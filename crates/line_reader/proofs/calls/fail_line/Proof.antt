@@ -1,7 +1,7 @@
 -- `line_reader::calls::fail_line` meets its contract. Assumes nothing.
 use mathlib.Core.Path.{refl, sym, ap, _∙_}
 use native.Mathlib.Omega.{arith}
-use Rattle.rules.specs.Answers.{failure}
+use Rattle.line_rules.specs.Reading.{fails}
 use Rattle.line_rules.specs.Reading.{highest8, callWith, numberUpTo}
 use Rattle.line_reader.specs.Places.{behindLetter}
 use Rattle.line_reader.proofs.Laws.{WordSays, no-number, number-says, number-bound}
@@ -27,18 +27,18 @@ device c = number-says highest8 _ _ _ _ (sym (c .before .before .before .number-
 returns : tie.Need-returns
 returns c =
     sym (ap heldAs
-    (one-none highest8 (callWith failure) refl _ _
+    (one-none highest8 (callWith fails) refl _ _
     (no-number highest8 _ _ (sym (c .before .before .number-at .ensures) ∙ c .enum-told .given .1))))
 
 returns-2 : tie.Need-returns-2
-returns-2 c = sym (ap heldAs (one-more highest8 (callWith failure) refl _ _ (device (c .before)) (c .if1 .taken)))
+returns-2 c = sym (ap heldAs (one-more highest8 (callWith fails) refl _ _ (device (c .before)) (c .if1 .taken)))
 
 cast-t7 : tie.Need-cast-t7
 cast-t7 c = let d = c .before .before in
     omega (arith, number-bound highest8 _ _ _ _ (sym (d .before .before .number-at .ensures) ∙ d .device .given .1))
 
 returns-3 : tie.Need-returns-3
-returns-3 c = sym (ap heldAs (one-found highest8 (callWith failure) refl _ _ (device (c .before)) (c .if1 .left)))
+returns-3 c = sym (ap heldAs (one-found highest8 (callWith fails) refl _ _ (device (c .before)) (c .if1 .left)))
 
 pub fail-line-spec : {M : Type 1} → statement M
 fail-line-spec =
