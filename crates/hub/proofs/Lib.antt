@@ -1,4 +1,5 @@
 pub mod Laws
+pub mod LimitLaws
 pub mod OpenLaws
 pub mod Theorem
 pub mod Links

@@ -150,11 +150,12 @@ pub fn limit(hub: Hub, pass_limit: u8) -> Outcome
     let state = hub.state;
     let changed = limit::set_limit(state, pass_limit);
     let next = changed.state;
+    let answer = changed.answer;
     let backs = answers::no_backs();
     Outcome {
         hub: Hub { state: next },
         first: First::NoAbort,
-        answer: changed.answer,
+        answer,
         backs,
     }
 }

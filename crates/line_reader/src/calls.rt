@@ -17,10 +17,9 @@ ghost use mathlib.Core.Bool.{false};
 ghost use mathlib.Core.List.{[], _∷_};
 ghost use mathlib.Core.Logic.{_≢_};
 ghost use Rattle.routine.specs.Routine.{noRoutine};
-ghost use Rattle.rules.specs.Answers.{failure};
 ghost use Rattle.line_rules.specs.Pieces.{wordsOf};
 ghost use Rattle.line_rules.specs.Reading.{highest8, unread as notRead, openingLine, restartLine, submitLine, callWith, oneNumber};
-ghost use Rattle.line_rules.specs.Reading.{lineWith, lineBy};
+ghost use Rattle.line_rules.specs.Reading.{fails, lineWith, lineBy};
 ghost use Rattle.line_reader.specs.Held.{letterOf, idCall, idLine, heldLine};
 ghost use Rattle.line_reader.specs.Places.{behindLetter, wordsFrom, CommandAt};
 
@@ -104,7 +103,7 @@ fn restart_line(line: &[u8]) -> Line
 
 // "`F` device"
 fn fail_line(line: &[u8]) -> Line
-    ensures { λ r. ⌜ r ≡ heldLine (oneNumber highest8 (callWith failure) (wordsFrom (now (line .entry)) behindLetter)) .line ⌝ }
+    ensures { λ r. ⌜ r ≡ heldLine (oneNumber highest8 (callWith fails) (wordsFrom (now (line .entry)) behindLetter)) .line ⌝ }
 {
     let device = number_at(line, BEHIND_LETTER, HIGHEST_8);
     let Number::Found(d, end) = device else {

@@ -27,7 +27,7 @@ use Rattle.state.specs.declared.Staged.{Staged}
 use Rattle.state.specs.declared.Change.the-variants.{Nothing, Stage, Commit, Join, Abort}
 
 -- an answer that is given nothing to put back puts nothing back
-no-backs : (a : Answer) → [] ≡ backsIn (answerOf a [] ∷ [])
+pub no-backs : (a : Answer) → [] ≡ backsIn (answerOf a [] ∷ [])
 no-backs (Refused r) = refl
 no-backs (Placed p) = refl
 no-backs (Wait i j) = refl

@@ -139,6 +139,18 @@ cast-put-two-8 c = search needs
 put-two-requires-4 : tie.Need-put-two-requires-4
 put-two-requires-4 c κs = search needs
 
+enum-known-answer-11 : tie.Need-enum-known-answer-11
+enum-known-answer-11 c = search needs
+
+slice-aggregate-put-one-3 : tie.Need-slice-aggregate-put-one-3
+slice-aggregate-put-one-3 c = search needs
+
+cast-put-one-3 : tie.Need-cast-put-one-3
+cast-put-one-3 c = search needs
+
+put-one-requires-3 : tie.Need-put-one-requires-3
+put-one-requires-3 c κs = search needs
+
 same-length : tie.Need-same-length
 same-length c = search needs
 
@@ -226,6 +238,15 @@ returns-10 c =
     answered _ _ _ (c .before .before .before .before .before .before .before .answer10 .given .1) (omega arith)
     (c .before .before .put-two4 .ensures)
 
+same-length-11 : tie.Need-same-length-11
+same-length-11 c = search needs
+
+returns-11 : tie.Need-returns-11
+unfolding answerText
+returns-11 c =
+    answered _ _ _ (c .before .before .before .before .before .before .answer11 .given .1) (omega arith)
+    (c .before .before .put-one3 .ensures)
+
 pub put-words-spec : {M : Type 1} → statement M
 put-words-spec =
     tie.close
@@ -270,6 +291,10 @@ put-words-spec =
     slice-aggregate-put-two-8
     cast-put-two-8
     put-two-requires-4
+    enum-known-answer-11
+    slice-aggregate-put-one-3
+    cast-put-one-3
+    put-one-requires-3
     same-length
     returns
     same-length-2
@@ -289,4 +314,6 @@ put-words-spec =
     same-length-9
     returns-9
     same-length-10
-    returns-10)
+    returns-10
+    same-length-11
+    returns-11)

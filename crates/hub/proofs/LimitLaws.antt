@@ -1,0 +1,26 @@
+-- A new pass limit gives what its contract says. Assumes nothing.
+use mathlib.Core.Path.{_≡_, sym, ap, _∙_}
+use mathlib.Core.List.{List, [], _∷_}
+use Prim.Native.Nat.{ℕ}
+use native.Mathlib.Omega.{arith}
+use Rattle.rules.specs.Answers.{Back}
+use Rattle.answers.specs.View.{answerOf, backsOf, backsIn}
+use Rattle.answers.specs.declared.First.the-variants.{NoAbort}
+use Rattle.answers.specs.declared.PutBacks.{PutBacks}
+use Rattle.state.specs.View.{stateOf}
+use Rattle.state.specs.declared.HubState.{HubState}
+use Rattle.state.proofs.Laws.{no-backs}
+use Rattle.limit.specs.Contract.{Limits}
+use Rattle.limit.specs.declared.NewLimit.{NewLimit}
+use Rattle.hub.specs.Contract.{Limited}
+use Rattle.hub.specs.declared.Hub.{Hub}
+
+pub limits-hub : (h : Hub) (k : ℕ) (l : NewLimit) (b : PutBacks) → Limits (h .state) k l → b .count ≡ 0 → backsOf b ≡ [] →
+    Limited h k (record { hub = record { state = l .state }; first = NoAbort; answer = l .answer; backs = b })
+limits-hub h k l b g n e = record {
+  valid = g .valid;
+  gives = ap (λ (m : List Back). record { state = stateOf (l .state); answers = answerOf (l .answer) m ∷ [] }) e ∙ g .gives;
+  backs-fit = omega arith;
+  backs-told = e ∙ no-backs (l .answer) ∙ sym (ap (λ (m : List Back). backsIn (answerOf (l .answer) m ∷ [])) e);
+  same-hub = λ z. ap (λ (s : HubState). record { state = s }) (g .same-state z);
+}
