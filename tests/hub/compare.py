@@ -3,8 +3,8 @@
 
     tests/hub/compare.py [COUNT] [SEED] [PROGRAM]
 
-Runs target/bin/hub_vectors, which `rt check` builds, or another, on COUNT histories without readings of due settings and COUNT with them (2000 if no
-number is given). The seed is printed. Exit status 0: all agree.
+Runs target/bin/hub_vectors, which `rt check` builds, or another, on COUNT histories (2000 if no number is given), COUNT with readings of due settings,
+and COUNT with new pass limits. The seed is printed. Exit status 0: all agree.
 """
 import os
 import random
@@ -19,7 +19,7 @@ BATCH = 250
 def main():
     count = int(sys.argv[1]) if len(sys.argv) > 1 else 2000
     seed = int(sys.argv[2]) if len(sys.argv) > 2 else random.SystemRandom().randrange(10**9)
-    print(f"2 times {count} histories, seed {seed}")
+    print(f"3 times {count} histories, seed {seed}")
     program = sys.argv[3] if len(sys.argv) > 3 else os.path.join(ROOT, "target", "bin", "hub_vectors")
     for start in range(0, count, BATCH):
         given, expected = vectors(min(BATCH, count - start), seed + start)

@@ -12,6 +12,9 @@ that of document 01; the model must give it too. That of the histories is the mo
 Two more letters are readings of due settings. `V`, and a device: `due` and its setting. `L`, a number of entries and two bytes: all due
 settings into the first so many entries (document 02, item 14) of a list of 40 that holds the two bytes' number everywhere; printed are the
 refusal, if there is one, and `list` with all 40. They stand in COUNT further histories, which end with a list of each length from 0 to 40 in turn, one of N entries and one of N - 1.
+
+One more letter is a call that no line makes: `K`, and the new pass limit (document 02, item 13), which prints `limited` and it, or the
+refusal. It stands in COUNT further histories.
 """
 import os
 import random
@@ -26,6 +29,7 @@ from model import Hub, Refused  # noqa: E402
 
 CALL_SIZE = 40
 LIST_ROOM = 40
+LIMITS = 0.15
 
 
 # ---- examples
@@ -68,7 +72,7 @@ def call_bytes(call):
     word = call[0]
     if word == "submit":
         body = bytes([len(call[1])]) + b"".join(bytes([d, t]) + low_first(s, 2) for d, t, s in call[1])
-    elif word == "failure":
+    elif word in ("failure", "limit"):
         body = bytes([call[1]])
     elif word == "restart":
         body = bytes([call[1]]) + low_first(call[2], 2)
@@ -80,7 +84,7 @@ def call_bytes(call):
         body = bytes([call[2]]) + low_first(call[1], 4)
     else:
         body = b"\0" + low_first(call[1], 4)
-    letter = {"submit": b"S", "turn": b"N", "report": b"P", "cancel": b"C", "failure": b"F", "restart": b"R", "one": b"V", "list": b"L"}[word]
+    letter = {"submit": b"S", "turn": b"N", "report": b"P", "cancel": b"C", "failure": b"F", "restart": b"R", "one": b"V", "list": b"L", "limit": b"K"}[word]
     return (letter + body).ljust(CALL_SIZE, b"\0")
 
 
@@ -190,6 +194,11 @@ def vectors(count, seed):
         opening, calls = with_readings(rng, index)
         records.append(record(opening, calls))
         lines += output(opening, calls)
+    rng = random.Random(f"limits {seed}")
+    for _ in range(count):
+        opening, calls, _, _ = history(rng, LIMITS)
+        records.append(record(opening, calls))
+        lines += output(opening, calls)
     return b"".join(records), "".join(line + "\n" for line in lines).encode()
 
 
@@ -205,7 +214,7 @@ def main():
     for name, content in (("stdin", given), ("stdout", expected)):
         with open(os.path.join(crate, name), "wb") as f:
             f.write(content)
-    print(f"{len(examples())} examples and 2 times {count} histories, seed {seed}: {len(given)} bytes in, {len(expected)} out")
+    print(f"{len(examples())} examples and 3 times {count} histories, seed {seed}: {len(given)} bytes in, {len(expected)} out")
     return 0
 
 

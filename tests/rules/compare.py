@@ -3,8 +3,8 @@
 
     tests/rules/compare.py [COUNT] [SEED]
 
-Writes COUNT histories (100 if none is given) as examples of crate `rules`, with the answers and device lines of the model and all due settings read into a
-list, into a temporary copy of the crates, and has the checker compute each. The seed is printed. Exit status 0: all agree.
+Writes COUNT histories (100 if none is given), every other with new pass limits, as examples of crate `rules`, with the answers and device lines of the
+model and all due settings read into a list, into a temporary copy of the crates, and has the checker compute each. The seed is printed. Exit status 0: all agree.
 """
 import os
 import random
@@ -19,6 +19,7 @@ from model import Refused
 ROOT = os.path.dirname(os.path.dirname(os.path.dirname(os.path.abspath(__file__))))
 
 LONGEST_LIST = 40
+LIMITS = 0.15
 
 
 # ---- as text of the definitions
@@ -96,7 +97,7 @@ use Rattle.routine.specs.declared.Verdict.the-variants.{Accepted, Refused}
 use Rattle.rules.specs.AllDue.{allDue, listCheck, listAfter}
 use Rattle.rules.specs.Open.{newHub}
 use Rattle.rules.specs.Calls.{stateAfter}
-use Rattle.rules.specs.Answers.{Call, submit, turn, report, failure, restart, cancel, refused, placed, wait, send, done, skipped, committed, aborted, down, up}
+use Rattle.rules.specs.Answers.{Call, submit, turn, report, failure, restart, cancel, limit, refused, placed, wait, send, done, skipped, committed, aborted, down, up, limited}
 use Rattle.rules.specs.Examples.{calc, Holds, back}
 """
 
@@ -118,7 +119,7 @@ def main():
         with open(os.path.join(rules, "specs", "Lib.antt"), "a") as f:
             f.write("mod Histories\n")
         with open(os.path.join(rules, "specs", "Histories.antt"), "w") as f:
-            f.write(HEADER + "".join(example(i, history(rng)) for i in range(count)))
+            f.write(HEADER + "".join(example(i, history(rng, LIMITS if i % 2 else 0)) for i in range(count)))
         run = subprocess.run(["rt", "dev", "rules"], cwd=folder, text=True, capture_output=True)
     output = run.stdout + run.stderr
     if run.returncode != 0 or "logic=proved" not in output:

@@ -3,21 +3,28 @@ from model import Hub, LAST_ID
 
 CALLS = 60
 
+WEIGHTS = [[12, 40, 34, 3, 3, 4, 2], [10, 40, 34, 8, 1, 2, 1], [14, 34, 26, 3, 8, 12, 2], [60, 20, 10, 1, 1, 2, 3]]
 
-def history(rng):
+
+def history(rng, limits=0):
+    """`limits`: how likely each call is a new pass limit (document 02, item 13)."""
     n = rng.choice([1, 2, 2, 3, 3, 4, 32])
     k = rng.choice([0, 1, 2, 3, 8])
     first = rng.choice([1] * 9 + [LAST_ID - 9])
     # Weights of submission, turn, report, cancel, failure, restart, and a call that is odd.
-    weights = rng.choice([[12, 40, 34, 3, 3, 4, 2], [10, 40, 34, 8, 1, 2, 1], [14, 34, 26, 3, 8, 12, 2], [60, 20, 10, 1, 1, 2, 3]])
+    weights = rng.choice(WEIGHTS + 3 * WEIGHTS[3:] if limits else WEIGHTS)
     devices = rng.choice([min(n, 4)] * 3 + [n])
     hub = Hub(n, k, first)
     calls, answers = [], []
     for _ in range(CALLS):
-        call = any_call(rng, hub, devices, weights)
+        call = new_limit(rng) if limits and rng.random() < limits else any_call(rng, hub, devices, weights)
         calls.append(call)
         answers.append(hub.call(call))
     return (n, k, first), calls, answers, hub
+
+
+def new_limit(rng):
+    return ("limit", rng.choice([0, 1, 1, 2, 2, 3, 5, 8, 8, 9, 255]))
 
 
 def pick(rng, fitting, hub):

@@ -2,7 +2,7 @@
 part its settings, in order), and due settings are read off it each time.
 
 A call is a tuple: ("submit", [(device, tag, setting), ..]), ("turn", id), ("report", id, code), ("failure", device),
-("restart", device, setting), ("cancel", id). An answer is a tuple that begins with the word that the document prints.
+("restart", device, setting), ("cancel", id), ("limit", k). An answer is a tuple that begins with the word that the document prints.
 """
 
 LAST_ID = 4294967295
@@ -189,6 +189,13 @@ class Hub:
 
     def cancel(self, rid):
         return [self.abort(self.running(rid))]
+
+    def limit(self, k):
+        """Document 02, item 13: K becomes another. Every routine keeps its count."""
+        if k > 8:
+            raise Refused(2)
+        self.k = k
+        return [("limited", k)]
 
     def event(self, device, event, word):
         answers = [self.abort(r) for r in list(self.sequence) if not r.committed and r.begun(device) and not r.finished(device)]

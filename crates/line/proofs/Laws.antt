@@ -47,7 +47,8 @@ use Rattle.hub.specs.Carrying.{LeavingOk, Carries}
 use Rattle.hub.specs.declared.Hub.{Hub}
 use Rattle.hub.specs.declared.Opened.{Opened}
 use Rattle.line_rules.specs.Text.{bytes}
-use Rattle.line_rules.specs.Reading.{Line as Said, opening, calling, unread}
+use Rattle.line_rules.specs.Reading.{LineCall, submits, turns, reports, fails, restarts, cancels, asCall, Line as Said, opening, calling}
+use Rattle.line_rules.specs.Reading.{unread}
 use Rattle.line_rules.specs.Printing.{asLine, answersText}
 use Rattle.line_rules.specs.Program.{printsUnread, printsOpening, printsResult, printsCall, step}
 use Rattle.line_reader.specs.Held.{together, heldCall, heldRoutine, heldLine}
