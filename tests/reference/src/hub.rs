@@ -73,6 +73,7 @@ pub enum Answer {
     Aborted(Aborted),
     Down { device: u8, after: u32, aborted: Option<Aborted> },
     Up { device: u8, after: u32, aborted: Option<Aborted> },
+    Limited { pass_limit: u8 },
 }
 
 /// The restarts attached to a routine. Only the last one of a device can ever count, so only that is kept; failures
@@ -385,6 +386,15 @@ impl Hub {
         self.down &= !(1 << device);
         self.settle();
         Ok(Answer::Up { device, after, aborted })
+    }
+
+    /// A new pass limit: document 02, item 13. Every routine keeps its count.
+    pub fn limit(&mut self, pass_limit: u8) -> Result<Answer, Refusal> {
+        if pass_limit > MOST_PASSES {
+            return refused(2);
+        }
+        self.pass_limit = pass_limit;
+        Ok(Answer::Limited { pass_limit })
     }
 
     // ---- what can be seen

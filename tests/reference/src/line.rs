@@ -185,6 +185,7 @@ fn print_answer(out: &mut Vec<u8>, answer: &Answer) {
         Answer::Aborted(aborted) => return print_aborted(out, aborted),
         Answer::Down { device, after, aborted } => return print_event(out, "down", *device, *after, aborted),
         Answer::Up { device, after, aborted } => return print_event(out, "up", *device, *after, aborted),
+        Answer::Limited { .. } => unreachable!("no line asks for a new pass limit"),
     }
     out.push(b'\n');
 }
@@ -211,6 +212,11 @@ impl Program {
     }
 
     /// The hub of the last accepted opening.
+    /// For calls that no line makes.
+    pub fn hub_mut(&mut self) -> Option<&mut Hub> {
+        self.hub.as_mut()
+    }
+
     pub fn hub(&self) -> Option<&Hub> {
         self.hub.as_ref()
     }

@@ -1,5 +1,6 @@
 //! The hub's order, built from the lines and what they print alone, and run: it must give every due setting. And devices
-//! that take what is sent to them: whenever nothing is in flight on one that is up, it stands at its due setting.
+//! that take what is sent to them: whenever nothing is in flight on one that is up, it stands at its due setting. So it is
+//! with new pass limits anywhere between the calls (document 02, item 13): they tell nothing about the order.
 
 use reference::histories::{self, Random};
 use reference::line::Program;
@@ -180,7 +181,17 @@ impl Watch {
 
 #[test]
 fn the_order_gives_the_due_settings() {
+    check_histories(false);
+}
+
+#[test]
+fn the_order_gives_the_due_settings_whatever_the_pass_limit() {
+    check_histories(true);
+}
+
+fn check_histories(limits: bool) {
     for index in 0..600 {
+        let mut random = Random::new(index, 1);
         let input = String::from_utf8(histories::random(3, index)).unwrap();
         let mut program = Program::new();
         let mut watch = None;
@@ -202,6 +213,10 @@ fn the_order_gives_the_due_settings() {
             }
             watch.end_of_call();
             watch.check(&program);
+            if limits && random.percent(20) {
+                let _ = program.hub_mut().unwrap().limit(random.below(10) as u8);
+                watch.check(&program);
+            }
         }
     }
 }

@@ -1,11 +1,13 @@
-//! Writes histories with readings of due settings, and what they must print: `make_readings SEED COUNT INPUTS OUTPUTS`.
+//! Writes histories with readings of due settings and new pass limits, and what they must print:
+//! `make_readings SEED COUNT INPUTS OUTPUTS`.
 //!
 //! They are the histories `histories::random(SEED, i)`, i below COUNT, as records of the program `hub_vectors`
 //! (tests/hub/make_vectors.py says what a record holds), one for each accepted opening. Behind every other call or so stands a
 //! reading: of one device, or of all into a list (document 02, item 14); at the end of a record one list of each length.
+//! In every other history new pass limits stand between the calls (item 13), too.
 
 use reference::histories::{self, Random};
-use reference::hub::Hub;
+use reference::hub::{Answer, Hub, MOST_PASSES};
 use reference::line::Program;
 use std::fs;
 use std::process::exit;
@@ -26,7 +28,8 @@ fn main() {
     let mut made = Made::default();
     for index in 0..count {
         let text = histories::random(seed, index);
-        let mut record = Record { random: Random::new(seed, index), program: Program::new(), bytes: Vec::new(), printed: Vec::new() };
+        let mut record =
+            Record { random: Random::new(seed, index), program: Program::new(), limits: index % 2 == 1, bytes: Vec::new(), printed: Vec::new() };
         for line in text.split(|&b| b == b'\n') {
             record.line(line, &mut made);
         }
@@ -40,8 +43,9 @@ fn main() {
             stop(&format!("{path}: {error}"));
         }
     }
-    let Made { records, ones, lists, refused, .. } = made;
+    let Made { records, ones, lists, refused, limits, limits_refused, .. } = made;
     println!("{records} records, seed {seed}: {ones} readings of one device, {lists} of all, {refused} of them refused");
+    println!("{limits} new pass limits, {limits_refused} of them refused");
 }
 
 #[derive(Default)]
@@ -52,12 +56,15 @@ struct Made {
     ones: usize,
     lists: usize,
     refused: usize,
+    limits: usize,
+    limits_refused: usize,
 }
 
 /// A record in the making; no bytes before the first accepted opening.
 struct Record {
     random: Random,
     program: Program,
+    limits: bool,
     bytes: Vec<u8>,
     printed: Vec<u8>,
 }
@@ -87,6 +94,25 @@ impl Record {
         if self.random.percent(40) {
             self.reading(made);
         }
+        if self.limits && self.random.percent(15) {
+            self.limit(made);
+        }
+    }
+
+    fn limit(&mut self, made: &mut Made) {
+        let odd = [MOST_PASSES + 1, u8::MAX];
+        let new = if self.random.percent(90) { self.random.below(usize::from(MOST_PASSES) + 1) as u8 } else { *self.random.pick(&odd) };
+        let text = match self.program.hub_mut().expect("an accepted opening").limit(new) {
+            Ok(Answer::Limited { pass_limit }) => format!("limited {pass_limit}\n"),
+            Ok(answer) => unreachable!("{answer:?}"),
+            Err(refusal) => {
+                made.limits_refused += 1;
+                format!("refused {}\n", refusal.number)
+            }
+        };
+        self.call(vec![b'K', new]);
+        self.printed.extend_from_slice(text.as_bytes());
+        made.limits += 1;
     }
 
     fn call(&mut self, mut body: Vec<u8>) {
