@@ -8,13 +8,13 @@ use borrow.Author.Tests.{lt-ltb, le-ltb, ltb-false, eq-eqb, ne-eqb, eqb-false}
 use lib.Dec.{eqb, ltb}
 use lib.IntN.{pos}
 use lib.ListN.{replicate, getD}
-use Rattle.routine.specs.Refusals.{devices-out-of-range, pass-limit-out-of-range, first-id-0, refusalOf, refuse_when_, _andThen_}
+use Rattle.routine.specs.Refusals.{devices-out-of-range, first-id-0, refusalOf, refuse_when_, _andThen_}
 use Rattle.routine.specs.Routine.{maxDevices, maxCommands}
 use Rattle.routine.specs.declared.Refusal.{Refusal}
 use Rattle.routine.specs.declared.Verdict.{Verdict}
 use Rattle.routine.specs.declared.Verdict.the-variants.{Accepted, Refused as TurnedDown}
 use Rattle.routine.proofs.Laws.{both-accept, not-refused, or-false}
-use Rattle.rules.specs.State.{highestPassLimit, highestId, maxHeld}
+use Rattle.rules.specs.State.{highestId, maxHeld}
 use Rattle.rules.specs.Open.{limitCheck, openCheck, newHub, closedHub, openIf, openOf}
 use Rattle.rules.specs.Calls.{StaysClosed}
 use Rattle.rules.proofs.Closed.{closed-stays}

@@ -91,5 +91,6 @@ hub-ended-in-time n k first o op accepted before r p v i j was-placed later roun
     answers : resultOf (stateAfter s (callsIn before)) (submit cs) .answers ≡ placed i j ∷ []
     answers =
         ap (λ x. resultOf x (submit cs) .answers) (sym (state-is h before (chain-left h before (x ∷ []) chain-start)))
-        ∙ ap (λ (x : Result). x .answers) (sym (met (hubAfter h before) (submits r) p (chain-right h before (x ∷ []) chain-start .0) .gives))
+        ∙ ap (λ (x : Result). x .answers)
+        (sym (met (hubAfter h before) (submits r) p (chain-right h before (x ∷ []) chain-start .0) .gives))
         ∙ was-placed

@@ -1,6 +1,6 @@
 -- Document 02, item 1, "Nobody waits for ever", with the new pass limits of item 13, of this hub: for every chain of its calls, with the
--- answers that its contracts give. Rounds and schedules are those of `specs/Rounds.antt` of crate `rules`. The proof is `hub-ended-in-time` of `proofs/Rounds.antt`. Assumes
--- nothing.
+-- answers that its contracts give. Rounds and schedules are those of `specs/Rounds.antt` of crate `rules`. The proof is `hub-ended-in-time`
+-- of `proofs/Rounds.antt`. Assumes nothing.
 use mathlib.Core.Path.{_≡_}
 use mathlib.Core.List.{List, [], _∷_, _++_}
 use Prim.Native.Nat.{ℕ, _≤_}

@@ -1,6 +1,5 @@
 -- Laws for the proofs of a new pass limit. Assumes nothing.
 use mathlib.Core.Path.{_≡_, refl, sym, ap, _∙_}
-use mathlib.Core.Bool.{true, false}
 use mathlib.Core.List.{[], _∷_}
 use Prim.Native.Nat.{ℕ, _<_, _≤_}
 use borrow.Author.Tests.{lt-ltb, le-ltb}
@@ -9,16 +8,15 @@ use Rattle.routine.specs.declared.Refusal.{Refusal}
 use Rattle.routine.specs.declared.Verdict.{Verdict}
 use Rattle.routine.specs.declared.Verdict.the-variants.{Accepted, Refused as TurnedDown}
 use Rattle.rules.specs.State.{highestPassLimit, State}
-use Rattle.rules.specs.Answers.{limited, Result, unlessRefused}
+use Rattle.rules.specs.Answers.{limited, unlessRefused}
 use Rattle.rules.specs.Open.{limitCheck}
 use Rattle.rules.specs.Limit.{withPassLimit, limitOf}
 use Rattle.rules.proofs.Lists.{t≠f}
 use Rattle.answers.specs.declared.Answer.the-variants.{Refused, Limited}
 use Rattle.state.specs.View.{stepsAt, memberAt, membersOf, stateOf}
-use Rattle.state.specs.Valid.{SlotOk, StateOk}
+use Rattle.state.specs.Valid.{StateOk}
 use Rattle.state.specs.declared.HubState.{HubState}
 use Rattle.limit.specs.Contract.{Limits}
-use Rattle.limit.specs.declared.NewLimit.{NewLimit}
 
 -- one law for each way out of the check
 pub limit-out : (k : ℕ) → highestPassLimit < k → limitCheck k ≡ TurnedDown (refusalOf pass-limit-out-of-range)

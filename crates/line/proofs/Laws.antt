@@ -22,7 +22,7 @@ use Rattle.routine.specs.declared.Verdict.the-variants.{Accepted, Refused}
 use Rattle.routine.proofs.Laws.{byTest, both-accept, not-refused, or-false, length-commandsOf, routineOf-commands, routineOf-count}
 use Rattle.routine.proofs.Laws.{with-more, check-long}
 use Rattle.rules.specs.State.{highestPassLimit, State}
-use Rattle.rules.specs.Answers.{Call as Told, submit, turn, report, failure, restart, cancel, Answer, placed, Result}
+use Rattle.rules.specs.Answers.{Answer, placed, Result}
 use Rattle.rules.specs.Answers.{unlessRefused, turnedDown}
 use Rattle.rules.specs.Open.{opened, not-opened, openCheck, newHub, closedHub, openIf, openOf}
 use Rattle.rules.specs.Settle.{settle, settling}

@@ -45,3 +45,5 @@ pub mod Ready
 pub mod Measured
 pub mod Waiting
 pub mod RoundsExist
+-- New pass limits (document 02, item 13): the counts stay in range.
+pub mod Passes

@@ -33,7 +33,7 @@ use Rattle.rules.proofs.View.{by-turn, by-report, by-cancel, places, co
 use Rattle.rules.proofs.View.{fails, restarts, Seen, is-refused, waits, limits, moves, see}
 use Rattle.rules.proofs.Schedules.{hasFlight, isFlying, isIdle, idsWith, turnsAt, reportsAt, allDone, busy, Sitting, opensAt}
 use Rattle.rules.proofs.Schedules.{placing, placedState, roundsOf, changed, toldAfter, crowded, crowded-placed, tooFewRounds}
-use Rattle.rules.proofs.Schedules.{patient, patient-placed, raisedTo, roundsRaised, patient-still-runs}
+use Rattle.rules.proofs.Schedules.{lowered, loweredTo, afterLowering, lowered-placed, patient, patient-placed, raisedTo, roundsRaised, patient-still-runs}
 use Rattle.rules.proofs.Schedules.{crowded-still-runs}
 use Rattle.rules.proofs.Schedules.{overtaken, overtaken-placed, calcRounds}
 use Rattle.rules.proofs.Told.{has, Tells, none-has}
@@ -461,14 +461,17 @@ needs-most = (
   crowded-still-runs,
 )
 
--- And the schedule in which wrong rules show is one.
+-- And the schedules in which wrong rules show are such.
 pub wrong-rules-show :
     let n = enoughRounds (overtaken .passLimit) in
-    Promised overtaken (roundsOf overtaken n) n
+    Promised overtaken (roundsOf overtaken n) n × Promised lowered afterLowering (enoughRounds loweredTo)
 unfolding calcRounds
 wrong-rules-show =
-    let n = enoughRounds (overtaken .passLimit) in
-    promised overtaken refl overtaken-placed (roundsOf overtaken n) n (rounds-told overtaken refl n)
+    let n = enoughRounds (overtaken .passLimit) in (
+      promised overtaken refl overtaken-placed (roundsOf overtaken n) n (rounds-told overtaken refl n),
+      promised lowered refl lowered-placed afterLowering (enoughRounds loweredTo)
+          (changed-told lowered refl (roundsOf lowered 2) 2 (rounds-told lowered refl 2) loweredTo refl (enoughRounds loweredTo)),
+    )
 
 -- By the K of its submission, or with that of now but counted from its submission, the promise would be false: K is raised from 0, and the
 -- routine still runs after more rounds than are enough with 0; then K is 0 again, and it still runs.

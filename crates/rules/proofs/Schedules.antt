@@ -179,3 +179,25 @@ pub patient-still-runs :
     ≡ true
 unfolding calcRounds
 patient-still-runs = refl
+
+-- ---- where a wrong rule about a lower pass limit shows
+
+-- as `overtaken`, but with K = 2; after two rounds the routine has been passed twice, and K becomes 1
+abbrev pub lowered : Sitting
+lowered = record { passLimit = 2; before = []; commands = must 0 (pos 5) ∷ []; id = 1; follows = 0; newcomers = must 0 (pos 7) ∷ [] }
+
+abbrev pub loweredTo : ℕ
+loweredTo = 1
+
+abbrev pub afterLowering : List Call
+afterLowering = changed lowered (roundsOf lowered 2) loweredTo (enoughRounds loweredTo)
+
+pub lowered-placed : resultOf (stateAfter (opensAt lowered) (lowered .before)) (submit (lowered .commands)) .answers
+    ≡ placed (lowered .id) (lowered .follows) ∷ []
+unfolding calcRounds
+lowered-placed = refl
+
+-- it ends in time. If a routine that has been passed oftener than K could be passed, it would wait for ever.
+pub lowered-ends : Ended (lowered .id) (toldAfter lowered afterLowering)
+unfolding calcRounds
+lowered-ends = refl

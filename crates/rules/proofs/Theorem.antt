@@ -6,7 +6,7 @@ use mathlib.Core.Bool.{Bool, true, false, not, _||_, or-true}
 use mathlib.Core.List.{List, [], _∷_, _++_, map, append-assoc, append-nil, tail-eq-of-cons-eq, nil≢cons}
 use Prim.Native.Nat.{ℕ, _<_, _≤_}
 use native.Mathlib.Omega.{arith}
-use borrow.Author.Tests.{eqb-true, eqb-false}
+use borrow.Author.Tests.{ltb-false, eqb-true, eqb-false}
 use lib.Dec.{ltb, eqb}
 use lib.IntN.{ℤ}
 use Rattle.routine.specs.Routine.{maxDevices}
@@ -17,11 +17,12 @@ use Rattle.routine.proofs.Laws.{both-accept, not-refused}
 use Rattle.rules.specs.Tables.{anyOf, Each}
 use Rattle.rules.specs.State.{highestPassLimit, Member, State}
 use Rattle.rules.specs.Answers.{Call, submit, turn, report, failure, restart, cancel, limit, Answer, refused, wait, limited, Result}
+use Rattle.rules.specs.Answers.{turnedDown, unlessRefused}
 use Rattle.rules.specs.Due.{due}
-use Rattle.rules.specs.Limit.{withPassLimit}
-use Rattle.rules.specs.Settle.{settle, settling}
+use Rattle.rules.specs.Limit.{withPassLimit, limitOf}
+use Rattle.rules.specs.Settle.{settleFrom, settle, settling}
 use Rattle.rules.specs.Abort.{leave, abort}
-use Rattle.rules.specs.Open.{opened, openCheck, newHub, openIf, openOf}
+use Rattle.rules.specs.Open.{opened, limitCheck, openCheck, newHub, openIf, openOf}
 use Rattle.rules.specs.Submit.{place}
 use Rattle.rules.specs.Turn.{commitTurn, sendTurn, skipTurn}
 use Rattle.rules.specs.Report.{doneReport, skippedState, skipReport}
@@ -52,6 +53,9 @@ use Rattle.rules.proofs.DeviceKept.{device-moves}
 use mathlib.Core.List.{map-append}
 use Rattle.routine.specs.Causes.{NoneOf}
 use Rattle.rules.specs.Causes.{IdsDiffer}
+use Rattle.rules.specs.NewLimit.{NothingTold, LimitTellsNothing, NothingToSettle}
+use Rattle.rules.specs.Sequence.{withSequence}
+use Rattle.routine.specs.declared.Refusal.{Refusal}
 use Rattle.rules.proofs.Lists.{NotIn, IdsOk, ids-other}
 use Rattle.rules.proofs.Groups.{ids}
 
@@ -296,18 +300,23 @@ acts-hold P w (x ∷ l) h =
 -- ---- the opening
 
 -- the hub of an accepted opening
-pub opening : (n k first : ℕ) (s : State) → openOf n k first ≡ opened s → (newHub n k first ≡ s) × (0 < first)
+pub opening : (n k first : ℕ) (s : State) → openOf n k first ≡ opened s →
+    (newHub n k first ≡ s) × (0 < first) × (k ≤ highestPassLimit)
 unfolding openCheck openOf
 opening n k first s e = go (openCheck n k first) refl e
   where
     positive : (i : ℕ) → i ≢ 0 → 0 < i
     positive i z = omega arith
 
-    go : (v : Verdict) → openCheck n k first ≡ v → openIf v (newHub n k first) ≡ opened s → (newHub n k first ≡ s) × (0 < first)
+    go : (v : Verdict) → openCheck n k first ≡ v → openIf v (newHub n k first) ≡ opened s →
+        (newHub n k first ≡ s) × (0 < first) × (k ≤ highestPassLimit)
     go Accepted q f =
         let p = both-accept (refuse devices-out-of-range when (eqb n 0 || ltb maxDevices n)) _ q .1 in
-        let r = both-accept (refuse pass-limit-out-of-range when ltb highestPassLimit k) _ p .1 in
-        (cc, positive first (eqb-false first 0 (not-refused first-id-0 (eqb first 0) r)))
+        let r = both-accept (limitCheck k) _ p in (
+          cc,
+          positive first (eqb-false first 0 (not-refused first-id-0 (eqb first 0) (r .1))),
+          ltb-false highestPassLimit k (not-refused pass-limit-out-of-range (ltb highestPassLimit k) (r .0)),
+        )
     go (Refused r) q f = let z : _≡_ {A = ℕ} 0 1 = cc in absurd (omega arith)
 
 new-holds : (n k first : ℕ) → 0 < first → Holds (Unit {0}) (newWorld (newHub n k first))
@@ -469,3 +478,40 @@ ids-differ n k first s e acts a m b w =
     none-has (m .id) (a ++ b)
     (subst (NotIn (m .id)) (sym (map-append id a b))
     (ids-other _ (map id a) (m .id) (map id b) (subst (IdsOk _) same (h .known .hub .ids-ok))))
+
+-- ---- new pass limits
+
+pub limit-tells-nothing : LimitTellsNothing
+unfolding limitOf
+limit-tells-nothing n k first s e acts new v =
+    byVerdict (λ (r : Result). NothingTold w (afterCall w (limit new) v r)) (limitCheck new)
+    (record { same-order = same; same-accounts = refl; same-working = refl; same-devices = refl })
+    (λ r. record { same-order = same; same-accounts = refl; same-working = refl; same-devices = refl })
+  where
+    w : World
+    w = worldAfterAll (newWorld s) acts
+
+    same : moveBar (orderIn w) ≡ orderIn w
+    same =
+        let h = acts-hold (Unit {0}) (newWorld s) acts (started n k first s e) .next in
+        bar-stays (w .state) (orderIn w) (h .groups) (h .known .order) (h .known .first)
+
+    byVerdict : (P : Result → Type 0) (x : Verdict) {r : Result} → P r → ((y : Refusal) → P (turnedDown y (w .state))) →
+        P (unlessRefused x (w .state) r)
+    byVerdict P Accepted a b = a
+    byVerdict P (Refused y) a b = b y
+
+-- the first of the sequence runs, so that nothing settles
+settle-none : (s : State) (l : List Group) → s .sequence ≡ members l → FirstRuns l → settle s ≡ s
+unfolding settle
+settle-none s l e f = ap (settleFrom s) e ∙ go l f ∙ ap (withSequence s) (sym e)
+  where
+    go : (l : List Group) → FirstRuns l → settleFrom s (members l) ≡ withSequence s (members l)
+    go [] f = refl
+    go (g ∷ l) f = rw f refl
+
+pub nothing-to-settle : NothingToSettle
+nothing-to-settle n k first s e acts =
+    let w = worldAfterAll (newWorld s) acts in
+    let h = acts-hold (Unit {0}) (newWorld s) acts (started n k first s e) .next in
+    settle-none (w .state) (h .groups) (h .known .hub .sequence-is) (h .known .first)

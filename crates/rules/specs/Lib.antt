@@ -25,3 +25,4 @@ pub mod Demand3
 pub mod Examples
 pub mod HubOrder
 pub mod Rounds
+pub mod NewLimit

@@ -1,0 +1,47 @@
+-- Document 02, item 13: what is claimed of new pass limits besides their refusal (`Causes.antt`), demand 3 and the waiting promise. The
+-- proofs are `limit-tells-nothing` and `nothing-to-settle` of `proofs/Theorem.antt`, and `passes-in-range` of `proofs/Passes.antt`. Assumes
+-- nothing.
+use mathlib.Core.Path.{_≡_}
+use mathlib.Core.List.{List}
+use Prim.Native.Nat.{ℕ, _≤_}
+use lib.IntN.{ℤ}
+use Rattle.rules.specs.Tables.{Each}
+use Rattle.rules.specs.State.{highestPassLimit, Member, State}
+use Rattle.rules.specs.Answers.{Call, limit}
+use Rattle.rules.specs.Settle.{settle}
+use Rattle.rules.specs.Open.{opened, openOf}
+use Rattle.rules.specs.Calls.{stateAfter}
+use Rattle.rules.specs.History.{workingOf}
+use Rattle.rules.specs.World.{World, Act, calls, accounts, worldAfter, worldAfterAll, newWorld}
+use Rattle.rules.specs.Demand3.{orderIn}
+
+-- From w to t nothing is told: of the order, its bar included, of the routines, of the devices.
+pub record NothingTold (w t : World) : Type 0 where
+  pub same-order : orderIn t ≡ orderIn w
+  pub same-accounts : accounts t ≡ accounts w
+  pub same-working : workingOf (t .history) ≡ workingOf (w .history)
+  pub same-devices : t .devices ≡ w .devices
+
+-- After every list a new pass limit, accepted or refused, tells nothing.
+abbrev pub LimitTellsNothing : Type 0
+LimitTellsNothing =
+    (n k first : ℕ) (s : State) → openOf n k first ≡ opened s → (acts : List Act) (new : ℕ) (v : ℤ) →
+    let w = worldAfterAll (newWorld s) acts in
+    NothingTold w (worldAfter w (calls (limit new) v))
+
+-- Document 01, "Settling": "After each call". After every list, of new pass limits too, there is nothing to settle.
+abbrev pub NothingToSettle : Type 0
+NothingToSettle =
+    (n k first : ℕ) (s : State) → openOf n k first ≡ opened s → (acts : List Act) →
+    let now = worldAfterAll (newWorld s) acts .state in
+    settle now ≡ now
+
+abbrev pub PassedInRange : Member → Type 0
+PassedInRange m = m .passed ≤ highestPassLimit
+
+-- A routine is passed only while its count is below the K then in force: whatever K becomes, no count rises above the highest K.
+abbrev pub PassesInRange : Type 0
+PassesInRange =
+    (n k first : ℕ) (s : State) → openOf n k first ≡ opened s → (calls : List Call) →
+    let now = stateAfter s calls in
+    (now .passLimit ≤ highestPassLimit) × Each PassedInRange (now .sequence)
