@@ -5,23 +5,20 @@ use Prim.Native.Nat.{_≤_}
 use Rattle.routine.specs.Routine.{commandsOf}
 use Rattle.routine.specs.declared.Command.{Command}
 use Rattle.rules.specs.State.{State}
-use Rattle.rules.specs.Answers.{Call, submit, placed, Result}
+use Rattle.rules.specs.Answers.{submit, placed, Result}
 use Rattle.rules.specs.Calls.{resultOf, stateAfter}
 use Rattle.rules.specs.History.{Told}
 use Rattle.rules.specs.Rounds.{callsTold, toldThen, Ended, limitTold, Schedule, enoughRounds}
+use Rattle.rules.proofs.Ready.{limit-kept}
 use Rattle.rules.proofs.Waiting.{ended-in-time}
 use Rattle.hub.specs.View.{view, answersIn}
 use Rattle.hub.specs.Demand3.{submits, callOf, HubAct, called, device-takes, Chain, hubAfter}
-use Rattle.hub.specs.Rounds.{toldIn, HubEndedInTime}
+use Rattle.hub.specs.Links.{callsIn}
+use Rattle.hub.specs.Rounds.{toldIn, HubEndedInTime, HubEndedInTimeAtOneLimit}
 use Rattle.hub.specs.declared.Hub.{Hub}
 use Rattle.hub.proofs.Theorem.{met, opens-as, chain-left}
 
--- the calls of a chain
-abbrev callsIn : List HubAct → List Call
-callsIn [] = []
-callsIn (called c o v ∷ l) = callOf c ∷ callsIn l
-callsIn (device-takes d k ∷ l) = callsIn l
-
+-- the calls of two parts of a chain
 calls-++ : (a b : List HubAct) → callsIn (a ++ b) ≡ callsIn a ++ callsIn b
 calls-++ [] b = refl
 calls-++ (called c o v ∷ a) b = ap (λ l. callOf c ∷ l) (calls-++ a b)
@@ -57,7 +54,7 @@ pub hub-ended-in-time : HubEndedInTime
 hub-ended-in-time n k first o op accepted before r p v i j was-placed later rounds ch schedule enough =
     subst (Ended i) (sym told-all)
     (ended-in-time n k first s (opens-as n k first o op accepted) (callsIn before) cs i j answers (callsIn later) rounds
-    (subst (λ x. Schedule x now rounds) told-start (subst (λ x. Schedule start x rounds) told-all schedule))
+    (subst (λ x. Schedule k x now rounds) told-start (subst (λ x. Schedule k start x rounds) told-all schedule))
     (subst (λ x. enoughRounds (limitTold k x) ≤ rounds) told-all enough))
   where
     h : Hub
@@ -94,3 +91,12 @@ hub-ended-in-time n k first o op accepted before r p v i j was-placed later roun
         ∙ ap (λ (x : Result). x .answers)
         (sym (met (hubAfter h before) (submits r) p (chain-right h before (x ∷ []) chain-start .0) .gives))
         ∙ was-placed
+
+-- Where no change happens.
+pub hub-ended-in-time-at-one-limit : HubEndedInTimeAtOneLimit
+hub-ended-in-time-at-one-limit n k first o op accepted before r p v i j was-placed later rounds ch keeps schedule enough =
+    let acts = before ++ (called (submits r) p v ∷ later) in
+    let s = view (o .hub) in
+    let same = ap (λ l. limitTold k (toldThen [] l)) (told-is (o .hub) acts ch) ∙ limit-kept k s [] refl (callsIn acts) keeps in
+    hub-ended-in-time n k first o op accepted before r p v i j was-placed later rounds ch schedule
+    (subst (λ x. enoughRounds x ≤ rounds) (sym same) enough)

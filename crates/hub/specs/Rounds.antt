@@ -7,12 +7,14 @@ use Prim.Native.Nat.{ℕ, _≤_}
 use lib.IntN.{ℤ}
 use Rattle.routine.specs.declared.Routine.{Routine}
 use Rattle.routine.specs.declared.Verdict.the-variants.{Accepted}
+use Rattle.rules.specs.Tables.{Each}
 use Rattle.rules.specs.Answers.{placed}
 use Rattle.rules.specs.History.{Told}
-use Rattle.rules.specs.Rounds.{toldThen, Ended, limitTold, Schedule, enoughRounds}
+use Rattle.rules.specs.Rounds.{toldThen, Ended, limitTold, Schedule, enoughRounds, KeepsLimit}
 use Rattle.hub.specs.View.{answersIn}
 use Rattle.hub.specs.Contract.{Opens}
 use Rattle.hub.specs.Demand3.{submits, callOf, HubAct, called, device-takes, Chain}
+use Rattle.hub.specs.Links.{callsIn}
 use Rattle.hub.specs.declared.Opened.{Opened}
 use Rattle.hub.specs.declared.Outcome.{Outcome}
 
@@ -31,5 +33,16 @@ HubEndedInTime =
     (later : List HubAct) (rounds : ℕ) →
     let start = toldThen [] (toldIn (before ++ (called (submits r) p v ∷ []))) in
     let now = toldThen [] (toldIn (before ++ (called (submits r) p v ∷ later))) in
-    Chain (o .hub) (before ++ (called (submits r) p v ∷ later)) → Schedule start now rounds → enoughRounds (limitTold k now) ≤ rounds →
+    Chain (o .hub) (before ++ (called (submits r) p v ∷ later)) → Schedule k start now rounds → enoughRounds (limitTold k now) ≤ rounds →
     Ended i now
+
+-- Where no new pass limit is asked for: the promise of item 1, with the K of the opening.
+abbrev pub HubEndedInTimeAtOneLimit : Type 0
+HubEndedInTimeAtOneLimit =
+    (n k first : ℕ) (o : Opened) → Opens n k first o → o .verdict ≡ Accepted →
+    (before : List HubAct) (r : Routine) (p : Outcome) (v : ℤ) (i j : ℕ) → answersIn p ≡ placed i j ∷ [] →
+    (later : List HubAct) (rounds : ℕ) →
+    let start = toldThen [] (toldIn (before ++ (called (submits r) p v ∷ []))) in
+    let acts = before ++ (called (submits r) p v ∷ later) in
+    let now = toldThen [] (toldIn acts) in
+    Chain (o .hub) acts → Each KeepsLimit (callsIn acts) → Schedule k start now rounds → enoughRounds k ≤ rounds → Ended i now

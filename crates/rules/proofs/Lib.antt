@@ -36,8 +36,8 @@ pub mod AllDue
 pub mod Exact
 pub mod Worlds
 pub mod Controls
--- The waiting promise (document 02, item 1): computed schedules; what is told is what the hub holds; the measure that falls; what holds
--- between calls; what a call does to the measure; the promise; rounds exist.
+-- The waiting promise (document 02, items 1 and 13): computed schedules; what is told is what the hub holds; the measure that falls; what
+-- holds between calls; what a call does to the measure; the promise; rounds exist.
 pub mod Schedules
 pub mod Told
 pub mod Measure

@@ -1,4 +1,4 @@
--- No routine is passed oftener than the highest pass limit, whatever the limit becomes. Assumes nothing.
+-- Who is passed; and no routine is passed oftener than the highest pass limit, whatever the limit becomes. Assumes nothing.
 use mathlib.Core.Path.{_≡_, refl, sym, ap, _∙_, subst}
 use mathlib.Core.Bool.{Bool, true, false, not, _&&_}
 use mathlib.Core.List.{List, [], _∷_, _++_}
@@ -6,20 +6,21 @@ use Prim.Native.Nat.{ℕ, _≤_}
 use native.Mathlib.Omega.{arith}
 use borrow.Author.Tests.{ltb-false, leb-false}
 use lib.Dec.{leb, ltb, eqb}
+use Rattle.routine.specs.Choice.{if_then_else_}
 use Rattle.routine.specs.Refusals.{pass-limit-out-of-range}
 use Rattle.routine.specs.declared.Command.{Command}
 use Rattle.routine.proofs.Laws.{not-refused}
 use Rattle.rules.specs.Tables.{anyOf, Each}
-use Rattle.rules.specs.State.{highestPassLimit, State}
+use Rattle.rules.specs.State.{highestPassLimit, Member, State}
 use Rattle.rules.specs.Answers.{Call, Result}
 use Rattle.rules.specs.Sequence.{isRunning}
 use Rattle.rules.specs.Open.{opened, newHub, openOf}
-use Rattle.rules.specs.Submit.{blocks, pass, newcomer}
+use Rattle.rules.specs.Submit.{blocks, upToLast, pastLast, pass, newcomer, place}
 use Rattle.rules.specs.Turn.{commit}
 use Rattle.rules.specs.Attach.{attachTo}
 use Rattle.rules.specs.Order.{Event, failure-of, restart-of}
 use Rattle.rules.specs.Calls.{resultOf, stateAfter}
-use Rattle.rules.specs.NewLimit.{PassedInRange, PassesInRange}
+use Rattle.rules.specs.NewLimit.{PassedLessThan, PassedBelow, PassedInRange, PassesInRange}
 use Rattle.rules.proofs.Lists.{or-left, or-right, each-++, each-left, each-right, each-mid, each-drop, each-swap}
 use Rattle.rules.proofs.Groups.{Group, members, alone, with, passAll, leaving, attachEvent, addEvent, stillHeld, each-held, added-is}
 use Rattle.rules.proofs.Same.{pairs-last, pairs-attached, pairs-each}
@@ -148,3 +149,36 @@ passes-in-range n k first s e calls =
     let y : Low s [] = record { hub = ready-opened n k first s e .hub; limit-low = opened-low n k first s e; counts-low = tt } in
     let r = low-calls s [] y calls in
     (r .1 .limit-low, subst (Each PassedInRange) (sym (r .1 .hub .sequence-is)) (low-members (r .0) (r .1 .counts-low)))
+
+-- ---- who is passed
+
+parted : (p : Member → Bool) (l : List Member) → (l ≡ upToLast p l ++ pastLast p l) × (anyOf p (pastLast p l) ≡ false)
+parted p [] = (refl, refl)
+parted p (m ∷ l) = go (anyOf p (m ∷ l)) refl (parted p l)
+  where
+    go : (t : Bool) → anyOf p (m ∷ l) ≡ t → (l ≡ upToLast p l ++ pastLast p l) × (anyOf p (pastLast p l) ≡ false) →
+        (m ∷ l ≡ (if t then m ∷ upToLast p l else []) ++ (if t then pastLast p l else m ∷ l))
+        × (anyOf p (if t then pastLast p l else m ∷ l) ≡ false)
+    go true e h = (ap (λ k. m ∷ k) (h .0), h .1)
+    go false e h = (refl, e)
+
+unblocked : (s : State) (cs : List Command) (l : List Member) → anyOf (blocks s cs) l ≡ false → Each (PassedLessThan (s .passLimit)) l
+unfolding blocks
+unblocked s cs [] n = tt
+unblocked s cs (m ∷ l) n =
+    ((λ r. leb-false (s .passLimit) (m .passed) (sym (rw r refl) ∙ free)), unblocked s cs l (or-right (blocks s cs m) _ n))
+  where
+    free : (isRunning m && leb (s .passLimit) (m .passed)) ≡ false
+    free = or-right (anyOf (λ c. eqb (s .mark (c .device)) (m .id)) cs) _ (or-left (blocks s cs m) _ n)
+
+pub passed-below : PassedBelow
+unfolding place
+passed-below s cs =
+    let h = parted (blocks s cs) (s .sequence) in
+    record {
+      ahead = upToLast (blocks s cs) (s .sequence);
+      behind = pastLast (blocks s cs) (s .sequence);
+      sequence-was = h .0;
+      sequence-is = refl;
+      less-often = unblocked s cs (pastLast (blocks s cs) (s .sequence)) (h .1);
+    }

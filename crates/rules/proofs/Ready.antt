@@ -234,21 +234,23 @@ untold s h l t a f y = record {
   room = y .room;
 }
 
+-- a new pass limit
+pub ready-limit : (s : State) (h : List Told) (l : List Group) → Ready s h l → (k : ℕ) →
+    Ready (withPassLimit s k) (saying (limit k) (limited k ∷ []) ∷ h) l
+ready-limit s h l y k = record {
+  hub = hub-limit s k l (y .hub);
+  first = y .first;
+  running-told = y .running-told;
+  flying-told = y .flying-told;
+  few-left = y .few-left;
+  room = y .room;
+}
+
 pub ready-seen : (s : State) (h : List Told) (l : List Group) → Ready s h l → {c : Call} {r : Result} → Seen s l c r →
     (m : List Group) × Ready (r .state) (saying c (r .answers) ∷ h) m
 ready-seen s h l y {c = c} (is-refused r) = (l, untold s h l (saying c (refused r ∷ [])) refl refl y)
 ready-seen s h l y (waits i a g b d j e n f) = (l, untold s h l (saying (turn i) (wait (g .member .id) j ∷ [])) refl refl y)
-ready-seen s h l y (limits j e) = (l, anew)
-  where
-    anew : Ready (withPassLimit s j) (saying (limit j) (limited j ∷ []) ∷ h) l
-    anew = record {
-      hub = hub-limit s j l (y .hub);
-      first = y .first;
-      running-told = y .running-told;
-      flying-told = y .flying-told;
-      few-left = y .few-left;
-      room = y .room;
-    }
+ready-seen s h l y (limits k e) = (l, ready-limit s h l y k)
 ready-seen s h l y (moves {k = m} v) = (stillHeld m, ready-moves s h l y v)
 
 -- the hub of an accepted opening
@@ -307,12 +309,15 @@ limit-seen s l (moves {r = r} v) = (
   λ _. limit-moves s l v,
 )
 
+pub limit-call : (s : State) (c : Call) → limitAfterAll (resultOf s c .answers) (s .passLimit) ≡ resultOf s c .state .passLimit
+limit-call s c = limit-seen s _ (see-any s c) .0
+
 pub limit-told : (k : ℕ) (s : State) (h : List Told) → limitTold k h ≡ s .passLimit → (calls : List Call) →
     limitTold k (toldThen h (callsTold s calls)) ≡ stateAfter s calls .passLimit
 limit-told k s h e [] = e
 limit-told k s h e (c ∷ calls) =
     limit-told k (resultOf s c .state) (saying c (resultOf s c .answers) ∷ h)
-    (ap (limitAfterAll (resultOf s c .answers)) e ∙ limit-seen s _ (see-any s c) .0) calls
+    (ap (limitAfterAll (resultOf s c .answers)) e ∙ limit-call s c) calls
 
 pub limit-kept : (k : ℕ) (s : State) (h : List Told) → limitTold k h ≡ k → (calls : List Call) → Each KeepsLimit calls →
     limitTold k (toldThen h (callsTold s calls)) ≡ k

@@ -24,8 +24,8 @@ use Rattle.rules.specs.Report.{codeDone, codeFailed, doneReport, skipRep
 use Rattle.rules.specs.Calls.{resultOf, stateAfter}
 use Rattle.rules.specs.History.{Told, Account, accountsOf}
 use Rattle.rules.specs.World.{isAccepted}
-use Rattle.rules.specs.Rounds.{callsTold, toldThen, flyingOf, idleOf, acceptedIn, times, EachOnce, Round, a-submission}
-use Rattle.rules.specs.Rounds.{Schedule, begins, between, a-change, a-round, enoughRounds, ToldIsHeld, AnyOrder, RoundsExist}
+use Rattle.rules.specs.Rounds.{callsTold, toldThen, flyingOf, idleOf, limitTold, acceptedIn, times, EachOnce, Round, a-submission}
+use Rattle.rules.specs.Rounds.{Schedule, begins, between, a-new-limit, a-round, enoughRounds, ToldIsHeld, AnyOrder, RoundsExist}
 use Rattle.rules.proofs.Lists.{byIf, t≠f, and-left, and-right, put-other, each-left, IsNot, NotIn, IdsOk}
 use Rattle.rules.proofs.Groups.{Group, members, ids, foundAt, ids-++, other-ids}
 use Rattle.rules.proofs.Invariant.{HubOk}
@@ -33,7 +33,8 @@ use Rattle.rules.proofs.View.{by-turn, by-report, by-cancel, places, co
 use Rattle.rules.proofs.View.{fails, restarts, Seen, is-refused, waits, limits, moves, see}
 use Rattle.rules.proofs.Schedules.{hasFlight, isFlying, isIdle, idsWith, turnsAt, reportsAt, allDone, busy, Sitting, opensAt}
 use Rattle.rules.proofs.Schedules.{placing, placedState, roundsOf, changed, toldAfter, crowded, crowded-placed, tooFewRounds}
-use Rattle.rules.proofs.Schedules.{lowered, loweredTo, afterLowering, lowered-placed, patient, patient-placed, raisedTo, roundsRaised, patient-still-runs}
+use Rattle.rules.proofs.Schedules.{lowered, loweredTo, afterLowering, lowered-placed, patient, patient-placed, raisedTo}
+use Rattle.rules.proofs.Schedules.{roundsRaised, patient-still-runs}
 use Rattle.rules.proofs.Schedules.{crowded-still-runs}
 use Rattle.rules.proofs.Schedules.{overtaken, overtaken-placed, calcRounds}
 use Rattle.rules.proofs.Told.{has, Tells, none-has}
@@ -373,10 +374,10 @@ state-on s [] b = refl
 state-on s (c ∷ a) b = state-on (resultOf s c .state) a b
 
 -- the calls of `busy` are n rounds more, with submissions between them
-is-schedule : (start : List Told) (s : State) (h : List Told) (l : List Group) → Ready s h l → (m : ℕ) → Schedule start h m →
-    (n : ℕ) (cs : List Command) (total : ℕ) → n + m ≡ total → Schedule start (toldThen h (callsTold s (busy n cs s))) total
-is-schedule start s h l y m w zero cs total e = let f : m ≡ total = omega arith in subst (Schedule start h) f w
-is-schedule start s h l y m w (suc n) cs total e =
+is-schedule : (k : ℕ) (start : List Told) (s : State) (h : List Told) (l : List Group) → Ready s h l → (m : ℕ) → Schedule k start h m →
+    (n : ℕ) (cs : List Command) (total : ℕ) → n + m ≡ total → Schedule k start (toldThen h (callsTold s (busy n cs s))) total
+is-schedule k start s h l y m w zero cs total e = let f : m ≡ total = omega arith in subst (Schedule k start h) f w
+is-schedule k start s h l y m w (suc n) cs total e =
     let r = ready-seen s h l y (see s l (y .hub .sequence-is) (submit cs)) in
     let t = resultOf s (submit cs) .state in
     let g = saying (submit cs) (resultOf s (submit cs) .answers) ∷ h in
@@ -394,14 +395,14 @@ is-schedule start s h l y m w (suc n) cs total e =
     let told : toldThen g (callsTold t (turnsAt t ++ (reportsAt allDone u ++ busy n cs v))) ≡ toldThen after (callsTold v (busy n cs v)) =
     told-on t g (turnsAt t) (reportsAt allDone u ++ busy n cs v)
     ∙ told-on u (toldThen g (callsTold t (turnsAt t))) (reportsAt allDone u) (busy n cs v) in
-    subst (λ x. Schedule start x total) (sym told)
-    (is-schedule start v after (made .1) (made .2) (suc m) more n cs total (omega arith))
+    subst (λ x. Schedule k start x total) (sym told)
+    (is-schedule k start v after (made .1) (made .2) (suc m) more n cs total (omega arith))
 
 -- all that the promise asks of a sitting, for these calls after the submission, n rounds of which count
 pub record Promised (x : Sitting) (later : List Call) (n : ℕ) : Type 0 where
   pub accepted : openOf 1 (x .passLimit) 1 ≡ opened (opensAt x)
   pub was-placed : resultOf (stateAfter (opensAt x) (x .before)) (submit (x .commands)) .answers ≡ placed (x .id) (x .follows) ∷ []
-  pub schedule : Schedule (toldAfter x []) (toldAfter x later) n
+  pub schedule : Schedule (x .passLimit) (toldAfter x []) (toldAfter x later) n
 
 -- what is told, from the submission on
 told-since : (x : Sitting) (later : List Call) → toldAfter x later ≡ toldThen (toldAfter x []) (callsTold (placedState x) later)
@@ -417,35 +418,40 @@ module _ (x : Sitting) (e : openOf 1 (x .passLimit) 1 ≡ opened (opensAt x)) wh
       ready-calls (placedState x) (toldAfter x []) (r .0) (r .1) later
 
   -- n rounds
-  rounds-told : (n : ℕ) → Schedule (toldAfter x []) (toldThen (toldAfter x []) (callsTold (placedState x) (roundsOf x n))) n
+  rounds-told : (n : ℕ) → Schedule (x .passLimit) (toldAfter x []) (toldThen (toldAfter x []) (callsTold (placedState x) (roundsOf x n))) n
   rounds-told n =
       let r = ready-since [] in
-      is-schedule (toldAfter x []) (placedState x) (toldAfter x []) (r .0) (r .1) 0 begins n (x .newcomers) n (omega arith)
+      is-schedule (x .passLimit) (toldAfter x []) (placedState x) (toldAfter x []) (r .0) (r .1) 0 begins n (x .newcomers) n (omega arith)
 
   -- so many rounds, a new pass limit that is accepted, and n rounds more
   changed-told : (earlier : List Call) (m : ℕ) →
-      Schedule (toldAfter x []) (toldThen (toldAfter x []) (callsTold (placedState x) earlier)) m →
-      (k : ℕ) → resultOf (stateAfter (placedState x) earlier) (limit k) .answers ≡ limited k ∷ [] → (n : ℕ) →
-      Schedule (toldAfter x []) (toldThen (toldAfter x []) (callsTold (placedState x) (changed x earlier k n))) n
-  changed-told earlier m w k a n =
+      Schedule (x .passLimit) (toldAfter x []) (toldThen (toldAfter x []) (callsTold (placedState x) earlier)) m →
+      (k : ℕ) → resultOf (stateAfter (placedState x) earlier) (limit k) .answers ≡ limited k ∷ [] →
+      eqb k (limitTold (x .passLimit) (toldThen (toldAfter x []) (callsTold (placedState x) earlier))) ≡ false → (n : ℕ) →
+      Schedule (x .passLimit) (toldAfter x []) (toldThen (toldAfter x []) (callsTold (placedState x) (changed x earlier k n))) n
+  changed-told earlier m w k a other n =
       let s = placedState x in
       let h = toldThen (toldAfter x []) (callsTold s earlier) in
       let t = resultOf (stateAfter s earlier) (limit k) .state in
       let c = saying (limit k) (resultOf (stateAfter s earlier) (limit k) .answers) in
       let r = ready-since earlier in
       let y = ready-seen (stateAfter s earlier) h (r .0) (r .1) (see (stateAfter s earlier) (r .0) (r .1 .hub .sequence-is) (limit k)) in
-      let begun : Schedule (toldAfter x []) (c ∷ h) 0 =
-      subst (λ z. Schedule (toldAfter x []) (saying (limit k) z ∷ h) 0) (sym a) (a-change w k) in
-      subst (λ z. Schedule (toldAfter x []) z n) (sym (told-on s (toldAfter x []) earlier (limit k ∷ busy n (x .newcomers) t)))
-      (is-schedule (toldAfter x []) t (c ∷ h) (y .0) (y .1) 0 begun n (x .newcomers) n (omega arith))
+      let begun : Schedule (x .passLimit) (toldAfter x []) (c ∷ h) 0 =
+      subst (λ z. Schedule (x .passLimit) (toldAfter x []) (saying (limit k) z ∷ h) 0) (sym a)
+      (subst (λ (t : Bool). Schedule (x .passLimit) (toldAfter x []) (saying (limit k) (limited k ∷ []) ∷ h) (if t then m else 0)) other
+      (a-new-limit w k)) in
+      subst (λ z. Schedule (x .passLimit) (toldAfter x []) z n)
+      (sym (told-on s (toldAfter x []) earlier (limit k ∷ busy n (x .newcomers) t)))
+      (is-schedule (x .passLimit) (toldAfter x []) t (c ∷ h) (y .0) (y .1) 0 begun n (x .newcomers) n (omega arith))
 
   promised : resultOf (stateAfter (opensAt x) (x .before)) (submit (x .commands)) .answers ≡ placed (x .id) (x .follows) ∷ [] →
-      (later : List Call) (n : ℕ) → Schedule (toldAfter x []) (toldThen (toldAfter x []) (callsTold (placedState x) later)) n →
+      (later : List Call) (n : ℕ) →
+      Schedule (x .passLimit) (toldAfter x []) (toldThen (toldAfter x []) (callsTold (placedState x) later)) n →
       Promised x later n
   promised p later n w = record {
     accepted = e;
     was-placed = p;
-    schedule = subst (λ z. Schedule (toldAfter x []) z n) (sym (told-since x later)) w;
+    schedule = subst (λ z. Schedule (x .passLimit) (toldAfter x []) z n) (sym (told-since x later)) w;
   }
 
 -- Not weak: by a schedule that the promise is about, a routine still runs after rounds that are fewer than promised, and more than half.
@@ -470,7 +476,7 @@ wrong-rules-show =
     let n = enoughRounds (overtaken .passLimit) in (
       promised overtaken refl overtaken-placed (roundsOf overtaken n) n (rounds-told overtaken refl n),
       promised lowered refl lowered-placed afterLowering (enoughRounds loweredTo)
-          (changed-told lowered refl (roundsOf lowered 2) 2 (rounds-told lowered refl 2) loweredTo refl (enoughRounds loweredTo)),
+          (changed-told lowered refl (roundsOf lowered 2) 2 (rounds-told lowered refl 2) loweredTo refl refl (enoughRounds loweredTo)),
     )
 
 -- By the K of its submission, or with that of now but counted from its submission, the promise would be false: K is raised from 0, and the
@@ -483,8 +489,9 @@ pub counted-from-the-change :
     .running ≡ true)
 unfolding calcRounds
 counted-from-the-change =
-    let raised = changed-told patient refl [] 0 begins raisedTo refl roundsRaised in
-    let lowered = changed-told patient refl (changed patient [] raisedTo roundsRaised) roundsRaised raised (patient .passLimit) refl 1 in (
+    let raised = changed-told patient refl [] 0 begins raisedTo refl refl roundsRaised in
+    let lowered = changed-told patient refl (changed patient [] raisedTo roundsRaised) roundsRaised raised (patient .passLimit) refl refl 1
+    in (
       promised patient refl patient-placed (changed patient [] raisedTo roundsRaised) roundsRaised raised,
       promised patient refl patient-placed (changed patient (changed patient [] raisedTo roundsRaised) (patient .passLimit) 1) 1 lowered,
       omega arith,

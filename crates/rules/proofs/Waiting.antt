@@ -2,7 +2,7 @@
 -- `Measure.antt` falls; nothing else raises it. Assumes nothing.
 use mathlib.Core.Path.{_≡_, refl, sym, ap, _∙_, subst}
 use mathlib.Core.Logic.{_≢_}
-use mathlib.Core.Bool.{true, false, not, _&&_}
+use mathlib.Core.Bool.{Bool, true, false, not, _&&_}
 use mathlib.Core.List.{List, [], _∷_, _++_, map, nil≢cons, cons≢nil, head-eq-of-cons-eq, tail-eq-of-cons-eq}
 use mathlib.Core.Option.{Option, none, some, Option·none-ne-some}
 use Prim.Native.Nat.{ℕ, suc, _-_, _<_, _≤_}
@@ -23,9 +23,10 @@ use Rattle.rules.specs.Calls.{resultOf, stateAfter}
 use Rattle.rules.specs.History.{Told, accountsOf}
 use Rattle.rules.specs.Order.{Event}
 use Rattle.rules.specs.World.{isAccepted}
-use Rattle.rules.specs.Rounds.{callsTold, toldThen, flyingOf, idleOf, Ended, limitTold, acceptedIn, times, EachOnce, Round}
+use Rattle.rules.specs.Rounds.{callsTold, toldThen, flyingOf, idleOf, Ended, limitAfterAll, limitTold, acceptedIn, times, EachOnce}
+use Rattle.rules.specs.Rounds.{Round}
 use Rattle.rules.specs.Rounds.{a-submission}
-use Rattle.rules.specs.Rounds.{a-refusal, Schedule, begins, between, a-change, a-round, enoughRounds, EndedInTime}
+use Rattle.rules.specs.Rounds.{a-refusal, Schedule, begins, between, a-new-limit, a-round, enoughRounds, EndedInTime}
 use Rattle.rules.specs.Rounds.{EndedInTimeAtOneLimit}
 use Rattle.rules.proofs.Lists.{t≠f}
 use Rattle.rules.proofs.Groups.{Group, members, ids, stillHeld}
@@ -39,8 +40,8 @@ use Rattle.rules.proofs.Schedules.{hasFlight, isFlying}
 use Rattle.rules.proofs.Measure.{measure, Runs}
 use Rattle.rules.proofs.Measure.{settle-at-most, runs-positive, most-measure}
 use Rattle.rules.proofs.Theorem.{moves-same}
-use Rattle.rules.proofs.Ready.{fixed-moves, Ready, ready-moves, saying, untold, ready-seen, ready-opened, opened-limit, limit-told}
-use Rattle.rules.proofs.Ready.{limit-kept}
+use Rattle.rules.proofs.Ready.{fixed-moves, Ready, ready-moves, saying, untold, ready-limit, ready-seen, ready-opened, opened-limit}
+use Rattle.rules.proofs.Ready.{limit-call, limit-kept}
 use Rattle.rules.proofs.Measured.{OfSchedule, NotRaised, not-raised-same, moves-at-most, HeadIs, head-is, head-held, IsTurn, Asks}
 use Rattle.rules.proofs.Measured.{asks-of-schedule}
 use Rattle.rules.proofs.Measured.{Flies}
@@ -412,19 +413,45 @@ counts-anew k i s h now = record {
 unaborted : {g : Group} {k : ℕ} → Aborts g (limit k) → ⊥
 unaborted = elim [ ]
 
-changed-now : (m i : ℕ) (s : State) (h : List Told) (now : Now m i s h) (k : ℕ) {r : Result} → Seen s (now .groups) (limit k) r →
-    r .answers ≡ limited k ∷ [] → Now k i (r .state) (saying (limit k) (r .answers) ∷ h)
-changed-now m i s h now k (is-refused r) e = let z : _≡_ {A = ℕ} 0 1 = cc in absurd (omega arith)
-changed-now m i s h now k (limits _ a) e =
-    let r = ready-seen s h (now .groups) (now .ready) (limits k a) in
-    record { groups = r .0; ready = r .1; in-force = refl; given = now .given }
-changed-now m i s h now k (moves (aborts _ a g b f r q)) e = absurd (unaborted q)
+-- it is in force, and the groups are the same
+limited-now : (m i : ℕ) (s : State) (h : List Told) (now : Now m i s h) (k : ℕ) {r : Result} → Seen s (now .groups) (limit k) r →
+    r .answers ≡ limited k ∷ [] → (P : List Group → Type 0) → P (now .groups) →
+    Reached k i (r .state) (saying (limit k) (r .answers) ∷ h) P
+limited-now m i s h now k (is-refused r) e P p = let z : _≡_ {A = ℕ} 0 1 = cc in absurd (omega arith)
+limited-now m i s h now k (limits _ a) e P p = (
+  record { groups = now .groups; ready = ready-limit s h (now .groups) (now .ready) k; in-force = refl; given = now .given },
+  p,
+)
+limited-now m i s h now k (moves (aborts _ a g b f r q)) e P p = absurd (unaborted q)
 
-counted : (i : ℕ) (s : State) (start now : List Told) (n : ℕ) → Schedule start now n → ToldBy s now →
+-- the K that is told is the hub's
+limit-is : (k : ℕ) (s : State) (h : List Told) → k ≡ s .passLimit → ToldBy s h → limitTold k h ≡ stateAt s h .passLimit
+limit-is k s [] e y = e
+limit-is k s (t ∷ h) e y =
+    ap (limitAfterAll (t .answers)) (limit-is k s h e (y .0))
+    ∙ ap (λ a. limitAfterAll a (stateAt s h .passLimit)) (sym (y .1)) ∙ limit-call (stateAt s h) (t .call)
+
+-- it is the one that was in force, or the count begins anew
+limit-counted : (m i : ℕ) (s : State) (h : List Told) (now : Now m i s h) (n k : ℕ) → Bounded m i (now .groups) (enoughRounds m - n) →
+    resultOf s (limit k) .answers ≡ limited k ∷ [] → (t : Bool) → eqb k m ≡ t →
+    Counted i (resultOf s (limit k) .state) (saying (limit k) (limited k ∷ []) ∷ h) (if t then n else 0)
+limit-counted m i s h now n k o e true same =
+    let b = subst (λ x. Bounded x i (now .groups) (enoughRounds x - n)) (sym (eqb-true k m same)) o in
+    let P : List Group → Type 0 = λ l. Bounded k i l (enoughRounds k - n) in
+    let r = as-told k i s (resultOf s (limit k) .state) h (saying (limit k) (limited k ∷ [])) P e
+    (limited-now m i s h now k (seen m i s h now (limit k)) e P b) in
+    record { limit-then = k; now = r .0; bounded = r .1 }
+limit-counted m i s h now n k o e false other =
+    let P : List Group → Type 0 = λ l. Unit {0} in
+    let r = as-told k i s (resultOf s (limit k) .state) h (saying (limit k) (limited k ∷ [])) P e
+    (limited-now m i s h now k (seen m i s h now (limit k)) e P tt) in
+    counts-anew k i (resultOf s (limit k) .state) (saying (limit k) (limited k ∷ []) ∷ h) (r .0)
+
+counted : (k i : ℕ) (s : State) → k ≡ s .passLimit → (start now : List Told) (n : ℕ) → Schedule k start now n → ToldBy s now →
     (ToldBy s start → Counted i (stateAt s start) start 0) → Counted i (stateAt s now) now n
-counted i s start _ _ begins y f = f y
-counted i s start _ n (between {now = h} w _ (a-submission cs answers)) y f =
-    let c = counted i s start h n w (y .0) f in
+counted k₀ i s z start _ _ begins y f = f y
+counted k₀ i s z start _ n (between {now = h} w _ (a-submission cs answers)) y f =
+    let c = counted k₀ i s z start h n w (y .0) f in
     let k = c .limit-then in
     let u = stateAt s h in
     let m = enoughRounds k - n in
@@ -432,21 +459,19 @@ counted i s start _ n (between {now = h} w _ (a-submission cs answers)) y f =
     let r = as-told k i u (resultOf u (submit cs) .state) h (saying (submit cs) answers) (λ l. Bounded k i l m) (y .1)
     (v .0, bounded-still k i m (c .now .groups) (v .0 .groups) (v .1) (c .bounded)) in
     record { limit-then = k; now = r .0; bounded = r .1 }
-counted i s start _ n (between {now = h} w _ (a-refusal t e)) y f =
-    let c = counted i s start h n w (y .0) f in
+counted k₀ i s z start _ n (between {now = h} w _ (a-refusal t e)) y f =
+    let c = counted k₀ i s z start h n w (y .0) f in
     let k = c .limit-then in
     let r = refused-told k i (stateAt s h) h (c .now) t (y .1) e (λ l. Bounded k i l (enoughRounds k - n)) (c .bounded) in
     record { limit-then = k; now = r .0; bounded = r .1 }
-counted i s start _ _ (a-change {now = h} {n = n} w k) y f =
-    let c = counted i s start h n w (y .0) f in
-    let u = stateAt s h in
-    let now = subst (λ a. Now k i (resultOf u (limit k) .state) (saying (limit k) a ∷ h)) (y .1)
-    (changed-now (c .limit-then) i u h (c .now) k (seen (c .limit-then) i u h (c .now) (limit k)) (y .1)) in
-    counts-anew k i (resultOf u (limit k) .state) (saying (limit k) (limited k ∷ []) ∷ h) now
-counted i s start _ _ (a-round {now = h} {n = n} w turns reports round) y f =
+counted k₀ i s z start _ _ (a-new-limit {now = h} {n = n} w k) y f =
+    let c = counted k₀ i s z start h n w (y .0) f in
+    let told : limitTold k₀ h ≡ c .limit-then = limit-is k₀ s h z (y .0) ∙ c .now .in-force in
+    limit-counted (c .limit-then) i (stateAt s h) h (c .now) n k (c .bounded) (y .1) (eqb k (limitTold k₀ h)) (ap (eqb k) (sym told))
+counted k₀ i s z start _ _ (a-round {now = h} {n = n} w turns reports round) y f =
     let p = told-by-first s (toldThen h turns) reports y in
     let q = told-by-first s h turns (p .0) in
-    let c = counted i s start h n w (q .0) f in
+    let c = counted k₀ i s z start h n w (q .0) f in
     let k = c .limit-then in
     let u = stateAt s h in
     let m = enoughRounds k - suc n in
@@ -500,11 +525,11 @@ ended-in-time n k first s e before cs i j p later rounds schedule enough =
     let all = before ++ (submit cs ∷ later) in
     let start = toldThen [] (callsTold s first-part) in
     let now = toldThen [] (callsTold s all) in
-    let c = counted i s start now rounds schedule (told-by-calls s [] tt all)
+    let z = opened-limit n k first s e in
+    let c = counted k i s z start now rounds schedule (told-by-calls s [] tt all)
     (λ _. subst (λ x. Counted i x start 0) (sym (state-calls s [] first-part))
     (submitted i j s [] [] (ready-opened n k first s e) before cs p)) in
-    let m : limitTold k now ≡ c .limit-then =
-    limit-told k s [] (opened-limit n k first s e) all ∙ ap (λ (x : State). x .passLimit) (sym (state-calls s [] all)) ∙ c .now .in-force in
+    let m : limitTold k now ≡ c .limit-then = limit-is k s now z (told-by-calls s [] tt all) ∙ c .now .in-force in
     let none : enoughRounds (c .limit-then) - rounds ≤ 0 = omega arith in
     bounded-ended (c .limit-then) i (stateAt s now) now (c .now)
     (bounded-more (c .limit-then) i (enoughRounds (c .limit-then) - rounds) 0 (c .now .groups) none (c .bounded))

@@ -9,7 +9,10 @@ use lib.Dec.{eqb}
 use lib.IntN.{ℤ, pos, negsuc}
 use lib.ListN.{take}
 use Rattle.rules.specs.Tables.{anyOf}
-use Rattle.rules.specs.Answers.{Call, submit, turn, report, failure, restart, cancel, Answer, done, skipped, aborted, down, up}
+use Rattle.rules.specs.Answers.{Call, submit, turn, report, failure, restart, cancel, limit, Answer, refused, placed, done, skipped}
+use Rattle.rules.specs.Answers.{aborted, down, up}
+use Rattle.rules.specs.Answers.{limited}
+use Rattle.routine.specs.declared.Refusal.the-variants.{Number}
 use Rattle.rules.specs.Open.{opened, newHub, openOf}
 use Rattle.rules.specs.History.{Told, Account, workingOf}
 use Rattle.rules.specs.Order.{putAfter, entries, moveBar}
@@ -192,6 +195,46 @@ failed-after-change = record {
   stands = (refl, (tt, tt), tt);
 }
 
+-- The pass limit becomes another before a placement, while a command is in flight, and is refused: by the new one routine 2 passes 1, whose
+-- setting stands last. With the K of the opening it would have been the other way.
+abbrev pub limitedAnew : Passage
+limitedAnew = record {
+  devices = 1;
+  passLimit = 0;
+  acts = call (submit (must 0 (pos 50) ∷ [])) ∷ call (limit 1) ∷ call (submit (must 0 (pos 70) ∷ [])) ∷ call (turn 2) ∷ call
+      (limit 0) ∷ takes-one 0 0 ∷ call (report 2 0) ∷ call (limit 9)
+      ∷ call (turn 2) ∷ call (turn 1) ∷ takes-one 0 0 ∷ call (report 1 0) ∷ call (turn 1) ∷ [];
+  settings = pos 50 ∷ [];
+}
+
+pub limited-anew : Passes limitedAnew
+unfolding calcWorld
+limited-anew = record {
+  accepted = refl;
+  premise = (
+    (λ _. tt),
+    (
+      (λ _. tt),
+      (
+        (λ _. tt),
+        (
+          (λ _. tt),
+          (
+            (λ _. tt),
+            (tt, ((λ _. refl), ((λ _. tt), ((λ _. tt), ((λ _. tt), (tt, ((λ _. refl), ((λ _. tt), tt)))))))),
+          ),
+        ),
+      ),
+    ),
+  );
+  none-runs = λ i. elsewhere (accounts (endOf limitedAnew)) 1 refl i
+      (λ n. elsewhere (accounts (endOf limitedAnew)) 2 refl i (λ m. rw (n, m) refl));
+  ready = refl;
+  settings-are = refl;
+  serial-is = refl;
+  stands = (refl, (refl, tt), (refl, (refl, tt), tt));
+}
+
 -- the world after the first n acts
 abbrev pub after : ℕ → Passage → World
 after n p = worldAfterAll (newWorld (newHub (p .devices) (p .passLimit) 1)) (take n (p .acts))
@@ -200,8 +243,9 @@ abbrev lastAnswers : List Told → List Answer
 lastAnswers [] = []
 lastAnswers (t ∷ l) = t .answers
 
--- What is claimed of the five on their way: 50 is taken after `aborted`, with the put-back behind it; 70 is taken past a put-back; 50 is on
--- its way when the failure leaves 33; the restart reports −7; the report finds the due setting changed.
+-- What is claimed of the six on their way: 50 is taken after `aborted`, with the put-back behind it; 70 is taken past a put-back; 50 is on
+-- its way when the failure leaves 33; the restart reports −7; the report finds the due setting changed; 2 passes 1, by a K of 1, and 9 is
+-- refused.
 pub midways :
     (lastAnswers (after 3 takenLate .history) ≡ aborted 1 (back 0 (pos 0) ∷ []) ∷ []) × (after 4 takenLate .devices 0 .setting ≡ pos 50)
     × (after 4 takenLate .devices 0 .sent ≡ record { setting = pos 0; origin = put-back } ∷ [])
@@ -212,5 +256,7 @@ pub midways :
     × (lastAnswers (after 3 failedInFlight .history) ≡ aborted 1 [] ∷ down 0 0 ∷ []) × (after 3 failedInFlight .devices 0 .setting ≡ pos 33)
     × (lastAnswers (after 10 restartedElsewhere .history) ≡ up 0 0 ∷ [])
     × (lastAnswers (after 8 failedAfterChange .history) ≡ skipped 2 (back 0 (pos 0) ∷ []) ∷ [])
+    × (lastAnswers (after 3 limitedAnew .history) ≡ placed 2 0 ∷ []) × (lastAnswers (after 5 limitedAnew .history) ≡ limited 0 ∷ [])
+    × (lastAnswers (after 8 limitedAnew .history) ≡ refused (Number 2) ∷ [])
 unfolding calcWorld
-midways = (refl, refl, refl, refl, refl, refl, refl, refl, refl, refl, refl)
+midways = (refl, refl, refl, refl, refl, refl, refl, refl, refl, refl, refl, refl, refl, refl)

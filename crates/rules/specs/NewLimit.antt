@@ -1,14 +1,18 @@
 -- Document 02, item 13: what is claimed of new pass limits besides their refusal (`Causes.antt`), demand 3 and the waiting promise. The
--- proofs are `limit-tells-nothing` and `nothing-to-settle` of `proofs/Theorem.antt`, and `passes-in-range` of `proofs/Passes.antt`. Assumes
--- nothing.
+-- proofs are `limit-tells-nothing` and `nothing-to-settle` of `proofs/Theorem.antt`, and `passed-below` and `passes-in-range` of
+-- `proofs/Passes.antt`. Assumes nothing.
 use mathlib.Core.Path.{_≡_}
-use mathlib.Core.List.{List}
-use Prim.Native.Nat.{ℕ, _≤_}
+use mathlib.Core.Bool.{true}
+use mathlib.Core.List.{List, _∷_, _++_, map}
+use Prim.Native.Nat.{ℕ, _<_, _≤_}
 use lib.IntN.{ℤ}
+use Rattle.routine.specs.declared.Command.{Command}
 use Rattle.rules.specs.Tables.{Each}
 use Rattle.rules.specs.State.{highestPassLimit, Member, State}
 use Rattle.rules.specs.Answers.{Call, limit}
+use Rattle.rules.specs.Sequence.{isRunning}
 use Rattle.rules.specs.Settle.{settle}
+use Rattle.rules.specs.Submit.{pass, newcomer, place}
 use Rattle.rules.specs.Open.{opened, openOf}
 use Rattle.rules.specs.Calls.{stateAfter}
 use Rattle.rules.specs.History.{workingOf}
@@ -35,6 +39,21 @@ NothingToSettle =
     (n k first : ℕ) (s : State) → openOf n k first ≡ opened s → (acts : List Act) →
     let now = worldAfterAll (newWorld s) acts .state in
     settle now ≡ now
+
+abbrev pub PassedLessThan : ℕ → Member → Type 0
+PassedLessThan k m = isRunning m ≡ true → m .passed < k
+
+-- "a running one passed as often as the K then in force, or oftener, may not be passed": a newcomer is placed ahead of such only, among
+-- those that run, as have been passed less often. On every state, whatever K was before.
+pub record Placement (s : State) (cs : List Command) : Type 0 where
+  pub ahead : List Member
+  pub behind : List Member
+  pub sequence-was : s .sequence ≡ ahead ++ behind
+  pub sequence-is : place s cs .sequence ≡ ahead ++ (newcomer (s .nextId) cs ∷ map pass behind)
+  pub less-often : Each (PassedLessThan (s .passLimit)) behind
+
+abbrev pub PassedBelow : Type 0
+PassedBelow = (s : State) (cs : List Command) → Placement s cs
 
 abbrev pub PassedInRange : Member → Type 0
 PassedInRange m = m .passed ≤ highestPassLimit

@@ -118,15 +118,15 @@ pub data Between : Told → Type 0 where
   a-submission : (cs : List Command) (answers : List Answer) → Between (record { call = submit cs; answers = answers })
   a-refusal : (t : Told) → isAccepted (t .answers) ≡ false → Between t
 
--- A schedule: the history at its start, the history now, and how many of its rounds count: those since the start or, "if later, the last
--- change, which falls between rounds".
-pub data Schedule (start : List Told) : List Told → ℕ → Type 0 where
-  begins : Schedule start start 0
-  between : {now : List Told} {n : ℕ} → Schedule start now n → (t : Told) → Between t → Schedule start (t ∷ now) n
-  a-change : {now : List Told} {n : ℕ} → Schedule start now n → (k : ℕ) →
-      Schedule start (record { call = limit k; answers = limited k ∷ [] } ∷ now) 0
-  a-round : {now : List Told} {n : ℕ} → Schedule start now n → (turns reports : List Told) → Round now turns reports →
-      Schedule start (toldThen (toldThen now turns) reports) (suc n)
+-- A schedule of a hub that was opened with K = k: the history at its start, the history now, and how many of its rounds count: those since
+-- the start or, "if later, the last change, which falls between rounds". A new pass limit that is already in force is no change.
+pub data Schedule (k : ℕ) (start : List Told) : List Told → ℕ → Type 0 where
+  begins : Schedule k start start 0
+  between : {now : List Told} {n : ℕ} → Schedule k start now n → (t : Told) → Between t → Schedule k start (t ∷ now) n
+  a-new-limit : {now : List Told} {n : ℕ} → Schedule k start now n → (new : ℕ) →
+      Schedule k start (record { call = limit new; answers = limited new ∷ [] } ∷ now) (if eqb new (limitTold k now) then n else 0)
+  a-round : {now : List Told} {n : ℕ} → Schedule k start now n → (turns reports : List Told) → Round now turns reports →
+      Schedule k start (toldThen (toldThen now turns) reports) (suc n)
 
 -- ---- the promise
 
@@ -144,9 +144,9 @@ EndedInTime =
     (later : List Call) (rounds : ℕ) →
     let start = toldThen [] (callsTold s (before ++ (submit cs ∷ []))) in
     let now = toldThen [] (callsTold s (before ++ (submit cs ∷ later))) in
-    Schedule start now rounds → enoughRounds (limitTold k now) ≤ rounds → Ended i now
+    Schedule k start now rounds → enoughRounds (limitTold k now) ≤ rounds → Ended i now
 
--- No new pass limit among these calls.
+-- It is no new pass limit.
 abbrev pub KeepsLimit : Call → Type 0
 KeepsLimit (submit cs) = Unit {0}
 KeepsLimit (turn i) = Unit {0}
@@ -156,7 +156,7 @@ KeepsLimit (restart d v) = Unit {0}
 KeepsLimit (cancel i) = Unit {0}
 KeepsLimit (limit k) = ⊥
 
--- The promise of item 1, of which that is an instance: no change happens, and K is the opening's.
+-- An instance of it, the promise of item 1: no change happens, and K is the opening's.
 abbrev pub EndedInTimeAtOneLimit : Type 0
 EndedInTimeAtOneLimit =
     (n k first : ℕ) (s : State) → openOf n k first ≡ opened s →
@@ -164,7 +164,7 @@ EndedInTimeAtOneLimit =
     (later : List Call) (rounds : ℕ) → Each KeepsLimit (before ++ (submit cs ∷ later)) →
     let start = toldThen [] (callsTold s (before ++ (submit cs ∷ []))) in
     let now = toldThen [] (callsTold s (before ++ (submit cs ∷ later))) in
-    Schedule start now rounds → enoughRounds k ≤ rounds → Ended i now
+    Schedule k start now rounds → enoughRounds k ≤ rounds → Ended i now
 
 -- ---- what is told is what the hub holds
 
