@@ -43,8 +43,8 @@ NothingToSettle =
 abbrev pub PassedLessThan : ℕ → Member → Type 0
 PassedLessThan k m = isRunning m ≡ true → m .passed < k
 
--- "a running one passed as often as the K then in force, or oftener, may not be passed": a newcomer is placed ahead of such only, among
--- those that run, as have been passed less often. On every state, whatever K was before.
+-- "a running one passed as often as the K then in force, or oftener, may not be passed": of those that run, a newcomer is placed ahead only
+-- of such as have been passed less often. On every state, whatever K was before.
 pub record Placement (s : State) (cs : List Command) : Type 0 where
   pub ahead : List Member
   pub behind : List Member
