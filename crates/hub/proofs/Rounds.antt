@@ -97,6 +97,6 @@ pub hub-ended-in-time-at-one-limit : HubEndedInTimeAtOneLimit
 hub-ended-in-time-at-one-limit n k first o op accepted before r p v i j was-placed later rounds ch keeps schedule enough =
     let acts = before ++ (called (submits r) p v ∷ later) in
     let s = view (o .hub) in
-    let same = ap (λ l. limitTold k (toldThen [] l)) (told-is (o .hub) acts ch) ∙ limit-kept k s [] refl (callsIn acts) keeps in
+    let same = ap (λ l. limitTold k (toldThen [] l)) (told-is (o .hub) acts ch) ∙ limit-kept k k s [] refl (callsIn acts) keeps in
     hub-ended-in-time n k first o op accepted before r p v i j was-placed later rounds ch schedule
     (subst (λ x. enoughRounds x ≤ rounds) (sym same) enough)

@@ -319,12 +319,12 @@ limit-told k s h e (c ∷ calls) =
     limit-told k (resultOf s c .state) (saying c (resultOf s c .answers) ∷ h)
     (ap (limitAfterAll (resultOf s c .answers)) e ∙ limit-call s c) calls
 
-pub limit-kept : (k : ℕ) (s : State) (h : List Told) → limitTold k h ≡ k → (calls : List Call) → Each KeepsLimit calls →
-    limitTold k (toldThen h (callsTold s calls)) ≡ k
-limit-kept k s h e [] keeps = e
-limit-kept k s h e (c ∷ calls) keeps =
-    limit-kept k (resultOf s c .state) (saying c (resultOf s c .answers) ∷ h)
-    (ap (limitAfterAll (resultOf s c .answers)) e ∙ limit-seen s _ (see-any s c) .1 (keeps .0) k) calls (keeps .1)
+pub limit-kept : (k m : ℕ) (s : State) (h : List Told) → limitTold k h ≡ m → (calls : List Call) → Each KeepsLimit calls →
+    limitTold k (toldThen h (callsTold s calls)) ≡ m
+limit-kept k m s h e [] keeps = e
+limit-kept k m s h e (c ∷ calls) keeps =
+    limit-kept k m (resultOf s c .state) (saying c (resultOf s c .answers) ∷ h)
+    (ap (limitAfterAll (resultOf s c .answers)) e ∙ limit-seen s _ (see-any s c) .1 (keeps .0) m) calls (keeps .1)
 
 -- the opening's
 pub opened-limit : (n k first : ℕ) (s : State) → openOf n k first ≡ opened s → k ≡ s .passLimit

@@ -11,34 +11,41 @@ use borrow.Author.Tests.{eqb-true, eqb-false, eq-eqb, ne-eqb, le-ltb, not-true}
 use lib.Dec.{eqb}
 use Rattle.routine.specs.Choice.{if_then_else_}
 use Rattle.routine.specs.declared.Command.{Command}
+use Rattle.routine.specs.declared.Verdict.{Verdict}
+use Rattle.routine.specs.declared.Verdict.the-variants.{Accepted}
 use Rattle.routine.proofs.Laws.{byTest}
-use Rattle.rules.specs.Tables.{anyOf, put}
+use Rattle.rules.specs.Tables.{anyOf, put, Each}
 use Rattle.rules.specs.State.{Status, to-do, in-flight, was-done, was-skipped, Step, Member, State}
-use Rattle.rules.specs.Answers.{Call, submit, turn, report, limit, placed, limited, Result}
+use Rattle.rules.specs.Answers.{Call, submit, turn, report, limit, placed, limited, Result, unlessRefused}
 use Rattle.rules.specs.Progress.{isMust, isInFlight, next, Flight, flightOr, flight}
 use Rattle.rules.specs.Sequence.{Found, find, isRunning, runs}
 use Rattle.rules.specs.Abort.{abort}
-use Rattle.rules.specs.Open.{opened, openOf}
+use Rattle.rules.specs.Open.{opened, limitCheck, openOf}
+use Rattle.rules.specs.Limit.{withPassLimit, limitOf}
 use Rattle.rules.specs.Turn.{firstHolding, commitTurn, sendTurn, skipTurn, turnNext, waitOr, turnFound, turnOf}
 use Rattle.rules.specs.Report.{codeDone, codeFailed, doneReport, skipReport, reported, reportFound, reportOf}
 use Rattle.rules.specs.Calls.{resultOf, stateAfter}
 use Rattle.rules.specs.History.{Told, Account, accountsOf}
 use Rattle.rules.specs.World.{isAccepted}
 use Rattle.rules.specs.Rounds.{callsTold, toldThen, flyingOf, idleOf, limitTold, acceptedIn, times, EachOnce, Round, a-submission}
-use Rattle.rules.specs.Rounds.{Schedule, begins, between, a-new-limit, a-round, enoughRounds, ToldIsHeld, AnyOrder, RoundsExist}
-use Rattle.rules.proofs.Lists.{byIf, t≠f, and-left, and-right, put-other, each-left, IsNot, NotIn, IdsOk}
+use Rattle.rules.specs.Rounds.{limitAfterAll, KeepsLimit, Schedule, begins, between, a-new-limit, a-round, enoughRounds, ToldIsHeld}
+use Rattle.rules.specs.Rounds.{AnyOrder, RoundsExist}
+use Rattle.rules.proofs.Lists.{byIf, t≠f, and-left, and-right, put-other, each-++, each-left, IsNot, NotIn, IdsOk}
 use Rattle.rules.proofs.Groups.{Group, members, ids, foundAt, ids-++, other-ids}
 use Rattle.rules.proofs.Invariant.{HubOk}
 use Rattle.rules.proofs.View.{by-turn, by-report, by-cancel, places, commits, sends, skips, dones, misses, aborts}
 use Rattle.rules.proofs.View.{fails, restarts, Seen, is-refused, waits, limits, moves, see}
-use Rattle.rules.proofs.Schedules.{hasFlight, isFlying, isIdle, idsWith, turnsAt, reportsAt, allDone, busy, Sitting, opensAt}
-use Rattle.rules.proofs.Schedules.{placing, placedState, roundsOf, changed, toldAfter, crowded, crowded-placed, tooFewRounds}
-use Rattle.rules.proofs.Schedules.{lowered, loweredTo, afterLowering, lowered-placed, patient, patient-placed, raisedTo}
-use Rattle.rules.proofs.Schedules.{roundsRaised, patient-still-runs}
+use Rattle.rules.proofs.Schedules.{hasFlight, isFlying, isIdle, idsWith, turnsAt, reportsAt, allDone, busy, busyState, Sitting}
+use Rattle.rules.proofs.Schedules.{opensAt}
+use Rattle.rules.proofs.Schedules.{placing, placedState, roundsOf, changed, toldAfter, crowded, crowded-opens, crowded-placed}
+use Rattle.rules.proofs.Schedules.{tooFewRounds}
+use Rattle.rules.proofs.Schedules.{lowered, loweredTo, afterLowering, lowered-placed, patient, patient-opens, patient-placed}
+use Rattle.rules.proofs.Schedules.{patient-limit, raisedTo}
+use Rattle.rules.proofs.Schedules.{roundsRaised, afterRaising, patient-still-runs}
 use Rattle.rules.proofs.Schedules.{crowded-still-runs}
 use Rattle.rules.proofs.Schedules.{overtaken, overtaken-placed, calcRounds}
 use Rattle.rules.proofs.Told.{has, Tells, none-has}
-use Rattle.rules.proofs.Ready.{Ready, saying, ready-seen, ready-opened, ready-calls, limit-told, opened-limit}
+use Rattle.rules.proofs.Ready.{Ready, saying, ready-seen, ready-opened, ready-calls, limit-told, limit-kept, opened-limit}
 use Rattle.rules.proofs.Measured.{Asks}
 
 -- ---- the routines that a round is about
@@ -454,17 +461,41 @@ module _ (x : Sitting) (e : openOf 1 (x .passLimit) 1 ≡ opened (opensAt x)) wh
     schedule = subst (λ z. Schedule (x .passLimit) (toldAfter x []) z n) (sym (told-since x later)) w;
   }
 
+-- ---- who still runs
+
+busy-state : (n : ℕ) (cs : List Command) (s : State) → stateAfter s (busy n cs s) ≡ busyState n cs s
+busy-state zero cs s = refl
+busy-state (suc n) cs s =
+    let t = resultOf s (submit cs) .state in
+    let u = stateAfter t (turnsAt t) in
+    let v = stateAfter u (reportsAt allDone u) in
+    state-on t (turnsAt t) (reportsAt allDone u ++ busy n cs v) ∙ state-on u (reportsAt allDone u) (busy n cs v) ∙ busy-state n cs v
+
+state-since : (x : Sitting) (later : List Call) → stateAfter (opensAt x) (x .before ++ (submit (x .commands) ∷ later))
+    ≡ stateAfter (placedState x) later
+state-since x later =
+    ap (stateAfter (opensAt x)) (sym (append-assoc (x .before) (submit (x .commands) ∷ []) later)) ∙ state-on (opensAt x) (placing x) later
+
+-- what is told of its routine, if the state after these calls is this
+told-runs : (x : Sitting) → openOf 1 (x .passLimit) 1 ≡ opened (opensAt x) → (later : List Call) (s : State) →
+    stateAfter (placedState x) later ≡ s → anyOf (runs (x .id)) (s .sequence) ≡ true →
+    accountsOf (toldAfter x later) (x .id) .running ≡ true
+told-runs x e later s q r =
+    told-is-held 1 (x .passLimit) 1 (opensAt x) e (x .before ++ (submit (x .commands) ∷ later)) (x .id) .0
+    ∙ ap (λ (z : State). anyOf (runs (x .id)) (z .sequence)) (state-since x later ∙ q) ∙ r
+
 -- Not weak: by a schedule that the promise is about, a routine still runs after rounds that are fewer than promised, and more than half.
 pub needs-most :
     Promised crowded (roundsOf crowded tooFewRounds) tooFewRounds × (tooFewRounds < enoughRounds (crowded .passLimit))
     × (enoughRounds (crowded .passLimit) < tooFewRounds + tooFewRounds)
     × (accountsOf (toldAfter crowded (roundsOf crowded tooFewRounds)) (crowded .id) .running ≡ true)
-unfolding calcRounds
 needs-most = (
-  promised crowded refl crowded-placed (roundsOf crowded tooFewRounds) tooFewRounds (rounds-told crowded refl tooFewRounds),
+  promised crowded crowded-opens crowded-placed (roundsOf crowded tooFewRounds) tooFewRounds
+      (rounds-told crowded crowded-opens tooFewRounds),
   omega arith,
   omega arith,
-  crowded-still-runs,
+  told-runs crowded crowded-opens (roundsOf crowded tooFewRounds) _ (busy-state tooFewRounds (crowded .newcomers) (placedState crowded))
+      crowded-still-runs,
 )
 
 -- And the schedules in which wrong rules show are such.
@@ -479,21 +510,71 @@ wrong-rules-show =
           (changed-told lowered refl (roundsOf lowered 2) 2 (rounds-told lowered refl 2) loweredTo refl refl (enoughRounds loweredTo)),
     )
 
--- By the K of its submission, or with that of now but counted from its submission, the promise would be false: K is raised from 0, and the
--- routine still runs after more rounds than are enough with 0; then K is 0 again, and it still runs.
+-- a new pass limit that is accepted
+limit-answers : (s : State) (k : ℕ) → limitCheck k ≡ Accepted → resultOf s (limit k) .answers ≡ limited k ∷ []
+unfolding limitOf
+limit-answers s k e =
+    ap (λ (v : Verdict). unlessRefused v s (record { state = withPassLimit s k; answers = limited k ∷ [] }) .answers) e
+
+limit-state : (s : State) (k : ℕ) → limitCheck k ≡ Accepted → resultOf s (limit k) .state ≡ withPassLimit s k
+unfolding limitOf
+limit-state s k e = ap (λ (v : Verdict). unlessRefused v s (record { state = withPassLimit s k; answers = limited k ∷ [] }) .state) e
+
+-- the pass limit of the schedule's end
+turns-keep : (l : List ℕ) → Each KeepsLimit (map turn l)
+turns-keep [] = tt
+turns-keep (i ∷ l) = (tt, turns-keep l)
+
+reports-keep : (codes : ℕ → ℕ) (l : List ℕ) → Each KeepsLimit (map (λ i. report i (codes i)) l)
+reports-keep codes [] = tt
+reports-keep codes (i ∷ l) = (tt, reports-keep codes l)
+
+busy-keeps : (n : ℕ) (cs : List Command) (s : State) → Each KeepsLimit (busy n cs s)
+busy-keeps zero cs s = tt
+busy-keeps (suc n) cs s =
+    let t = resultOf s (submit cs) .state in
+    let u = stateAfter t (turnsAt t) in
+    let v = stateAfter u (reportsAt allDone u) in (
+      tt,
+      each-++ KeepsLimit (turnsAt t) (reportsAt allDone u ++ busy n cs v) (turns-keep (idsWith isIdle (t .sequence)))
+          (each-++ KeepsLimit (reportsAt allDone u) (busy n cs v) (reports-keep allDone (idsWith isFlying (u .sequence)))
+          (busy-keeps n cs v)),
+    )
+
+changed-limit : (x : Sitting) (earlier : List Call) (k n : ℕ) → limitCheck k ≡ Accepted →
+    limitTold (x .passLimit) (toldThen (toldAfter x []) (callsTold (placedState x) (changed x earlier k n))) ≡ k
+changed-limit x earlier k n a =
+    let s = placedState x in
+    let h = toldThen (toldAfter x []) (callsTold s earlier) in
+    let r = resultOf (stateAfter s earlier) (limit k) in
+    ap (limitTold (x .passLimit)) (told-on s (toldAfter x []) earlier (limit k ∷ busy n (x .newcomers) (r .state)))
+    ∙ limit-kept (x .passLimit) k (r .state) (saying (limit k) (r .answers) ∷ h)
+    (ap (λ l. limitAfterAll l (limitTold (x .passLimit) h)) (limit-answers (stateAfter s earlier) k a)) (busy n (x .newcomers) (r .state))
+    (busy-keeps n (x .newcomers) (r .state))
+
+-- With the K of its submission the promise would be false: K is raised from 0, and the routine still runs after more rounds than are enough
+-- with 0. With the K of now, counted from the submission, it would be false, too: K is then 0 again.
 pub counted-from-the-change :
-    Promised patient (changed patient [] raisedTo roundsRaised) roundsRaised
-    × Promised patient (changed patient (changed patient [] raisedTo roundsRaised) (patient .passLimit) 1) 1
-    × (enoughRounds (patient .passLimit) < roundsRaised)
-    × (accountsOf (toldAfter patient (changed patient (changed patient [] raisedTo roundsRaised) (patient .passLimit) 1)) (patient .id)
-    .running ≡ true)
-unfolding calcRounds
+    Promised patient afterRaising roundsRaised × (enoughRounds (patient .passLimit) < roundsRaised)
+    × (accountsOf (toldAfter patient afterRaising) (patient .id) .running ≡ true)
+    × Promised patient (afterRaising ++ (limit (patient .passLimit) ∷ [])) 0
+    × (accountsOf (toldAfter patient (afterRaising ++ (limit (patient .passLimit) ∷ []))) (patient .id) .running ≡ true)
 counted-from-the-change =
-    let raised = changed-told patient refl [] 0 begins raisedTo refl refl roundsRaised in
-    let lowered = changed-told patient refl (changed patient [] raisedTo roundsRaised) roundsRaised raised (patient .passLimit) refl refl 1
-    in (
-      promised patient refl patient-placed (changed patient [] raisedTo roundsRaised) roundsRaised raised,
-      promised patient refl patient-placed (changed patient (changed patient [] raisedTo roundsRaised) (patient .passLimit) 1) 1 lowered,
+    let x = patient in
+    let e = patient-opens in
+    let k = x .passLimit in
+    let t = resultOf (placedState x) (limit raisedTo) .state in
+    let after : stateAfter (placedState x) afterRaising ≡ busyState roundsRaised (x .newcomers) t =
+    busy-state roundsRaised (x .newcomers) t in
+    let raised = changed-told x e [] 0 begins raisedTo (limit-answers _ raisedTo refl) patient-limit roundsRaised in
+    let lowered = changed-told x e afterRaising roundsRaised raised k (limit-answers _ k refl)
+    (ap (eqb k) (changed-limit x [] raisedTo roundsRaised refl)) 0 in (
+      promised x e patient-placed afterRaising roundsRaised raised,
       omega arith,
-      patient-still-runs,
+      told-runs x e afterRaising _ after patient-still-runs,
+      promised x e patient-placed (afterRaising ++ (limit k ∷ [])) 0 lowered,
+      told-runs x e (afterRaising ++ (limit k ∷ [])) (withPassLimit (busyState roundsRaised (x .newcomers) t) k)
+          (state-on (placedState x) afterRaising (limit k ∷ []) ∙ ap (λ (s : State). resultOf s (limit k) .state) after
+          ∙ limit-state (busyState roundsRaised (x .newcomers) t) k refl)
+          patient-still-runs,
     )

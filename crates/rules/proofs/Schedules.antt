@@ -5,6 +5,7 @@ use mathlib.Core.Bool.{Bool, true, false, not, _&&_}
 use mathlib.Core.List.{List, [], _∷_, _++_, map}
 use mathlib.Core.Option.{Option, none, some}
 use Prim.Native.Nat.{ℕ, zero, suc, _+_, _-_, _*_}
+use lib.Dec.{eqb}
 use lib.IntN.{pos}
 use lib.ListN.{replicate}
 use Rattle.routine.specs.Choice.{if_then_else_}
@@ -13,12 +14,13 @@ use Rattle.routine.specs.declared.Command.{Command}
 use Rattle.rules.specs.State.{highestPassLimit, maxHeld, Member, State}
 use Rattle.rules.specs.Answers.{Call, submit, turn, report, limit, placed}
 use Rattle.rules.specs.Progress.{Flight, flight}
-use Rattle.rules.specs.Sequence.{isRunning}
-use Rattle.rules.specs.Open.{newHub}
+use Rattle.rules.specs.Tables.{anyOf}
+use Rattle.rules.specs.Sequence.{isRunning, runs}
+use Rattle.rules.specs.Open.{opened, newHub, openOf}
 use Rattle.rules.specs.Report.{codeDone}
 use Rattle.rules.specs.Calls.{resultOf, stateAfter}
-use Rattle.rules.specs.History.{Told, accountsOf}
-use Rattle.rules.specs.Rounds.{callsTold, toldThen, Ended, enoughRounds}
+use Rattle.rules.specs.History.{Told}
+use Rattle.rules.specs.Rounds.{callsTold, toldThen, Ended, limitTold, enoughRounds}
 use Rattle.rules.specs.Examples.{calc, must}
 
 -- ---- a round, from the state
@@ -57,6 +59,14 @@ busy (suc n) cs s =
     let t = resultOf s (submit cs) .state in
     let u = stateAfter t (turnsAt t) in
     submit cs ∷ (turnsAt t ++ (reportsAt allDone u ++ busy n cs (stateAfter u (reportsAt allDone u))))
+
+-- the state that these leave
+abbrev pub busyState : ℕ → List Command → State → State
+busyState zero cs s = s
+busyState (suc n) cs s =
+    let t = resultOf s (submit cs) .state in
+    let u = stateAfter t (turnsAt t) in
+    busyState n cs (stateAfter u (reportsAt allDone u))
 
 -- one device, up; calls; then a routine is placed and the rounds begin, newcomers before each
 pub record Sitting : Type 0 where
@@ -110,6 +120,10 @@ crowded = record {
   newcomers = fullRoutine;
 }
 
+pub crowded-opens : openOf 1 (crowded .passLimit) 1 ≡ opened (opensAt crowded)
+unfolding calcRounds
+crowded-opens = refl
+
 pub crowded-placed : resultOf (stateAfter (opensAt crowded) (crowded .before)) (submit (crowded .commands)) .answers
     ≡ placed (crowded .id) (crowded .follows) ∷ []
 unfolding calcRounds
@@ -119,7 +133,8 @@ crowded-placed = refl
 abbrev pub tooFewRounds : ℕ
 tooFewRounds = maxCommands * (maxHeld + crowded .passLimit)
 
-pub crowded-still-runs : accountsOf (toldAfter crowded (roundsOf crowded tooFewRounds)) (crowded .id) .running ≡ true
+pub crowded-still-runs :
+    anyOf (runs (crowded .id)) (busyState tooFewRounds (crowded .newcomers) (placedState crowded) .sequence) ≡ true
 unfolding calcRounds
 crowded-still-runs = refl
 
@@ -160,6 +175,10 @@ patient = record {
   newcomers = fullRoutine;
 }
 
+pub patient-opens : openOf 1 (patient .passLimit) 1 ≡ opened (opensAt patient)
+unfolding calcRounds
+patient-opens = refl
+
 pub patient-placed : resultOf (stateAfter (opensAt patient) (patient .before)) (submit (patient .commands)) .answers
     ≡ placed (patient .id) (patient .follows) ∷ []
 unfolding calcRounds
@@ -169,14 +188,20 @@ patient-placed = refl
 abbrev pub raisedTo : ℕ
 raisedTo = highestPassLimit
 
-abbrev pub roundsRaised : ℕ
-roundsRaised = maxCommands * (maxHeld + raisedTo) - 1
+pub patient-limit : eqb raisedTo (limitTold (patient .passLimit) (toldAfter patient [])) ≡ false
+unfolding calcRounds
+patient-limit = refl
 
--- it still runs after so many rounds, and after one more, before which K became 0 again
+abbrev pub roundsRaised : ℕ
+roundsRaised = maxCommands * (maxHeld + raisedTo)
+
+abbrev pub afterRaising : List Call
+afterRaising = changed patient [] raisedTo roundsRaised
+
+-- it still runs after so many rounds
 pub patient-still-runs :
-    accountsOf (toldAfter patient (changed patient (changed patient [] raisedTo roundsRaised) (patient .passLimit) 1))
-    (patient .id) .running
-    ≡ true
+    let s = resultOf (placedState patient) (limit raisedTo) .state in
+    anyOf (runs (patient .id)) (busyState roundsRaised (patient .newcomers) s .sequence) ≡ true
 unfolding calcRounds
 patient-still-runs = refl
 

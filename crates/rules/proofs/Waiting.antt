@@ -538,4 +538,4 @@ ended-in-time n k first s e before cs i j p later rounds schedule enough =
 pub ended-in-time-at-one-limit : EndedInTimeAtOneLimit
 ended-in-time-at-one-limit n k first s e before cs i j p later rounds keeps schedule enough =
     ended-in-time n k first s e before cs i j p later rounds schedule
-    (subst (λ x. enoughRounds x ≤ rounds) (sym (limit-kept k s [] refl (before ++ (submit cs ∷ later)) keeps)) enough)
+    (subst (λ x. enoughRounds x ≤ rounds) (sym (limit-kept k k s [] refl (before ++ (submit cs ∷ later)) keeps)) enough)
