@@ -37,7 +37,7 @@ pub mod Exact
 pub mod Worlds
 pub mod Controls
 -- The waiting promise (document 02, items 1 and 13): computed schedules; what is told is what the hub holds; the measure that falls; what
--- holds between calls; what a call does to the measure; the promise; rounds exist.
+-- holds between calls; what a call does to the measure; the promise; rounds exist; it is not weak.
 pub mod Schedules
 pub mod Told
 pub mod Measure
@@ -45,5 +45,6 @@ pub mod Ready
 pub mod Measured
 pub mod Waiting
 pub mod RoundsExist
+pub mod NotWeak
 -- New pass limits (document 02, item 13): the counts stay in range.
 pub mod Passes

@@ -5,7 +5,7 @@ use mathlib.Core.Logic.{_≢_}
 use mathlib.Core.Bool.{Bool, true, false, not, _&&_, _||_, and-assoc}
 use mathlib.Core.List.{List, [], _∷_, _++_, map, append-assoc}
 use mathlib.Core.Option.{Option, none, some}
-use Prim.Native.Nat.{ℕ, zero, suc, _+_, _<_, _≤_}
+use Prim.Native.Nat.{ℕ, zero, suc, _+_, _≤_}
 use native.Mathlib.Omega.{arith}
 use borrow.Author.Tests.{eqb-true, eqb-false, eq-eqb, ne-eqb, le-ltb, not-true}
 use lib.Dec.{eqb}
@@ -37,12 +37,8 @@ use Rattle.rules.proofs.View.{by-turn, by-report, by-cancel, places, co
 use Rattle.rules.proofs.View.{fails, restarts, Seen, is-refused, waits, limits, moves, see}
 use Rattle.rules.proofs.Schedules.{hasFlight, isFlying, isIdle, idsWith, turnsAt, reportsAt, allDone, busy, busyState, Sitting}
 use Rattle.rules.proofs.Schedules.{opensAt}
-use Rattle.rules.proofs.Schedules.{placing, placedState, roundsOf, changed, toldAfter, crowded, crowded-opens, crowded-placed}
-use Rattle.rules.proofs.Schedules.{tooFewRounds}
-use Rattle.rules.proofs.Schedules.{lowered, loweredTo, afterLowering, lowered-placed, patient, patient-opens, patient-placed}
-use Rattle.rules.proofs.Schedules.{patient-limit, raisedTo}
-use Rattle.rules.proofs.Schedules.{roundsRaised, afterRaising, patient-still-runs}
-use Rattle.rules.proofs.Schedules.{crowded-still-runs}
+use Rattle.rules.proofs.Schedules.{placing, placedState, roundsOf, changed, toldAfter}
+use Rattle.rules.proofs.Schedules.{lowered, loweredTo, afterLowering, lowered-placed}
 use Rattle.rules.proofs.Schedules.{overtaken, overtaken-placed, calcRounds}
 use Rattle.rules.proofs.Told.{has, Tells, none-has}
 use Rattle.rules.proofs.Ready.{Ready, saying, ready-seen, ready-opened, ready-calls, limit-told, limit-kept, opened-limit}
@@ -376,7 +372,7 @@ told-on : (s : State) (h : List Told) (a b : List Call) →
 told-on s h [] b = refl
 told-on s h (c ∷ a) b = told-on (resultOf s c .state) (saying c (resultOf s c .answers) ∷ h) a b
 
-state-on : (s : State) (a b : List Call) → stateAfter s (a ++ b) ≡ stateAfter (stateAfter s a) b
+pub state-on : (s : State) (a b : List Call) → stateAfter s (a ++ b) ≡ stateAfter (stateAfter s a) b
 state-on s [] b = refl
 state-on s (c ∷ a) b = state-on (resultOf s c .state) a b
 
@@ -425,13 +421,14 @@ module _ (x : Sitting) (e : openOf 1 (x .passLimit) 1 ≡ opened (opensAt x)) wh
       ready-calls (placedState x) (toldAfter x []) (r .0) (r .1) later
 
   -- n rounds
-  rounds-told : (n : ℕ) → Schedule (x .passLimit) (toldAfter x []) (toldThen (toldAfter x []) (callsTold (placedState x) (roundsOf x n))) n
+  pub rounds-told : (n : ℕ) →
+      Schedule (x .passLimit) (toldAfter x []) (toldThen (toldAfter x []) (callsTold (placedState x) (roundsOf x n))) n
   rounds-told n =
       let r = ready-since [] in
       is-schedule (x .passLimit) (toldAfter x []) (placedState x) (toldAfter x []) (r .0) (r .1) 0 begins n (x .newcomers) n (omega arith)
 
   -- so many rounds, a new pass limit that is accepted, and n rounds more
-  changed-told : (earlier : List Call) (m : ℕ) →
+  pub changed-told : (earlier : List Call) (m : ℕ) →
       Schedule (x .passLimit) (toldAfter x []) (toldThen (toldAfter x []) (callsTold (placedState x) earlier)) m →
       (k : ℕ) → resultOf (stateAfter (placedState x) earlier) (limit k) .answers ≡ limited k ∷ [] →
       eqb k (limitTold (x .passLimit) (toldThen (toldAfter x []) (callsTold (placedState x) earlier))) ≡ false → (n : ℕ) →
@@ -451,7 +448,7 @@ module _ (x : Sitting) (e : openOf 1 (x .passLimit) 1 ≡ opened (opensAt x)) wh
       (sym (told-on s (toldAfter x []) earlier (limit k ∷ busy n (x .newcomers) t)))
       (is-schedule (x .passLimit) (toldAfter x []) t (c ∷ h) (y .0) (y .1) 0 begun n (x .newcomers) n (omega arith))
 
-  promised : resultOf (stateAfter (opensAt x) (x .before)) (submit (x .commands)) .answers ≡ placed (x .id) (x .follows) ∷ [] →
+  pub promised : resultOf (stateAfter (opensAt x) (x .before)) (submit (x .commands)) .answers ≡ placed (x .id) (x .follows) ∷ [] →
       (later : List Call) (n : ℕ) →
       Schedule (x .passLimit) (toldAfter x []) (toldThen (toldAfter x []) (callsTold (placedState x) later)) n →
       Promised x later n
@@ -463,7 +460,7 @@ module _ (x : Sitting) (e : openOf 1 (x .passLimit) 1 ≡ opened (opensAt x)) wh
 
 -- ---- who still runs
 
-busy-state : (n : ℕ) (cs : List Command) (s : State) → stateAfter s (busy n cs s) ≡ busyState n cs s
+pub busy-state : (n : ℕ) (cs : List Command) (s : State) → stateAfter s (busy n cs s) ≡ busyState n cs s
 busy-state zero cs s = refl
 busy-state (suc n) cs s =
     let t = resultOf s (submit cs) .state in
@@ -477,26 +474,12 @@ state-since x later =
     ap (stateAfter (opensAt x)) (sym (append-assoc (x .before) (submit (x .commands) ∷ []) later)) ∙ state-on (opensAt x) (placing x) later
 
 -- what is told of its routine, if the state after these calls is this
-told-runs : (x : Sitting) → openOf 1 (x .passLimit) 1 ≡ opened (opensAt x) → (later : List Call) (s : State) →
+pub told-runs : (x : Sitting) → openOf 1 (x .passLimit) 1 ≡ opened (opensAt x) → (later : List Call) (s : State) →
     stateAfter (placedState x) later ≡ s → anyOf (runs (x .id)) (s .sequence) ≡ true →
     accountsOf (toldAfter x later) (x .id) .running ≡ true
 told-runs x e later s q r =
     told-is-held 1 (x .passLimit) 1 (opensAt x) e (x .before ++ (submit (x .commands) ∷ later)) (x .id) .0
     ∙ ap (λ (z : State). anyOf (runs (x .id)) (z .sequence)) (state-since x later ∙ q) ∙ r
-
--- Not weak: by a schedule that the promise is about, a routine still runs after rounds that are fewer than promised, and more than half.
-pub needs-most :
-    Promised crowded (roundsOf crowded tooFewRounds) tooFewRounds × (tooFewRounds < enoughRounds (crowded .passLimit))
-    × (enoughRounds (crowded .passLimit) < tooFewRounds + tooFewRounds)
-    × (accountsOf (toldAfter crowded (roundsOf crowded tooFewRounds)) (crowded .id) .running ≡ true)
-needs-most = (
-  promised crowded crowded-opens crowded-placed (roundsOf crowded tooFewRounds) tooFewRounds
-      (rounds-told crowded crowded-opens tooFewRounds),
-  omega arith,
-  omega arith,
-  told-runs crowded crowded-opens (roundsOf crowded tooFewRounds) _ (busy-state tooFewRounds (crowded .newcomers) (placedState crowded))
-      crowded-still-runs,
-)
 
 -- And the schedules in which wrong rules show are such.
 pub wrong-rules-show :
@@ -511,12 +494,12 @@ wrong-rules-show =
     )
 
 -- a new pass limit that is accepted
-limit-answers : (s : State) (k : ℕ) → limitCheck k ≡ Accepted → resultOf s (limit k) .answers ≡ limited k ∷ []
+pub limit-answers : (s : State) (k : ℕ) → limitCheck k ≡ Accepted → resultOf s (limit k) .answers ≡ limited k ∷ []
 unfolding limitOf
 limit-answers s k e =
     ap (λ (v : Verdict). unlessRefused v s (record { state = withPassLimit s k; answers = limited k ∷ [] }) .answers) e
 
-limit-state : (s : State) (k : ℕ) → limitCheck k ≡ Accepted → resultOf s (limit k) .state ≡ withPassLimit s k
+pub limit-state : (s : State) (k : ℕ) → limitCheck k ≡ Accepted → resultOf s (limit k) .state ≡ withPassLimit s k
 unfolding limitOf
 limit-state s k e = ap (λ (v : Verdict). unlessRefused v s (record { state = withPassLimit s k; answers = limited k ∷ [] }) .state) e
 
@@ -541,7 +524,7 @@ busy-keeps (suc n) cs s =
           (busy-keeps n cs v)),
     )
 
-changed-limit : (x : Sitting) (earlier : List Call) (k n : ℕ) → limitCheck k ≡ Accepted →
+pub changed-limit : (x : Sitting) (earlier : List Call) (k n : ℕ) → limitCheck k ≡ Accepted →
     limitTold (x .passLimit) (toldThen (toldAfter x []) (callsTold (placedState x) (changed x earlier k n))) ≡ k
 changed-limit x earlier k n a =
     let s = placedState x in
@@ -551,30 +534,3 @@ changed-limit x earlier k n a =
     ∙ limit-kept (x .passLimit) k (r .state) (saying (limit k) (r .answers) ∷ h)
     (ap (λ l. limitAfterAll l (limitTold (x .passLimit) h)) (limit-answers (stateAfter s earlier) k a)) (busy n (x .newcomers) (r .state))
     (busy-keeps n (x .newcomers) (r .state))
-
--- With the K of its submission the promise would be false: K is raised from 0, and the routine still runs after more rounds than are enough
--- with 0. With the K of now, counted from the submission, it would be false, too: K is then 0 again.
-pub counted-from-the-change :
-    Promised patient afterRaising roundsRaised × (enoughRounds (patient .passLimit) < roundsRaised)
-    × (accountsOf (toldAfter patient afterRaising) (patient .id) .running ≡ true)
-    × Promised patient (afterRaising ++ (limit (patient .passLimit) ∷ [])) 0
-    × (accountsOf (toldAfter patient (afterRaising ++ (limit (patient .passLimit) ∷ []))) (patient .id) .running ≡ true)
-counted-from-the-change =
-    let x = patient in
-    let e = patient-opens in
-    let k = x .passLimit in
-    let t = resultOf (placedState x) (limit raisedTo) .state in
-    let after : stateAfter (placedState x) afterRaising ≡ busyState roundsRaised (x .newcomers) t =
-    busy-state roundsRaised (x .newcomers) t in
-    let raised = changed-told x e [] 0 begins raisedTo (limit-answers _ raisedTo refl) patient-limit roundsRaised in
-    let lowered = changed-told x e afterRaising roundsRaised raised k (limit-answers _ k refl)
-    (ap (eqb k) (changed-limit x [] raisedTo roundsRaised refl)) 0 in (
-      promised x e patient-placed afterRaising roundsRaised raised,
-      omega arith,
-      told-runs x e afterRaising _ after patient-still-runs,
-      promised x e patient-placed (afterRaising ++ (limit k ∷ [])) 0 lowered,
-      told-runs x e (afterRaising ++ (limit k ∷ [])) (withPassLimit (busyState roundsRaised (x .newcomers) t) k)
-          (state-on (placedState x) afterRaising (limit k ∷ []) ∙ ap (λ (s : State). resultOf s (limit k) .state) after
-          ∙ limit-state (busyState roundsRaised (x .newcomers) t) k refl)
-          patient-still-runs,
-    )

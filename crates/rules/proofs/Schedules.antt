@@ -14,8 +14,7 @@ use Rattle.routine.specs.declared.Command.{Command}
 use Rattle.rules.specs.State.{highestPassLimit, maxHeld, Member, State}
 use Rattle.rules.specs.Answers.{Call, submit, turn, report, limit, placed}
 use Rattle.rules.specs.Progress.{Flight, flight}
-use Rattle.rules.specs.Tables.{anyOf}
-use Rattle.rules.specs.Sequence.{isRunning, runs}
+use Rattle.rules.specs.Sequence.{isRunning}
 use Rattle.rules.specs.Open.{opened, newHub, openOf}
 use Rattle.rules.specs.Report.{codeDone}
 use Rattle.rules.specs.Calls.{resultOf, stateAfter}
@@ -133,11 +132,6 @@ crowded-placed = refl
 abbrev pub tooFewRounds : ℕ
 tooFewRounds = maxCommands * (maxHeld + crowded .passLimit)
 
-pub crowded-still-runs :
-    anyOf (runs (crowded .id)) (busyState tooFewRounds (crowded .newcomers) (placedState crowded) .sequence) ≡ true
-unfolding calcRounds
-crowded-still-runs = refl
-
 -- ---- where wrong rules show
 
 -- with K = 1 a routine of one command, and before each round a newcomer on the same device
@@ -197,13 +191,6 @@ roundsRaised = maxCommands * (maxHeld + raisedTo)
 
 abbrev pub afterRaising : List Call
 afterRaising = changed patient [] raisedTo roundsRaised
-
--- it still runs after so many rounds
-pub patient-still-runs :
-    let s = resultOf (placedState patient) (limit raisedTo) .state in
-    anyOf (runs (patient .id)) (busyState roundsRaised (patient .newcomers) s .sequence) ≡ true
-unfolding calcRounds
-patient-still-runs = refl
 
 -- ---- where a wrong rule about a lower pass limit shows
 

@@ -1,0 +1,78 @@
+-- The waiting promise is not weak: computed schedules in which a routine still runs after rounds that are almost enough, or would be enough
+-- if they were counted otherwise. Who still runs is computed on the state; that the answers tell it is `told-is-held`. Assumes nothing.
+use mathlib.Core.Path.{_≡_, refl, ap, _∙_}
+use mathlib.Core.Bool.{true}
+use mathlib.Core.List.{[], _∷_, _++_}
+use Prim.Native.Nat.{_+_, _<_}
+use native.Mathlib.Omega.{arith}
+use lib.Dec.{eqb}
+use Rattle.rules.specs.Tables.{anyOf}
+use Rattle.rules.specs.State.{State}
+use Rattle.rules.specs.Answers.{limit}
+use Rattle.rules.specs.Sequence.{runs}
+use Rattle.rules.specs.Limit.{withPassLimit}
+use Rattle.rules.specs.Calls.{resultOf, stateAfter}
+use Rattle.rules.specs.History.{accountsOf}
+use Rattle.rules.specs.Rounds.{begins, enoughRounds}
+use Rattle.rules.proofs.Schedules.{busyState, placedState, roundsOf, toldAfter, calcRounds, crowded, crowded-opens, crowded-placed}
+use Rattle.rules.proofs.Schedules.{tooFewRounds, patient, patient-opens, patient-placed, raisedTo, patient-limit, roundsRaised}
+use Rattle.rules.proofs.Schedules.{afterRaising}
+use Rattle.rules.proofs.RoundsExist.{state-on, Promised, promised, rounds-told, changed-told, busy-state, told-runs, limit-answers}
+use Rattle.rules.proofs.RoundsExist.{limit-state, changed-limit}
+
+-- ---- almost enough
+
+crowded-still-runs :
+    anyOf (runs (crowded .id)) (busyState tooFewRounds (crowded .newcomers) (placedState crowded) .sequence) ≡ true
+unfolding calcRounds
+crowded-still-runs = refl
+
+-- By a schedule that the promise is about, a routine still runs after rounds that are fewer than promised, and more than half.
+pub needs-most :
+    Promised crowded (roundsOf crowded tooFewRounds) tooFewRounds × (tooFewRounds < enoughRounds (crowded .passLimit))
+    × (enoughRounds (crowded .passLimit) < tooFewRounds + tooFewRounds)
+    × (accountsOf (toldAfter crowded (roundsOf crowded tooFewRounds)) (crowded .id) .running ≡ true)
+needs-most = (
+  promised crowded crowded-opens crowded-placed (roundsOf crowded tooFewRounds) tooFewRounds
+      (rounds-told crowded crowded-opens tooFewRounds),
+  omega arith,
+  omega arith,
+  told-runs crowded crowded-opens (roundsOf crowded tooFewRounds) _ (busy-state tooFewRounds (crowded .newcomers) (placedState crowded))
+      crowded-still-runs,
+)
+
+-- ---- counted otherwise
+
+-- it still runs after so many rounds
+patient-still-runs :
+    let s = resultOf (placedState patient) (limit raisedTo) .state in
+    anyOf (runs (patient .id)) (busyState roundsRaised (patient .newcomers) s .sequence) ≡ true
+unfolding calcRounds
+patient-still-runs = refl
+
+-- With the K of its submission the promise would be false: K is raised from 0, and the routine still runs after more rounds than are enough
+-- with 0. With the K of now, counted from the submission, it would be false, too: K is then 0 again.
+pub counted-from-the-change :
+    Promised patient afterRaising roundsRaised × (enoughRounds (patient .passLimit) < roundsRaised)
+    × (accountsOf (toldAfter patient afterRaising) (patient .id) .running ≡ true)
+    × Promised patient (afterRaising ++ (limit (patient .passLimit) ∷ [])) 0
+    × (accountsOf (toldAfter patient (afterRaising ++ (limit (patient .passLimit) ∷ []))) (patient .id) .running ≡ true)
+counted-from-the-change =
+    let x = patient in
+    let e = patient-opens in
+    let k = x .passLimit in
+    let t = resultOf (placedState x) (limit raisedTo) .state in
+    let after : stateAfter (placedState x) afterRaising ≡ busyState roundsRaised (x .newcomers) t =
+    busy-state roundsRaised (x .newcomers) t in
+    let raised = changed-told x e [] 0 begins raisedTo (limit-answers _ raisedTo refl) patient-limit roundsRaised in
+    let lowered = changed-told x e afterRaising roundsRaised raised k (limit-answers _ k refl)
+    (ap (eqb k) (changed-limit x [] raisedTo roundsRaised refl)) 0 in (
+      promised x e patient-placed afterRaising roundsRaised raised,
+      omega arith,
+      told-runs x e afterRaising _ after patient-still-runs,
+      promised x e patient-placed (afterRaising ++ (limit k ∷ [])) 0 lowered,
+      told-runs x e (afterRaising ++ (limit k ∷ [])) (withPassLimit (busyState roundsRaised (x .newcomers) t) k)
+          (state-on (placedState x) afterRaising (limit k ∷ []) ∙ ap (λ (s : State). resultOf s (limit k) .state) after
+          ∙ limit-state (busyState roundsRaised (x .newcomers) t) k refl)
+          patient-still-runs,
+    )
