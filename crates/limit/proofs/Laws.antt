@@ -8,10 +8,11 @@ use Rattle.routine.specs.declared.Refusal.{Refusal}
 use Rattle.routine.specs.declared.Verdict.{Verdict}
 use Rattle.routine.specs.declared.Verdict.the-variants.{Accepted, Refused as TurnedDown}
 use Rattle.rules.specs.State.{highestPassLimit, State}
-use Rattle.rules.specs.Answers.{limited, unlessRefused}
+use Rattle.rules.specs.Answers.{limited}
 use Rattle.rules.specs.Open.{limitCheck}
-use Rattle.rules.specs.Limit.{withPassLimit, limitOf}
+use Rattle.rules.specs.Limit.{withPassLimit}
 use Rattle.rules.proofs.Lists.{t≠f}
+use Rattle.rules.proofs.LimitLaws.{limit-passes, limit-turned-down}
 use Rattle.answers.specs.declared.Answer.the-variants.{Refused, Limited}
 use Rattle.state.specs.View.{stepsAt, memberAt, membersOf, stateOf}
 use Rattle.state.specs.Valid.{StateOk}
@@ -68,23 +69,13 @@ module _ (h : HubState) (k : ℕ) (verdict : Verdict) (made : verdict ≡ limitC
   -- it is in force
   pub limits-fine : (next : HubState) → StateOk next → stateOf next ≡ withPassLimit (stateOf h) k → verdict ≡ Accepted →
       Limits h k (record { state = next; answer = Limited k })
-  unfolding limitOf
   limits-fine next v e a = record {
     valid = v;
-    gives = ap (λ (s : State). record { state = s; answers = limited k ∷ [] }) e
-        ∙ ap
-        (λ (x : Verdict). unlessRefused x (stateOf h) (record { state = withPassLimit (stateOf h) k; answers = limited k ∷ [] }))
-        (sym a ∙ made);
+    gives = ap (λ (s : State). record { state = s; answers = limited k ∷ [] }) e ∙ sym (limit-passes (stateOf h) k (sym made ∙ a));
     same-state = λ z. t≠f (sym z);
   }
 
   -- it is turned down
   pub limits-not : (r : Refusal) → StateOk h → verdict ≡ TurnedDown r → Limits h k (record { state = h; answer = Refused r })
-  unfolding limitOf
-  limits-not r v a = record {
-    valid = v;
-    gives = ap
-        (λ (x : Verdict). unlessRefused x (stateOf h) (record { state = withPassLimit (stateOf h) k; answers = limited k ∷ [] }))
-        (sym a ∙ made);
-    same-state = λ _. refl;
-  }
+  limits-not r v a =
+      record { valid = v; gives = sym (limit-turned-down (stateOf h) k r (sym made ∙ a)); same-state = λ _. refl }

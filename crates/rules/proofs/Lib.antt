@@ -28,9 +28,10 @@ pub mod Messages
 pub mod Devices
 pub mod DeviceAborts
 pub mod DeviceKept
--- The hub of no devices; demand 3; all due settings in one list; each number under its cause alone; worlds that meet the premise, and
--- worlds in which a wrong rule shows.
+-- The hub of no devices; a new pass limit; demand 3; all due settings in one list; each number under its cause alone; worlds that meet the
+-- premise, and worlds in which a wrong rule shows.
 pub mod Closed
+pub mod LimitLaws
 pub mod Theorem
 pub mod AllDue
 pub mod Exact

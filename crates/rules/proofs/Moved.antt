@@ -5,7 +5,7 @@ use mathlib.Core.Logic.{_≢_}
 use mathlib.Core.Bool.{Bool, true, false, not, _&&_, and-false, or-false}
 use mathlib.Core.List.{List, [], _∷_, _++_, map}
 use mathlib.Core.Option.{Option}
-use Prim.Native.Nat.{ℕ}
+use Prim.Native.Nat.{ℕ, _<_}
 use native.Mathlib.Omega.{arith}
 use borrow.Author.Tests.{eqb-true, eqb-false, eq-eqb, ne-eqb, not-false}
 use lib.Dec.{leb, eqb}
@@ -362,30 +362,25 @@ hub-restarts s d v l h c =
         go ih true = refl
         go ih false = ap (λ k. g .member ∷ k) ih
 
--- the state with other devices up
+-- it looks at the sequence, the ids and the marks alone
+hub-same : (s t : State) (l : List Group) → t .sequence ≡ s .sequence → t .nextId ≡ s .nextId → ((d : ℕ) → t .mark d ≡ s .mark d) →
+    HubOk s l → HubOk t l
+hub-same s t l e n m h = record {
+  sequence-is = e ∙ h .sequence-is;
+  ids-ok = subst (λ i. IdsOk i (ids l)) (sym n) (h .ids-ok);
+  marks = λ d. subst (λ i. MarkOk d i l) (sym (m d)) (h .marks d);
+  nothing-left-all = h .nothing-left-all;
+  turns = h .turns;
+  some-id = subst (λ i. 0 < i) (sym n) (h .some-id);
+}
+
+-- other devices are up
 pub hub-up : (s : State) (u : ℕ → Bool) (l : List Group) → HubOk s l → HubOk (withUp s u) l
-hub-up s u l h =
-    record {
-      sequence-is = h .sequence-is;
-      ids-ok = h .ids-ok;
-      marks = h .marks;
-      nothing-left-all = h .nothing-left-all;
-      turns =
-          h .turns;
-      some-id = h .some-id;
-    }
+hub-up s u l = hub-same s (withUp s u) l refl refl (λ d. refl)
 
 -- a new pass limit
 pub hub-limit : (s : State) (k : ℕ) (l : List Group) → HubOk s l → HubOk (withPassLimit s k) l
-hub-limit s k l h =
-    record {
-      sequence-is = h .sequence-is;
-      ids-ok = h .ids-ok;
-      marks = h .marks;
-      nothing-left-all = h .nothing-left-all;
-      turns = h .turns;
-      some-id = h .some-id;
-    }
+hub-limit s k l = hub-same s (withPassLimit s k) l refl refl (λ d. refl)
 
 -- ---- routines settle
 

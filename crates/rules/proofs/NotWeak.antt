@@ -8,17 +8,18 @@ use native.Mathlib.Omega.{arith}
 use lib.Dec.{eqb}
 use Rattle.rules.specs.Tables.{anyOf}
 use Rattle.rules.specs.State.{State}
-use Rattle.rules.specs.Answers.{limit}
+use Rattle.rules.specs.Answers.{limit, Result}
 use Rattle.rules.specs.Sequence.{runs}
 use Rattle.rules.specs.Limit.{withPassLimit}
 use Rattle.rules.specs.Calls.{resultOf, stateAfter}
 use Rattle.rules.specs.History.{accountsOf}
 use Rattle.rules.specs.Rounds.{begins, enoughRounds}
 use Rattle.rules.proofs.Schedules.{busyState, placedState, roundsOf, toldAfter, calcRounds, crowded, crowded-opens, crowded-placed}
-use Rattle.rules.proofs.Schedules.{tooFewRounds, patient, patient-opens, patient-placed, raisedTo, patient-limit, roundsRaised}
+use Rattle.rules.proofs.Schedules.{tooFewRounds, raised, raised-opens, raised-placed, raisedTo, raised-limit, roundsRaised}
 use Rattle.rules.proofs.Schedules.{afterRaising}
-use Rattle.rules.proofs.RoundsExist.{state-on, Promised, promised, rounds-told, changed-told, busy-state, told-runs, limit-answers}
-use Rattle.rules.proofs.RoundsExist.{limit-state, changed-limit}
+use Rattle.rules.proofs.RoundsExist.{state-on, Promised, promised, rounds-told, changed-told, busy-state, told-runs}
+use Rattle.rules.proofs.RoundsExist.{changed-limit}
+use Rattle.rules.proofs.LimitLaws.{limit-passes}
 
 -- ---- almost enough
 
@@ -44,35 +45,36 @@ needs-most = (
 -- ---- counted otherwise
 
 -- it still runs after so many rounds
-patient-still-runs :
-    let s = resultOf (placedState patient) (limit raisedTo) .state in
-    anyOf (runs (patient .id)) (busyState roundsRaised (patient .newcomers) s .sequence) ≡ true
+raised-still-runs :
+    let s = resultOf (placedState raised) (limit raisedTo) .state in
+    anyOf (runs (raised .id)) (busyState roundsRaised (raised .newcomers) s .sequence) ≡ true
 unfolding calcRounds
-patient-still-runs = refl
+raised-still-runs = refl
 
 -- With the K of its submission the promise would be false: K is raised from 0, and the routine still runs after more rounds than are enough
 -- with 0. With the K of now, counted from the submission, it would be false, too: K is then 0 again.
 pub counted-from-the-change :
-    Promised patient afterRaising roundsRaised × (enoughRounds (patient .passLimit) < roundsRaised)
-    × (accountsOf (toldAfter patient afterRaising) (patient .id) .running ≡ true)
-    × Promised patient (afterRaising ++ (limit (patient .passLimit) ∷ [])) 0
-    × (accountsOf (toldAfter patient (afterRaising ++ (limit (patient .passLimit) ∷ []))) (patient .id) .running ≡ true)
+    Promised raised afterRaising roundsRaised × (enoughRounds (raised .passLimit) < roundsRaised)
+    × (accountsOf (toldAfter raised afterRaising) (raised .id) .running ≡ true)
+    × Promised raised (afterRaising ++ (limit (raised .passLimit) ∷ [])) 0
+    × (accountsOf (toldAfter raised (afterRaising ++ (limit (raised .passLimit) ∷ []))) (raised .id) .running ≡ true)
 counted-from-the-change =
-    let x = patient in
-    let e = patient-opens in
+    let x = raised in
+    let e = raised-opens in
     let k = x .passLimit in
     let t = resultOf (placedState x) (limit raisedTo) .state in
     let after : stateAfter (placedState x) afterRaising ≡ busyState roundsRaised (x .newcomers) t =
     busy-state roundsRaised (x .newcomers) t in
-    let raised = changed-told x e [] 0 begins raisedTo (limit-answers _ raisedTo refl) patient-limit roundsRaised in
-    let lowered = changed-told x e afterRaising roundsRaised raised k (limit-answers _ k refl)
+    let told-raised =
+    changed-told x e [] 0 begins raisedTo (ap (λ (r : Result). r .answers) (limit-passes _ raisedTo refl)) raised-limit roundsRaised in
+    let told-lowered = changed-told x e afterRaising roundsRaised told-raised k (ap (λ (r : Result). r .answers) (limit-passes _ k refl))
     (ap (eqb k) (changed-limit x [] raisedTo roundsRaised refl)) 0 in (
-      promised x e patient-placed afterRaising roundsRaised raised,
+      promised x e raised-placed afterRaising roundsRaised told-raised,
       omega arith,
-      told-runs x e afterRaising _ after patient-still-runs,
-      promised x e patient-placed (afterRaising ++ (limit k ∷ [])) 0 lowered,
+      told-runs x e afterRaising _ after raised-still-runs,
+      promised x e raised-placed (afterRaising ++ (limit k ∷ [])) 0 told-lowered,
       told-runs x e (afterRaising ++ (limit k ∷ [])) (withPassLimit (busyState roundsRaised (x .newcomers) t) k)
           (state-on (placedState x) afterRaising (limit k ∷ []) ∙ ap (λ (s : State). resultOf s (limit k) .state) after
-          ∙ limit-state (busyState roundsRaised (x .newcomers) t) k refl)
-          patient-still-runs,
+          ∙ ap (λ (r : Result). r .state) (limit-passes (busyState roundsRaised (x .newcomers) t) k refl))
+          raised-still-runs,
     )

@@ -312,13 +312,6 @@ limit-seen s l (moves {r = r} v) = (
 pub limit-call : (s : State) (c : Call) → limitAfterAll (resultOf s c .answers) (s .passLimit) ≡ resultOf s c .state .passLimit
 limit-call s c = limit-seen s _ (see-any s c) .0
 
-pub limit-told : (k : ℕ) (s : State) (h : List Told) → limitTold k h ≡ s .passLimit → (calls : List Call) →
-    limitTold k (toldThen h (callsTold s calls)) ≡ stateAfter s calls .passLimit
-limit-told k s h e [] = e
-limit-told k s h e (c ∷ calls) =
-    limit-told k (resultOf s c .state) (saying c (resultOf s c .answers) ∷ h)
-    (ap (limitAfterAll (resultOf s c .answers)) e ∙ limit-call s c) calls
-
 pub limit-kept : (k m : ℕ) (s : State) (h : List Told) → limitTold k h ≡ m → (calls : List Call) → Each KeepsLimit calls →
     limitTold k (toldThen h (callsTold s calls)) ≡ m
 limit-kept k m s h e [] keeps = e

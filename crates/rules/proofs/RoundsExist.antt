@@ -11,17 +11,15 @@ use borrow.Author.Tests.{eqb-true, eqb-false, eq-eqb, ne-eqb, le-ltb, not-true}
 use lib.Dec.{eqb}
 use Rattle.routine.specs.Choice.{if_then_else_}
 use Rattle.routine.specs.declared.Command.{Command}
-use Rattle.routine.specs.declared.Verdict.{Verdict}
 use Rattle.routine.specs.declared.Verdict.the-variants.{Accepted}
 use Rattle.routine.proofs.Laws.{byTest}
 use Rattle.rules.specs.Tables.{anyOf, put, Each}
 use Rattle.rules.specs.State.{Status, to-do, in-flight, was-done, was-skipped, Step, Member, State}
-use Rattle.rules.specs.Answers.{Call, submit, turn, report, limit, placed, limited, Result, unlessRefused}
+use Rattle.rules.specs.Answers.{Call, submit, turn, report, limit, placed, limited, Result}
 use Rattle.rules.specs.Progress.{isMust, isInFlight, next, Flight, flightOr, flight}
 use Rattle.rules.specs.Sequence.{Found, find, isRunning, runs}
 use Rattle.rules.specs.Abort.{abort}
 use Rattle.rules.specs.Open.{opened, limitCheck, openOf}
-use Rattle.rules.specs.Limit.{withPassLimit, limitOf}
 use Rattle.rules.specs.Turn.{firstHolding, commitTurn, sendTurn, skipTurn, turnNext, waitOr, turnFound, turnOf}
 use Rattle.rules.specs.Report.{codeDone, codeFailed, doneReport, skipReport, reported, reportFound, reportOf}
 use Rattle.rules.specs.Calls.{resultOf, stateAfter}
@@ -41,7 +39,9 @@ use Rattle.rules.proofs.Schedules.{placing, placedState, roundsOf, chan
 use Rattle.rules.proofs.Schedules.{lowered, loweredTo, afterLowering, lowered-placed}
 use Rattle.rules.proofs.Schedules.{overtaken, overtaken-placed, calcRounds}
 use Rattle.rules.proofs.Told.{has, Tells, none-has}
-use Rattle.rules.proofs.Ready.{Ready, saying, ready-seen, ready-opened, ready-calls, limit-told, limit-kept, opened-limit}
+use Rattle.rules.proofs.Ready.{Ready, saying, ready-seen, ready-opened, ready-calls, limit-kept, opened-limit}
+use Rattle.rules.proofs.Waiting.{told-by-calls, state-calls, limit-is}
+use Rattle.rules.proofs.LimitLaws.{limit-passes}
 use Rattle.rules.proofs.Measured.{Asks}
 
 -- ---- the routines that a round is about
@@ -122,7 +122,8 @@ told-is-held n k first s e calls i =
           (λ m. sym (and-assoc (eqb (m .id) i) (isRunning m) (hasFlight (flight (m .steps))))
           ∙ ap (λ b. (eqb (m .id) i && isRunning m) && b) (flight-any (m .steps))) (r .0)
           ∙ ap (anyOf (λ m. runs i m && anyOf (λ x. isInFlight (x .status)) (m .steps))) same,
-      limit-told k s [] (opened-limit n k first s e) calls,
+      limit-is k s (toldThen [] (callsTold s calls)) (opened-limit n k first s e) (told-by-calls s [] tt calls)
+          ∙ ap (λ (x : State). x .passLimit) (state-calls s [] calls),
     )
 
 -- ---- calls that are accepted
@@ -493,16 +494,6 @@ wrong-rules-show =
           (changed-told lowered refl (roundsOf lowered 2) 2 (rounds-told lowered refl 2) loweredTo refl refl (enoughRounds loweredTo)),
     )
 
--- a new pass limit that is accepted
-pub limit-answers : (s : State) (k : ℕ) → limitCheck k ≡ Accepted → resultOf s (limit k) .answers ≡ limited k ∷ []
-unfolding limitOf
-limit-answers s k e =
-    ap (λ (v : Verdict). unlessRefused v s (record { state = withPassLimit s k; answers = limited k ∷ [] }) .answers) e
-
-pub limit-state : (s : State) (k : ℕ) → limitCheck k ≡ Accepted → resultOf s (limit k) .state ≡ withPassLimit s k
-unfolding limitOf
-limit-state s k e = ap (λ (v : Verdict). unlessRefused v s (record { state = withPassLimit s k; answers = limited k ∷ [] }) .state) e
-
 -- the pass limit of the schedule's end
 turns-keep : (l : List ℕ) → Each KeepsLimit (map turn l)
 turns-keep [] = tt
@@ -532,5 +523,6 @@ changed-limit x earlier k n a =
     let r = resultOf (stateAfter s earlier) (limit k) in
     ap (limitTold (x .passLimit)) (told-on s (toldAfter x []) earlier (limit k ∷ busy n (x .newcomers) (r .state)))
     ∙ limit-kept (x .passLimit) k (r .state) (saying (limit k) (r .answers) ∷ h)
-    (ap (λ l. limitAfterAll l (limitTold (x .passLimit) h)) (limit-answers (stateAfter s earlier) k a)) (busy n (x .newcomers) (r .state))
+    (ap (λ l. limitAfterAll l (limitTold (x .passLimit) h)) (ap (λ (x : Result). x .answers) (limit-passes (stateAfter s earlier) k a)))
+    (busy n (x .newcomers) (r .state))
     (busy-keeps n (x .newcomers) (r .state))

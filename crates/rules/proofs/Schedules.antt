@@ -159,8 +159,8 @@ overtaken-ends = refl
 -- ---- a new pass limit
 
 -- with K = 0, as many full routines as may be held, on one device, the last submitted last
-abbrev pub patient : Sitting
-patient = record {
+abbrev pub raised : Sitting
+raised = record {
   passLimit = 0;
   before = replicate (maxHeld - 1) (submit fullRoutine);
   commands = fullRoutine;
@@ -169,28 +169,28 @@ patient = record {
   newcomers = fullRoutine;
 }
 
-pub patient-opens : openOf 1 (patient .passLimit) 1 ≡ opened (opensAt patient)
+pub raised-opens : openOf 1 (raised .passLimit) 1 ≡ opened (opensAt raised)
 unfolding calcRounds
-patient-opens = refl
+raised-opens = refl
 
-pub patient-placed : resultOf (stateAfter (opensAt patient) (patient .before)) (submit (patient .commands)) .answers
-    ≡ placed (patient .id) (patient .follows) ∷ []
+pub raised-placed : resultOf (stateAfter (opensAt raised) (raised .before)) (submit (raised .commands)) .answers
+    ≡ placed (raised .id) (raised .follows) ∷ []
 unfolding calcRounds
-patient-placed = refl
+raised-placed = refl
 
 -- then K is raised, and newcomers pass it as often as they may
 abbrev pub raisedTo : ℕ
 raisedTo = highestPassLimit
 
-pub patient-limit : eqb raisedTo (limitTold (patient .passLimit) (toldAfter patient [])) ≡ false
+pub raised-limit : eqb raisedTo (limitTold (raised .passLimit) (toldAfter raised [])) ≡ false
 unfolding calcRounds
-patient-limit = refl
+raised-limit = refl
 
 abbrev pub roundsRaised : ℕ
 roundsRaised = maxCommands * (maxHeld + raisedTo)
 
 abbrev pub afterRaising : List Call
-afterRaising = changed patient [] raisedTo roundsRaised
+afterRaising = changed raised [] raisedTo roundsRaised
 
 -- ---- where a wrong rule about a lower pass limit shows
 

@@ -364,15 +364,15 @@ bounded-more k i m n l e o r = let p = o r in omega arith
 
 -- ---- a history, the latest first, as the hub s tells it
 
-abbrev stateAt : State → List Told → State
+abbrev pub stateAt : State → List Told → State
 stateAt s [] = s
 stateAt s (t ∷ h) = resultOf (stateAt s h) (t .call) .state
 
-abbrev ToldBy : State → List Told → Type 0
+abbrev pub ToldBy : State → List Told → Type 0
 ToldBy s [] = Unit {0}
 ToldBy s (t ∷ h) = ToldBy s h × (resultOf (stateAt s h) (t .call) .answers ≡ t .answers)
 
-told-by-calls : (s : State) (h : List Told) → ToldBy s h → (calls : List Call) → ToldBy s (toldThen h (callsTold (stateAt s h) calls))
+pub told-by-calls : (s : State) (h : List Told) → ToldBy s h → (calls : List Call) → ToldBy s (toldThen h (callsTold (stateAt s h) calls))
 told-by-calls s h y [] = y
 told-by-calls s h y (c ∷ calls) = told-by-calls s (saying c (resultOf (stateAt s h) c .answers) ∷ h) (y, refl) calls
 
@@ -385,7 +385,7 @@ state-at : (s : State) (h l : List Told) → stateAt s (toldThen h l) ≡ stateT
 state-at s h [] = refl
 state-at s h (t ∷ l) = state-at s (t ∷ h) l
 
-state-calls : (s : State) (h : List Told) (calls : List Call) →
+pub state-calls : (s : State) (h : List Told) (calls : List Call) →
     stateAt s (toldThen h (callsTold (stateAt s h) calls)) ≡ stateAfter (stateAt s h) calls
 state-calls s h [] = refl
 state-calls s h (c ∷ calls) = state-calls s (saying c (resultOf (stateAt s h) c .answers) ∷ h) calls
@@ -425,7 +425,7 @@ limited-now m i s h now k (limits _ a) e P p = (
 limited-now m i s h now k (moves (aborts _ a g b f r q)) e P p = absurd (unaborted q)
 
 -- the K that is told is the hub's
-limit-is : (k : ℕ) (s : State) (h : List Told) → k ≡ s .passLimit → ToldBy s h → limitTold k h ≡ stateAt s h .passLimit
+pub limit-is : (k : ℕ) (s : State) (h : List Told) → k ≡ s .passLimit → ToldBy s h → limitTold k h ≡ stateAt s h .passLimit
 limit-is k s [] e y = e
 limit-is k s (t ∷ h) e y =
     ap (limitAfterAll (t .answers)) (limit-is k s h e (y .0))

@@ -263,9 +263,9 @@ oftener = record {
   settings = some (pos 0) ∷ [];
 }
 
-pub limits-hold : Holds newLimits × Holds oftener
+pub new-limits-hold : Holds newLimits × Holds oftener
 unfolding calc
-limits-hold = ((refl, refl, refl), (refl, refl, refl))
+new-limits-hold = ((refl, refl, refl), (refl, refl, refl))
 
 -- ---- all due settings in one list (document 02, item 14)
 
