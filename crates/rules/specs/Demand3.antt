@@ -7,8 +7,8 @@ use Rattle.routine.specs.declared.Command.{Command}
 use Rattle.rules.specs.Tables.{anyOf}
 use Rattle.rules.specs.State.{State}
 use Rattle.rules.specs.Open.{opened, openOf}
-use Rattle.rules.specs.History.{Outcome, reported-done, reported-failed, not-sent, Answered, Account, workingOf}
-use Rattle.rules.specs.Order.{Entry, routine, event, Order, entries, orderOf}
+use Rattle.rules.specs.History.{Outcome, reported-done, reported-failed, not-sent, by-event, Answered, Account, workingOf}
+use Rattle.rules.specs.Order.{Event, isOf, Entry, routine, event, Order, entries, orderOf}
 use Rattle.rules.specs.Serial.{DeviceState, allUp, runCommand, runEntry, serialRun}
 use Rattle.rules.specs.World.{put-back, sameOrigin, Message, World, accounts, Act, worldAfterAll, PremiseAll, newWorld}
 
@@ -49,22 +49,34 @@ SettledStands w acts =
     Begins (orderIn (worldAfterAll w before) .settled) (entries (orderIn (worldAfterAll w acts)))
 
 -- Part 3, where commands stand. Document 01, The hub's order: "In it every done command finds its device up; every skipped one was reported
--- failed or finds it down."
-abbrev pub Finds : Bool → Outcome → Type 0
-Finds isUp reported-done = isUp ≡ true
-Finds isUp reported-failed = Unit {0}
-Finds isUp not-sent = isUp ≡ false
+-- failed or finds it down." Document 02, item 3, has "a third ground for a skipped command": an event of its device, which "follows the
+-- routine in the order".
+
+-- The events behind a routine and before the next one, in what stands behind it.
+abbrev pub eventsNext : List Entry → List Event
+eventsNext [] = []
+eventsNext (routine i cs b ∷ l) = []
+eventsNext (event e ∷ l) = e ∷ eventsNext l
+
+-- A command on d, answered so, which finds d up or not; `behind`: the events behind its routine.
+abbrev pub Finds : List Event → ℕ → Bool → Outcome → Type 0
+Finds behind d isUp reported-done = isUp ≡ true
+Finds behind d isUp reported-failed = Unit {0}
+Finds behind d isUp not-sent = isUp ≡ false
+Finds behind d isUp by-event = anyOf (isOf d) behind ≡ true
 
 -- What a command that was answered so leaves: a done one is run.
 abbrev pub afterAnswered : Outcome → Command → (ℕ → DeviceState) → ℕ → DeviceState
 afterAnswered reported-done c t = runCommand c t
 afterAnswered reported-failed c t = t
 afterAnswered not-sent c t = t
+afterAnswered by-event c t = t
 
--- The answered commands of a routine, in turn.
-abbrev pub AllFind : List Answered → (ℕ → DeviceState) → Type 0
-AllFind [] t = Unit {0}
-AllFind (x ∷ l) t = Finds (t (x .command .device) .up) (x .outcome) × AllFind l (afterAnswered (x .outcome) (x .command) t)
+-- The answered commands of a routine, as they were answered.
+abbrev pub AllFind : List Event → List Answered → (ℕ → DeviceState) → Type 0
+AllFind behind [] t = Unit {0}
+AllFind behind (x ∷ l) t = Finds behind (x .command .device) (t (x .command .device) .up) (x .outcome)
+    × AllFind behind l (afterAnswered (x .outcome) (x .command) t)
 
 -- Those of them that were done.
 abbrev pub doneOnes : List Answered → List Command
@@ -75,12 +87,13 @@ doneOnes (x ∷ l) = ifDone (x .outcome) (x .command) (doneOnes l)
     ifDone reported-done c cs = c ∷ cs
     ifDone reported-failed c cs = cs
     ifDone not-sent c cs = cs
+    ifDone by-event c cs = cs
 
 -- The routines of an order, run from t: each one's done commands are those that were answered done, and its answered commands find what
 -- they should.
 abbrev pub CommandsStand : (ℕ → Account) → List Entry → (ℕ → DeviceState) → Type 0
 CommandsStand a [] t = Unit {0}
-CommandsStand a (routine i cs b ∷ l) t = (cs ≡ doneOnes (a i .answered)) × AllFind (a i .answered) t
+CommandsStand a (routine i cs b ∷ l) t = (cs ≡ doneOnes (a i .answered)) × AllFind (eventsNext l) (a i .answered) t
     × CommandsStand a l (runEntry (routine i cs b) t)
 CommandsStand a (event e ∷ l) t = CommandsStand a l (runEntry (event e) t)
 

@@ -28,7 +28,7 @@ use Rattle.rules.specs.Open.{opened, openCheck, newHub, openOf}
 use Rattle.rules.specs.Submit.{submitCheck, blocks, pass, newcomer, place, submitOf}
 use Rattle.rules.specs.Turn.{holds, markBegun, commit, commitTurn, sendTurn, skipTurn, turnOf}
 use Rattle.rules.specs.Report.{doneReport, backIfChanged, skippedState, skipReport, reportOf}
-use Rattle.rules.specs.Events.{isHalfway, abortHalfway, failureResult, restartResult, failureOf, restartOf}
+use Rattle.rules.specs.Events.{isHalfway, mustLeft, skipRest, stopHalfway, failureResult, restartResult, failureOf, restartOf}
 use Rattle.rules.specs.Cancel.{cancelOf}
 use Rattle.rules.specs.Limit.{limitOf}
 use Rattle.rules.specs.Calls.{resultOf, stateAfter}
@@ -38,7 +38,7 @@ unfoldable pub calc : Unit {0}
 unfolding inRange refusalOf commandCheck commandsCheck routineCheck begun finished inFlightOn afterMember due isRunning runs joinSettled
     settle attachTo settleRestarts moveMarks leave isPutBack putBacks abort openCheck newHub openOf submitCheck blocks pass newcomer place
     submitOf holds markBegun commit commitTurn sendTurn skipTurn turnOf doneReport backIfChanged skippedState skipReport reportOf isHalfway
-    abortHalfway attach oneRestart failureResult restartResult failureOf restartOf cancelOf
+    mustLeft skipRest stopHalfway attach oneRestart failureResult restartResult failureOf restartOf cancelOf
     limitOf
 calc = tt
 
@@ -266,6 +266,104 @@ oftener = record {
 pub new-limits-hold : Holds newLimits × Holds oftener
 unfolding calc
 new-limits-hold = ((refl, refl, refl), (refl, refl, refl))
+
+-- ---- a lamp that dies after its work (document 02, item 3): device 0 is the lamp, device 1 the shelter
+
+abbrev pub none-flies : List Answer
+none-flies = refused (Number 12) ∷ []
+
+abbrev pub none-runs : List Answer
+none-runs = refused (Number 10) ∷ []
+
+-- The lamp is in flight when it fails: the routine goes on, and a turn passes over it. A late report is 12 while nothing is in flight, and
+-- 10 once the routine has ended. (Between the sends and the dones the server drops it: the hub would take it for the shelter's.)
+abbrev pub lampInFlight : Example
+lampInFlight = record {
+  devices = 2;
+  passLimit = 0;
+  firstId = 1;
+  calls = submit (best 0 (pos 50) ∷ must 1 (pos 20) ∷ must 1 (pos 30) ∷ []) ∷ turn 1 ∷ failure 0 ∷ report 1 0 ∷ report 1 1 ∷ turn 1
+      ∷ report 1 0 ∷ report 1 0 ∷ turn 1 ∷ report 1 0 ∷ turn 1 ∷ report 1 0 ∷ report 1 1 ∷ [];
+  answers = (placed 1 0 ∷ []) ∷ (send 1 (best 0 (pos 50)) ∷ []) ∷ (down 0 1 ∷ []) ∷ none-flies ∷ none-flies
+      ∷ (send 1 (must 1 (pos 20)) ∷ []) ∷ (done 1 ∷ []) ∷ none-flies ∷ (send 1 (must 1 (pos 30)) ∷ []) ∷ (done 1 ∷ [])
+      ∷ (committed 1 ∷ []) ∷ none-runs ∷ none-runs ∷ [];
+  settings = none ∷ some (pos 30) ∷ [];
+}
+
+-- The lamp was done before it failed, and its last command is skipped: behind the shelter's, the turn commits. Nothing is left on the lamp
+-- when it is restarted.
+abbrev pub lampDone : Example
+lampDone = record {
+  devices = 2;
+  passLimit = 0;
+  firstId = 1;
+  calls = submit (best 0 (pos 50) ∷ must 1 (pos 20) ∷ best 0 (pos 60) ∷ []) ∷ turn 1 ∷ report 1 0 ∷ failure 0 ∷ turn 1
+      ∷ restart 0 (pos 33) ∷ report 1 0 ∷ turn 1 ∷ [];
+  answers = (placed 1 0 ∷ []) ∷ (send 1 (best 0 (pos 50)) ∷ []) ∷ (done 1 ∷ []) ∷ (down 0 1 ∷ []) ∷ (send 1 (must 1 (pos 20)) ∷ [])
+      ∷ (up 0 1 ∷ []) ∷ (done 1 ∷ []) ∷ (committed 1 ∷ []) ∷ [];
+  settings = some (pos 33) ∷ some (pos 20) ∷ [];
+}
+
+-- A must is left on the lamp, behind a best-effort one: it aborts, and nothing is skipped.
+abbrev pub lampMustBehind : Example
+lampMustBehind = record {
+  devices = 2;
+  passLimit = 0;
+  firstId = 1;
+  calls = submit (must 1 (pos 20) ∷ best 0 (pos 50) ∷ best 0 (pos 55) ∷ must 0 (pos 60) ∷ []) ∷ turn 1 ∷ report 1 0 ∷ turn 1 ∷ failure 0
+      ∷ report 1 0 ∷ [];
+  answers = (placed 1 0 ∷ []) ∷ (send 1 (must 1 (pos 20)) ∷ []) ∷ (done 1 ∷ []) ∷ (send 1 (best 0 (pos 50)) ∷ [])
+      ∷ (aborted 1 (back 1 (pos 0) ∷ []) ∷ down 0 0 ∷ []) ∷ none-runs ∷ [];
+  settings = none ∷ some (pos 0) ∷ [];
+}
+
+-- A restart skips what is left, too; a must left aborts.
+abbrev pub lampRestarted : Example
+lampRestarted = record {
+  devices = 2;
+  passLimit = 0;
+  firstId = 1;
+  calls = failure 0 ∷ submit (best 0 (pos 5) ∷ best 0 (pos 6) ∷ must 1 (pos 20) ∷ []) ∷ turn 1 ∷ restart 0 (pos 9) ∷ turn 1 ∷ report 1 0
+      ∷ turn 1 ∷ failure 0 ∷ submit (best 0 (pos 5) ∷ must 0 (pos 6) ∷ []) ∷ turn 2 ∷ restart 0 (pos 8) ∷ [];
+  answers = (down 0 0 ∷ []) ∷ (placed 1 0 ∷ []) ∷ (skipped 1 [] ∷ []) ∷ (up 0 1 ∷ []) ∷ (send 1 (must 1 (pos 20)) ∷ []) ∷ (done 1 ∷ [])
+      ∷ (committed 1 ∷ []) ∷ (down 0 0 ∷ []) ∷ (placed 2 0 ∷ []) ∷ (skipped 2 [] ∷ []) ∷ (aborted 2 [] ∷ up 0 0 ∷ []) ∷ [];
+  settings = some (pos 8) ∷ some (pos 20) ∷ [];
+}
+
+-- Two commands are left on the lamp with one on the shelter between them: both are skipped, and the turn passes over the first. The lamp
+-- counts as finished: routine 2 waits no more, and 1 does not wait for 2, which is behind it. 2 has not begun the lamp: it loses nothing.
+abbrev pub lampTwice : Example
+lampTwice = record {
+  devices = 2;
+  passLimit = 0;
+  firstId = 1;
+  calls = submit (best 0 (pos 1) ∷ best 0 (pos 2) ∷ must 1 (pos 20) ∷ best 0 (pos 3) ∷ []) ∷ submit (best 0 (pos 7) ∷ []) ∷ turn 1
+      ∷ report 1 0 ∷ turn 2 ∷ failure 0 ∷ restart 0 (pos 33) ∷ turn 2 ∷ turn 1 ∷ report 1 0 ∷ turn 1 ∷ report 2 0 ∷ turn 2 ∷ [];
+  answers = (placed 1 0 ∷ []) ∷ (placed 2 1 ∷ []) ∷ (send 1 (best 0 (pos 1)) ∷ []) ∷ (done 1 ∷ []) ∷ (wait 2 1 ∷ []) ∷ (down 0 1 ∷ [])
+      ∷ (up 0 1 ∷ []) ∷ (send 2 (best 0 (pos 7)) ∷ []) ∷ (send 1 (must 1 (pos 20)) ∷ []) ∷ (done 1 ∷ []) ∷ (committed 1 ∷ [])
+      ∷ (done 2 ∷ []) ∷ (committed 2 ∷ []) ∷ [];
+  settings = some (pos 7) ∷ some (pos 20) ∷ [];
+}
+
+-- A routine that has not begun the lamp keeps its command on it, through a failure and a restart.
+abbrev pub lampNotBegun : Example
+lampNotBegun = record {
+  devices = 2;
+  passLimit = 0;
+  firstId = 1;
+  calls = submit (must 1 (pos 20) ∷ best 0 (pos 5) ∷ best 0 (pos 6) ∷ []) ∷ turn 1 ∷ failure 0 ∷ restart 0 (pos 9) ∷ report 1 0 ∷ turn 1
+      ∷ report 1 0 ∷ turn 1 ∷ [];
+  answers = (placed 1 0 ∷ []) ∷ (send 1 (must 1 (pos 20)) ∷ []) ∷ (down 0 0 ∷ []) ∷ (up 0 0 ∷ []) ∷ (done 1 ∷ [])
+      ∷ (send 1 (best 0 (pos 5)) ∷ []) ∷ (done 1 ∷ []) ∷ (send 1 (best 0 (pos 6)) ∷ []) ∷ [];
+  settings = some (pos 5) ∷ some (pos 20) ∷ [];
+}
+
+pub lamps-hold : AllHold (lampInFlight ∷ lampDone ∷ lampMustBehind ∷ lampRestarted ∷ lampTwice ∷ lampNotBegun ∷ [])
+unfolding calc
+lamps-hold = (
+  (refl, refl, refl),
+  ((refl, refl, refl), ((refl, refl, refl), ((refl, refl, refl), ((refl, refl, refl), ((refl, refl, refl), tt))))),
+)
 
 -- ---- all due settings in one list (document 02, item 14)
 

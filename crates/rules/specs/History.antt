@@ -1,11 +1,13 @@
 -- What the calls and their answers tell, without a look at the hub. A history is the calls with their answers, the latest first. Assumes
 -- nothing.
-use mathlib.Core.Bool.{Bool, true, false}
-use mathlib.Core.List.{List, [], _∷_, _++_}
+use mathlib.Core.Bool.{Bool, true, false, not, _&&_, _||_}
+use mathlib.Core.List.{List, [], _∷_, _++_, map}
 use Prim.Native.Nat.{ℕ, suc}
+use lib.Dec.{eqb}
+use Rattle.routine.specs.Choice.{if_then_else_}
 use Rattle.routine.specs.Routine.{zeroCommand}
 use Rattle.routine.specs.declared.Command.{Command}
-use Rattle.rules.specs.Tables.{put}
+use Rattle.rules.specs.Tables.{anyOf, put}
 use Rattle.rules.specs.Answers.{Call, submit, turn, report, failure, restart, cancel, limit, Answer, refused, placed, wait, send}
 use Rattle.rules.specs.Answers.{done}
 use Rattle.rules.specs.Answers.{skipped, committed, aborted, down, up, limited}
@@ -14,27 +16,31 @@ pub record Told : Type 0 where
   pub call : Call
   pub answers : List Answer
 
--- How a command was answered: reported done; skipped as it was reported failed; skipped by a turn, without being sent.
+-- How a command was answered: reported done; skipped as it was reported failed; skipped by a turn, without being sent; skipped by an event
+-- of its device (document 02, item 3).
 pub data Outcome : Type 0 where
   reported-done : Outcome
   reported-failed : Outcome
   not-sent : Outcome
+  by-event : Outcome
 
 pub record Answered : Type 0 where
   pub command : Command
   pub outcome : Outcome
 
--- What is told of one id: does it run ("a routine runs until committed or aborted"); its commands that are not answered yet; the command
--- last sent for it, and how many were sent; its answered commands in turn.
+-- What is told of one id: does it run ("a routine runs until committed or aborted"); has it a command in flight, one that was sent and
+-- neither answered nor ended with its routine since; its commands that are not answered yet; the command last sent for it, and how many
+-- were sent; its answered commands, as they were answered.
 pub record Account : Type 0 where
   pub running : Bool
+  pub flying : Bool
   pub left : List Command
   pub lastSent : Command
   pub sends : ℕ
   pub answered : List Answered
 
 abbrev pub noAccount : Account
-noAccount = record { running = false; left = []; lastSent = zeroCommand; sends = 0; answered = [] }
+noAccount = record { running = false; flying = false; left = []; lastSent = zeroCommand; sends = 0; answered = [] }
 
 -- The commands that a submission brings.
 abbrev pub submittedBy : Call → List Command
@@ -57,24 +63,75 @@ skippedBy (cancel i) = not-sent
 skippedBy (limit k) = not-sent
 
 abbrev pub placedAccount : List Command → Account
-placedAccount cs = record { running = true; left = cs; lastSent = zeroCommand; sends = 0; answered = [] }
+placedAccount cs = record { running = true; flying = false; left = cs; lastSent = zeroCommand; sends = 0; answered = [] }
 
 abbrev pub sentAccount : Command → Account → Account
-sentAccount c a = record { running = a .running; left = a .left; lastSent = c; sends = suc (a .sends); answered = a .answered }
+sentAccount c a = record {
+  running = a .running;
+  flying = true;
+  left = a .left;
+  lastSent = c;
+  sends = suc (a .sends);
+  answered = a .answered;
+}
+
+abbrev pub answeredBy : Outcome → Command → Answered
+answeredBy o c = record { command = c; outcome = o }
 
 -- The first command that is left is answered.
 abbrev pub answeredAccount : Outcome → List Command → Account → Account
 answeredAccount o [] a = a
 answeredAccount o (c ∷ cs) a = record {
   running = a .running;
+  flying = false;
   left = cs;
   lastSent = a .lastSent;
   sends = a .sends;
-  answered = a .answered ++ (record { command = c; outcome = o } ∷ []);
+  answered = a .answered ++ (answeredBy o c ∷ []);
 }
 
 abbrev pub endedAccount : Account → Account
-endedAccount a = record { running = false; left = a .left; lastSent = a .lastSent; sends = a .sends; answered = a .answered }
+endedAccount a = record {
+  running = false;
+  flying = false;
+  left = a .left;
+  lastSent = a .lastSent;
+  sends = a .sends;
+  answered = a .answered;
+}
+
+-- ---- an event of D: what its answer does not name (document 02, item 3)
+
+abbrev pub isFor : ℕ → Command → Bool
+isFor d c = eqb (c .device) d
+
+-- Begun (document 01, The steps), by the account: a command on D was answered, or is in flight.
+abbrev pub hasBegun : ℕ → Account → Bool
+hasBegun d a = anyOf (λ x. isFor d (x .command)) (a .answered) || (a .flying && isFor d (a .lastSent))
+
+-- Those of these commands that are on D, and the others.
+abbrev pub onlyOn : ℕ → List Command → List Command
+onlyOn d [] = []
+onlyOn d (c ∷ l) = if isFor d c then c ∷ onlyOn d l else onlyOn d l
+
+abbrev pub notOn : ℕ → List Command → List Command
+notOn d [] = []
+notOn d (c ∷ l) = if isFor d c then notOn d l else c ∷ notOn d l
+
+-- "Its remaining commands on D are skipped, one in flight included".
+abbrev pub skippedAccount : ℕ → Account → Account
+skippedAccount d a = record {
+  running = a .running;
+  flying = a .flying && not (isFor d (a .lastSent));
+  left = notOn d (a .left);
+  lastSent = a .lastSent;
+  sends = a .sends;
+  answered = a .answered ++ map (answeredBy by-event) (onlyOn d (a .left));
+}
+
+-- "a running routine that has begun D". One with a must left on D has aborted: the answers tell that first, and it runs no more.
+abbrev pub eventAccount : ℕ → Account → Account
+eventAccount d a = if a .running && hasBegun d a then skippedAccount d a else a
 
 abbrev pub noteAnswer : Call → Answer → (ℕ → Account) → ℕ → Account
 noteAnswer c (refused r) a = a
@@ -85,8 +142,8 @@ noteAnswer c (done i) a = put a i (answeredAccount reported-done (a i .left) (a 
 noteAnswer c (skipped i l) a = put a i (answeredAccount (skippedBy c) (a i .left) (a i))
 noteAnswer c (committed i) a = put a i (endedAccount (a i))
 noteAnswer c (aborted i l) a = put a i (endedAccount (a i))
-noteAnswer c (down d j) a = a
-noteAnswer c (up d j) a = a
+noteAnswer c (down d j) a = λ i. eventAccount d (a i)
+noteAnswer c (up d j) a = λ i. eventAccount d (a i)
 noteAnswer c (limited k) a = a
 
 abbrev pub noteAnswers : Call → List Answer → (ℕ → Account) → ℕ → Account

@@ -16,6 +16,13 @@ pub data Event : Type 0 where
   failure-of : ℕ → Event  -- device
   restart-of : ℕ → ℤ → Event  -- device, the setting it reports
 
+abbrev pub deviceOf : Event → ℕ
+deviceOf (failure-of d) = d
+deviceOf (restart-of d v) = d
+
+abbrev pub isOf : ℕ → Event → Bool
+isOf d x = eqb (deviceOf x) d
+
 -- A routine: its id, its done commands in turn, is it committed; or an event.
 pub data Entry : Type 0 where
   routine : ℕ → List Command → Bool → Entry

@@ -47,15 +47,19 @@ isAnswered was-skipped = true
 unfoldable pub begun : ℕ → Member → Bool
 begun d m = anyOf (λ x. isOn d x && not (isToDo (x .status))) (m .steps)
 
+-- Left on D: on D and not answered, to do or in flight.
+abbrev pub isLeftOn : ℕ → Step → Bool
+isLeftOn d x = isOn d x && not (isAnswered (x .status))
+
 -- Finished (document 01, The steps): "when all its commands on D are answered".
 unfoldable pub finished : ℕ → Member → Bool
-finished d m = not (anyOf (λ x. isOn d x && not (isAnswered (x .status))) (m .steps))
+finished d m = not (anyOf (isLeftOn d) (m .steps))
 
 -- It has a command in flight on D.
 unfoldable pub inFlightOn : ℕ → Member → Bool
 inFlightOn d m = anyOf (λ x. isOn d x && isInFlight (x .status)) (m .steps)
 
--- The next command: the first that is neither sent nor skipped.
+-- The next command: the first that is neither sent nor skipped, anywhere in the routine.
 abbrev pub next : List Step → Option Command
 next [] = none
 next (x ∷ l) = if isToDo (x .status) then some (x .command) else next l

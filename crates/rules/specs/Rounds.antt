@@ -34,27 +34,9 @@ abbrev pub toldThen : List Told → List Told → List Told
 toldThen history [] = history
 toldThen history (t ∷ l) = toldThen (t ∷ history) l
 
--- Has the routine a command in flight? It was sent, and neither answered nor ended with its routine since.
-abbrev pub flyingAfter : Answer → (ℕ → Bool) → ℕ → Bool
-flyingAfter (refused r) f = f
-flyingAfter (placed i j) f = f
-flyingAfter (wait i j) f = f
-flyingAfter (send i c) f = put f i true
-flyingAfter (done i) f = put f i false
-flyingAfter (skipped i l) f = put f i false
-flyingAfter (committed i) f = f
-flyingAfter (aborted i l) f = put f i false
-flyingAfter (down d j) f = f
-flyingAfter (up d j) f = f
-flyingAfter (limited k) f = f
-
-abbrev pub flyingAfterAll : List Answer → (ℕ → Bool) → ℕ → Bool
-flyingAfterAll [] f = f
-flyingAfterAll (x ∷ l) f = flyingAfterAll l (flyingAfter x f)
-
+-- Has the routine a command in flight? By its account, which knows what an event skips.
 abbrev pub flyingOf : List Told → ℕ → Bool
-flyingOf [] = λ i. false
-flyingOf (t ∷ earlier) = flyingAfterAll (t .answers) (flyingOf earlier)
+flyingOf history i = accountsOf history i .flying
 
 -- Is it a "running routine that has nothing in flight"?
 abbrev pub idleOf : List Told → ℕ → Bool

@@ -61,7 +61,8 @@ without o (m ∷ l) = if sameOrigin (m .origin) o then without o l else m ∷ wi
 abbrev pub drops : Origin → Device → Device
 drops o w = record { setting = w .setting; sent = without o (w .sent); took = w .took }
 
--- "never one reported failed": the command last sent for the routine of a report. `a`: the accounts after the call.
+-- "never one reported failed": the command in flight, which is the one last sent for the routine of a report. `a`: the accounts after the
+-- call.
 abbrev pub dropReported : Call → (ℕ → Account) → (ℕ → Device) → ℕ → Device
 dropReported (submit cs) a ds = ds
 dropReported (turn i) a ds = ds
@@ -149,7 +150,9 @@ isAccepted (up d j ∷ l) = true
 isAccepted (limited k ∷ l) = true
 
 -- The premise on an accepted call. The demand: "a done report means the setting was taken, a failed report means it was not", "a restart
--- reports the setting it then has".
+-- reports the setting it then has". A report that is accepted is about the command now in flight, the one last sent. So a late one, for a
+-- command that an event has skipped, must not come once another was sent: "the server must drop it, and this joins the premise on
+-- reports" (document 02, item 3). Before that it is refused and has no premise.
 abbrev pub Truthful : World → Call → Type 0
 Truthful w (submit cs) = Unit {0}
 Truthful w (turn i) = Unit {0}
