@@ -15,7 +15,6 @@ use state::readers;
 ghost use mathlib.Core.Path.{_≡_};
 ghost use mathlib.Core.Bool.{not, _&&_, _||_};
 ghost use mathlib.Core.List.{[]};
-ghost use mathlib.Core.Option.{some};
 ghost use Prim.Native.Nat.{_≤_};
 ghost use Rattle.routine.specs.Routine.{maxDevices};
 ghost use Rattle.rules.specs.Tables.{sameSetting};
@@ -126,7 +125,7 @@ fn tables_of(state: HubState, at: usize, down: u8) -> Tables
 // What the abort of the routine in a slot puts back, while the device `down` fails.
 pub fn backs_of(state: HubState, at: usize, down: u8) -> PutBacks
     requires { ⌜ (StateOk state) × (Stands (state .links) at) ⌝ }
-    ensures { λ r. ⌜ (BacksOk r) × (backsOf r ≡ backsLeft (downIf (stateOf state) down) (some (there state at))) ⌝ }
+    ensures { λ r. ⌜ (BacksOk r) × (backsOf r ≡ backsLeft (downIf (stateOf state) down) (there state at)) ⌝ }
 {
     let tables = tables_of(state, at, down);
     let devices = state.devices;

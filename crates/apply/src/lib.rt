@@ -1,20 +1,43 @@
-// Changes that were decided: a command comes to a stage, a routine commits, a routine joins the sequence. Each takes the rows that it
+// Changes that were decided: a command comes to a stage, the commands left on a device are skipped, a routine commits, a routine joins the
+// sequence. Each takes the rows that it
 // changes out of the state, and puts the state together again by one literal, so that a row which stays is not copied.
 mod fill;
 
 use routine::MAX_COMMANDS;
 use routine::Routine;
 use sequence::keep;
+use state::DONE;
 use state::HubState;
 use state::IN_FLIGHT;
+use state::SKIPPED;
+use state::STEPS;
 use state::Staged;
 ghost use mathlib.Core.Path.{_≡_};
-ghost use Rattle.routine.specs.Routine.{commandsOf};
+ghost use Prim.Native.Nat.{_*_, _≤_};
+ghost use Rattle.routine.specs.Routine.{maxCommands, commandsOf};
+ghost use Rattle.rules.specs.State.{maxHeld};
+ghost use Rattle.rules.specs.Events.{skipRest};
 ghost use Rattle.sequence.specs.Links.{Stands};
-ghost use Rattle.state.specs.View.{stateOf};
+ghost use Rattle.state.specs.View.{stateOf, there};
 ghost use Rattle.state.specs.Valid.{StateOk};
 ghost use Rattle.state.specs.Contract.{staged, committedAt, StageOk, JoinOk};
 ghost use Rattle.apply.specs.Contract.{Places};
+ghost use Rattle.apply.specs.Stages.{FirstOpen, SkipsLeft};
+
+// The first of these commands that is not answered; the end if there is none.
+fn first_open<'a>(stage: &'a [u8; STEPS], from: usize, end: usize) -> usize
+    requires { ⌜ (from ≤ end) × (end ≤ maxHeld * maxCommands) ⌝ }
+    ensures { λ r. ⌜ FirstOpen (now (stage .entry)) from end r ⌝ }
+{
+    let mut k = from;
+    while k < end {
+        if stage[k] < DONE {
+            return k;
+        }
+        k += 1;
+    }
+    end
+}
 
 // The first command that is not answered comes to a stage, and its device to the routine's mark if that begins it.
 pub fn with_stage(state: HubState, change: Staged) -> HubState
@@ -40,17 +63,95 @@ pub fn with_stage(state: HubState, change: Staged) -> HubState
     let mut answered = state.answered;
     let mut mark = state.mark;
     let at = change.at;
-    let so_far = answered[at];
-    stage[at * MAX_COMMANDS + (so_far as usize)] = change.stage;
+    let from = at * MAX_COMMANDS;
+    let end = from + (counts[at] as usize);
+    let open = from + (answered[at] as usize);
+    stage[open] = change.stage;
     let due = change.due_then;
     due_then[at] = due;
     if change.stage != IN_FLIGHT {
-        answered[at] = so_far + 1;
+        let next = first_open(&stage, open + 1, end);
+        answered[at] = (next - from) as u8;
     }
     if change.begins {
         let d = change.device as usize;
         mark[d] = change.id;
     }
+    HubState {
+        devices,
+        pass_limit,
+        next_id,
+        links,
+        ids,
+        passed,
+        committed,
+        counts,
+        answered,
+        due_then,
+        device,
+        tag,
+        setting,
+        stage,
+        restarts,
+        settled,
+        up,
+        mark,
+    }
+}
+
+// Those of these commands that are left on the device are skipped.
+fn skip_left<'a>(
+    stage: [u8; STEPS],
+    device: &'a [u8; STEPS],
+    from: usize,
+    end: usize,
+    wanted: u8,
+) -> [u8; STEPS]
+    requires { ⌜ (from ≤ end) × (end ≤ maxHeld * maxCommands) ⌝ }
+    ensures { λ r. ⌜ SkipsLeft stage (now (device .entry)) wanted from end r ⌝ }
+{
+    let mut skipped = stage;
+    let mut k = from;
+    while k < end {
+        if device[k] == wanted {
+            if skipped[k] < DONE {
+                skipped[k] = SKIPPED;
+            }
+        }
+        k += 1;
+    }
+    skipped
+}
+
+// An event of a device: the commands of the routine in a slot that are left on it are skipped (document 02, item 3).
+pub fn with_skips(state: HubState, at: usize, wanted: u8) -> HubState
+    requires { ⌜ (StateOk state) × (Stands (state .links) at) ⌝ }
+    ensures { λ r. ⌜ (StateOk r) × (stateOf r ≡ skipRest wanted (stateOf state) (there state at)) ⌝ }
+{
+    let devices = state.devices;
+    let pass_limit = state.pass_limit;
+    let next_id = state.next_id;
+    let links = state.links;
+    let ids = state.ids;
+    let passed = state.passed;
+    let committed = state.committed;
+    let counts = state.counts;
+    let due_then = state.due_then;
+    let device = state.device;
+    let tag = state.tag;
+    let setting = state.setting;
+    let old_stage = state.stage;
+    let restarts = state.restarts;
+    let settled = state.settled;
+    let up = state.up;
+    let mark = state.mark;
+    let mut answered = state.answered;
+    let from = at * MAX_COMMANDS;
+    let end = from + (counts[at] as usize);
+    let open = from + (answered[at] as usize);
+    let stage = skip_left(old_stage, &device, from, end, wanted);
+    let next = first_open(&stage, open, end);
+    answered[at] = (next - from) as u8;
     HubState {
         devices,
         pass_limit,

@@ -1,4 +1,4 @@
-// Document 01, "Failure or restart of D". Refusals: failure 14, 15; restart 14, 16, 17.
+// Document 01, "Failure or restart of D", with document 02, item 3. Refusals: failure 14, 15; restart 14, 16, 17.
 use answers::Answer;
 use answers::First;
 use answers::OneBack;
@@ -23,19 +23,21 @@ ghost use Rattle.rules.specs.Events.{failureOf, restartOf};
 ghost use Rattle.answers.specs.View.{backsOf, BacksOk};
 ghost use Rattle.state.specs.View.{isRestart, stateOf};
 ghost use Rattle.state.specs.Valid.{StateOk};
-ghost use Rattle.state.specs.Contract.{goneIn, leftBy, backsLeft, downWith, upWith, StandsOrPast, Decides};
+ghost use Rattle.state.specs.Contract.{halfwayIn, stoppedBy, backsStopped, downWith, upWith, StandsOrPast, Decides};
 ghost use Rattle.abort.specs.PutBacks.{downIf};
 ghost use Rattle.events.specs.Contract.{IsHalfway};
 
-// The routine that an event aborts, by its slot, MAX_HELD if it aborts none; the abort as it is told; and the device's mark after it.
-pub struct EventAbort {
-    pub gone: usize,
+// The routine that is halfway with an event's device, by its slot, MAX_HELD if there is none; its abort as it is told, if it aborts; and the
+// device's mark after that.
+pub struct Affected {
+    pub slot: usize,
     pub first: First,
     pub mark: u32,
 }
 
-// "A running routine that has begun D and not finished it then aborts, whatever its tags"
-fn halfway(state: HubState, device: u8) -> EventAbort
+// "A running routine that has begun D and not finished it": with a must left on D it aborts, else it loses what is left on D (document 02,
+// item 3).
+fn halfway(state: HubState, device: u8) -> Affected
     requires { ⌜ (StateOk state) × (device < maxDevices) ⌝ }
     ensures { λ r. ⌜ IsHalfway state device r ⌝ }
 {
@@ -43,22 +45,29 @@ fn halfway(state: HubState, device: u8) -> EventAbort
     let d = device as usize;
     let mark = marks[d];
     let place = search::halfway(state, device);
-    let Place::At(gone) = place else {
-        return EventAbort {
-            gone: MAX_HELD,
+    let Place::At(slot) = place else {
+        return Affected {
+            slot: MAX_HELD,
             first: First::NoAbort,
             mark,
         };
     };
+    if !search::must_left(state, slot, device) {
+        return Affected {
+            slot,
+            first: First::NoAbort,
+            mark,
+        };
+    }
     let ids = state.ids;
-    let id = ids[gone];
+    let id = ids[slot];
     let first = First::Abort(id);
     if mark != id {
-        return EventAbort { gone, first, mark };
+        return Affected { slot, first, mark };
     }
-    let before = readers::id_ahead(state, gone);
-    EventAbort {
-        gone,
+    let before = readers::id_ahead(state, slot);
+    Affected {
+        slot,
         first,
         mark: before,
     }
@@ -81,7 +90,7 @@ pub fn decide_failure(state: HubState, device: u8) -> Decision
         first,
         answer: Answer::Down(device, half.mark),
         back: OneBack::Nothing,
-        change: Change::Fail(device, half.gone),
+        change: Change::Fail(device, half.slot),
     }
 }
 
@@ -105,44 +114,56 @@ pub fn decide_restart(state: HubState, device: u8, setting: i16) -> Decision
         first,
         answer: Answer::Up(device, half.mark),
         back: OneBack::Nothing,
-        change: Change::Restart(device, setting, half.gone),
+        change: Change::Restart(device, setting, half.slot),
     }
 }
 
 // What the abort that comes first puts back, if there is one, while the device `down` fails; a number past the devices is none.
-pub fn backs_if(state: HubState, gone: usize, down: u8) -> PutBacks
-    requires { ⌜ (StateOk state) × (StandsOrPast state gone) ⌝ }
-    ensures { λ r. ⌜ (BacksOk r) × (backsOf r ≡ backsLeft (downIf (stateOf state) down) (goneIn state gone)) ⌝ }
+pub fn backs_if(state: HubState, slot: usize, device: u8, down: u8) -> PutBacks
+    requires { ⌜ (StateOk state) × (StandsOrPast state slot) ⌝ }
+    ensures { λ r. ⌜ (BacksOk r) × (backsOf r ≡ backsStopped device (downIf (stateOf state) down) (halfwayIn state slot)) ⌝ }
 {
-    if gone < MAX_HELD {
-        return abort::backs_of(state, gone, down);
+    if slot < MAX_HELD {
+        if search::must_left(state, slot, device) {
+            return abort::backs_of(state, slot, down);
+        }
     }
     answers::no_backs()
 }
 
-// "On a failure D first becomes down." Then the abort.
-pub fn with_failure(state: HubState, device: u8, gone: usize) -> HubState
-    requires { ⌜ (StateOk state) × (device < maxDevices) × (StandsOrPast state gone) ⌝ }
-    ensures { λ r. ⌜ (StateOk r) × (stateOf r ≡ leftBy (downWith (stateOf state) device) (goneIn state gone)) ⌝ }
+// The routine that an event finds halfway with its device aborts, or its commands left there are skipped.
+fn stopped(state: HubState, slot: usize, device: u8) -> HubState
+    requires { ⌜ (StateOk state) × (StandsOrPast state slot) ⌝ }
+    ensures { λ r. ⌜ (StateOk r) × (stateOf r ≡ stoppedBy device (stateOf state) (halfwayIn state slot)) ⌝ }
 {
-    let mut next = leaving::with_up(state, device, false);
-    if gone < MAX_HELD {
-        let left = leaving::left(next, gone);
-        next = left;
+    let mut next = state;
+    if slot < MAX_HELD {
+        if search::must_left(state, slot, device) {
+            let left = leaving::left(next, slot);
+            next = left;
+        } else {
+            let skipped = apply::with_skips(next, slot, device);
+            next = skipped;
+        }
     }
     next
 }
 
-// The abort; the event is attached to D's mark; "On a restart D then becomes up at the setting it reports."
-pub fn with_restart(state: HubState, device: u8, setting: i16, gone: usize) -> HubState
-    requires { ⌜ (StateOk state) × (device < maxDevices) × (isRestart setting ≡ true) × (StandsOrPast state gone) ⌝ }
-    ensures { λ r. ⌜ (StateOk r) × (stateOf r ≡ upWith (leftBy (stateOf state) (goneIn state gone)) device setting) ⌝ }
+// "On a failure D first becomes down." Then the abort, or the skips.
+pub fn with_failure(state: HubState, device: u8, slot: usize) -> HubState
+    requires { ⌜ (StateOk state) × (device < maxDevices) × (StandsOrPast state slot) ⌝ }
+    ensures { λ r. ⌜ (StateOk r) × (stateOf r ≡ stoppedBy device (downWith (stateOf state) device) (halfwayIn state slot)) ⌝ }
 {
-    let mut next = state;
-    if gone < MAX_HELD {
-        let left = leaving::left(next, gone);
-        next = left;
-    }
+    let next = leaving::with_up(state, device, false);
+    stopped(next, slot, device)
+}
+
+// The abort, or the skips; the event is attached to D's mark; "On a restart D then becomes up at the setting it reports."
+pub fn with_restart(state: HubState, device: u8, setting: i16, slot: usize) -> HubState
+    requires { ⌜ (StateOk state) × (device < maxDevices) × (isRestart setting ≡ true) × (StandsOrPast state slot) ⌝ }
+    ensures { λ r. ⌜ (StateOk r) × (stateOf r ≡ upWith (stoppedBy device (stateOf state) (halfwayIn state slot)) device setting) ⌝ }
+{
+    let next = stopped(state, slot, device);
     let marks = next.mark;
     let d = device as usize;
     let with_it = leaving::attached(next, marks[d], device, setting);

@@ -34,8 +34,8 @@ pub fn backs_of(state: HubState, decision: Decision) -> PutBacks
         Change::Commit(_) => answers::at_most_one(back),
         Change::Join(_) => answers::at_most_one(back),
         Change::Abort(at) => abort::backs_of(state, at, NO_DEVICE),
-        Change::Fail(device, gone) => events::backs_if(state, gone, device),
-        Change::Restart(_, _, gone) => events::backs_if(state, gone, NO_DEVICE),
+        Change::Fail(device, slot) => events::backs_if(state, slot, device, device),
+        Change::Restart(device, _, slot) => events::backs_if(state, slot, device, NO_DEVICE),
     }
 }
 
@@ -50,8 +50,8 @@ fn changed(hub: Hub, change: Change, routine: Routine) -> Hub
         Change::Commit(at) => crate::with_commit(hub, at),
         Change::Join(after) => crate::with_routine(hub, after, routine),
         Change::Abort(at) => crate::with_abort(hub, at),
-        Change::Fail(device, gone) => crate::with_failure(hub, device, gone),
-        Change::Restart(device, setting, gone) => crate::with_restart(hub, device, setting, gone),
+        Change::Fail(device, slot) => crate::with_failure(hub, device, slot),
+        Change::Restart(device, setting, slot) => crate::with_restart(hub, device, setting, slot),
     }
 }
 

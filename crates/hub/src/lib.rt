@@ -35,7 +35,7 @@ ghost use Rattle.rules.specs.Calls.{StaysClosed};
 ghost use Rattle.sequence.specs.Links.{Stands};
 ghost use Rattle.answers.specs.View.{backsOf, BacksOk};
 ghost use Rattle.state.specs.View.{isRestart, there, firstCommitted};
-ghost use Rattle.state.specs.Contract.{staged, committedAt, joinedBehind, goneIn, leftBy, downWith, upWith, StandsOrPast, StageOk, JoinOk};
+ghost use Rattle.state.specs.Contract.{staged, committedAt, joinedBehind, halfwayIn, stoppedBy, downWith, upWith, StandsOrPast, StageOk, JoinOk};
 ghost use Rattle.state.specs.Contract.{Decides, backsOfDecision};
 ghost use Rattle.hub.specs.View.{view};
 ghost use Rattle.hub.specs.Valid.{Valid};
@@ -303,23 +303,23 @@ pub fn with_abort(hub: Hub, at: usize) -> Hub
     Hub { state: next }
 }
 
-// A device fails; the routine in a slot aborts by that, if there is one.
-pub fn with_failure(hub: Hub, device: u8, gone: usize) -> Hub
-    requires { ⌜ (Valid hub) × (device < maxDevices) × (StandsOrPast (hub .state) gone) ⌝ }
-    ensures { λ r. ⌜ (Valid r) × (view r ≡ leftBy (downWith (view hub) device) (goneIn (hub .state) gone)) ⌝ }
+// A device fails; the routine in a slot, if there is one, aborts by that or loses what is left there.
+pub fn with_failure(hub: Hub, device: u8, slot: usize) -> Hub
+    requires { ⌜ (Valid hub) × (device < maxDevices) × (StandsOrPast (hub .state) slot) ⌝ }
+    ensures { λ r. ⌜ (Valid r) × (view r ≡ stoppedBy device (downWith (view hub) device) (halfwayIn (hub .state) slot)) ⌝ }
 {
     let state = hub.state;
-    let next = events::with_failure(state, device, gone);
+    let next = events::with_failure(state, device, slot);
     Hub { state: next }
 }
 
-// A device restarts; the routine in a slot aborts by that, if there is one.
-pub fn with_restart(hub: Hub, device: u8, setting: i16, gone: usize) -> Hub
-    requires { ⌜ (Valid hub) × (device < maxDevices) × (isRestart setting ≡ true) × (StandsOrPast (hub .state) gone) ⌝ }
-    ensures { λ r. ⌜ (Valid r) × (view r ≡ upWith (leftBy (view hub) (goneIn (hub .state) gone)) device setting) ⌝ }
+// A device restarts; the routine in a slot, if there is one, aborts by that or loses what is left there.
+pub fn with_restart(hub: Hub, device: u8, setting: i16, slot: usize) -> Hub
+    requires { ⌜ (Valid hub) × (device < maxDevices) × (isRestart setting ≡ true) × (StandsOrPast (hub .state) slot) ⌝ }
+    ensures { λ r. ⌜ (Valid r) × (view r ≡ upWith (stoppedBy device (view hub) (halfwayIn (hub .state) slot)) device setting) ⌝ }
 {
     let state = hub.state;
-    let next = events::with_restart(state, device, setting, gone);
+    let next = events::with_restart(state, device, setting, slot);
     Hub { state: next }
 }
 

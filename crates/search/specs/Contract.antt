@@ -2,9 +2,10 @@
 use mathlib.Core.Path.{_≡_}
 use mathlib.Core.Bool.{Bool, false, _&&_, _||_}
 use mathlib.Core.List.{List, map}
-use Prim.Native.Nat.{ℕ, zero, suc, _-_}
-use lib.Dec.{eqb}
+use Prim.Native.Nat.{ℕ, zero, suc}
+use lib.Dec.{eqb, leb}
 use lib.ListN.{getD}
+use Rattle.routine.specs.Routine.{mustTag}
 use Rattle.routine.specs.declared.Command.{Command}
 use Rattle.rules.specs.State.{Member}
 use Rattle.rules.specs.Sequence.{find}
@@ -29,12 +30,21 @@ abbrev pub anyOn : List ℕ → ℕ → ℕ → ℕ → Bool
 anyOn row d k zero = false
 anyOn row d k (suc n) = eqb (getD row k 0) d || anyOn row d (suc k) n
 
--- Of a routine whose commands stand from one place to another, those before `mid` answered and no other: is the device begun and not
--- finished? One that is not answered is on it, and one before `mid` is, or the command at `mid` is, in flight.
-unfoldable pub between : List ℕ → List ℕ → ℕ → ℕ → ℕ → ℕ → Bool
-between device stage from mid end d =
-    anyOn device d mid (end - mid) &&
-    (anyOn device d from (mid - from) || (eqb (getD stage mid 0) inFlightCode && eqb (getD device mid 0) d))
+-- Is one of n commands, from a place on, on this device and at a stage from `low` to `high`?
+abbrev pub anyStaged : List ℕ → List ℕ → ℕ → ℕ → ℕ → ℕ → ℕ → Bool
+anyStaged device stage d low high k zero = false
+anyStaged device stage d low high k (suc n) =
+    (eqb (getD device k 0) d && leb low (getD stage k 0) && leb (getD stage k 0) high) || anyStaged device stage d low high (suc k) n
+
+-- The stages of a command that begins its device, and of one that is left: from one to another.
+abbrev pub highestStage : ℕ
+highestStage = 255
+
+-- Is one of n commands, from a place on, on this device, not answered and a must?
+abbrev pub anyMust : List ℕ → List ℕ → List ℕ → ℕ → ℕ → ℕ → Bool
+anyMust device tag stage d k zero = false
+anyMust device tag stage d k (suc n) =
+    (eqb (getD device k 0) d && leb (getD stage k 0) inFlightCode && eqb (getD tag k 0) mustTag) || anyMust device tag stage d (suc k) n
 
 -- The marks of the devices of these commands, in turn.
 unfoldable pub marksFor : List ℕ → List Command → List ℕ

@@ -1,8 +1,9 @@
-// Searches along the links: for a routine, for the one to wait for, for the one that an event aborts, and for the one that a newcomer
+// Searches along the links: for a routine, for the one to wait for, for the one that is halfway with a device, and for the one that a newcomer
 // follows. They take the rows that they read out of the state; the long rows of a call are lent to them.
 use routine::MAX_COMMANDS;
 use routine::MAX_DEVICES;
 use routine::Routine;
+use routine::tags::MUST;
 use sequence::MAX_HELD;
 use sequence::NONE;
 use state::DONE;
@@ -11,20 +12,23 @@ use state::HubState;
 use state::IN_FLIGHT;
 use state::Place;
 use state::STEPS;
+use state::TO_DO;
 ghost use mathlib.Core.Path.{_≡_};
-ghost use mathlib.Core.Option.{none};
 ghost use Prim.Native.Nat.{_-_, _*_, _≤_};
 ghost use lib.ListN.{take};
 ghost use Rattle.routine.specs.Routine.{maxCommands, commandsOf};
 ghost use Rattle.rules.specs.State.{maxHeld};
 ghost use Rattle.rules.specs.Sequence.{runs};
-ghost use Rattle.rules.specs.Progress.{begun, flight};
+ghost use Rattle.rules.specs.Progress.{begun};
 ghost use Rattle.rules.specs.Turn.{firstHolding};
-ghost use Rattle.rules.specs.Events.{isHalfway};
+ghost use Rattle.rules.specs.Events.{isHalfway, mustLeft};
 ghost use Rattle.sequence.specs.Links.{Stands};
-ghost use Rattle.state.specs.View.{memberAt, stepsAt, there, holderOf};
+ghost use Rattle.state.specs.View.{memberAt, there, holderOf};
 ghost use Rattle.state.specs.Valid.{StateOk, CommandsOk};
-ghost use Rattle.search.specs.Contract.{hasId, Finds, anyOn, between, marksFor, Latest};
+ghost use Rattle.search.specs.Contract.{hasId, Finds, anyOn, anyStaged, anyMust, marksFor, Latest};
+
+// No stage is higher.
+const HIGHEST_STAGE: u8 = 255;
 
 // The running routine with this id.
 pub fn running(state: HubState, id: u32) -> Place
@@ -104,55 +108,48 @@ pub fn first_holder<'a>(
     holder
 }
 
-// Is one of these commands on the device?
-fn is_on<'a>(device: &'a [u8; STEPS], from: usize, end: usize, wanted: u8) -> bool
+// Is one of these commands on the device and at a stage from `low` to `high`?
+fn is_staged<'a>(
+    device: &'a [u8; STEPS],
+    stage: &'a [u8; STEPS],
+    from: usize,
+    end: usize,
+    wanted: u8,
+    low: u8,
+    high: u8,
+) -> bool
     requires { ⌜ (from ≤ end) × (end ≤ maxHeld * maxCommands) ⌝ }
-    ensures { λ r. ⌜ r ≡ anyOn (now (device .entry)) wanted from (end - from) ⌝ }
+    ensures { λ r. ⌜ r ≡ anyStaged (now (device .entry)) (now (stage .entry)) wanted low high from (end - from) ⌝ }
 {
     let mut k = from;
     while k < end {
         if device[k] == wanted {
-            return true;
+            if low <= stage[k] {
+                if stage[k] <= high {
+                    return true;
+                }
+            }
         }
         k += 1;
     }
     false
 }
 
-// Begun (document 01, The steps), of a routine with nothing in flight.
-pub fn has_begun<'a>(state: HubState, device: &'a [u8; STEPS], at: usize, wanted: u8) -> bool
-    requires { ⌜ (StateOk state) × (Stands (state .links) at) × (now device ≡ state .device) × (flight (stepsAt state at) ≡ none) ⌝ }
-    ensures { λ r. ⌜ r ≡ begun wanted (memberAt state at) ⌝ }
-{
-    let answered = state.answered;
-    let from = at * MAX_COMMANDS;
-    let end = from + (answered[at] as usize);
-    is_on(device, from, end, wanted)
-}
-
-// Begun and not finished: those before `mid` are answered, and no other. Where one from `mid` on is on the device there is a command at
-// `mid`.
-fn is_between<'a>(
+// Begun (document 01, The steps): a command on the device was sent or skipped.
+pub fn has_begun<'a>(
+    state: HubState,
     device: &'a [u8; STEPS],
     stage: &'a [u8; STEPS],
-    from: usize,
-    mid: usize,
-    end: usize,
+    at: usize,
     wanted: u8,
 ) -> bool
-    requires { ⌜ (from ≤ mid) × (mid ≤ end) × (end ≤ maxHeld * maxCommands) ⌝ }
-    ensures { λ r. ⌜ r ≡ between (now (device .entry)) (now (stage .entry)) from mid end wanted ⌝ }
+    requires { ⌜ (StateOk state) × (Stands (state .links) at) × (now device ≡ state .device) × (now stage ≡ state .stage) ⌝ }
+    ensures { λ r. ⌜ r ≡ begun wanted (memberAt state at) ⌝ }
 {
-    if !is_on(device, mid, end, wanted) {
-        return false;
-    }
-    if is_on(device, from, mid, wanted) {
-        return true;
-    }
-    if stage[mid] == IN_FLIGHT {
-        return device[mid] == wanted;
-    }
-    false
+    let counts = state.counts;
+    let from = at * MAX_COMMANDS;
+    let end = from + (counts[at] as usize);
+    is_staged(device, stage, from, end, wanted, IN_FLIGHT, HIGHEST_STAGE)
 }
 
 // "A running routine that has begun D and not finished it"
@@ -164,22 +161,62 @@ pub fn halfway(state: HubState, wanted: u8) -> Place
     let behind = links.behind;
     let committed = state.committed;
     let counts = state.counts;
-    let answered = state.answered;
     let device = state.device;
     let stage = state.stage;
     let mut i = links.first as usize;
     while i < MAX_HELD {
         if !committed[i] {
             let from = i * MAX_COMMANDS;
-            let mid = from + (answered[i] as usize);
             let end = from + (counts[i] as usize);
-            if is_between(&device, &stage, from, mid, end, wanted) {
-                return Place::At(i);
+            if is_staged(&device, &stage, from, end, wanted, TO_DO, IN_FLIGHT) {
+                if is_staged(&device, &stage, from, end, wanted, IN_FLIGHT, HIGHEST_STAGE) {
+                    return Place::At(i);
+                }
             }
         }
         i = behind[i] as usize;
     }
     Place::Nowhere
+}
+
+// Is one of these commands a must that is left on the device?
+fn is_must_left<'a>(
+    device: &'a [u8; STEPS],
+    tag: &'a [u8; STEPS],
+    stage: &'a [u8; STEPS],
+    from: usize,
+    end: usize,
+    wanted: u8,
+) -> bool
+    requires { ⌜ (from ≤ end) × (end ≤ maxHeld * maxCommands) ⌝ }
+    ensures { λ r. ⌜ r ≡ anyMust (now (device .entry)) (now (tag .entry)) (now (stage .entry)) wanted from (end - from) ⌝ }
+{
+    let mut k = from;
+    while k < end {
+        if device[k] == wanted {
+            if stage[k] <= IN_FLIGHT {
+                if tag[k] == MUST {
+                    return true;
+                }
+            }
+        }
+        k += 1;
+    }
+    false
+}
+
+// Is a must of the routine in a slot left on the device?
+pub fn must_left(state: HubState, at: usize, wanted: u8) -> bool
+    requires { ⌜ (StateOk state) × (Stands (state .links) at) ⌝ }
+    ensures { λ r. ⌜ r ≡ mustLeft wanted (memberAt state at) ⌝ }
+{
+    let counts = state.counts;
+    let device = state.device;
+    let tag = state.tag;
+    let stage = state.stage;
+    let from = at * MAX_COMMANDS;
+    let end = from + (counts[at] as usize);
+    is_must_left(&device, &tag, &stage, from, end, wanted)
 }
 
 // The marks of a routine's devices.

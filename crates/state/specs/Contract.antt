@@ -20,6 +20,7 @@ use Rattle.rules.specs.Settle.{settling}
 use Rattle.rules.specs.Abort.{leave, putBacks}
 use Rattle.rules.specs.Submit.{pass, newcomer}
 use Rattle.rules.specs.Turn.{commit}
+use Rattle.rules.specs.Events.{mustLeft, stopIfAny}
 use Rattle.sequence.specs.Lists.{through, past}
 use Rattle.sequence.specs.Links.{none as noSlot, slotsOf, Stands, StandsOrNone}
 use Rattle.answers.specs.View.{oneOf, firstOf, answerOf, backsIn, changesNothing}
@@ -70,18 +71,21 @@ joinedBehind h cs after = record {
   mark = stateOf h .mark;
 }
 
--- The routine in a slot; there is none past the slots.
-abbrev pub goneIn : HubState → ℕ → Option Found
-goneIn h x = if ltb x maxHeld then some (there h x) else none
+-- What the abort of a routine puts back.
+abbrev pub backsLeft : State → Found → List Back
+backsLeft s f = putBacks s (f .it) (leave s f) 0 (s .devices)
 
--- The state that the abort of a routine leaves, if one aborts; and what it puts back.
-abbrev pub leftBy : State → Option Found → State
-leftBy s none = s
-leftBy s (some f) = leave s f
+-- The routine that an event finds halfway with its device, by its slot; there is none past the slots.
+abbrev pub halfwayIn : HubState → ℕ → Option Found
+halfwayIn h x = if ltb x maxHeld then some (there h x) else none
 
-abbrev pub backsLeft : State → Option Found → List Back
-backsLeft s none = []
-backsLeft s (some f) = putBacks s (f .it) (leave s f) 0 (s .devices)
+-- The state that an event of d leaves of it, by its abort or by skips (document 02, item 3); and what its abort puts back.
+abbrev pub stoppedBy : ℕ → State → Option Found → State
+stoppedBy d s o = stopIfAny d s o .state
+
+abbrev pub backsStopped : ℕ → State → Option Found → List Back
+backsStopped d s none = []
+backsStopped d s (some f) = if mustLeft d (f .it) then backsLeft s f else []
 
 -- A device becomes down.
 abbrev pub downWith : State → ℕ → State
@@ -98,8 +102,8 @@ appliedTo h cs (Stage c) = staged h c
 appliedTo h cs (Commit x) = committedAt h x
 appliedTo h cs (Join after) = joinedBehind h cs after
 appliedTo h cs (Abort x) = leave (stateOf h) (there h x)
-appliedTo h cs (Fail d x) = leftBy (downWith (stateOf h) d) (goneIn h x)
-appliedTo h cs (Restart d v x) = upWith (leftBy (stateOf h) (goneIn h x)) d v
+appliedTo h cs (Fail d x) = stoppedBy d (downWith (stateOf h) d) (halfwayIn h x)
+appliedTo h cs (Restart d v x) = upWith (stoppedBy d (stateOf h) (halfwayIn h x)) d v
 
 -- What is put back: by an abort, or what the decision has.
 abbrev pub backsBy : HubState → List Back → Change → List Back
@@ -107,9 +111,9 @@ backsBy h l Nothing = l
 backsBy h l (Stage c) = l
 backsBy h l (Commit x) = l
 backsBy h l (Join after) = l
-backsBy h l (Abort x) = backsLeft (stateOf h) (some (there h x))
-backsBy h l (Fail d x) = backsLeft (downWith (stateOf h) d) (goneIn h x)
-backsBy h l (Restart d v x) = backsLeft (stateOf h) (goneIn h x)
+backsBy h l (Abort x) = backsLeft (stateOf h) (there h x)
+backsBy h l (Fail d x) = backsStopped d (downWith (stateOf h) d) (halfwayIn h x)
+backsBy h l (Restart d v x) = backsStopped d (stateOf h) (halfwayIn h x)
 
 -- ---- what the appliers may rely on
 

@@ -1,14 +1,14 @@
 -- Validity of a hub's state: what opening gives and every call keeps. Assumes nothing.
 use mathlib.Core.Path.{_≡_}
-use mathlib.Core.Bool.{true, false}
+use mathlib.Core.Bool.{Bool, true, false}
 use mathlib.Core.List.{List, [], _∷_}
 use Prim.Native.Nat.{ℕ, zero, suc, _<_, _≤_}
 use lib.ListN.{getD}
 use Rattle.routine.specs.Routine.{maxDevices, maxCommands}
 use Rattle.routine.specs.declared.Command.{Command}
-use Rattle.rules.specs.State.{highestId, Step, Member}
+use Rattle.rules.specs.State.{highestId, Status, to-do, in-flight, was-done, was-skipped, Step, Member}
 use Rattle.rules.specs.Sequence.{isRunning}
-use Rattle.rules.specs.Progress.{isToDo, isAnswered}
+use Rattle.rules.specs.Progress.{isAnswered}
 use Rattle.rules.specs.Tables.{Each}
 use Rattle.sequence.specs.Links.{LinksOk, Stands}
 use Rattle.state.specs.View.{stepsAt}
@@ -25,13 +25,20 @@ CommandsOk cs = Each CommandOk cs
 abbrev pub StepOk : Step → Type 0
 StepOk x = CommandOk (x .command)
 
-abbrev pub IsToDo : Step → Type 0
-IsToDo x = isToDo (x .status) ≡ true
+-- Behind the first command that is not answered: to do, or skipped by an event (document 02, item 3).
+abbrev pub isBehind : Status → Bool
+isBehind to-do = true
+isBehind (in-flight u) = false
+isBehind was-done = false
+isBehind was-skipped = true
 
--- The first n of the commands are answered; the next, if there is one, is not; those behind that are to do.
+abbrev pub IsBehind : Step → Type 0
+IsBehind x = isBehind (x .status) ≡ true
+
+-- The first n of the commands are answered; the next, if there is one, is not; of those behind that none is in flight or done.
 abbrev pub AnsweredUpTo : ℕ → List Step → Type 0
 AnsweredUpTo zero [] = Unit {0}
-AnsweredUpTo zero (x ∷ l) = (isAnswered (x .status) ≡ false) × Each IsToDo l
+AnsweredUpTo zero (x ∷ l) = (isAnswered (x .status) ≡ false) × Each IsBehind l
 AnsweredUpTo (suc n) [] = ⊥
 AnsweredUpTo (suc n) (x ∷ l) = (isAnswered (x .status) ≡ true) × AnsweredUpTo n l
 

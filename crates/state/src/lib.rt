@@ -85,7 +85,8 @@ pub struct Staged {
 }
 
 // What a call changes, by slots of the state that it was decided on. `Join` has the slot that the newcomer follows, `Fail` and `Restart`
-// the one that aborts first; a number past the slots stands for none.
+// the one of the routine that is halfway with the device, which aborts first or has its commands left there skipped; a number past the
+// slots stands for none.
 pub enum Change {
     Nothing,
     Stage(Staged),

@@ -46,7 +46,7 @@ fn send<'a>(
     let settings = state.setting;
     let setting = settings[k];
     let due_then = due::due_setting(state, device, stage, &settings, wanted);
-    let begun = search::has_begun(state, device, at, wanted);
+    let begun = search::has_begun(state, device, stage, at, wanted);
     let change = Staged {
         at,
         stage: IN_FLIGHT,
@@ -65,13 +65,20 @@ fn send<'a>(
 }
 
 // "a best-effort is skipped"
-fn skip<'a>(state: HubState, device: &'a [u8; STEPS], at: usize, k: usize, id: u32) -> Decision
+fn skip<'a>(
+    state: HubState,
+    device: &'a [u8; STEPS],
+    stage: &'a [u8; STEPS],
+    at: usize,
+    k: usize,
+    id: u32,
+) -> Decision
     requires { ⌜ (StateOk state) × (Stands (state .links) at) × (OpenToDo state at k) × (id ≡ memberAt state at .id)
-        × (now device ≡ state .device) ⌝ }
+        × (now device ≡ state .device) × (now stage ≡ state .stage) ⌝ }
     ensures { λ r. ⌜ Decides state [] r (settling (skipTurn (stateOf state) (there state at) (commandAt state k))) ⌝ }
 {
     let wanted = device[k];
-    let begun = search::has_begun(state, device, at, wanted);
+    let begun = search::has_begun(state, device, stage, at, wanted);
     let change = Staged {
         at,
         stage: SKIPPED,
@@ -103,7 +110,7 @@ fn go_on<'a>(
     if tags[k] == MUST {
         return decisions::plain(Answer::Aborted(id), Change::Abort(at));
     }
-    skip(state, device, at, k, id)
+    skip(state, device, stage, at, k, id)
 }
 
 // The next command: "the answer is wait, with the first such id in the sequence, and no change", or it goes on.
