@@ -40,7 +40,7 @@ use Rattle.rules.specs.Open.{opened, not-opened, limitCheck, openCheck, 
 use Rattle.rules.specs.Submit.{submitCheck, submitOf}
 use Rattle.rules.specs.Turn.{firstHolding, commitTurn, sendTurn, skipTurn, proceed, waitOr, turnNext, turnFlight, turnFound, turnOf}
 use Rattle.rules.specs.Report.{codeDone, codeFailed, doneReport, skipReport, reported, reportFlight, reportFound, reportOf}
-use Rattle.rules.specs.Events.{isHalfway, abortIfAny, abortHalfway, failureResult, restartResult, failureOf, restartOf}
+use Rattle.rules.specs.Events.{isHalfway, mustLeft, stopIfAny, stopHalfway, failureResult, restartResult, failureOf, restartOf}
 use Rattle.rules.specs.Cancel.{cancelFound, cancelOf}
 use Rattle.rules.specs.Limit.{withPassLimit, limitOf}
 use Rattle.rules.specs.Calls.{resultOf}
@@ -417,13 +417,13 @@ cancel-verdicted s i = cancel-located s i (name s i)
 -- ---- failure and restart
 
 -- the abort that comes first is no refusal
-halfway-fine : (d : ℕ) (s : State) → NoneOf IsRefusal (abortHalfway d s .answers)
-unfolding abortHalfway
+halfway-fine : (d : ℕ) (s : State) → NoneOf IsRefusal (stopHalfway d s .answers)
+unfolding stopHalfway
 halfway-fine d s = go (find (isHalfway d) (s .sequence))
   where
-    go : (o : Option Found) → NoneOf IsRefusal (abortIfAny s o .answers)
+    go : (o : Option Found) → NoneOf IsRefusal (stopIfAny d s o .answers)
     go none = tt
-    go (some f) = abort-fine s f
+    go (some f) = byIf (λ (r : Result). NoneOf IsRefusal (r .answers)) (mustLeft d (f .it)) (λ _. abort-fine s f) (λ _. tt)
 
 -- the verdicts on them, as the rules have them
 abbrev failureVerdict : State → ℕ → Verdict
@@ -446,7 +446,7 @@ module _ (s : State) (d : ℕ) where
   unfolding failureResult
   failure-fine =
       let failed = withUp s (put (s .up) d false) in
-      let r = abortHalfway d failed in
+      let r = stopHalfway d failed in
       no-refusal-last (r .answers) (down d (r .state .mark d)) (halfway-fine d failed) refl
 
   failure-outcome : Outcome (CallCause s (failure d)) itself (callCauses (failure d)) (failureVerdict s d)
@@ -468,7 +468,7 @@ module _ (s : State) (d : ℕ) where
     restart-fine : NoneOf IsRefusal (restartResult s d v .answers)
     unfolding restartResult
     restart-fine =
-        let r = abortHalfway d s in
+        let r = stopHalfway d s in
         no-refusal-last (r .answers) (up d (r .state .mark d)) (halfway-fine d s) refl
 
     restart-outcome : Outcome (CallCause s (restart d v)) itself (callCauses (restart d v)) (restartVerdict s d v)
