@@ -1,41 +1,49 @@
 -- What the calls and answers tell is what the hub holds: of each routine, of the ids not given yet, and of which devices are up. Assumes
 -- nothing.
-use mathlib.Core.Path.{_≡_, refl, sym, ap, _∙_, subst}
-use mathlib.Core.Bool.{Bool, true, false, not}
-use mathlib.Core.List.{List, [], _∷_, _++_, append-nil}
-use mathlib.Core.Option.{none, some, Option·none-ne-some}
+use mathlib.Core.Path.{_≡_, refl, sym, ap, ap₂, _∙_, subst, fun-ext}
+use mathlib.Core.Logic.{_≢_}
+use mathlib.Core.Bool.{Bool, true, false, not, _&&_, _||_, or-true, or-false}
+use mathlib.Core.List.{List, [], _∷_, _++_, map, append-nil}
+use mathlib.Core.Option.{Option, none, some, Option·none-ne-some, Option·some-injective}
 use Prim.Native.Nat.{ℕ, _<_, _≤_}
 use native.Mathlib.Omega.{arith}
+use borrow.Author.Tests.{eqb-true, eqb-false, ne-eqb, not-false}
 use lib.Dec.{eqb}
 use Rattle.routine.specs.Choice.{if_then_else_}
 use Rattle.routine.specs.Routine.{zeroCommand}
 use Rattle.routine.specs.declared.Command.{Command}
-use Rattle.rules.specs.Tables.{put, Each}
+use Rattle.rules.specs.Tables.{anyOf, put, Each}
 use Rattle.rules.specs.State.{Member, State}
 use Rattle.rules.specs.Answers.{Call, failure, restart, Answer, down, up, Result}
-use Rattle.rules.specs.Progress.{Flight, flight}
+use Rattle.rules.specs.Progress.{begun, finished, inFlightOn, Flight, flight}
 use Rattle.rules.specs.Due.{due}
+use Rattle.rules.specs.Sequence.{isRunning, withUp}
 use Rattle.rules.specs.Abort.{leave, abort}
 use Rattle.rules.specs.Submit.{newcomer, place}
 use Rattle.rules.specs.Turn.{commit, commitTurn, sendTurn, skipTurn}
 use Rattle.rules.specs.Report.{doneReport, skippedState, skipReport}
-use Rattle.rules.specs.History.{Outcome, reported-done, reported-failed, not-sent, Answered, Account, placedAccount, sentAccount}
-use Rattle.rules.specs.History.{answeredAccount, endedAccount, noteAnswers, workingAfterAll}
-use Rattle.rules.specs.Order.{Event, failure-of, restart-of}
+use Rattle.rules.specs.Events.{isHalfway, skipRest}
+use Rattle.rules.specs.History.{Outcome, reported-done, reported-failed, not-sent, by-event, Answered, Account, placedAccount}
+use Rattle.rules.specs.History.{sentAccount, answeredBy, answeredAccount, endedAccount, isFor, hasBegun, onlyOn, notOn}
+use Rattle.rules.specs.History.{skippedAccount, eventAccount, noteAnswer, noteAnswers, workingAfterAll}
+use Rattle.rules.specs.Order.{Event, failure-of, restart-of, deviceOf}
 use Rattle.rules.specs.Demand3.{doneOnes}
 use Rattle.rules.specs.HubOrder.{doneSteps}
 use Rattle.rules.specs.Attach.{attach, oneRestart}
-use Rattle.rules.proofs.Lists.{byIf, put-same, put-other, put-keeps, fold-++, each-mid, each-drop, each-insert, NotIn, ids-fresh}
-use Rattle.rules.proofs.Lists.{ids-right}
-use Rattle.rules.proofs.Groups.{Group, ids, alone, with, leaving, attachEvent, other-ids}
+use Rattle.rules.proofs.Lists.{byIf, t≠f, or-left, or-right, and-left, and-right, this-or-other, put-same, put-other, put-keeps}
+use Rattle.rules.proofs.Lists.{fold-++, each-++, each-mid, each-drop, each-insert, anyOf-++, IsNot, NotIn, ids-fresh, ids-right}
+use Rattle.rules.proofs.Groups.{Group, ids, alone, with, leaving, attachEvent, ids-++, other-ids}
 use Rattle.rules.proofs.Same.{Pairwise, Same, same-refl, same-placed, same-leaving, same-attached, same-each}
-use Rattle.rules.proofs.Steps.{leftSteps, answeredSteps, send-step, skip-step, done-step, done-gains, fail-step, fail-done, Fresh}
-use Rattle.rules.proofs.Steps.{fresh-newcomer}
-use Rattle.rules.proofs.Invariant.{HubOk, commandsIn, AccountTells}
-use Rattle.rules.proofs.View.{sentMember, skippedMember, doneMember, failedMember, Gone, nobody, somebody, Moves, places, commits}
-use Rattle.rules.proofs.View.{sends, skips, dones, misses, aborts, fails, restarts}
+use Rattle.rules.proofs.Schedules.{hasFlight}
+use Rattle.rules.proofs.Steps.{InTurn, leftSteps, answeredOn, LeftSkipped, send-step, skip-step, done-step, done-gains, fail-step}
+use Rattle.rules.proofs.Steps.{fail-done, grounded, finished-grounded, begun-is, left-on, skip-steps, Fresh, fresh-newcomer}
+use Rattle.rules.proofs.Invariant.{CommandsInTurn, HubOk, NotHalfway, answeredFor, AccountTells}
+use Rattle.rules.proofs.View.{sentMember, skippedMember, doneMember, failedMember, skippedLeft, Gone, nobody, somebody, loses}
+use Rattle.rules.proofs.View.{Moves, places, commits, sends, skips, dones, misses, aborts, fails, restarts}
 use Rattle.rules.proofs.Fields.{Fixed, gone-fixed, attach-fixed}
-use Rattle.rules.proofs.Marks.{in-turn, ids-at}
+use Rattle.rules.proofs.Marks.{in-turn, ids-at, Halfway, halfway-is}
+use Rattle.rules.proofs.Moved.{others-not-halfway, hub-gone, hub-up}
+use Rattle.rules.proofs.Running.{none-has, note-++, RunsTold, gone-runs}
 
 -- ---- one routine
 
@@ -43,9 +51,10 @@ use Rattle.rules.proofs.Marks.{in-turn, ids-at}
 tells-same : (a b : ℕ → Account) (g h : Group) → Same g h → b (g .member .id) ≡ a (g .member .id) → AccountTells a g → AccountTells b h
 tells-same a b g h q k t = record {
   runs = ap (λ (x : Account). x .running) e ∙ t .runs ∙ ap not (sym (q .same-committed));
+  flies-is = ap (λ (x : Account). x .flying) e ∙ t .flies-is ∙ ap (λ l. hasFlight (flight l)) (sym (q .same-steps));
   left-is = ap (λ (x : Account). x .left) e ∙ t .left-is ∙ ap leftSteps (sym (q .same-steps));
   sent-is = λ x f. ap (λ (y : Account). y .lastSent) e ∙ t .sent-is x (ap flight (sym (q .same-steps)) ∙ f);
-  answered-is = ap (λ (x : Account). commandsIn (x .answered)) e ∙ t .answered-is ∙ ap answeredSteps (sym (q .same-steps));
+  answered-on = λ d. ap (λ (x : Account). anyOf (answeredFor d) (x .answered)) e ∙ t .answered-on d ∙ ap (answeredOn d) (sym (q .same-steps));
   done-is = ap (λ (x : Account). doneOnes (x .answered)) e ∙ t .done-is ∙ ap doneSteps (sym (q .same-steps));
 }
   where
@@ -76,18 +85,23 @@ module _ (s : State) (a : ℕ → Account) (x : Account) (ga : List Group) (g : 
   leave-tells : Each (AccountTells (put a (g .member .id) x)) (leaving ga g gb)
   leave-tells = same-tells (put a (g .member .id) x) (same-leaving ga g gb) besides
 
--- the account x tells of h
-own-tells : (a : ℕ → Account) (i : ℕ) (x : Account) (h : Group) → h .member .id ≡ i → x .running ≡ not (h .member .committed) →
-    x .left ≡ leftSteps (h .member .steps) →
-    ((y : Flight) → flight (h .member .steps) ≡ some y → x .lastSent ≡ y .command) →
-    commandsIn (x .answered) ≡ answeredSteps (h .member .steps) →
-    doneOnes (x .answered) ≡ doneSteps (h .member .steps) → AccountTells (put a i x) h
-own-tells a i x h same r l s n d = record {
-  runs = ap (λ (y : Account). y .running) is ∙ r;
-  left-is = ap (λ (y : Account). y .left) is ∙ l;
-  sent-is = λ y q. ap (λ (z : Account). z .lastSent) is ∙ s y q;
-  answered-is = ap (λ (y : Account). commandsIn (y .answered)) is ∙ n;
-  done-is = ap (λ (y : Account). doneOnes (y .answered)) is ∙ d;
+-- the account x tells of the steps of h
+record TellsOf (x : Account) (h : Group) : Type 0 where
+  runs : x .running ≡ not (h .member .committed)
+  flies : x .flying ≡ hasFlight (flight (h .member .steps))
+  left : x .left ≡ leftSteps (h .member .steps)
+  sent : (y : Flight) → flight (h .member .steps) ≡ some y → x .lastSent ≡ y .command
+  answered : (d : ℕ) → anyOf (answeredFor d) (x .answered) ≡ answeredOn d (h .member .steps)
+  dones : doneOnes (x .answered) ≡ doneSteps (h .member .steps)
+
+own-tells : (a : ℕ → Account) (i : ℕ) (x : Account) (h : Group) → h .member .id ≡ i → TellsOf x h → AccountTells (put a i x) h
+own-tells a i x h same t = record {
+  runs = ap (λ (y : Account). y .running) is ∙ t .runs;
+  flies-is = ap (λ (y : Account). y .flying) is ∙ t .flies;
+  left-is = ap (λ (y : Account). y .left) is ∙ t .left;
+  sent-is = λ y q. ap (λ (z : Account). z .lastSent) is ∙ t .sent y q;
+  answered-on = λ d. ap (λ (y : Account). anyOf (answeredFor d) (y .answered)) is ∙ t .answered d;
+  done-is = ap (λ (y : Account). doneOnes (y .answered)) is ∙ t .dones;
 }
   where
     is : put a i x (h .member .id) ≡ x
@@ -95,20 +109,17 @@ own-tells a i x h same r l s n d = record {
 
 -- ---- answered commands
 
-in-snoc : (l : List Answered) (x : Answered) → commandsIn (l ++ (x ∷ [])) ≡ commandsIn l ++ (x .command ∷ [])
-in-snoc [] x = refl
-in-snoc (y ∷ l) x = ap (λ m. y .command ∷ m) (in-snoc l x)
-
-done-snoc : (l : List Answered) (x : Answered) → doneOnes (l ++ (x ∷ [])) ≡ doneOnes l ++ doneOnes (x ∷ [])
-done-snoc [] x = refl
-done-snoc (y ∷ l) x = go (y .outcome) (done-snoc l x)
+done-++ : (l k : List Answered) → doneOnes (l ++ k) ≡ doneOnes l ++ doneOnes k
+done-++ [] k = refl
+done-++ (y ∷ l) k = go (y .outcome) (done-++ l k)
   where
-    go : (o : Outcome) → doneOnes (l ++ (x ∷ [])) ≡ doneOnes l ++ doneOnes (x ∷ []) →
-        doneOnes (record { command = y .command; outcome = o } ∷ (l ++ (x ∷ []))) ≡ doneOnes
-        (record { command = y .command; outcome = o } ∷ l) ++ doneOnes (x ∷ [])
+    go : (o : Outcome) → doneOnes (l ++ k) ≡ doneOnes l ++ doneOnes k →
+        doneOnes (record { command = y .command; outcome = o } ∷ (l ++ k)) ≡ doneOnes (record { command = y .command; outcome = o } ∷ l)
+        ++ doneOnes k
     go reported-done e = ap (λ m. y .command ∷ m) e
     go reported-failed e = e
     go not-sent e = e
+    go by-event e = e
 
 -- a command in flight that is none
 no-sent : (c : Command) (h : Group) → flight (h .member .steps) ≡ none → (y : Flight) → flight (h .member .steps) ≡ some y → c ≡ y .command
@@ -117,43 +128,286 @@ no-sent c h e y q = absurd (Option·none-ne-some y (sym e ∙ q))
 -- the first command that is left, c, is answered: g becomes h
 answered-tells : (a : ℕ → Account) (g h : Group) (c : Command) (o : Outcome) → h .member .id ≡ g .member .id →
     h .member .committed ≡ g .member .committed →
-    leftSteps (g .member .steps) ≡ c ∷ leftSteps (h .member .steps) → answeredSteps (h .member .steps) ≡ answeredSteps (g .member .steps)
-    ++ (c ∷ []) →
-    flight (h .member .steps) ≡ none → doneSteps (h .member .steps) ≡ doneSteps (g .member .steps)
-    ++ doneOnes (record { command = c; outcome = o } ∷ []) → AccountTells a g →
+    leftSteps (g .member .steps) ≡ c ∷ leftSteps (h .member .steps) →
+    ((d : ℕ) → answeredOn d (h .member .steps) ≡ (answeredOn d (g .member .steps) || eqb (c .device) d)) →
+    flight (h .member .steps) ≡ none → doneSteps (h .member .steps) ≡ doneSteps (g .member .steps) ++ doneOnes (answeredBy o c ∷ []) →
+    AccountTells a g →
     AccountTells (put a (g .member .id) (answeredAccount o (a (g .member .id) .left) (a (g .member .id)))) h
 answered-tells a g h c o same same-committed left more grounded done-more t =
     subst (λ q. AccountTells (put a i (answeredAccount o q (a i))) h) (sym (t .left-is ∙ left))
-    (own-tells a i (answeredAccount o (c ∷ leftSteps (h .member .steps)) (a i)) h same (t .runs ∙ ap not (sym same-committed)) refl
-    (no-sent (a i .lastSent) h grounded)
-    (in-snoc (a i .answered) (record { command = c; outcome = o }) ∙ ap (λ l. l ++ (c ∷ [])) (t .answered-is) ∙ sym more)
-    (done-snoc (a i .answered) (record { command = c; outcome = o })
-    ∙ ap (λ l. l ++ doneOnes (record { command = c; outcome = o } ∷ [])) (t .done-is) ∙ sym done-more))
+    (own-tells a i (answeredAccount o (c ∷ leftSteps (h .member .steps)) (a i)) h same (record {
+      runs = t .runs ∙ ap not (sym same-committed);
+      flies = sym (ap hasFlight grounded);
+      left = refl;
+      sent = no-sent (a i .lastSent) h grounded;
+      answered = λ d. anyOf-++ (answeredFor d) (a i .answered) (answeredBy o c ∷ []) ∙ ap₂ _||_ (t .answered-on d) (or-false (isFor d c))
+          ∙ sym (more d);
+      dones = done-++ (a i .answered) (answeredBy o c ∷ []) ∙ ap (λ l. l ++ doneOnes (answeredBy o c ∷ [])) (t .done-is) ∙ sym done-more;
+    }))
   where
     i : ℕ
     i = g .member .id
 
+-- ---- an event of d
+
+-- begun, by the account, is begun
+flying-on : (a : ℕ → Account) (g : Group) (d : ℕ) → InTurn (g .member .steps) → AccountTells a g →
+    (a (g .member .id) .flying && isFor d (a (g .member .id) .lastSent)) ≡ inFlightOn d (g .member)
+flying-on a g d w t = go (flight (g .member .steps)) refl
+  where
+    x : Account
+    x = a (g .member .id)
+
+    go : (o : Option Flight) → flight (g .member .steps) ≡ o → (x .flying && isFor d (x .lastSent)) ≡ inFlightOn d (g .member)
+    go none e = ap (λ b. b && isFor d (x .lastSent)) (t .flies-is ∙ ap hasFlight e) ∙ sym (grounded (g .member) d e)
+    go (some y) e =
+        ap₂ (λ b (c : Command). b && isFor d c) (t .flies-is ∙ ap hasFlight e) (t .sent-is y e)
+        ∙ sym (done-step (g .member) w y e .flew d)
+
+begun-told : (a : ℕ → Account) (g : Group) (d : ℕ) → InTurn (g .member .steps) → AccountTells a g →
+    hasBegun d (a (g .member .id)) ≡ begun d (g .member)
+begun-told a g d w t = ap₂ _||_ (t .answered-on d) (flying-on a g d w t) ∙ sym (begun-is (g .member) d)
+
+none-on : (d : ℕ) (l : List Command) → anyOf (isFor d) l ≡ false → (onlyOn d l ≡ []) × (notOn d l ≡ l)
+none-on d [] e = (refl, refl)
+none-on d (c ∷ l) e =
+    let f = or-left (isFor d c) (anyOf (isFor d) l) e in
+    let h = none-on d l (or-right (isFor d c) (anyOf (isFor d) l) e) in
+    (rw f (h .0), rw f (ap (λ k. c ∷ k) (h .1)))
+
+-- nothing is left on d: nothing is skipped
+nothing-skipped : (d : ℕ) (x : Account) → anyOf (isFor d) (x .left) ≡ false → (x .flying && isFor d (x .lastSent)) ≡ false →
+    skippedAccount d x ≡ x
+nothing-skipped d x e f = λ i. record {
+  running = x .running;
+  flying = still (x .flying) (isFor d (x .lastSent)) f i;
+  left = none-on d (x .left) e .1 i;
+  lastSent = x .lastSent;
+  sends = x .sends;
+  answered = (ap (λ l. x .answered ++ map (answeredBy by-event) l) (none-on d (x .left) e .0) ∙ append-nil (x .answered)) i;
+}
+  where
+    still : (b t : Bool) → (b && t) ≡ false → (b && not t) ≡ b
+    still true true f = t≠f f
+    still true false f = refl
+    still false t f = refl
+
+-- nor of a routine that is not halfway with d, nor of an id that does not run
+not-halfway-told : (d : ℕ) (a : ℕ → Account) (g : Group) → InTurn (g .member .steps) → NotHalfway d g → AccountTells a g →
+    eventAccount d (a (g .member .id)) ≡ a (g .member .id)
+unfolding isHalfway isRunning
+not-halfway-told d a g w n t =
+    byIf (λ (y : Account). y ≡ x) (x .running && hasBegun d x)
+    (λ e. let f : finished d (g .member) ≡ true = finishes (and-left (x .running) (hasBegun d x) e) (and-right (x .running) (hasBegun d x) e)
+    in
+    nothing-skipped d x (ap (anyOf (isFor d)) (t .left-is) ∙ left-on (g .member) d ∙ ap not f)
+    (flying-on a g d w t ∙ finished-grounded (g .member) d f))
+    (λ _. refl)
+  where
+    x : Account
+    x = a (g .member .id)
+
+    finishes : x .running ≡ true → hasBegun d x ≡ true → finished d (g .member) ≡ true
+    finishes r b =
+        let k = n .not-halfway in
+        not-false (finished d (g .member)) (rw (sym (t .runs) ∙ r, sym (begun-told a g d w t) ∙ b) at k)
+
+not-running-told : (d : ℕ) (x : Account) → x .running ≡ false → eventAccount d x ≡ x
+not-running-told d x e = rw e refl
+
+all-told : (d : ℕ) (a : ℕ → Account) (l : List Group) → Each CommandsInTurn l → Each (NotHalfway d) l → Each (AccountTells a) l →
+    Each (λ g. eventAccount d (a (g .member .id)) ≡ a (g .member .id)) l
+all-told d a [] w n t = tt
+all-told d a (g ∷ l) w n t = (not-halfway-told d a g (w .0 .turns) (n .0) (t .0), all-told d a l (w .1) (n .1) (t .1))
+
+-- an id is one of the list's, or none of them
+by-id : (P : ℕ → Type 0) (l : List Group) → Each (λ g. P (g .member .id)) l → (i : ℕ) → (NotIn i (ids l) → P i) → P i
+by-id P [] h i f = f tt
+by-id P (g ∷ l) h i f = this-or-other P (g .member .id) i (h .0) (λ n. by-id P l (h .1) i (λ m. f (n, m)))
+
+-- what an event of d, with what comes ahead of it, makes of the accounts
+abbrev pub eventTold : {s : State} {d : ℕ} {l : List Group} {r : Result} {lead : List Event} {k : List Group} → Gone s d l r lead k →
+    (ℕ → Account) → ℕ → Account
+eventTold (nobody q) a = a
+eventTold (somebody ga g gb e q) a = put a (g .member .id) (endedAccount (a (g .member .id)))
+eventTold {d = d} (loses ga g gb e q m) a = put a (g .member .id) (skippedAccount d (a (g .member .id)))
+
+-- nobody is halfway with d any more
+none-lose : (s : State) (d : ℕ) (a : ℕ → Account) (l : List Group) → HubOk s l → RunsTold a l → Each (AccountTells a) l →
+    Each (NotHalfway d) l → _≡_ {A = ℕ → Account} (λ i. eventAccount d (a i)) a
+none-lose s d a l h t w n =
+    fun-ext (λ i. by-id (λ i. eventAccount d (a i) ≡ a i) l (all-told d a l (h .turns) n w) i
+    (λ m. not-running-told d (a i) (t i ∙ none-has isRunning i l m)))
+
+-- g is, and no other
+one-loses : (s : State) (d : ℕ) (a : ℕ → Account) (ga : List Group) (g : Group) (gb : List Group) → HubOk s (ga ++ (g ∷ gb)) →
+    RunsTold a (ga ++ (g ∷ gb)) → Each (AccountTells a) (ga ++ (g ∷ gb)) → isHalfway d (g .member) ≡ true →
+    _≡_ {A = ℕ → Account} (λ i. eventAccount d (a i)) (put a (g .member .id) (skippedAccount d (a (g .member .id))))
+one-loses s d a ga g gb h t w y =
+    fun-ext (λ i. this-or-other (λ i. eventAccount d (a i) ≡ put a j (skippedAccount d (a j)) i) j i (own ∙ sym (put-same a j _))
+    (λ n. other i n ∙ sym (put-other a j _ i (λ z. n (sym z)))))
+  where
+    j : ℕ
+    j = g .member .id
+
+    half : Halfway d (g .member)
+    half = halfway-is d (g .member) y
+
+    tells : AccountTells a g
+    tells = each-mid (AccountTells a) ga g gb w
+
+    own : eventAccount d (a j) ≡ skippedAccount d (a j)
+    own = rw (tells .runs ∙ ap not (half .runs), begun-told a g d (in-turn s ga g gb h) tells ∙ half .has-begun) refl
+
+    other : (i : ℕ) → j ≢ i → eventAccount d (a i) ≡ a i
+    other i n =
+        let o = others-not-halfway s d ga g gb h y in
+        by-id (λ i. eventAccount d (a i) ≡ a i) (ga ++ gb)
+        (all-told d a (ga ++ gb) (each-drop CommandsInTurn ga g gb (h .turns)) (each-++ (NotHalfway d) ga gb (o .0) (o .1))
+        (each-drop (AccountTells a) ga g gb w)) i
+        (λ m. not-running-told d (a i) (t i ∙ none-has isRunning i (ga ++ (g ∷ gb)) (apart i n m)))
+      where
+        apart : (i : ℕ) → j ≢ i → NotIn i (ids (ga ++ gb)) → NotIn i (ids (ga ++ (g ∷ gb)))
+        apart i n m =
+            subst (NotIn i) (sym (ids-++ ga (g ∷ gb))) (each-insert (IsNot i) (ids ga) j (ids gb) (subst (NotIn i) (ids-++ ga gb) m) n)
+
+-- the account of the routine that loses what is left on d
+loses-tells : (s : State) (d : ℕ) (a : ℕ → Account) (ga : List Group) (g : Group) (gb : List Group) → HubOk s (ga ++ (g ∷ gb)) →
+    AccountTells a g → isHalfway d (g .member) ≡ true →
+    TellsOf (skippedAccount d (a (g .member .id))) (with g (skippedLeft d g))
+loses-tells s d a ga g gb h t y = record {
+  runs = t .runs;
+  flies = flies (flight (g .member .steps)) refl;
+  left = ap (notOn d) (t .left-is) ∙ sym (k .left-is);
+  sent = λ z e. t .sent-is z (k .flight-was z e .0);
+  answered = λ e. anyOf-++ (answeredFor e) (x .answered) (map (answeredBy by-event) (onlyOn d (x .left)))
+      ∙ this-or-other (λ e. Answered e) d e own other;
+  dones = done-++ (x .answered) (map (answeredBy by-event) (onlyOn d (x .left))) ∙ ap₂ _++_ (t .done-is) (none-done (onlyOn d (x .left)))
+      ∙ append-nil (doneSteps (g .member .steps)) ∙ sym (k .same-done);
+}
+  where
+    x : Account
+    x = a (g .member .id)
+
+    n : Member
+    n = skippedLeft d g
+
+    k : LeftSkipped d (g .member) n
+    k = skip-steps d (g .member) (in-turn s ga g gb h)
+
+    half : Halfway d (g .member)
+    half = halfway-is d (g .member) y
+
+    Answered : ℕ → Type 0
+    Answered e = (anyOf (answeredFor e) (x .answered) || anyOf (answeredFor e) (map (answeredBy by-event) (onlyOn d (x .left))))
+        ≡ answeredOn e (n .steps)
+
+    -- one more on d, at least
+    some-more : (l : List Command) → anyOf (isFor d) l ≡ true → anyOf (answeredFor d) (map (answeredBy by-event) (onlyOn d l)) ≡ true
+    some-more [] e = e
+    some-more (c ∷ l) e = go (isFor d c) refl e (some-more l)
+      where
+        go : (b : Bool) → isFor d c ≡ b → (b || anyOf (isFor d) l) ≡ true →
+            (anyOf (isFor d) l ≡ true → anyOf (answeredFor d) (map (answeredBy by-event) (onlyOn d l)) ≡ true) →
+            anyOf (answeredFor d) (map (answeredBy by-event) (if b then c ∷ onlyOn d l else onlyOn d l)) ≡ true
+        go true f e ih = rw f refl
+        go false f e ih = ih e
+
+    none-more : (e : ℕ) → d ≢ e → (l : List Command) → anyOf (answeredFor e) (map (answeredBy by-event) (onlyOn d l)) ≡ false
+    none-more e m [] = refl
+    none-more e m (c ∷ l) =
+        byIf (λ l. anyOf (answeredFor e) (map (answeredBy by-event) l) ≡ false) (isFor d c)
+        (λ f. rw (ne-eqb (c .device) e (λ z. m (sym (eqb-true (c .device) d f) ∙ z))) (none-more e m l)) (λ _. none-more e m l)
+
+    own : Answered d
+    own =
+        ap (λ b. anyOf (answeredFor d) (x .answered) || b)
+        (some-more (x .left) (ap (anyOf (isFor d)) (t .left-is) ∙ left-on (g .member) d ∙ ap not (half .unfinished)))
+        ∙ or-true (anyOf (answeredFor d) (x .answered)) ∙ sym (k .own-answered (half .has-begun))
+
+    other : {e : ℕ} → d ≢ e → Answered e
+    other {e = e} m =
+        ap (λ b. anyOf (answeredFor e) (x .answered) || b) (none-more e m (x .left)) ∙ or-false (anyOf (answeredFor e) (x .answered))
+        ∙ t .answered-on e ∙ sym (k .other-answered e m)
+
+    none-done : (l : List Command) → doneOnes (map (answeredBy by-event) l) ≡ []
+    none-done [] = refl
+    none-done (c ∷ l) = none-done l
+
+    no-flight : (o : Option Flight) → flight (n .steps) ≡ o → ((z : Flight) → flight (n .steps) ≡ some z → ⊥) → hasFlight o ≡ false
+    no-flight none e f = refl
+    no-flight (some z) e f = absurd (f z e)
+
+    flies : (o : Option Flight) → flight (g .member .steps) ≡ o →
+        (x .flying && not (isFor d (x .lastSent))) ≡ hasFlight (flight (n .steps))
+    flies none e =
+        ap (λ b. b && not (isFor d (x .lastSent))) (t .flies-is ∙ ap hasFlight e)
+        ∙ sym (no-flight (flight (n .steps)) refl (λ z f. absurd (Option·none-ne-some z (sym e ∙ k .flight-was z f .0))))
+    flies (some z) e =
+        ap₂ (λ b (c : Command). b && not (isFor d c)) (t .flies-is ∙ ap hasFlight e) (t .sent-is z e)
+        ∙ go (isFor d (z .command)) refl
+      where
+        go : (b : Bool) → isFor d (z .command) ≡ b → not b ≡ hasFlight (flight (n .steps))
+        go true f =
+            sym (no-flight (flight (n .steps)) refl
+            (λ v q. let w = k .flight-was v q in
+            w .1 (ap (λ (r : Flight). r .command .device) (Option·some-injective v z (sym (w .0) ∙ e)) ∙ eqb-true (z .command .device) d f)))
+        go false f = sym (ap hasFlight (k .flight-stays z e (eqb-false (z .command .device) d f)))
+
 -- ---- every call
 
-pub note-++ : (c : Call) (l k : List Answer) (a : ℕ → Account) → noteAnswers c (l ++ k) a ≡ noteAnswers c k (noteAnswers c l a)
-note-++ c = fold-++ (noteAnswers c) (λ a. refl) (λ x l a. refl)
+pub gone-tells : (s : State) (d : ℕ) (a : ℕ → Account) (l : List Group) {r : Result} {lead : List Event} {k : List Group} →
+    HubOk s l → Each (AccountTells a) l → (w : Gone s d l r lead k) → Each (AccountTells (eventTold w a)) k
+gone-tells s d a l h t (nobody q) = t
+gone-tells s d a l h t (somebody ga g gb e q) =
+    leave-tells s a (endedAccount (a (g .member .id))) ga g gb (subst (HubOk s) e h) (subst (Each (AccountTells a)) e t)
+gone-tells s d a l h t (loses ga g gb e q m) =
+    let w = subst (HubOk s) e h in
+    let v = subst (Each (AccountTells a)) e t in
+    around s a (skippedAccount d (a (g .member .id))) ga g gb w v (with g (skippedLeft d g))
+    (own-tells a (g .member .id) _ (with g (skippedLeft d g)) refl (loses-tells s d a ga g gb w (each-mid (AccountTells a) ga g gb v) q))
 
-gone-tells : (s t : State) (c : Call) (d : ℕ) (a : ℕ → Account) (l : List Group) {r : Result} {lead : List Event} {k : List Group} →
-    HubOk s l → Each (AccountTells a) l → Gone t d l r lead k →
-    Each (AccountTells (noteAnswers c (r .answers) a)) k
+-- an answer that tells an event of d
+abbrev pub TellsEvent : ℕ → Call → Answer → Type 0
+TellsEvent d c y = (b : ℕ → Account) → noteAnswer c y b ≡ (λ i. eventAccount d (b i))
+
+-- the accounts after it, and after the abort ahead of it
+pub event-accounts : (s : State) (d : ℕ) (c : Call) (y : Answer) (a : ℕ → Account) (l : List Group)
+    {r : Result} {lead : List Event} {k : List Group} →
+    TellsEvent d c y → HubOk s l → RunsTold a l → Each (AccountTells a) l → (w : Gone s d l r lead k) →
+    noteAnswers c (r .answers ++ (y ∷ [])) a ≡ eventTold w a
 unfolding abort
-gone-tells s t c d a l h w (nobody q) = w
-gone-tells s t c d a l h w (somebody ga g gb e q) =
-    leave-tells s a (endedAccount (a (g .member .id))) ga g gb (subst (HubOk s) e h) (subst (Each (AccountTells a)) e w)
+event-accounts s d c y a l n h t v (nobody q) = n a ∙ none-lose s d a l h t v q
+event-accounts s d c y a l {k = k} n h t v (somebody ga g gb e q) =
+    let w = somebody ga g gb e q in
+    let b = put a (g .member .id) (endedAccount (a (g .member .id))) in
+    let j = hub-gone s d l h w in
+    n b ∙ none-lose _ d b k (j .0) (gone-runs s s c d a l h t w) (gone-tells s d a l h v w) (j .1)
+event-accounts s d c y a l n h t v (loses ga g gb e q m) =
+    n a ∙ one-loses s d a ga g gb (subst (HubOk s) e h) (subst (RunsTold a) e t) (subst (Each (AccountTells a)) e v) q
+
+event-tells : (s : State) (x : Event) (j : ℕ) (c : Call) (y : Answer) (a : ℕ → Account) (l : List Group)
+    {r : Result} {lead : List Event} {k : List Group} →
+    TellsEvent (deviceOf x) c y → HubOk s l → RunsTold a l → Each (AccountTells a) l → Gone s (deviceOf x) l r lead k →
+    Each (AccountTells (noteAnswers c (r .answers ++ (y ∷ [])) a)) (attachEvent j x k)
+event-tells s x j c y a l {k = k} n h t v w =
+    subst (λ b. Each (AccountTells b) (attachEvent j x k)) (sym (event-accounts s (deviceOf x) c y a l n h t v w))
+    (same-tells _ (same-attached j x k) (gone-tells s (deviceOf x) a l h v w))
 
 pub accounts-moves : (s : State) (a : ℕ → Account) (l : List Group) {c : Call} {r : Result} {lead : List Event} {k : List Group} →
-    HubOk s l → Each (AccountTells a) l → Moves s l c r lead k → Each (AccountTells (noteAnswers c (r .answers) a)) k
+    HubOk s l → RunsTold a l → Each (AccountTells a) l → Moves s l c r lead k → Each (AccountTells (noteAnswers c (r .answers) a)) k
 unfolding newcomer commit commitTurn sendTurn skipTurn doneReport skipReport abort
-accounts-moves s a l h t (places cs ga gb q e u p n) =
+accounts-moves s a l h w t (places cs ga gb q e u p n) =
     same-tells (put a i x) (same-placed ga (alone new) gb)
     (each-insert (AccountTells (put a i x)) ga (alone new) gb (others a i x (ga ++ gb) fresh (subst (Each (AccountTells a)) e t))
-    (own-tells a i x (alone new) refl refl (sym (f .left-is)) (no-sent zeroCommand (alone new) (f .flight-is)) (sym (f .answered-is))
-    (sym (f .done-is))))
+    (own-tells a i x (alone new) refl (record {
+      runs = refl;
+      flies = sym (ap hasFlight (f .flight-is));
+      left = sym (f .left-is);
+      sent = no-sent zeroCommand (alone new) (f .flight-is);
+      answered = λ d. sym (f .unanswered d);
+      dones = sym (f .done-is);
+    })))
   where
     i : ℕ
     i = s .nextId
@@ -169,35 +423,48 @@ accounts-moves s a l h t (places cs ga gb q e u p n) =
 
     fresh : NotIn i (ids (ga ++ gb))
     fresh = ids-fresh i (ids (ga ++ gb)) (subst (HubOk s) e h .ids-ok)
-accounts-moves s a l h t (commits i ga g gb e n r f q) =
+accounts-moves s a l h u t (commits i ga g gb e n r f q) =
     let w = subst (HubOk s) e h in
     let v = subst (Each (AccountTells a)) e t in
     let o = each-mid (AccountTells a) ga g gb v in
     around s a (endedAccount (a (g .member .id))) ga g gb w v (with g (commit (g .member)))
-    (own-tells a (g .member .id) _ (with g (commit (g .member))) refl refl (o .left-is) (o .sent-is) (o .answered-is) (o .done-is))
-accounts-moves s a l h t (sends i ga g gb c e n r f q w u) =
+    (own-tells a (g .member .id) _ (with g (commit (g .member))) refl (record {
+      runs = refl;
+      flies = sym (ap hasFlight f);
+      left = o .left-is;
+      sent = o .sent-is;
+      answered = o .answered-on;
+      dones = o .done-is;
+    }))
+accounts-moves s a l h z t (sends i ga g gb c e n r f q w u) =
     let w = subst (HubOk s) e h in
     let v = subst (Each (AccountTells a)) e t in
     let o = each-mid (AccountTells a) ga g gb v in
     let k = send-step (g .member) (in-turn s ga g gb w) c (due s (c .device)) q f in
     around s a (sentAccount c (a (g .member .id))) ga g gb w v (with g (sentMember s g c))
-    (own-tells a (g .member .id) _ (with g (sentMember s g c)) refl (o .runs) (o .left-is ∙ sym (k .same-left))
-    (λ y z. let p = sym (k .flight-is) ∙ z in cc) (o .answered-is ∙ sym (k .same-answered)) (o .done-is ∙ sym (k .same-done)))
-accounts-moves s a l h t (skips i ga g gb c e n r f q w u) =
+    (own-tells a (g .member .id) _ (with g (sentMember s g c)) refl (record {
+      runs = o .runs;
+      flies = sym (ap hasFlight (k .flight-is));
+      left = o .left-is ∙ sym (k .same-left);
+      sent = λ y z. let p = sym (k .flight-is) ∙ z in cc;
+      answered = λ d. o .answered-on d ∙ sym (k .same-answered d);
+      dones = o .done-is ∙ sym (k .same-done);
+    }))
+accounts-moves s a l h z t (skips i ga g gb c e n r f q w u) =
     let w = subst (HubOk s) e h in
     let v = subst (Each (AccountTells a)) e t in
     let k = skip-step (g .member) (in-turn s ga g gb w) c q f in
     around s a _ ga g gb w v (with g (skippedMember g))
     (answered-tells a g (with g (skippedMember g)) c not-sent refl refl (k .left-is) (k .more-answered) (k .flight-is)
     (k .same-done ∙ sym (append-nil (doneSteps (g .member .steps)))) (each-mid (AccountTells a) ga g gb v))
-accounts-moves s a l h t (dones i code ga g gb x e n r f q) =
+accounts-moves s a l h u t (dones i code ga g gb x e n r f q) =
     let w = subst (HubOk s) e h in
     let v = subst (Each (AccountTells a)) e t in
     let k = done-step (g .member) (in-turn s ga g gb w) x f in
     around s a _ ga g gb w v (with g (doneMember g))
     (answered-tells a g (with g (doneMember g)) (x .command) reported-done refl refl (k .left-is) (k .more-answered) (k .flight-is)
     (done-gains (g .member) (in-turn s ga g gb w) x f) (each-mid (AccountTells a) ga g gb v))
-accounts-moves s a l h t (misses i code ga g gb x e n r f q) =
+accounts-moves s a l h u t (misses i code ga g gb x e n r f q) =
     let w = subst (HubOk s) e h in
     let v = subst (Each (AccountTells a)) e t in
     let k = fail-step (g .member) (in-turn s ga g gb w) x f in
@@ -205,16 +472,13 @@ accounts-moves s a l h t (misses i code ga g gb x e n r f q) =
     (answered-tells a g (with g (failedMember g)) (x .command) reported-failed refl refl (k .left-is) (k .more-answered) (k .flight-is)
     (fail-done (g .member) (in-turn s ga g gb w) x f ∙ sym (append-nil (doneSteps (g .member .steps))))
     (each-mid (AccountTells a) ga g gb v))
-accounts-moves s a l h t (aborts c ga g gb e r k) =
+accounts-moves s a l h u t (aborts c ga g gb e r k) =
     leave-tells s a (endedAccount (a (g .member .id))) ga g gb (subst (HubOk s) e h) (subst (Each (AccountTells a)) e t)
-accounts-moves s a l h t (fails d r lead k n u w) =
-    subst (λ b. Each (AccountTells b) (attachEvent (r .state .mark d) (failure-of d) k))
-    (sym (note-++ (failure d) (r .answers) (down d (r .state .mark d) ∷ []) a))
-    (same-tells _ (same-attached (r .state .mark d) (failure-of d) k) (gone-tells s _ (failure d) d a l h t w))
-accounts-moves s a l h t (restarts d v r lead k n u w) =
-    subst (λ b. Each (AccountTells b) (attachEvent (r .state .mark d) (restart-of d v) k))
-    (sym (note-++ (restart d v) (r .answers) (up d (r .state .mark d) ∷ []) a))
-    (same-tells _ (same-attached (r .state .mark d) (restart-of d v) k) (gone-tells s _ (restart d v) d a l h t w))
+accounts-moves s a l h u t (fails d r lead k n p w) =
+    event-tells (withUp s (put (s .up) d false)) (failure-of d) (r .state .mark d) (failure d) (down d (r .state .mark d)) a l (λ b. refl)
+    (hub-up s (put (s .up) d false) l h) u t w
+accounts-moves s a l h u t (restarts d v r lead k n p w) =
+    event-tells s (restart-of d v) (r .state .mark d) (restart d v) (up d (r .state .mark d)) a l (λ b. refl) h u t w
 
 -- ---- for an id that is not given yet nothing was sent
 
@@ -235,6 +499,17 @@ gone-sends : (s : State) (c : Call) (d : ℕ) (a : ℕ → Account) (l : List Gr
 unfolding abort
 gone-sends s c d a l (nobody q) i = refl
 gone-sends s c d a l (somebody ga g gb e q) i = put-sends a (g .member .id) _ refl i
+gone-sends s c d a l (loses ga g gb e q m) i = refl
+
+pub event-sends : (d : ℕ) (x : Account) → eventAccount d x .sends ≡ x .sends
+event-sends d x = byIf (λ (y : Account). y .sends ≡ x .sends) (x .running && hasBegun d x) (λ _. refl) (λ _. refl)
+
+-- nor does an event tell of one that was sent
+pub happens-sends : (s : State) (c : Call) (d : ℕ) (y : Answer) (a : ℕ → Account) (l : List Group)
+    {r : Result} {lead : List Event} {k : List Group} → TellsEvent d c y →
+    Gone s d l r lead k → (i : ℕ) → noteAnswers c (r .answers ++ (y ∷ [])) a i .sends ≡ a i .sends
+happens-sends s c d y a l {r = r} n g i =
+    ap (λ f. f i .sends) (note-++ c (r .answers) (y ∷ []) a ∙ n _) ∙ event-sends d (noteAnswers c (r .answers) a i) ∙ gone-sends s c d a l g i
 
 abbrev pub Unsent : State → (ℕ → Account) → Type 0
 Unsent s a = (i : ℕ) → s .nextId ≤ i → a i .sends ≡ 0
@@ -259,10 +534,10 @@ unsent-moves s a l h u (dones j code ga g gb x f n r k q) i e = put-answered a (
 unsent-moves s a l h u (misses j code ga g gb x f n r k q) i e = put-answered a (g .member .id) reported-failed i ∙ u i e
 unsent-moves s a l h u (aborts c ga g gb f r k) i e = put-sends a (g .member .id) _ refl i ∙ u i e
 unsent-moves s a l h u (fails d r lead k n v g) i e =
-    ap (λ f. f i .sends) (note-++ (failure d) (r .answers) (down d (r .state .mark d) ∷ []) a) ∙ gone-sends _ (failure d) d a l g i
+    happens-sends _ (failure d) d (down d (r .state .mark d)) a l (λ b. refl) g i
     ∙ u i (subst (λ (m : Fixed). m .nextId ≤ i) (gone-fixed _ d l g) e)
 unsent-moves s a l h u (restarts d v r lead k n w g) i e =
-    ap (λ f. f i .sends) (note-++ (restart d v) (r .answers) (up d (r .state .mark d) ∷ []) a) ∙ gone-sends s (restart d v) d a l g i
+    happens-sends s (restart d v) d (up d (r .state .mark d)) a l (λ b. refl) g i
     ∙ u i (subst (λ (m : Fixed). m .nextId ≤ i) (attach-fixed (r .state .mark d) (oneRestart d v) (r .state) ∙ gone-fixed s d l g) e)
 
 -- ---- a device works exactly if the hub has it up
@@ -275,6 +550,7 @@ gone-working : (s : State) (d : ℕ) (w : ℕ → Bool) (l : List Group) {r : Re
 unfolding abort
 gone-working s d w l (nobody q) = refl
 gone-working s d w l (somebody ga g gb e q) = refl
+gone-working s d w l (loses ga g gb e q m) = refl
 
 -- two tables that agree still do when both get the same
 put-agree : (f g : ℕ → Bool) (d : ℕ) (b : Bool) (e : ℕ) → f e ≡ g e → put f d b e ≡ put g d b e

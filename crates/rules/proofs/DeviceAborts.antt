@@ -1,6 +1,7 @@
 -- An abort, at a call of the routine's own or ahead of a failure or restart, and such an event: each device still comes to its due setting.
 -- Assumes nothing.
 use mathlib.Core.Path.{_≡_, refl, sym, ap, _∙_, subst}
+use mathlib.Core.Logic.{_≢_}
 use mathlib.Core.Bool.{Bool, true, false, not, _&&_, _||_, or-true}
 use mathlib.Core.List.{List, [], _∷_, _++_}
 use mathlib.Core.Option.{Option, none, some}
@@ -17,28 +18,31 @@ use Rattle.rules.specs.Progress.{inFlightOn}
 use Rattle.rules.specs.Due.{afterRestart, afterMember, afterMembers, due}
 use Rattle.rules.specs.Sequence.{withUp}
 use Rattle.rules.specs.Abort.{leave, isPutBack, putBacks, abort}
-use Rattle.rules.specs.History.{Account, noteAnswer, noteAnswers}
+use Rattle.rules.specs.Events.{skipRest}
+use Rattle.rules.specs.History.{Account, eventAccount, noteAnswers}
 use Rattle.rules.specs.Order.{Event, failure-of, restart-of}
 use Rattle.rules.specs.World.{sent-for, Message, Device, receives, putBack, putAllBack, drops, dropReported, devicesAfter}
 use Rattle.rules.specs.World.{devicesAfterAll}
 use Rattle.rules.specs.Attach.{attachTo, settleRestarts, attachAt, attach, oneRestart}
 use Rattle.rules.proofs.Lists.{byIf, t≠f, this-or-other, same-setting, put-same, put-other, put-keeps, fold-++, each-++, each-right}
-use Rattle.rules.proofs.Lists.{each-mid, each-drop, NotIn}
-use Rattle.rules.proofs.Groups.{Group, members, ids, foundAt, leaving, attachEvent, other-ids}
+use Rattle.rules.proofs.Lists.{each-mid, each-drop, each-swap, NotIn}
+use Rattle.rules.proofs.Groups.{Group, members, ids, with, foundAt, leaving, attachEvent, other-ids}
 use Rattle.rules.proofs.Same.{Pairwise, Same, same-leaving, same-attached}
-use Rattle.rules.proofs.Steps.{flight-on}
+use Rattle.rules.proofs.Steps.{LeftSkipped, flight-on, skip-steps}
 use Rattle.rules.proofs.Invariant.{NotBegun, HubOk, NotHalfway, EventsOk, CountedSend, CountedMessage, backTo, ReachesSetting, has}
-use Rattle.rules.proofs.Invariant.{goes-back, NoFlightOn, OneFlightOn, DeviceAt, is-down, none-on-it, one-on-it, DeviceOk}
-use Rattle.rules.proofs.Invariant.{PremiseOnCall}
-use Rattle.rules.proofs.View.{Aborts, by-turn, by-report, by-cancel, Gone, nobody, somebody}
+use Rattle.rules.proofs.Invariant.{goes-back, NoFlightOn, OneFlightOn, first-has-it, later-has-it, DeviceAt, is-down, none-on-it}
+use Rattle.rules.proofs.Invariant.{one-on-it, DeviceOk, PremiseOnCall}
+use Rattle.rules.proofs.View.{skippedLeft, Aborts, by-turn, by-report, by-cancel, Gone, nobody, somebody, loses}
 use Rattle.rules.proofs.Runs.{restart-later, one-here, one-other, not-begun-members, events-leaving}
 use Rattle.rules.proofs.Fields.{Fixed, gone-fixed, attach-fixed}
 use Rattle.rules.proofs.Marks.{in-turn, MarkPlace, at-zero, at-group, mark-place}
 use Rattle.rules.proofs.Moved.{hub-leaves, hub-gone, hub-up}
 use Rattle.rules.proofs.Kept.{all-no-flight-on}
-use Rattle.rules.proofs.Accounts.{note-++}
+use Rattle.rules.proofs.Running.{note-++}
+use Rattle.rules.proofs.Accounts.{TellsEvent, event-sends}
 use Rattle.rules.proofs.Messages.{ok-state, no-flights-on-same, one-same, ok-same, no-flights-on-any, one-any, one-this, one-drop}
-use Rattle.rules.proofs.Messages.{SameForOthers, endedAt, alike-ended, alike-drops, one-alike, AfterCall}
+use Rattle.rules.proofs.Messages.{ok-sends, SameForOthers, endedAt, alike-ended, alike-drops, one-alike, AfterCall}
+use Rattle.rules.proofs.Devices.{due-steps}
 
 -- ---- what is put back
 
@@ -190,11 +194,53 @@ device-aborts d s a ds v c x g y n h o q = abort-device d s a ds v c x g y n h (
         (alike-drops i (b i .sends) a b (ds d) (ds d) (alike-ended i a (ds d)))
     drops-own c (by-cancel j p) = alike-ended i a (ds d)
 
--- ---- the abort ahead of an event of e
+-- ---- what comes ahead of an event of e
 
 -- a call that is no report
 abbrev Plain : Call → Type 0
 Plain c = (b : ℕ → Account) (ds : ℕ → Device) → dropReported c b ds ≡ ds
+
+-- g loses what is left on e, which is down: nobody else looks at that
+module _ (s : State) (e : ℕ) (x : List Group) (g : Group) (y : List Group) (h : HubOk s (x ++ (g ∷ y))) (n : s .up e ≡ false) where
+  skips-it : LeftSkipped e (g .member) (skippedLeft e g)
+  skips-it = skip-steps e (g .member) (in-turn s x g y h)
+
+  no-flight-stays : (d : ℕ) → e ≢ d → NoFlightOn d g → NoFlightOn d (with g (skippedLeft e g))
+  no-flight-stays d o f = record { no-flight-on = skips-it .other-flies d o ∙ f .no-flight-on }
+
+  one-stays : (d : ℕ) (a : ℕ → Account) (w : Device) → e ≢ d → (x : List Group) → OneFlightOn d a w (x ++ (g ∷ y)) →
+      OneFlightOn d a w (x ++ (with g (skippedLeft e g) ∷ y))
+  one-stays d a w o [] (first-has-it f p c k r) = first-has-it f (skips-it .flight-stays f p (λ z. o (sym z ∙ c))) c k r
+  one-stays d a w o [] (later-has-it f k) = later-has-it (no-flight-stays d o f) k
+  one-stays d a w o (z ∷ x) (first-has-it f p c k r) =
+      first-has-it f p c k
+      (each-swap (NoFlightOn d) x g (with g (skippedLeft e g)) y r (no-flight-stays d o (each-mid (NoFlightOn d) x g y r)))
+  one-stays d a w o (z ∷ x) (later-has-it f k) = later-has-it f (one-stays d a w o x k)
+
+  loses-device : (d : ℕ) (a : ℕ → Account) (ds : ℕ → Device) (v : ℤ) → DeviceOk d s a (x ++ (g ∷ y)) (ds d) →
+      DeviceOk d (skipRest e s (foundAt x g y)) a (x ++ (with g (skippedLeft e g) ∷ y)) (ds d)
+  unfolding skipRest
+  loses-device d a ds v o = record { old-sent = o .old-sent; old-took = o .old-took; device-at = go (o .device-at) }
+    where
+      t : State
+      t = skipRest e s (foundAt x g y)
+
+      k : List Group
+      k = x ++ (with g (skippedLeft e g) ∷ y)
+
+      same : due t d ≡ due s d
+      same = due-steps s a x g y ds v h d (skippedLeft e g .steps) (skips-it .same-after d)
+
+      other : s .up d ≡ true → e ≢ d
+      other u z = t≠f (sym u ∙ ap (s .up) (sym z) ∙ n)
+
+      go : DeviceAt d (s .up d) (due s d) a (x ++ (g ∷ y)) (ds d) → DeviceAt d (s .up d) (due t d) a k (ds d)
+      go (is-down u z) = is-down u z
+      go (none-on-it u f c) =
+          none-on-it u
+          (each-swap (NoFlightOn d) x g (with g (skippedLeft e g)) y f (no-flight-stays d (other u) (each-mid (NoFlightOn d) x g y f)))
+          (subst (λ z. ReachesSetting (ds d .setting) z (ds d .sent)) (sym same) c)
+      go (one-on-it u f) = one-on-it u (one-stays d a (ds d) (other u) x f)
 
 module _ (s : State) (e : ℕ) (l : List Group) where
   gone-old : (a : ℕ → Account) (c : Call) (w : Device) → Each (CountedSend a) (w .took) →
@@ -203,10 +249,14 @@ module _ (s : State) (e : ℕ) (l : List Group) where
   unfolding abort
   gone-old a c w o (nobody n) = o
   gone-old a c w o (somebody x g y p n) = alike-ended (g .member .id) a w .same-took o
+  gone-old a c w o (loses x g y p n m) = o
 
   gone-events : {r : Result} {lead : List Event} {k : List Group} → Each EventsOk l → Gone s e l r lead k → Each EventsOk k
   gone-events h (nobody n) = h
   gone-events h (somebody x g y p n) = events-leaving x g y (subst (Each EventsOk) p h)
+  gone-events h (loses x g y p n m) =
+      let w = subst (Each EventsOk) p h in
+      each-swap EventsOk x g (with g (skippedLeft e g)) y w (record { events-ok = each-mid EventsOk x g y w .events-ok })
 
   gone-keeps : {A : Type 0} (f : Device → A) → ((m : Message) (w : Device) → f (receives m w) ≡ f w) →
       (d : ℕ) (a : ℕ → Account) (ds : ℕ → Device) (v : ℤ) (c : Call) → Plain c →
@@ -215,29 +265,49 @@ module _ (s : State) (e : ℕ) (l : List Group) where
   gone-keeps f m d a ds v c q (nobody n) = refl
   gone-keeps f m d a ds v c q (somebody x g y p n) =
       backs-keep f m d (putBacks s (g .member) (leave s (foundAt x g y)) 0 (s .devices)) (dropReported c a ds) ∙ ap (λ x. f (x d)) (q a ds)
+  gone-keeps f m d a ds v c q (loses x g y p n z) = refl
+
+  -- the devices do not look at the accounts
+  gone-alike : (a b : ℕ → Account) (ds : ℕ → Device) (v : ℤ) (c : Call) → Plain c →
+      {r : Result} {lead : List Event} {k : List Group} → Gone s e l r lead k →
+      devicesAfterAll c a v (r .answers) ds ≡ devicesAfterAll c b v (r .answers) ds
+  unfolding abort
+  gone-alike a b ds v c q (nobody n) = refl
+  gone-alike a b ds v c q (somebody x g y p n) =
+      ap (putAllBack (putBacks s (g .member) (leave s (foundAt x g y)) 0 (s .devices))) (q a ds ∙ sym (q b ds))
+  gone-alike a b ds v c q (loses x g y p n m) = refl
 
   gone-device : (d : ℕ) (a : ℕ → Account) (ds : ℕ → Device) (v : ℤ) (c : Call) → Plain c → d < s .devices → HubOk s l →
-      DeviceOk d s a l (ds d) →
+      s .up e ≡ false → DeviceOk d s a l (ds d) →
       {r : Result} {lead : List Event} {k : List Group} → Gone s e l r lead k → AfterCall d a ds v c r k
-  gone-device d a ds v c q n h o (nobody m) = o
-  gone-device d a ds v c q n h o (somebody x g y p m) =
+  gone-device d a ds v c q n h w o (nobody m) = o
+  gone-device d a ds v c q n h w o (somebody x g y p m) =
       let b = endedAt (g .member .id) a in
       abort-device d s a ds v c x g y n (subst (HubOk s) p h)
       (subst (λ f. SameForOthers (g .member .id) a b (ds d) (f d)) (sym (q b ds)) (alike-ended (g .member .id) a (ds d)))
       (subst (λ k. DeviceOk d s a k (ds d)) p o)
+  gone-device d a ds v c q n h w o (loses x g y p m z) =
+      loses-device s e x g y (subst (HubOk s) p h) w d a ds v (subst (λ k. DeviceOk d s a k (ds d)) p o)
 
 -- ---- an event
 
--- the event's own answer comes last
+-- the event's own answer comes last; neither it nor the abort before it makes the devices look at the accounts
 answer-last : (d : ℕ) (a : ℕ → Account) (ds : ℕ → Device) (v : ℤ) (c : Call) (x : List Answer) (y : Answer) (t : State) (k : List Group) →
-    (let b = noteAnswer c y (noteAnswers c x a) in DeviceOk d t b k (devicesAfter c b v y (devicesAfterAll c b v x ds) d)) →
+    (e : ℕ) → TellsEvent e c y →
+    ((b f : ℕ → Account) → devicesAfterAll c b v (x ++ (y ∷ [])) ds ≡ devicesAfterAll c f v (x ++ (y ∷ [])) ds) →
+    (let b = noteAnswers c x a in DeviceOk d t b k (devicesAfterAll c b v (x ++ (y ∷ [])) ds d)) →
     AfterCall d a ds v c (record { state = t; answers = x ++ (y ∷ []) }) k
-answer-last d a ds v c x y t k o =
-    rw (
-      note-++ c x (y ∷ []) a,
-      fold-++ (devicesAfterAll c (noteAnswer c y (noteAnswers c x a)) v) (λ w. refl) (λ z l w. refl) x
-          (y ∷ []) ds,
-    ) o
+answer-last d a ds v c x y t k e n f o =
+    let b = noteAnswers c x a in
+    let z = noteAnswers c (x ++ (y ∷ [])) a in
+    let same : z ≡ (λ i. eventAccount e (b i)) = note-++ c x (y ∷ []) a ∙ n b in
+    ok-sends d t b z k (devicesAfterAll c z v (x ++ (y ∷ [])) ds d) (λ i. sym (ap (λ g. g i .sends) same ∙ event-sends e (b i)))
+    (subst (λ g. DeviceOk d t b k (g d)) (f b z) o)
+
+-- the devices after the event
+last-device : (c : Call) (b : ℕ → Account) (v : ℤ) (x : List Answer) (y : Answer) (ds : ℕ → Device) →
+    devicesAfterAll c b v (x ++ (y ∷ [])) ds ≡ devicesAfter c b v y (devicesAfterAll c b v x ds)
+last-device c b v x y ds = fold-++ (devicesAfterAll c b v) (λ w. refl) (λ z l w. refl) x (y ∷ []) ds
 
 due-up : (s : State) (u : ℕ → Bool) (d : ℕ) → due (withUp s u) d ≡ due s d
 unfolding due
@@ -249,11 +319,18 @@ pub device-fails : (d : ℕ) (s : State) (a : ℕ → Account) (l : List Group) 
     AfterCall d a ds v (failure e) (record { state = r .state; answers = r .answers ++ (down e (r .state .mark e) ∷ []) })
     (attachEvent (r .state .mark e) (failure-of e) k)
 device-fails d s a l ds v n h o e r lead k gone =
-    answer-last d a ds v (failure e) (r .answers) (down e (r .state .mark e)) (r .state) j
-    (byIf (λ w. DeviceOk d (r .state) b j w) (eqb d e) this other)
+    answer-last d a ds v (failure e) (r .answers) y (r .state) j e (λ b. refl)
+    (λ b f. last-device (failure e) b v (r .answers) y ds
+    ∙ ap (λ ws. devicesAfter (failure e) f v y ws) (gone-alike t e l b f ds v (failure e) (λ b ds. refl) gone)
+    ∙ sym (last-device (failure e) f v (r .answers) y ds))
+    (subst (λ ws. DeviceOk d (r .state) b j (ws d)) (sym (last-device (failure e) b v (r .answers) y ds))
+    (byIf (λ w. DeviceOk d (r .state) b j w) (eqb d e) this other))
   where
     t : State
     t = withUp s (put (s .up) e false)
+
+    y : Answer
+    y = down e (r .state .mark e)
 
     b : ℕ → Account
     b = noteAnswers (failure e) (r .answers) a
@@ -276,7 +353,7 @@ device-fails d s a l ds v n h o e r lead k gone =
 
     other : eqb d e ≡ false → DeviceOk d (r .state) b j (fs d)
     other i = ok-same d (r .state) b k j (fs d) (same-attached (r .state .mark e) (failure-of e) k)
-        (gone-device t e l d a ds v (failure e) (λ b ds. refl) n (hub-up s (put (s .up) e false) l h)
+        (gone-device t e l d a ds v (failure e) (λ b ds. refl) n (hub-up s (put (s .up) e false) l h) (put-same (s .up) e false)
         (ok-state d s t a l (ds d) (rw i refl) (due-up s (put (s .up) e false) d) o) gone)
 
 -- ---- a restart is attached
@@ -345,10 +422,17 @@ pub device-restarts : (d : ℕ) (s : State) (a : ℕ → Account) (l : List Grou
     (record { state = withUp t (put (t .up) e true); answers = r .answers ++ (up e (r .state .mark e) ∷ []) })
     (attachEvent (r .state .mark e) (restart-of e w) k)
 device-restarts d s a l ds v n h p o e w z r lead k q gone =
-    answer-last d a ds v (restart e w) (r .answers) (up e (r .state .mark e)) (withUp t (put (t .up) e true)) j (go (eqb d e) refl)
+    answer-last d a ds v (restart e w) (r .answers) y (withUp t (put (t .up) e true)) j e (λ b. refl)
+    (λ b f. last-device (restart e w) b v (r .answers) y ds ∙ gone-alike s e l b f ds v (restart e w) (λ b ds. refl) gone
+    ∙ sym (last-device (restart e w) f v (r .answers) y ds))
+    (subst (λ ws. DeviceOk d (withUp t (put (t .up) e true)) b j (ws d)) (sym (last-device (restart e w) b v (r .answers) y ds))
+    (go (eqb d e) refl))
   where
     t : State
     t = attach (r .state .mark e) (oneRestart e w) (r .state)
+
+    y : Answer
+    y = up e (r .state .mark e)
 
     b : ℕ → Account
     b = noteAnswers (restart e w) (r .answers) a
@@ -360,7 +444,7 @@ device-restarts d s a l ds v n h p o e w z r lead k q gone =
     j = attachEvent (r .state .mark e) (restart-of e w) k
 
     gone-ok : DeviceOk d (r .state) b k (fs d)
-    gone-ok = gone-device s e l d a ds v (restart e w) (λ b ds. refl) n h o gone
+    gone-ok = gone-device s e l d a ds v (restart e w) (λ b ds. refl) n h q o gone
 
     gone-hub : HubOk (r .state) k × Each (NotHalfway e) k
     gone-hub = hub-gone s e l h gone

@@ -61,7 +61,7 @@ module _ (s : State) (a : ℕ → Account) (p : List Group) (g : Group) (q : Lis
   idle-no-flight-on : (d : ℕ) → flight (g .member .steps) ≡ none → NoFlightOn d g
   idle-no-flight-on d f = record { no-flight-on = grounded (g .member) d f }
 
-  due-steps : (d : ℕ) (l : List Step) → ((u : ℤ) → afterSteps d l u ≡ afterSteps d (g .member .steps) u) →
+  pub due-steps : (d : ℕ) (l : List Step) → ((u : ℤ) → afterSteps d l u ≡ afterSteps d (g .member .steps) u) →
       due (change s (foundAt p g q) (withSteps (g .member) l)) d ≡ due s d
   unfolding afterMember
   due-steps d l f = due-swap s d p g q (withSteps (g .member) l) (h .sequence-is) (λ u. ap (afterRestart (g .member .restarts d)) (f u))

@@ -12,12 +12,13 @@ use Rattle.rules.specs.Due.{afterMembers, due}
 use Rattle.rules.specs.Sequence.{withSequence}
 use Rattle.rules.specs.Settle.{joinSettled, settleFrom, settle}
 use Rattle.rules.specs.Abort.{leave, abort}
+use Rattle.rules.specs.Events.{skipRest}
 use Rattle.rules.specs.Order.{Event}
 use Rattle.rules.specs.Attach.{attach}
 use Rattle.rules.proofs.Lists.{byIf}
 use Rattle.rules.proofs.Groups.{Group, members, stillHeld}
 use Rattle.rules.proofs.Invariant.{FirstRuns}
-use Rattle.rules.proofs.View.{Gone, nobody, somebody}
+use Rattle.rules.proofs.View.{Gone, nobody, somebody, loses}
 
 -- the fields that they do not touch
 pub record Fixed : Type 0 where
@@ -29,12 +30,13 @@ pub record Fixed : Type 0 where
 abbrev pub fixedOf : State → Fixed
 fixedOf s = record { devices = s .devices; passLimit = s .passLimit; nextId = s .nextId; up = s .up }
 
--- the abort ahead of an event
+-- what comes ahead of an event
 pub gone-fixed : (s : State) (d : ℕ) (l : List Group) {r : Result} {lead : List Event} {k : List Group} → Gone s d l r lead k →
     fixedOf (r .state) ≡ fixedOf s
-unfolding abort leave attach
+unfolding abort leave attach skipRest
 gone-fixed s d l (nobody n) = refl
 gone-fixed s d l (somebody a g b e n) = refl
+gone-fixed s d l (loses a g b e n m) = refl
 
 pub attach-fixed : (j : ℕ) (e : ℕ → Option ℤ) (s : State) → fixedOf (attach j e s) ≡ fixedOf s
 unfolding attach

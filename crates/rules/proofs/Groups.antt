@@ -42,13 +42,6 @@ entryIds [] = []
 entryIds (routine i cs b ∷ l) = i ∷ entryIds l
 entryIds (event e ∷ l) = entryIds l
 
-abbrev pub deviceOf : Event → ℕ
-deviceOf (failure-of d) = d
-deviceOf (restart-of d v) = d
-
-abbrev pub isOf : ℕ → Event → Bool
-isOf d x = eqb (deviceOf x) d
-
 -- the last restart of d
 abbrev pub lastRestart : ℕ → List Event → Option ℤ
 lastRestart d [] = none

@@ -20,13 +20,13 @@ use Rattle.rules.specs.Report.{doneReport, skippedState, skipReport}
 use Rattle.rules.specs.Events.{isHalfway}
 use Rattle.rules.specs.Order.{Event, failure-of, restart-of}
 use Rattle.rules.specs.Attach.{attach, oneRestart}
-use Rattle.rules.proofs.Lists.{byIf, t≠f, put-other, each-mid, each-drop, each-insert, each-swap, each-map}
+use Rattle.rules.proofs.Lists.{byIf, t≠f, this-or-other, put-other, each-mid, each-drop, each-insert, each-swap, each-map}
 use Rattle.rules.proofs.Groups.{Group, alone, with, passAll, foundAt, leaving, attachEvent, stillHeld, each-held}
 use Rattle.rules.proofs.Same.{Same, same-placed, same-leaving, same-attached, same-each}
-use Rattle.rules.proofs.Steps.{send-step, skip-step, done-step, fail-step, flight-on, grounded, fresh-newcomer}
+use Rattle.rules.proofs.Steps.{send-step, skip-step, done-step, fail-step, flight-on, grounded, finished-grounded, skip-steps, fresh-newcomer}
 use Rattle.rules.proofs.Invariant.{CommittedHasNothingLeft, CommandsInTurn, HubOk, InFlightIsUp, NotHalfway, NoFlightOn}
-use Rattle.rules.proofs.View.{sentMember, skippedMember, doneMember, failedMember, Gone, nobody, somebody, Moves, places, commits}
-use Rattle.rules.proofs.View.{sends, skips, dones, misses, aborts, fails, restarts}
+use Rattle.rules.proofs.View.{sentMember, skippedMember, doneMember, failedMember, skippedLeft, Gone, nobody, somebody, loses, Moves, places}
+use Rattle.rules.proofs.View.{commits, sends, skips, dones, misses, aborts, fails, restarts}
 use Rattle.rules.proofs.Fields.{Fixed, gone-fixed, attach-fixed, settle-fixed}
 use Rattle.rules.proofs.Marks.{flight-runs, in-turn, hub-commits, hub-sends, hub-skips, hub-dones, hub-misses}
 use Rattle.rules.proofs.Moved.{hub-places, hub-leaves, hub-gone, hub-fails, hub-restarts, hub-up}
@@ -88,11 +88,20 @@ flies-leaving s a g b f = same-each (InFlightIsUp s) (same-flies s) (same-leavin
 flies-event : (s : State) (j : ℕ) (x : Event) (l : List Group) → Each (InFlightIsUp s) l → Each (InFlightIsUp s) (attachEvent j x l)
 flies-event s j x l = same-each (InFlightIsUp s) (same-flies s) (same-attached j x l)
 
--- the abort ahead of an event
-flies-gone : (s t : State) (d : ℕ) (l : List Group) {r : Result} {lead : List Event} {k : List Group} → Each (InFlightIsUp s) l →
-    Gone t d l r lead k → Each (InFlightIsUp s) k
-flies-gone s t d l f (nobody _) = f
-flies-gone s t d l f (somebody a g b e _) = flies-leaving s a g b (subst (Each (InFlightIsUp s)) e f)
+-- what comes ahead of an event
+flies-gone : (s t : State) (d : ℕ) (l : List Group) {r : Result} {lead : List Event} {k : List Group} → HubOk s l →
+    Each (InFlightIsUp s) l → Gone t d l r lead k → Each (InFlightIsUp s) k
+flies-gone s t d l h f (nobody _) = f
+flies-gone s t d l h f (somebody a g b e _) = flies-leaving s a g b (subst (Each (InFlightIsUp s)) e f)
+flies-gone s t d l h f (loses a g b e _ _) =
+    let w = subst (Each (InFlightIsUp s)) e f in
+    let n = skippedLeft d g in
+    let x = skip-steps d (g .member) (in-turn s a g b (subst (HubOk s) e h)) in
+    each-swap (InFlightIsUp s) a g (with g n) b w (record {
+      flies-up = λ c y. this-or-other (λ c. inFlightOn c n ≡ true → s .up c ≡ true) d c
+          (λ y. t≠f (sym y ∙ finished-grounded n d (x .finishes-it)))
+          (λ o y. each-mid (InFlightIsUp s) a g b w .flies-up c (sym (x .other-flies c o) ∙ y)) y;
+    })
 
 -- where nobody flies on d, d may go down
 flies-down : (s t : State) (d : ℕ) → ((e : ℕ) → t .up e ≡ put (s .up) d false e) → (l : List Group) → Each (InFlightIsUp s) l →
@@ -149,7 +158,7 @@ flies-moves s l h f (fails d r lead k _ _ g) =
     let t = withUp s (put (s .up) d false) in
     let j = hub-gone t d l (hub-up s (put (s .up) d false) l h) g in
     flies-event (r .state) (r .state .mark d) (failure-of d) k
-    (flies-down s (r .state) d (λ e. ap (λ (x : Fixed). x .up e) (gone-fixed t d l g)) k (flies-gone s t d l f g)
+    (flies-down s (r .state) d (λ e. ap (λ (x : Fixed). x .up e) (gone-fixed t d l g)) k (flies-gone s t d l h f g)
     (all-no-flight-on d k (j .0 .turns) (j .0 .nothing-left-all) (j .1)))
 flies-moves s l h f (restarts d v r lead k _ _ g) =
     let i = r .state .mark d in
@@ -157,7 +166,7 @@ flies-moves s l h f (restarts d v r lead k _ _ g) =
     no-flight-on-up s (withUp t (put (t .up) d true))
     (λ e y. byIf (λ p. p ≡ true) (eqb e d) (λ _. refl)
     (λ _. ap (λ (x : Fixed). x .up e) (attach-fixed i (oneRestart d v) (r .state) ∙ gone-fixed s d l g) ∙ y))
-    (attachEvent i (restart-of d v) k) (flies-event s i (restart-of d v) k (flies-gone s s d l f g))
+    (attachEvent i (restart-of d v) k) (flies-event s i (restart-of d v) k (flies-gone s s d l h f g))
 
 pub flies-settles : (s : State) (l : List Group) → Each (InFlightIsUp s) l → Each (InFlightIsUp (settle s)) (stillHeld l)
 flies-settles s l f =

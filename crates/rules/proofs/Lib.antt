@@ -18,10 +18,13 @@ pub mod Fields
 pub mod Marks
 pub mod Moved
 pub mod Kept
--- The order, built from answers, stays that of the hub; the accounts stay true; part 3 is kept.
+-- The order, built from answers, stays that of the hub; who runs, and the accounts, stay true; part 3 is kept: the events behind commands
+-- that they skip, and the rest.
 pub mod Serial
 pub mod Ordered
+pub mod Running
 pub mod Accounts
+pub mod Followed
 pub mod Stands
 -- Each device comes to its due setting: what was sent; placings, turns and reports; aborts and events; all calls.
 pub mod Messages

@@ -17,15 +17,16 @@ use Rattle.rules.specs.Due.{due}
 use Rattle.rules.specs.Sequence.{isRunning, withMark, change}
 use Rattle.rules.specs.Turn.{holds, firstHolding, markBegun, commit, commitTurn, sendTurn, skipTurn}
 use Rattle.rules.specs.Report.{doneReport, skippedState, skipReport}
-use Rattle.rules.specs.Events.{isHalfway}
+use Rattle.rules.specs.Events.{isHalfway, skipRest}
+use Rattle.rules.specs.Order.{isOf}
 use Rattle.rules.proofs.Lists.{byIf, t≠f, and-left, and-right, this-or-other, put-same, put-other, each-++, each-left, each-right}
 use Rattle.rules.proofs.Lists.{each-mid, each-swap, IsNot, NotIn, In, IdsOk, ids-other, ids-not-zero}
-use Rattle.rules.proofs.Groups.{Group, members, ids, isOf, with, foundAt, members-++, ids-++, ids-swap}
+use Rattle.rules.proofs.Groups.{Group, members, ids, with, foundAt, members-++, ids-++, ids-swap}
 use Rattle.rules.proofs.Steps.{InTurn, AnsweredOne, send-step, skip-step, done-step, fail-step, none-left, left-finished}
-use Rattle.rules.proofs.Steps.{left-grounded}
+use Rattle.rules.proofs.Steps.{left-grounded, skip-steps}
 use Rattle.rules.proofs.Invariant.{NotBegun, HasFinished, AtMark, whole, part, MarkedAt, here, there, MarkOk, unmarked, marked}
 use Rattle.rules.proofs.Invariant.{CommittedHasNothingLeft, CommandsInTurn, HubOk}
-use Rattle.rules.proofs.View.{sentMember, skippedMember, doneMember, failedMember}
+use Rattle.rules.proofs.View.{sentMember, skippedMember, doneMember, failedMember, skippedLeft}
 
 -- ---- the mark, seen from a routine of the sequence
 
@@ -164,15 +165,30 @@ flight-clear s a g b x h e =
     let y = done-step (g .member) (in-turn s a g b h) x e in
     at-mark (x .command .device) (s .mark (x .command .device)) a g b (y .had-begun) (y .unfinished) (h .marks (x .command .device)) .0
 
--- a device that a routine has begun and not finished
+-- a routine that has begun d and not finished it
+pub record Halfway (d : ℕ) (m : Member) : Type 0 where
+  pub runs : m .committed ≡ false
+  pub has-begun : begun d m ≡ true
+  pub unfinished : finished d m ≡ false
+
+pub halfway-is : (d : ℕ) (m : Member) → isHalfway d m ≡ true → Halfway d m
+unfolding isHalfway isRunning
+halfway-is d m e =
+    let y = and-left (isRunning m && begun d m) (not (finished d m)) e in
+    record {
+      runs = not-true (m .committed) (and-left (isRunning m) (begun d m) y);
+      has-begun = and-right (isRunning m) (begun d m) y;
+      unfinished = not-true (finished d m) (and-right (isRunning m && begun d m) (not (finished d m)) e);
+    }
+
+-- it has the mark of d
+pub halfway-marked : (s : State) (d : ℕ) (a : List Group) (g : Group) (b : List Group) → HubOk s (a ++ (g ∷ b)) →
+    isHalfway d (g .member) ≡ true → ClearOfDevice d a g b × (g .member .id ≡ s .mark d)
+halfway-marked s d a g b h e = let w = halfway-is d (g .member) e in at-mark d (s .mark d) a g b (w .has-begun) (w .unfinished) (h .marks d)
+
 pub halfway-clear : (s : State) (d : ℕ) (a : List Group) (g : Group) (b : List Group) → HubOk s (a ++ (g ∷ b)) →
     isHalfway d (g .member) ≡ true → ClearOfDevice d a g b
-unfolding isHalfway
-halfway-clear s d a g b h e =
-    let m = g .member in
-    let y = and-left (isRunning m && begun d m) (not (finished d m)) e in
-    at-mark d (s .mark d) a g b (and-right (isRunning m) (begun d m) y)
-    (not-true (finished d m) (and-right (isRunning m && begun d m) (not (finished d m)) e)) (h .marks d) .0
+halfway-clear s d a g b h e = halfway-marked s d a g b h e .0
 
 -- the mark in the list
 pub data MarkPlace (d i : ℕ) (l : List Group) : Type 0 where
@@ -312,3 +328,15 @@ pub hub-misses : (s : State) (a : List Group) (g : Group) (b : List Group) (x : 
     flight (g .member .steps) ≡ some x → HubOk (skipReport s (foundAt a g b) x .state) (a ++ (with g (failedMember g) ∷ b))
 unfolding skipReport skippedState
 hub-misses s a g b x h r e = hub-answers s a g b (x .command) (failedMember g) h refl r (fail-step (g .member) (in-turn s a g b h) x e)
+
+-- what is left on d is skipped by an event of it
+pub hub-loses : (s : State) (d : ℕ) (a : List Group) (g : Group) (b : List Group) → HubOk s (a ++ (g ∷ b)) →
+    isHalfway d (g .member) ≡ true →
+    HubOk (skipRest d s (foundAt a g b)) (a ++ (with g (skippedLeft d g) ∷ b))
+unfolding skipRest
+hub-loses s d a g b h e =
+    let n = skippedLeft d g in
+    let w = halfway-is d (g .member) e in
+    let x = skip-steps d (g .member) (in-turn s a g b h) in
+    hub-changes s a g b h n (s .mark) refl (running g n (w .runs)) (x .in-turn)
+    (λ c. swap-mark c (s .mark c) a g b n refl (x .same-begun (w .has-begun) c) (x .finishes c) (h .marks c))

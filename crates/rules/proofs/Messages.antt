@@ -230,6 +230,38 @@ pub record SameForOthers (i : ℕ) (a b : ℕ → Account) (w u : Device) : Type
   pub same-reaches : (v : ℤ) → ReachesSetting (w .setting) v (w .sent) → ReachesSetting (u .setting) v (u .sent)
   pub same-flying : (j : ℕ) (x : Flight) → j ≢ i → OnItsWay a j x w → OnItsWay b j x u
 
+-- it looks at how many were sent alone
+same-way : (a b : ℕ → Account) (j : ℕ) (x : Flight) (w : Device) → a j .sends ≡ b j .sends → OnItsWay a j x w → OnItsWay b j x w
+same-way a b j x w e = go
+  where
+    same : flightOrigin a j ≡ flightOrigin b j
+    same = ap (λ n. sent-for j n) e
+
+    go : OnItsWay a j x w → OnItsWay b j x w
+    go (arrived e s t) = arrived e s (subst (λ o. anyOf (sameOrigin o) (w .took) ≡ true) same t)
+    go (going k e o t c) =
+        going k (subst (λ o. w .sent ≡ k ++ (record { setting = x .command .setting; origin = o } ∷ [])) same e)
+        (subst (λ o. Each (NotOrigin o) k) same o)
+        (subst (λ o. anyOf (sameOrigin o) (w .took) ≡ false) same t) c
+
+-- the accounts change in other parts
+pub ok-sends : (d : ℕ) (s : State) (a b : ℕ → Account) (l : List Group) (w : Device) → ((i : ℕ) → a i .sends ≡ b i .sends) →
+    DeviceOk d s a l w → DeviceOk d s b l w
+ok-sends d s a b l w e h = record {
+  old-sent = each-map (CountedMessage a) (CountedMessage b) (λ m. counted (m .origin)) (w .sent) (h .old-sent);
+  old-took = each-map (CountedSend a) (CountedSend b) counted (w .took) (h .old-took);
+  device-at = go (h .device-at);
+}
+  where
+    counted : (o : Origin) → CountedSend a o → CountedSend b o
+    counted put-back k = k
+    counted (sent-for i n) k = subst (λ m. n ≤ m) (e i) k
+
+    go : DeviceAt d (s .up d) (due s d) a l w → DeviceAt d (s .up d) (due s d) b l w
+    go (is-down u n) = is-down u n
+    go (none-on-it u t c) = none-on-it u t c
+    go (one-on-it u o) = one-on-it u (one-map d a b w w l (λ j x m. same-way a b j x w (e j)) o)
+
 module _ (i : ℕ) (a : ℕ → Account) (y : Account) (le : a i .sends ≤ y .sends) where
   -- what was sent stays old
   old-put : (o : Origin) → CountedSend a o → CountedSend (put a i y) o
@@ -239,17 +271,7 @@ module _ (i : ℕ) (a : ℕ → Account) (y : Account) (le : a i .sends ≤ y .s
       (λ e. let m : n ≤ a i .sends = subst (λ z. n ≤ a z .sends) (eqb-true j i e) k in omega arith) (λ _. k)
 
   flying-put : (j : ℕ) (x : Flight) (w : Device) → j ≢ i → OnItsWay a j x w → OnItsWay (put a i y) j x w
-  flying-put j x w n f = go f
-    where
-      same : flightOrigin a j ≡ flightOrigin (put a i y) j
-      same = ap (λ (z : Account). sent-for j (z .sends)) (sym (put-other a i y j n))
-
-      go : OnItsWay a j x w → OnItsWay (put a i y) j x w
-      go (arrived e s t) = arrived e s (subst (λ o. anyOf (sameOrigin o) (w .took) ≡ true) same t)
-      go (going k e o t c) =
-          going k (subst (λ o. w .sent ≡ k ++ (record { setting = x .command .setting; origin = o } ∷ [])) same e)
-          (subst (λ o. Each (NotOrigin o) k) same o)
-          (subst (λ o. anyOf (sameOrigin o) (w .took) ≡ false) same t) c
+  flying-put j x w n = same-way a (put a i y) j x w (ap (λ (z : Account). z .sends) (sym (put-other a i y j n)))
 
   pub alike-put : (w : Device) → SameForOthers i a (put a i y) w w
   alike-put w = record {

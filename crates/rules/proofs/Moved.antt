@@ -22,23 +22,24 @@ use Rattle.rules.specs.Settle.{joinSettled, settle}
 use Rattle.rules.specs.Abort.{leave, abort}
 use Rattle.rules.specs.Submit.{blocks, upToLast, pastLast, stepOf, newcomer, place}
 use Rattle.rules.specs.Events.{isHalfway}
+use Rattle.rules.specs.Order.{deviceOf, isOf}
 use Rattle.rules.specs.Order.{Event, failure-of, restart-of}
 use Rattle.rules.specs.Attach.{attachTo, attachAt, attach, oneRestart}
 use Rattle.rules.proofs.Lists.{byIf, t≠f, or-left, or-right, this-or-other, each-++, each-left, each-right, each-mid, each-drop}
 use Rattle.rules.proofs.Lists.{each-insert, each-map, anyOf-++, IsNot, NotIn, IdsOk, ids-drop, ids-insert, ids-left, ids-other}
 use Rattle.rules.proofs.Lists.{ids-not-zero, in-other}
-use Rattle.rules.proofs.Groups.{Group, members, ids, deviceOf, isOf, alone, passAll, foundAt, addEvents, addToLast, leaving}
+use Rattle.rules.proofs.Groups.{Group, members, ids, alone, with, passAll, foundAt, addEvents, addToLast, leaving}
 use Rattle.rules.proofs.Groups.{addEvent, attachEvent, stillHeld, members-++, ids-++, members-pass, added-is, attach-miss, last-in}
 use Rattle.rules.proofs.Groups.{last-not-zero}
 use Rattle.rules.proofs.Same.{Pairwise, pair, pairs-each, pairs-placed, pairs-last, pairs-attached, Same, same-refl, same-pass}
 use Rattle.rules.proofs.Same.{same-moved, same-added, same-placed, same-leaving, same-attached, same-each, same-ids}
-use Rattle.rules.proofs.Steps.{InTurn, leftSteps, fresh-newcomer}
+use Rattle.rules.proofs.Steps.{InTurn, leftSteps, skip-steps, fresh-newcomer}
 use Rattle.rules.proofs.Invariant.{NotBegun, HasFinished, AtMark, whole, part, MarkedAt, here, there, MarkOk, unmarked, marked}
 use Rattle.rules.proofs.Invariant.{CommittedHasNothingLeft, CommandsInTurn, HubOk, NotHalfway}
-use Rattle.rules.proofs.View.{Gone, nobody, somebody}
+use Rattle.rules.proofs.View.{skippedLeft, Gone, nobody, somebody, loses}
 use Rattle.rules.proofs.Fields.{settles}
 use Rattle.rules.proofs.Marks.{mark-ahead, mark-here, mark-behind, MarkSeen, nowhere, near, see-mark, upto-right, upto-left}
-use Rattle.rules.proofs.Marks.{upto-in, nothing-left-finished-it, ids-at, halfway-clear}
+use Rattle.rules.proofs.Marks.{upto-in, nothing-left-finished-it, in-turn, ids-at, halfway-clear, hub-loses}
 
 -- ---- groups that the invariant does not tell apart
 
@@ -251,16 +252,28 @@ not-begun-not-halfway : (d : ℕ) (g : Group) → NotBegun d g → NotHalfway d 
 unfolding isHalfway
 not-begun-not-halfway d g q = record { not-halfway = rw (q .idle, and-false (isRunning (g .member))) refl }
 
--- the abort ahead of an event; HubOk does not look at which devices are up
+-- one is halfway with d: no other is
+pub others-not-halfway : (s : State) (d : ℕ) (a : List Group) (g : Group) (b : List Group) → HubOk s (a ++ (g ∷ b)) →
+    isHalfway d (g .member) ≡ true → Each (NotHalfway d) a × Each (NotHalfway d) b
+others-not-halfway s d a g b h t =
+    let c = halfway-clear s d a g b h t in (
+      each-map (HasFinished d) (NotHalfway d) (finished-it-not-halfway d) a (c .ahead-finished-it),
+      each-map (NotBegun d) (NotHalfway d) (not-begun-not-halfway d) b (c .behind-not-begun),
+    )
+
+-- what comes ahead of an event; HubOk does not look at which devices are up
 pub hub-gone : (s : State) (d : ℕ) (l : List Group) {r : Result} {lead : List Event} {k : List Group} → HubOk s l → Gone s d l r lead k →
     HubOk (r .state) k × Each (NotHalfway d) k
 hub-gone s d l h (nobody c) = (h, c)
 hub-gone s d l h (somebody a g b e t) =
     let m = subst (λ k. HubOk s k) e h in
-    let c = halfway-clear s d a g b m t in
-    let ahead = each-map (HasFinished d) (NotHalfway d) (finished-it-not-halfway d) a (c .ahead-finished-it) in
-    let behind = each-map (NotBegun d) (NotHalfway d) (not-begun-not-halfway d) b (c .behind-not-begun) in
-    (hub-leaves s a g b m, same-each (NotHalfway d) (same-not-halfway d) (same-leaving a g b) (each-++ (NotHalfway d) a b ahead behind))
+    let o = others-not-halfway s d a g b m t in
+    (hub-leaves s a g b m, same-each (NotHalfway d) (same-not-halfway d) (same-leaving a g b) (each-++ (NotHalfway d) a b (o .0) (o .1)))
+hub-gone s d l h (loses a g b e t _) =
+    let m = subst (λ k. HubOk s k) e h in
+    let o = others-not-halfway s d a g b m t in
+    let f : HasFinished d (with g (skippedLeft d g)) = record { finished-it = skip-steps d (g .member) (in-turn s a g b m) .finishes-it } in
+    (hub-loses s d a g b m t, each-++ (NotHalfway d) a _ (o .0) (finished-it-not-halfway d (with g (skippedLeft d g)) f, o .1))
 
 -- ---- an event is attached to the mark
 

@@ -18,20 +18,22 @@ use Rattle.rules.specs.Abort.{leave, abort}
 use Rattle.rules.specs.Submit.{newcomer, place}
 use Rattle.rules.specs.Turn.{commit, commitTurn, sendTurn, skipTurn}
 use Rattle.rules.specs.Report.{doneReport, skippedState, skipReport}
+use Rattle.rules.specs.Events.{skipRest}
 use Rattle.rules.specs.History.{Account}
+use Rattle.rules.specs.Order.{deviceOf}
 use Rattle.rules.specs.Order.{Event, failure-of, restart-of, Entry, routine, event, Order, beforeNext, behindRoutine, hasRoutine}
 use Rattle.rules.specs.Order.{putAfter, edit, editOrder, goes, gains, noted, orderAfter, orderAfterAll, entries}
 use Rattle.rules.specs.HubOrder.{doneSteps, entryOf}
 use Rattle.rules.specs.Attach.{settleRestarts, attach, oneRestart}
 use Rattle.rules.proofs.Lists.{eqb-sym, fold-++, each-left, each-right, each-mid, each-insert, each-swap, IsNot, NotIn, IdsOk}
 use Rattle.rules.proofs.Lists.{ids-drop, ids-insert, ids-other, ids-not-zero, ids-left, ids-right}
-use Rattle.rules.proofs.Groups.{Group, members, ids, flat, entryIds, deviceOf, lastRestart, alone, with, changed, passAll, foundAt}
+use Rattle.rules.proofs.Groups.{Group, members, ids, flat, entryIds, lastRestart, alone, with, changed, passAll, foundAt}
 use Rattle.rules.proofs.Groups.{leaving, leadOf, addEvent, attachEvent, leadWith, ids-++, flat-++, ids-swap, flat-pass, events-++}
 use Rattle.rules.proofs.Groups.{flat-leaving, flat-cut, flat-added, attach-miss, attach-hit, last-not-zero}
 use Rattle.rules.proofs.Same.{same-placed, same-leaving, same-attached, same-ids}
-use Rattle.rules.proofs.Steps.{send-step, skip-step, done-gains, fail-done, fresh-newcomer}
+use Rattle.rules.proofs.Steps.{send-step, skip-step, done-gains, fail-done, skip-steps, fresh-newcomer}
 use Rattle.rules.proofs.Invariant.{NotBegun, HubOk, setAfter, upAfter, EventsOk, OrderOk, AccountTells}
-use Rattle.rules.proofs.View.{Gone, nobody, somebody, Moves, places, commits, sends, skips, dones, misses, aborts, fails, restarts}
+use Rattle.rules.proofs.View.{Gone, nobody, somebody, loses, Moves, places, commits, sends, skips, dones, misses, aborts, fails, restarts}
 use Rattle.rules.proofs.Runs.{set-++, up-++, set-events, bringsUp, up-event, up-flat-not-begun, settled-alone, events-placed}
 use Rattle.rules.proofs.Runs.{events-leaving, events-attached}
 use Rattle.rules.proofs.Fields.{Fixed, gone-fixed}
@@ -400,15 +402,18 @@ module _ (x : Event) (s t : State) (o : Order) (lead : List Event) where
         barred = k .barred;
       })
 
--- ---- the abort ahead of an event, then the event
+-- ---- what comes ahead of an event, then the event
 
--- `u`: what is up when the routine aborts. On a failure the device is down by then, but the order has the event only after the abort
+-- `u`: what is up when a routine aborts or loses commands. On a failure the device is down by then, but the order has the event only after the abort
 order-gone : (s : State) (u : ℕ → Bool) (o : Order) (c : Call) (n : ℕ → Account) (d : ℕ)
     (l : List Group) {r : Result} {lead : List Event} {k : List Group} →
-    OrderOk s o [] l → Gone (withUp s u) d l r lead k → Kept (withUp (r .state) (s .up)) o (orderAfterAll c n (r .answers) o) lead k
-unfolding abort leave attach
-order-gone s u o c n d l k (nobody f) = (k, refl)
-order-gone s u o c n d l k (somebody a g b e f) = order-leaves s o a g b (subst (λ m. OrderOk s o [] m) e k)
+    HubOk s l → OrderOk s o [] l → Gone (withUp s u) d l r lead k → Kept (withUp (r .state) (s .up)) o (orderAfterAll c n (r .answers) o) lead k
+unfolding abort leave attach skipRest
+order-gone s u o c n d l h k (nobody f) = (k, refl)
+order-gone s u o c n d l h k (somebody a g b e f) = order-leaves s o a g b (subst (λ m. OrderOk s o [] m) e k)
+order-gone s u o c n d l h k (loses a g b e f _) =
+    order-untouched s o a g b (subst (λ m. OrderOk s o [] m) e k) _ _ _
+    (skip-steps d (g .member) (in-turn s a g b (subst (HubOk s) e h)) .same-done)
 
 -- `t`: the state after the event
 order-happens : (s t : State) (u : ℕ → Bool) (o : Order) (c : Call) (n : ℕ → Account) (x : Event) (y : Answer)
@@ -421,7 +426,7 @@ order-happens : (s t : State) (u : ℕ → Bool) (o : Order) (c : Call) (n : ℕ
 order-happens s t u o c n x y l {r = r} {lead = lead} {k = k} h i g e f =
     let j = r .state .mark (deviceOf x) in
     let q = orderAfterAll c n (r .answers) o in
-    let p = order-gone s u o c n (deviceOf x) l i g in
+    let p = order-gone s u o c n (deviceOf x) l h i g in
     let z = order-attaches x (withUp (r .state) (s .up)) t q lead j k (p .0)
     (mark-place (r .state) k (hub-gone (withUp s u) (deviceOf x) l (hub-up s u l h) g .0) (deviceOf x)) f in
     subst (λ w. Kept t o w (leadWith j x lead) (attachEvent j x k))

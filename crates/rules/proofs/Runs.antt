@@ -12,12 +12,13 @@ use Rattle.rules.specs.Tables.{anyOf, Each}
 use Rattle.rules.specs.State.{Step, Member, State}
 use Rattle.rules.specs.Progress.{isOn, isDone}
 use Rattle.rules.specs.Due.{afterSteps, afterRestart, afterMember, afterMembers}
+use Rattle.rules.specs.Order.{isOf}
 use Rattle.rules.specs.Order.{Event, failure-of, restart-of, Entry, routine, event, Order}
 use Rattle.rules.specs.Submit.{pass}
 use Rattle.rules.specs.HubOrder.{doneSteps}
 use Rattle.rules.specs.Attach.{later, attachTo, oneRestart}
 use Rattle.rules.proofs.Lists.{or-left, or-right, eqb-sym, fold-++, each-mid, each-drop}
-use Rattle.rules.proofs.Groups.{Group, members, flat, isOf, lastRestart, passAll, addEvents, leaving, addEvent, attachEvent}
+use Rattle.rules.proofs.Groups.{Group, members, flat, lastRestart, passAll, addEvents, leaving, addEvent, attachEvent}
 use Rattle.rules.proofs.Groups.{added-is}
 use Rattle.rules.proofs.Same.{Pairwise, pairs-each, pairs-placed, pairs-last, pairs-attached}
 use Rattle.rules.proofs.Steps.{unbegun-after}

@@ -1,5 +1,5 @@
 -- Part 3 of demand 3 is kept by every call: where commands stand in the serial run. Assumes nothing.
-use mathlib.Core.Path.{_≡_, refl, sym, ap, ap₂, _∙_, subst, transport, fun-ext}
+use mathlib.Core.Path.{_≡_, refl, sym, ap, ap₂, _∙_, subst, fun-ext}
 use mathlib.Core.Logic.{_≢_}
 use mathlib.Core.Bool.{Bool, true, false}
 use mathlib.Core.List.{List, [], _∷_, _++_, map, append-assoc}
@@ -16,32 +16,42 @@ use Rattle.rules.specs.Abort.{abort}
 use Rattle.rules.specs.Submit.{newcomer}
 use Rattle.rules.specs.Turn.{commit, commitTurn, sendTurn, skipTurn}
 use Rattle.rules.specs.Report.{doneReport, skipReport}
-use Rattle.rules.specs.History.{Outcome, reported-done, reported-failed, not-sent, Answered, Account, placedAccount, sentAccount}
-use Rattle.rules.specs.History.{answeredAccount, endedAccount, noteAnswer, noteAnswers}
-use Rattle.rules.specs.Order.{Event, failure-of, restart-of, Entry, routine, event, Order, orderAfterAll, entries}
+use Rattle.rules.specs.History.{Outcome, reported-done, reported-failed, not-sent, by-event, Answered, Account, placedAccount}
+use Rattle.rules.specs.History.{sentAccount, answeredBy, answeredAccount, endedAccount, onlyOn, skippedAccount, noteAnswers}
+use Rattle.rules.specs.Order.{Event, failure-of, restart-of, deviceOf, Entry, routine, event, Order, orderAfterAll, entries}
 use Rattle.rules.specs.Serial.{DeviceState, allUp, runEntry}
-use Rattle.rules.specs.Demand3.{Finds, afterAnswered, AllFind, doneOnes, CommandsStand}
+use Rattle.rules.specs.Demand3.{eventsNext, Finds, afterAnswered, AllFind, doneOnes, CommandsStand}
 use Rattle.rules.specs.HubOrder.{doneSteps}
 use Rattle.rules.proofs.Lists.{or-left, or-right, put-same, put-other, put-keeps, each-++, each-left, each-right, each-mid, IsNot}
 use Rattle.rules.proofs.Lists.{NotIn, IdsOk, ids-fresh, ids-other}
-use Rattle.rules.proofs.Groups.{Group, ids, flat, entryIds, deviceOf, alone, changed, passAll, leaving, leadOf, attachEvent}
+use Rattle.rules.proofs.Groups.{Group, ids, flat, entryIds, alone, changed, passAll, leaving, leadOf, attachEvent}
 use Rattle.rules.proofs.Groups.{leadWith, flat-++, entryIds-++, entryIds-flat, flat-pass, flat-leaving}
 use Rattle.rules.proofs.Steps.{leftSteps, skip-step, done-step, fail-step, unbegun-answered}
-use Rattle.rules.proofs.Invariant.{NotBegun, HubOk, InFlightIsUp, upEvent, upAfter, OrderOk, commandsIn, AccountTells}
-use Rattle.rules.proofs.View.{sentMember, skippedMember, doneMember, failedMember, Gone, nobody, somebody, Moves, places, commits}
-use Rattle.rules.proofs.View.{sends, skips, dones, misses, aborts, fails, restarts}
+use Rattle.rules.proofs.Invariant.{NotBegun, HubOk, InFlightIsUp, upEvent, upAfter, OrderOk, answeredFor, AccountTells}
+use Rattle.rules.proofs.View.{sentMember, skippedMember, doneMember, failedMember, skippedLeft, Gone, nobody, somebody, loses}
+use Rattle.rules.proofs.View.{Moves, places, commits, sends, skips, dones, misses, aborts, fails, restarts}
 use Rattle.rules.proofs.Runs.{up-++, bringsUp, up-event, up-not-begun, up-flat-not-begun}
 use Rattle.rules.proofs.Marks.{ClearOfDevice, in-turn, turn-clear, flight-clear, mark-place}
 use Rattle.rules.proofs.Moved.{hub-gone, hub-up}
 use Rattle.rules.proofs.Serial.{serial-up}
-use Rattle.rules.proofs.Accounts.{accounts-moves}
+use Rattle.rules.proofs.Running.{RunsTold}
+use Rattle.rules.proofs.Accounts.{eventTold, gone-tells, TellsEvent, event-accounts, accounts-moves}
 use Rattle.rules.proofs.Ordered.{order-ids, cut-at, order-moves}
+use Rattle.rules.proofs.Followed.{Ground, FollowedBy, Followed, parts-of, of-parts, answeredIn, put-answered, ended-answered}
+use Rattle.rules.proofs.Followed.{followed-moves}
 
 -- ---- where commands stand, told by the devices that are up alone
 
+-- what is asked of the device: is it up?
+abbrev FindsUp : Bool → Outcome → Type 0
+FindsUp isUp reported-done = isUp ≡ true
+FindsUp isUp reported-failed = Unit {0}
+FindsUp isUp not-sent = isUp ≡ false
+FindsUp isUp by-event = Unit {0}
+
 -- `u`: is the device up?
 abbrev Fits : (ℕ → Bool) → Answered → Type 0
-Fits u x = Finds (u (x .command .device)) (x .outcome)
+Fits u x = FindsUp (u (x .command .device)) (x .outcome)
 
 -- `q`: the answered commands of each id
 abbrev Stand : (ℕ → List Answered) → List Entry → (ℕ → Bool) → Type 0
@@ -49,32 +59,70 @@ Stand q [] u = Unit {0}
 Stand q (routine i cs b ∷ l) u = (cs ≡ doneOnes (q i)) × Each (Fits u) (q i) × Stand q l u
 Stand q (event e ∷ l) u = Stand q l (λ d. upEvent d e (u d))
 
-abbrev answeredIn : (ℕ → Account) → ℕ → List Answered
-answeredIn a i = a i .answered
-
 -- from all devices up
 abbrev Standing : (ℕ → Account) → List Entry → Type 0
 Standing a l = Stand (answeredIn a) l (λ d. true)
 
--- this is what the statement says: a run's commands leave the devices up or down as they were
-fits-is : (l : List Answered) (t : ℕ → DeviceState) → AllFind l t ≡ Each (Fits (λ d. t d .up)) l
-fits-is [] t = refl
-fits-is (x ∷ l) t =
-    ap (λ A. Fits (λ d. t d .up) x × A)
-    (fits-is l (afterAnswered (x .outcome) (x .command) t) ∙ ap (λ u. Each (Fits u) l) (same-up (x .outcome)))
-  where
-    same-up : (o : Outcome) → _≡_ {A = ℕ → Bool} (λ d. afterAnswered o (x .command) t d .up) (λ d. t d .up)
-    same-up reported-done = fun-ext (λ d. serial-up d (routine 0 (x .command ∷ []) true ∷ []) t)
-    same-up reported-failed = refl
-    same-up not-sent = refl
+-- this, with the ground of those that an event skipped, is what the statement says: a run's commands leave the devices up or down as they
+-- were
+finds-parts : (f : List Event) (c : Command) (b : Bool) (o : Outcome) → Finds f c b o → FindsUp b o × Ground f c o
+finds-parts f c b reported-done h = (h, tt)
+finds-parts f c b reported-failed h = (tt, tt)
+finds-parts f c b not-sent h = (h, tt)
+finds-parts f c b by-event h = (tt, h)
 
-stand-is : (a : ℕ → Account) (l : List Entry) (t : ℕ → DeviceState) → CommandsStand a l t ≡ Stand (answeredIn a) l (λ d. t d .up)
-stand-is a [] t = refl
-stand-is a (routine i cs b ∷ l) t =
-    ap₂ (λ A B. (cs ≡ doneOnes (a i .answered)) × A × B) (fits-is (a i .answered) t)
-    (stand-is a l (runEntry (routine i cs b) t) ∙ ap (λ u. Stand (answeredIn a) l u) (fun-ext (λ d. serial-up d (routine i cs b ∷ []) t)))
-stand-is a (event e ∷ l) t = stand-is a l (runEntry (event e) t)
-    ∙ ap (λ u. Stand (answeredIn a) l u) (fun-ext (λ d. serial-up d (event e ∷ []) t))
+finds-both : (f : List Event) (c : Command) (b : Bool) (o : Outcome) → FindsUp b o → Ground f c o → Finds f c b o
+finds-both f c b reported-done h k = h
+finds-both f c b reported-failed h k = tt
+finds-both f c b not-sent h k = h
+finds-both f c b by-event h k = k
+
+answered-up : (o : Outcome) (c : Command) (t : ℕ → DeviceState) → _≡_ {A = ℕ → Bool} (λ d. afterAnswered o c t d .up) (λ d. t d .up)
+answered-up reported-done c t = fun-ext (λ d. serial-up d (routine 0 (c ∷ []) true ∷ []) t)
+answered-up reported-failed c t = refl
+answered-up not-sent c t = refl
+answered-up by-event c t = refl
+
+all-parts : (f : List Event) (l : List Answered) (t : ℕ → DeviceState) → AllFind f l t →
+    Each (Fits (λ d. t d .up)) l × Each (FollowedBy f) l
+all-parts f [] t h = (tt, tt)
+all-parts f (x ∷ l) t h =
+    let k = finds-parts f (x .command) (t (x .command .device) .up) (x .outcome) (h .0) in
+    let n = all-parts f l (afterAnswered (x .outcome) (x .command) t) (h .1) in
+    ((k .0, subst (λ u. Each (Fits u) l) (answered-up (x .outcome) (x .command) t) (n .0)), (k .1, n .1))
+
+all-both : (f : List Event) (l : List Answered) (t : ℕ → DeviceState) → Each (Fits (λ d. t d .up)) l → Each (FollowedBy f) l → AllFind f l t
+all-both f [] t h k = tt
+all-both f (x ∷ l) t h k = (
+  finds-both f (x .command) (t (x .command .device) .up) (x .outcome) (h .0) (k .0),
+  all-both f l (afterAnswered (x .outcome) (x .command) t)
+      (subst (λ u. Each (Fits u) l) (sym (answered-up (x .outcome) (x .command) t)) (h .1)) (k .1),
+)
+
+entry-up : (e : Entry) (t : ℕ → DeviceState) → _≡_ {A = ℕ → Bool} (λ d. runEntry e t d .up) (λ d. upAfter d (e ∷ []) (t d .up))
+entry-up e t = fun-ext (λ d. serial-up d (e ∷ []) t)
+
+stand-parts : (a : ℕ → Account) (l : List Entry) (t : ℕ → DeviceState) → CommandsStand a l t →
+    Stand (answeredIn a) l (λ d. t d .up) × Followed (answeredIn a) l
+stand-parts a [] t h = (tt, tt)
+stand-parts a (routine i cs b ∷ l) t h =
+    let k = all-parts (eventsNext l) (a i .answered) t (h .1) in
+    let n = stand-parts a l (runEntry (routine i cs b) t) (h .2) in
+    ((h .0, k .0, subst (λ u. Stand (answeredIn a) l u) (entry-up (routine i cs b) t) (n .0)), (k .1, n .1))
+stand-parts a (event e ∷ l) t h =
+    let n = stand-parts a l (runEntry (event e) t) h in
+    (subst (λ u. Stand (answeredIn a) l u) (entry-up (event e) t) (n .0), n .1)
+
+stand-both : (a : ℕ → Account) (l : List Entry) (t : ℕ → DeviceState) → Stand (answeredIn a) l (λ d. t d .up) → Followed (answeredIn a) l →
+    CommandsStand a l t
+stand-both a [] t h k = tt
+stand-both a (routine i cs b ∷ l) t h k = (
+  h .0,
+  all-both (eventsNext l) (a i .answered) t (h .1) (k .0),
+  stand-both a l (runEntry (routine i cs b) t) (subst (λ u. Stand (answeredIn a) l u) (sym (entry-up (routine i cs b) t)) (h .2)) (k .1),
+)
+stand-both a (event e ∷ l) t h k =
+    stand-both a l (runEntry (event e) t) (subst (λ u. Stand (answeredIn a) l u) (sym (entry-up (event e) t)) h) k
 
 -- ---- parts of orders
 
@@ -118,25 +166,21 @@ stand-with q i v p cs b r u m n h k e f =
 
 -- ---- an event of d is put in, behind which no answered command is on d
 
-abbrev onDevice : ℕ → Command → Bool
-onDevice d c = eqb (c .device) d
-
 abbrev SameBut : ℕ → (ℕ → Bool) → (ℕ → Bool) → Type 0
 SameBut d u w = (x : ℕ) → x ≢ d → u x ≡ w x
 
-fits-spared : (d : ℕ) (u w : ℕ → Bool) → SameBut d u w → (l : List Answered) → anyOf (onDevice d) (commandsIn l) ≡ false → Each (Fits u) l →
+fits-spared : (d : ℕ) (u w : ℕ → Bool) → SameBut d u w → (l : List Answered) → anyOf (answeredFor d) l ≡ false → Each (Fits u) l →
     Each (Fits w) l
 fits-spared d u w e [] n h = tt
-fits-spared d u w e (x ∷ l) n h =
-    let y = x .command in (
-      subst (λ b. Finds b (x .outcome))
-          (e (y .device) (eqb-false (y .device) d (or-left (onDevice d y) (anyOf (onDevice d) (commandsIn l)) n))) (h .0),
-      fits-spared d u w e l (or-right (onDevice d y) (anyOf (onDevice d) (commandsIn l)) n) (h .1),
-    )
+fits-spared d u w e (x ∷ l) n h = (
+  subst (λ b. FindsUp b (x .outcome))
+      (e (x .command .device) (eqb-false (x .command .device) d (or-left (answeredFor d x) (anyOf (answeredFor d) l) n))) (h .0),
+  fits-spared d u w e l (or-right (answeredFor d x) (anyOf (answeredFor d) l) n) (h .1),
+)
 
 -- no answered command of this id is on d
 abbrev Spared : ℕ → (ℕ → List Answered) → ℕ → Type 0
-Spared d q i = anyOf (onDevice d) (commandsIn (q i)) ≡ false
+Spared d q i = anyOf (answeredFor d) (q i) ≡ false
 
 stand-spared : (d : ℕ) (q : ℕ → List Answered) (l : List Entry) (u w : ℕ → Bool) → SameBut d u w → Each (Spared d q) (entryIds l) →
     Stand q l u → Stand q l w
@@ -152,7 +196,7 @@ spared-groups : (d : ℕ) (a : ℕ → Account) (l : List Group) → Each (NotBe
     Each (Spared d (answeredIn a)) (ids l)
 spared-groups d a [] q t = tt
 spared-groups d a (g ∷ l) q t =
-    (ap (anyOf (onDevice d)) (t .0 .answered-is) ∙ unbegun-answered (g .member) d (q .0 .idle), spared-groups d a l (q .1) (t .1))
+    (t .0 .answered-on d ∙ unbegun-answered (g .member) d (q .0 .idle), spared-groups d a l (q .1) (t .1))
 
 -- those that are quiet with its device do not see an event
 stand-event : (e : Event) (a : ℕ → Account) (l : List Group) → Each (NotBegun (deviceOf e)) l → Each (AccountTells a) l → (u : ℕ → Bool) →
@@ -166,19 +210,6 @@ stand-event e a l q k u h =
 -- f: the events attached to 0
 abbrev openPart : List Event → List Group → List Entry
 openPart f l = map event f ++ flat l
-
--- ---- the accounts' answered commands
-
-put-answered : (a : ℕ → Account) (i : ℕ) (z : Account) → answeredIn (put a i z) ≡ put (answeredIn a) i (z .answered)
-put-answered a i z = fun-ext (λ j. go j (eqb j i))
-  where
-    go : (j : ℕ) (t : Bool) → (if t then z else a j) .answered ≡ (if t then z .answered else a j .answered)
-    go j true = refl
-    go j false = refl
-
--- a routine that ends keeps them
-ended-answered : (a : ℕ → Account) (i : ℕ) → answeredIn (put a i (endedAccount (a i))) ≡ answeredIn a
-ended-answered a i = fun-ext (put-keeps (λ (z : Account). z .answered) a i (endedAccount (a i)) refl)
 
 -- ---- a routine is placed, or changes in its place
 
@@ -250,7 +281,7 @@ module _ (s : State) (o : Order) (a : ℕ → Account) (x : List Group) (g : Gro
 
   -- its first command that is left, c, is answered
   stand-answers : (l : List Step) (b : Bool) (c : Command) (cs : List Command) (v : Outcome) → leftSteps (g .member .steps) ≡ c ∷ cs →
-      Finds (upPast (o .settled) x (c .device)) v → let z = answeredAccount v (a (g .member .id) .left) (a (g .member .id)) in
+      FindsUp (upPast (o .settled) x (c .device)) v → let z = answeredAccount v (a (g .member .id) .left) (a (g .member .id)) in
       Each (AccountTells (put a (g .member .id) z)) (x ++ (changed g l b ∷ y)) →
       Standing (put a (g .member .id) z) (o .settled ++ flat (x ++ (changed g l b ∷ y)))
   stand-answers l b c cs v e m =
@@ -296,52 +327,53 @@ stand-attached s e a p lead l h k w =
     (stand-behind (answeredIn a) (c .before) old (event e ∷ old) (stand-event e a (c .behind) (c .not-begun) told)) (λ d. true)
     (subst (λ r. Standing a (p ++ r)) (c .was) w))
 
--- the abort ahead of the event
-stand-gone : (s : State) (d : ℕ) (l : List Group) {r : Result} {lead : List Event} {k : List Group} → Gone s d l r lead k →
-    (a : ℕ → Account) (p : List Entry) →
-    Standing a (p ++ flat l) → Standing a (p ++ openPart lead k)
-stand-gone s d l (nobody n) a p w = w
-stand-gone s d l (somebody x g y e n) a p w = stand-leaves a p x g y (subst (λ b. Standing a (p ++ flat b)) e w)
+-- what comes ahead of the event; `t`: the state of a device that is failing
+stand-gone : (s t : State) (o : Order) (a : ℕ → Account) (d : ℕ) (l : List Group) {r : Result} {lead : List Event} {k : List Group} →
+    Before s o a l → HubOk t l → (w : Gone t d l r lead k) → Standing (eventTold w a) (o .settled ++ openPart lead k)
+stand-gone s t o a d l f h (nobody n) = f .stand
+stand-gone s t o a d l f h (somebody x g y e n) =
+    subst (λ q. Stand q (o .settled ++ openPart (leadOf x g) (leaving x g y)) (λ d. true)) (sym (ended-answered a (g .member .id)))
+    (stand-leaves a (o .settled) x g y (subst (λ b. Standing a (o .settled ++ flat b)) e (f .stand)))
+stand-gone s t o a d l f h (loses x g y e n m) =
+    let z = skippedAccount d (a (g .member .id)) in
+    stand-changes s o a x g y (subst (λ l. Before s o a l) e f) (skippedLeft d g .steps) (g .member .committed) z
+    (λ k. each-++ (Fits (upPast (o .settled) x)) (a (g .member .id) .answered) _ k (all-fit (upPast (o .settled) x) (onlyOn d (a (g .member .id) .left))))
+    (gone-tells t d a l h (f .tells) (loses x g y e n m))
+  where
+    all-fit : (u : ℕ → Bool) (l : List Command) → Each (Fits u) (map (answeredBy by-event) l)
+    all-fit u [] = tt
+    all-fit u (c ∷ l) = (tt, all-fit u l)
 
--- the answer behind it tells nothing of a routine
-gone-answered : (s : State) (d : ℕ) (l : List Group) {r : Result} {lead : List Event} {k : List Group} → Gone s d l r lead k →
-    (c : Call) (v : Answer) → ((b : ℕ → Account) → noteAnswer c v b ≡ b) → (a : ℕ → Account) →
-    answeredIn (noteAnswers c (r .answers ++ (v ∷ [])) a) ≡ answeredIn a
-unfolding abort
-gone-answered s d l (nobody n) c v same a = ap answeredIn (same a)
-gone-answered s d l (somebody x g y e n) c v same a = ap answeredIn (same _) ∙ ended-answered a (g .member .id)
-
-stand-happens : (s : State) (e : Event) (a : ℕ → Account) (p : List Entry) (l : List Group) (r : Result) (lead : List Event)
-    (k : List Group) →
-    HubOk s l → Gone s (deviceOf e) l r lead k → (c : Call) (v : Answer) → ((b : ℕ → Account) → noteAnswer c v b ≡ b) →
-    Standing a (p ++ flat l) →
+stand-happens : (s t : State) (o : Order) (e : Event) (a : ℕ → Account) (l : List Group) (r : Result) (lead : List Event) (k : List Group) →
+    Before s o a l → RunsTold a l → HubOk t l → Gone t (deviceOf e) l r lead k → (c : Call) (v : Answer) → TellsEvent (deviceOf e) c v →
     let j = r .state .mark (deviceOf e) in
     let b = noteAnswers c (r .answers ++ (v ∷ [])) a in
-    Each (AccountTells b) (attachEvent j e k) → Standing b (p ++ openPart (leadWith j e lead) (attachEvent j e k))
-stand-happens s e a p l r lead k h g c v same w n =
+    Each (AccountTells b) (attachEvent j e k) → Standing b (o .settled ++ openPart (leadWith j e lead) (attachEvent j e k))
+stand-happens s t o e a l r lead k f u h g c v same n =
     let d = deviceOf e in
     let b = noteAnswers c (r .answers ++ (v ∷ [])) a in
-    stand-attached (r .state) e b p lead k (hub-gone s d l h g .0) n
-    (stand-gone s d l g b p (subst (λ q. Stand q (p ++ flat l) (λ d. true)) (sym (gone-answered s d l g c v same a)) w))
+    stand-attached (r .state) e b (o .settled) lead k (hub-gone t d l h g .0) n
+    (subst (λ b. Standing b (o .settled ++ openPart lead k)) (sym (event-accounts t d c v a l same h u (f .tells) g))
+    (stand-gone s t o a d l f h g))
 
 -- ---- every call
 
 stand-moves : (s : State) (o : Order) (a : ℕ → Account) (l : List Group) {c : Call} {r : Result} {lead : List Event} {k : List Group} →
-    Before s o a l → Moves s l c r lead k →
+    Before s o a l → RunsTold a l → Moves s l c r lead k →
     Each (AccountTells (noteAnswers c (r .answers) a)) k → Standing (noteAnswers c (r .answers) a) (o .settled ++ openPart lead k)
 unfolding abort commit commitTurn sendTurn skipTurn doneReport skipReport
-stand-moves s o a l f (places cs x y v e m n b) = stand-places s o a cs x y (subst (λ l. Before s o a l) e f)
-stand-moves s o a l f (commits i x g y e j r n b) =
+stand-moves s o a l f t (places cs x y v e m n b) = stand-places s o a cs x y (subst (λ l. Before s o a l) e f)
+stand-moves s o a l f t (commits i x g y e j r n b) =
     stand-changes s o a x g y (subst (λ l. Before s o a l) e f) (g .member .steps) true (endedAccount (a (g .member .id))) (λ h. h)
-stand-moves s o a l f (sends i x g y c e j r n b m u) =
+stand-moves s o a l f t (sends i x g y c e j r n b m u) =
     stand-changes s o a x g y (subst (λ l. Before s o a l) e f) (sentMember s g c .steps) (g .member .committed)
     (sentAccount c (a (g .member .id))) (λ h. h)
-stand-moves s o a l f (skips i x g y c e j r n b m u) =
+stand-moves s o a l f t (skips i x g y c e j r n b m u) =
     let w = subst (λ l. Before s o a l) e f in
     let k = skip-step (g .member) (in-turn s x g y (w .hub)) c b n in
     stand-answers s o a x g y w (skippedMember g .steps) (g .member .committed) c (leftSteps (skippedMember g .steps)) not-sent (k .left-is)
     (up-before s o a x g y w (c .device) (turn-clear s x g y c (w .hub) b n m) ∙ u)
-stand-moves s o a l f (dones i code x g y v e j r n b) =
+stand-moves s o a l f t (dones i code x g y v e j r n b) =
     let w = subst (λ l. Before s o a l) e f in
     let k = done-step (g .member) (in-turn s x g y (w .hub)) v n in
     let d = v .command .device in
@@ -349,28 +381,30 @@ stand-moves s o a l f (dones i code x g y v e j r n b) =
     (k .left-is)
     (up-before s o a x g y w d (flight-clear s x g y v (w .hub) n)
     ∙ each-mid (InFlightIsUp s) x g y (w .flies) .flies-up d (k .flew d ∙ eq-eqb d d refl))
-stand-moves s o a l f (misses i code x g y v e j r n b) =
+stand-moves s o a l f t (misses i code x g y v e j r n b) =
     let w = subst (λ l. Before s o a l) e f in
     let k = fail-step (g .member) (in-turn s x g y (w .hub)) v n in
     stand-answers s o a x g y w (failedMember g .steps) (g .member .committed) (v .command)
     (leftSteps (failedMember g .steps)) reported-failed (k .left-is) tt
-stand-moves s o a l f (aborts c x g y e j n) = λ _.
+stand-moves s o a l f t (aborts c x g y e j n) = λ _.
     subst (λ q. Stand q (o .settled ++ openPart (leadOf x g) (leaving x g y)) (λ d. true)) (sym (ended-answered a (g .member .id)))
     (stand-leaves a (o .settled) x g y (subst (λ l. Standing a (o .settled ++ flat l)) e (f .stand)))
-stand-moves s o a l f (fails d r lead b n u g) =
-    stand-happens (withUp s (put (s .up) d false)) (failure-of d) a (o .settled) l r lead b (hub-up s (put (s .up) d false) l (f .hub)) g
-    (failure d) (down d (r .state .mark d)) (λ b. refl) (f .stand)
-stand-moves s o a l f (restarts d v r lead b n u g) =
-    stand-happens s (restart-of d v) a (o .settled) l r lead b (f .hub) g (restart d v) (up d (r .state .mark d)) (λ b. refl) (f .stand)
+stand-moves s o a l f t (fails d r lead b n u g) =
+    stand-happens s (withUp s (put (s .up) d false)) o (failure-of d) a l r lead b f t (hub-up s (put (s .up) d false) l (f .hub)) g
+    (failure d) (down d (r .state .mark d)) (λ b. refl)
+stand-moves s o a l f t (restarts d v r lead b n u g) =
+    stand-happens s s o (restart-of d v) a l r lead b f t (f .hub) g (restart d v) (up d (r .state .mark d)) (λ b. refl)
 
 pub stands-moves : (s : State) (o : Order) (a : ℕ → Account) (l : List Group) {c : Call} {r : Result} {lead : List Event} {k : List Group} →
-    HubOk s l → Each (InFlightIsUp s) l → OrderOk s o [] l → Each (AccountTells a) l → CommandsStand a (entries o) allUp →
+    HubOk s l → Each (InFlightIsUp s) l → OrderOk s o [] l → RunsTold a l → Each (AccountTells a) l → CommandsStand a (entries o) allUp →
     Moves s l c r lead k →
     CommandsStand (noteAnswers c (r .answers) a) (entries (orderAfterAll c a (r .answers) o)) allUp
-stands-moves s o a l {c = c} {r = r} h f k t w m =
+stands-moves s o a l {c = c} {r = r} {lead = lead} {k = j} h f k u t w m =
     let b = noteAnswers c (r .answers) a in
     let n = order-moves s o a l h k t m in
-    let v = subst (λ p. Standing a (o .settled ++ p)) (k .unsettled-is) (transport (stand-is a (entries o) allUp) w) in
-    transport (sym (stand-is b (entries (orderAfterAll c a (r .answers) o)) allUp))
-    (subst (λ p. Standing b p) (sym (ap₂ (λ x y. x ++ y) (n .1) (n .0 .unsettled-is)))
-    (stand-moves s o a l (record { hub = h; flies = f; order = k; tells = t; stand = v }) m (accounts-moves s a l h t m)))
+    let v = stand-parts a (o .settled ++ flat l) allUp (subst (λ p. CommandsStand a (o .settled ++ p) allUp) (k .unsettled-is) w) in
+    subst (λ p. CommandsStand b p allUp) (sym (ap₂ (λ x y. x ++ y) (n .1) (n .0 .unsettled-is)))
+    (stand-both b (o .settled ++ openPart lead j) allUp
+    (stand-moves s o a l (record { hub = h; flies = f; order = k; tells = t; stand = v .0 }) u m (accounts-moves s a l h u t m))
+    (of-parts (answeredIn b) (o .settled) lead j
+    (followed-moves s a (o .settled) l h u t (k .ids-ok) (parts-of (answeredIn a) (o .settled) l (v .1)) m)))

@@ -1,5 +1,6 @@
--- The commands of a routine: they are answered in turn, at most one is in flight, and those behind it are to do. Assumes nothing.
-use mathlib.Core.Path.{_≡_, refl, sym, ap, _∙_, subst}
+-- The commands of a routine: they are answered in turn, but for those that an event skips; at most one is in flight, and those behind it
+-- are to do or were skipped so. Assumes nothing.
+use mathlib.Core.Path.{_≡_, refl, sym, ap, _∙_, subst, ap₂}
 use mathlib.Core.Logic.{_≢_}
 use mathlib.Core.Bool.{Bool, true, false, not, _&&_, _||_, and-true, and-false, or-true, or-false}
 use mathlib.Core.List.{List, [], _∷_, _++_, map, append-nil, cons≢nil}
@@ -10,39 +11,47 @@ use lib.Dec.{eqb}
 use lib.IntN.{ℤ}
 use Rattle.routine.specs.Choice.{if_then_else_}
 use Rattle.routine.specs.declared.Command.{Command}
-use Rattle.rules.specs.Tables.{anyOf}
+use Rattle.rules.specs.Tables.{anyOf, Each}
 use Rattle.rules.specs.State.{Status, to-do, in-flight, was-done, was-skipped, Step, Member}
-use Rattle.rules.specs.Progress.{isOn, isToDo, isInFlight, isDone, isAnswered, begun, finished, inFlightOn, next, Flight, flightOr}
-use Rattle.rules.specs.Progress.{flight, advance, answerFlight, withSteps}
+use Rattle.rules.specs.Progress.{isMust, isOn, isToDo, isInFlight, isDone, isAnswered, begun, isLeftOn, finished, inFlightOn, next}
+use Rattle.rules.specs.Progress.{Flight, flightOr, flight, advance, answerFlight, withSteps}
 use Rattle.rules.specs.Due.{afterSteps}
 use Rattle.rules.specs.Submit.{stepOf, newcomer}
+use Rattle.rules.specs.Events.{mustLeft, skipLeft}
+use Rattle.rules.specs.History.{isFor, onlyOn, notOn}
 use Rattle.rules.specs.HubOrder.{doneSteps}
-use Rattle.rules.proofs.Lists.{byIf, t≠f, or-left, or-right, and-left, fold-++, anyOf-++}
-use Rattle.rules.proofs.Groups.{}
+use Rattle.rules.proofs.Lists.{byIf, t≠f, this-or-other, or-left, or-right, and-left, and-right, fold-++, anyOf-++}
 
-abbrev pub AllToDo : List Step → Type 0
-AllToDo [] = Unit {0}
-AllToDo (x ∷ l) = (x .status ≡ to-do) × AllToDo l
+-- neither in flight nor done
+abbrev pub isBehind : Status → Bool
+isBehind to-do = true
+isBehind (in-flight u) = false
+isBehind was-done = false
+isBehind was-skipped = true
+
+abbrev pub AllBehind : List Step → Type 0
+AllBehind [] = Unit {0}
+AllBehind (x ∷ l) = (isBehind (x .status) ≡ true) × AllBehind l
 
 abbrev pub InTurnAt : Status → List Step → Type 0 → Type 0
-InTurnAt to-do l rest = AllToDo l
-InTurnAt (in-flight u) l rest = AllToDo l
+InTurnAt to-do l rest = AllBehind l
+InTurnAt (in-flight u) l rest = AllBehind l
 InTurnAt was-done l rest = rest
 InTurnAt was-skipped l rest = rest
 
--- answered ones, then perhaps one in flight, then those to do
+-- answered ones; then perhaps one in flight or to do, and behind it some that are to do or skipped
 abbrev pub InTurn : List Step → Type 0
 InTurn [] = Unit {0}
 InTurn (x ∷ l) = InTurnAt (x .status) l (InTurn l)
 
--- the commands that are not answered, and those that are, in turn
+-- the commands that are not answered
 abbrev pub leftSteps : List Step → List Command
 leftSteps [] = []
 leftSteps (x ∷ l) = if isAnswered (x .status) then leftSteps l else x .command ∷ leftSteps l
 
-abbrev pub answeredSteps : List Step → List Command
-answeredSteps [] = []
-answeredSteps (x ∷ l) = if isAnswered (x .status) then x .command ∷ answeredSteps l else answeredSteps l
+-- is one on d answered?
+abbrev pub answeredOn : ℕ → List Step → Bool
+answeredOn d l = anyOf (λ x. isOn d x && isAnswered (x .status)) l
 
 -- ---- what a change of the commands does
 
@@ -57,7 +66,7 @@ pub record Sent (c : Command) (u : ℤ) (m n : Member) : Type 0 where
   pub flight-is : flight (n .steps) ≡ some (record { command = c; dueThen = u })
   pub same-after : (d : ℕ) (v : ℤ) → afterSteps d (n .steps) v ≡ afterSteps d (m .steps) v
   pub same-done : doneSteps (n .steps) ≡ doneSteps (m .steps)
-  pub same-answered : answeredSteps (n .steps) ≡ answeredSteps (m .steps)
+  pub same-answered : (d : ℕ) → answeredOn d (n .steps) ≡ answeredOn d (m .steps)
   pub same-left : leftSteps (n .steps) ≡ leftSteps (m .steps)
 
 -- the next command, c, is skipped
@@ -71,7 +80,7 @@ pub record Skipped (c : Command) (m n : Member) : Type 0 where
   pub flight-is : flight (n .steps) ≡ none
   pub same-after : (d : ℕ) (v : ℤ) → afterSteps d (n .steps) v ≡ afterSteps d (m .steps) v
   pub same-done : doneSteps (n .steps) ≡ doneSteps (m .steps)
-  pub more-answered : answeredSteps (n .steps) ≡ answeredSteps (m .steps) ++ (c ∷ [])
+  pub more-answered : (d : ℕ) → answeredOn d (n .steps) ≡ (answeredOn d (m .steps) || eqb (c .device) d)
   pub left-is : leftSteps (m .steps) ≡ c ∷ leftSteps (n .steps)
 
 -- the command in flight, c, is answered
@@ -84,10 +93,26 @@ pub record AnsweredOne (c : Command) (m n : Member) : Type 0 where
   pub same-begun : (d : ℕ) → begun d n ≡ begun d m
   pub flies : (d : ℕ) → inFlightOn d n ≡ false
   pub flight-is : flight (n .steps) ≡ none
-  pub more-answered : answeredSteps (n .steps) ≡ answeredSteps (m .steps) ++ (c ∷ [])
+  pub more-answered : (d : ℕ) → answeredOn d (n .steps) ≡ (answeredOn d (m .steps) || eqb (c .device) d)
   pub left-is : leftSteps (m .steps) ≡ c ∷ leftSteps (n .steps)
 
--- ---- the commands taken apart: answered ones, perhaps one in flight, those to do
+-- an event of d: the commands left on d are skipped
+pub record LeftSkipped (d : ℕ) (m n : Member) : Type 0 where
+  pub in-turn : InTurn (n .steps)
+  pub finishes-it : finished d n ≡ true
+  pub finishes : (e : ℕ) → finished e m ≡ true → finished e n ≡ true
+  pub same-begun : begun d m ≡ true → (e : ℕ) → begun e n ≡ begun e m
+  pub other-flies : (e : ℕ) → d ≢ e → inFlightOn e n ≡ inFlightOn e m
+  pub flight-was : (x : Flight) → flight (n .steps) ≡ some x → (flight (m .steps) ≡ some x) × (x .command .device ≢ d)
+  pub flight-stays : (x : Flight) → flight (m .steps) ≡ some x → x .command .device ≢ d → flight (n .steps) ≡ some x
+  pub same-after : (e : ℕ) (v : ℤ) → afterSteps e (n .steps) v ≡ afterSteps e (m .steps) v
+  pub same-done : doneSteps (n .steps) ≡ doneSteps (m .steps)
+  pub own-answered : begun d m ≡ true → answeredOn d (n .steps) ≡ true
+  pub other-answered : (e : ℕ) → d ≢ e → answeredOn e (n .steps) ≡ answeredOn e (m .steps)
+  pub left-is : leftSteps (n .steps) ≡ notOn d (leftSteps (m .steps))
+  pub left-best : mustLeft d m ≡ false → Each (λ c. isMust c ≡ false) (onlyOn d (leftSteps (m .steps)))
+
+-- ---- the commands taken apart: answered ones, then one in flight or to do, and those behind it
 
 abbrev step : Command → Status → Step
 step c s = record { command = c; status = s }
@@ -112,34 +137,29 @@ data AllAnswered : List Step → Type 0 where
   then-done : (c : Command) (l : List Step) → AllAnswered l → AllAnswered (step c was-done ∷ l)
   then-skipped : (c : Command) (l : List Step) → AllAnswered l → AllAnswered (step c was-skipped ∷ l)
 
--- p is answered, c has status s, cs are to do
-abbrev at : List Step → Command → List Command → Status → List Step
-at p c cs s = p ++ (step c s ∷ map stepOf cs)
+-- p is answered, c has status s, q is behind it
+abbrev at : List Step → Command → List Step → Status → List Step
+at p c q s = p ++ (step c s ∷ q)
 
 -- P holds of the commands before and after c goes from status r to s
 abbrev Goes : Command → Status → Status → (List Step → List Step → Type 0) → Type 0
-Goes c r s P = (p : List Step) → AllAnswered p → (cs : List Command) → P (at p c cs r) (at p c cs s)
+Goes c r s P = (p : List Step) → AllAnswered p → (q : List Step) → AllBehind q → P (at p c q r) (at p c q s)
 
 data Parts : List Step → Type 0 where
-  rests : (p : List Step) → AllAnswered p → (cs : List Command) → Parts (p ++ map stepOf cs)
-  flies : (p : List Step) → AllAnswered p → (c : Command) (u : ℤ) (cs : List Command) → Parts (at p c cs (in-flight u))
-
-to-do-ones : (l : List Step) → AllToDo l → (cs : List Command) × (map stepOf cs ≡ l)
-to-do-ones [] h = ([], refl)
-to-do-ones (x ∷ l) h = let r = to-do-ones l (h .1) in (x .command ∷ r .0, λ i. step (x .command) (sym (h .0) i) ∷ r .1 i)
+  ends : (p : List Step) → AllAnswered p → Parts p
+  rests : (p : List Step) → AllAnswered p → (c : Command) (q : List Step) → AllBehind q → Parts (at p c q to-do)
+  flies : (p : List Step) → AllAnswered p → (c : Command) (u : ℤ) (q : List Step) → AllBehind q → Parts (at p c q (in-flight u))
 
 apart : (l : List Step) → InTurn l → Parts l
 apart =
-    by-status (λ l. InTurn l → Parts l) (λ t. rests [] none-yet [])
-    (λ c l h t. let r = to-do-ones l t in subst (λ k. Parts (stepOf c ∷ k)) (r .1) (rests [] none-yet (c ∷ r .0)))
-    (λ c u l h t. let r = to-do-ones l t in subst (λ k. Parts (step c (in-flight u) ∷ k)) (r .1) (flies [] none-yet c u (r .0)))
-    (λ c l h t. longer was-done c l (then-done c) (h t))
-    (λ c l h t. longer was-skipped c l (then-skipped c) (h t))
+    by-status (λ l. InTurn l → Parts l) (λ t. ends [] none-yet) (λ c l h t. rests [] none-yet c l t) (λ c u l h t. flies [] none-yet c u l t)
+    (λ c l h t. longer was-done c l (then-done c) (h t)) (λ c l h t. longer was-skipped c l (then-skipped c) (h t))
   where
     longer : (s : Status) (c : Command) (l : List Step) → ((p : List Step) → AllAnswered p → AllAnswered (step c s ∷ p)) → Parts l →
         Parts (step c s ∷ l)
-    longer s c _ f (rests p a cs) = rests (step c s ∷ p) (f p a) cs
-    longer s c _ f (flies p a b u cs) = flies (step c s ∷ p) (f p a) b u cs
+    longer s c _ f (ends p a) = ends (step c s ∷ p) (f p a)
+    longer s c _ f (rests p a b q w) = rests (step c s ∷ p) (f p a) b q w
+    longer s c _ f (flies p a b u q w) = flies (step c s ∷ p) (f p a) b u q w
 
 -- what holds of l holds behind answered commands, if each of them keeps it
 over : (R : List Step → List Step → Type 0) (l : List Step) → R [] l →
@@ -150,19 +170,30 @@ over R l h dn sk _ none-yet = h
 over R l h dn sk _ (then-done c p a) = dn c p (p ++ l) (over R l h dn sk p a)
 over R l h dn sk _ (then-skipped c p a) = sk c p (p ++ l) (over R l h dn sk p a)
 
--- what counts no command to do
-to-do-over : {A : Type 0} (f : List Step → A) → ((c : Command) (l : List Step) → f (stepOf c ∷ l) ≡ f l) → (cs : List Command) →
-    f (map stepOf cs) ≡ f []
-to-do-over f h [] = refl
-to-do-over f h (c ∷ cs) = h c (map stepOf cs) ∙ to-do-over f h cs
+-- what holds of answered commands alone
+all-over : (R : List Step → Type 0) → R [] → ((c : Command) (k : List Step) → R k → R (step c was-done ∷ k)) →
+    ((c : Command) (k : List Step) → R k → R (step c was-skipped ∷ k)) → (p : List Step) → AllAnswered p →
+    R p
+all-over R h dn sk _ none-yet = h
+all-over R h dn sk _ (then-done c p a) = dn c p (all-over R h dn sk p a)
+all-over R h dn sk _ (then-skipped c p a) = sk c p (all-over R h dn sk p a)
 
-all-to-do : (cs : List Command) → AllToDo (map stepOf cs)
-all-to-do [] = tt
-all-to-do (c ∷ cs) = (refl, all-to-do cs)
+-- what counts neither a command to do nor a skipped one
+behind-over : {A : Type 0} (f : List Step → A) → ((c : Command) (l : List Step) → f (step c to-do ∷ l) ≡ f l) →
+    ((c : Command) (l : List Step) → f (step c was-skipped ∷ l) ≡ f l) →
+    (q : List Step) → AllBehind q → f q ≡ f []
+behind-over f h k =
+    by-status (λ q. AllBehind q → f q ≡ f []) (λ w. refl) (λ c l e w. h c l ∙ e (w .1)) (λ c u l e w. t≠f (sym (w .0)))
+    (λ c l e w. t≠f (sym (w .0))) (λ c l e w. k c l ∙ e (w .1))
 
-to-do-turn : (cs : List Command) → InTurn (map stepOf cs)
-to-do-turn [] = tt
-to-do-turn (c ∷ cs) = all-to-do cs
+behind-turn : (q : List Step) → AllBehind q → InTurn q
+behind-turn =
+    by-status (λ q. AllBehind q → InTurn q) (λ w. tt) (λ c l h w. w .1) (λ c u l h w. t≠f (sym (w .0))) (λ c l h w. t≠f (sym (w .0)))
+    (λ c l h w. h (w .1))
+
+new-behind : (cs : List Command) → AllBehind (map stepOf cs)
+new-behind [] = tt
+new-behind (c ∷ cs) = (refl, new-behind cs)
 
 -- ---- tests of the commands
 
@@ -179,8 +210,10 @@ on d k x = isOn d x && k (x .status)
 unpassed : (d : ℕ) (k : Status → Bool) (x : Step) → k (x .status) ≡ false → on d k x ≡ false
 unpassed d k x e = rw e (and-false (isOn d x))
 
-to-do-pass : (d : ℕ) (k : Status → Bool) → k to-do ≡ false → (cs : List Command) → anyOf (on d k) (map stepOf cs) ≡ false
-to-do-pass d k e = to-do-over (anyOf (on d k)) (λ c l. rw (unpassed d k (stepOf c) e) refl)
+behind-pass : (d : ℕ) (k : Status → Bool) → k to-do ≡ false → k was-skipped ≡ false → (q : List Step) → AllBehind q →
+    anyOf (on d k) q ≡ false
+behind-pass d k e f =
+    behind-over (anyOf (on d k)) (λ c l. rw (unpassed d k (step c to-do) e) refl) (λ c l. rw (unpassed d k (step c was-skipped) f) refl)
 
 past-flies : (d : ℕ) (l p : List Step) → AllAnswered p → anyOf (on d isInFlight) (p ++ l) ≡ anyOf (on d isInFlight) l
 past-flies d l =
@@ -231,59 +264,59 @@ landed (in-flight u) e = t≠f (sym e)
 landed was-done e = (refl, refl, λ x. refl)
 landed was-skipped e = (refl, refl, λ x. refl)
 
--- what is said of the list where c has status s
-module _ (p : List Step) (a : AllAnswered p) (c : Command) (cs : List Command) where
-  turn-at : (s : Status) → InTurn (at p c cs s)
-  turn-at s = over (λ p k. InTurn k) (step c s ∷ map stepOf cs) (go s) (λ b p k h. h) (λ b p k h. h) p a
-    where
-      go : (s : Status) → InTurnAt s (map stepOf cs) (InTurn (map stepOf cs))
-      go to-do = all-to-do cs
-      go (in-flight u) = all-to-do cs
-      go was-done = to-do-turn cs
-      go was-skipped = to-do-turn cs
+-- one test more of a list holds
+one-more : (x e y : Bool) → (x || ((e && true) || y)) ≡ ((x || ((e && false) || y)) || e)
+one-more true e y = refl
+one-more false true y = sym (or-true y)
+one-more false false y = sym (or-false y)
 
-  flight-at : (s : Status) → flight (at p c cs s) ≡ flightOr (step c s) s none
+-- what is said of the list where c has status s
+module _ (p : List Step) (a : AllAnswered p) (c : Command) (q : List Step) (w : AllBehind q) where
+  turn-at : (s : Status) → InTurn (at p c q s)
+  turn-at s = over (λ p k. InTurn k) (step c s ∷ q) (go s) (λ b p k h. h) (λ b p k h. h) p a
+    where
+      go : (s : Status) → InTurnAt s q (InTurn q)
+      go to-do = w
+      go (in-flight u) = w
+      go was-done = behind-turn q w
+      go was-skipped = behind-turn q w
+
+  flight-at : (s : Status) → flight (at p c q s) ≡ flightOr (step c s) s none
   flight-at s =
-      over (λ p k. flight k ≡ flightOr (step c s) s none) (step c s ∷ map stepOf cs)
-      (ap (λ o. flightOr (step c s) s o) (to-do-over flight (λ b l. refl) cs))
+      over (λ p k. flight k ≡ flightOr (step c s) s none) (step c s ∷ q)
+      (ap (λ o. flightOr (step c s) s o) (behind-over flight (λ b l. refl) (λ b l. refl) q w))
       (λ b p k e. e) (λ b p k e. e) p a
 
-  flies-at : (d : ℕ) (s : Status) → anyOf (on d isInFlight) (at p c cs s) ≡ on d isInFlight (step c s)
-  flies-at d s = rw (past-flies d (step c s ∷ map stepOf cs) p a, to-do-pass d isInFlight refl cs) (or-false (on d isInFlight (step c s)))
+  flies-at : (d : ℕ) (s : Status) → anyOf (on d isInFlight) (at p c q s) ≡ on d isInFlight (step c s)
+  flies-at d s = rw (past-flies d (step c s ∷ q) p a, behind-pass d isInFlight refl refl q w) (or-false (on d isInFlight (step c s)))
 
-  left-at : (s : Status) → leftSteps (at p c cs s) ≡ (let l = leftSteps (map stepOf cs) in if isAnswered s then l else c ∷ l)
-  left-at s = over (λ p k. leftSteps k ≡ leftSteps (step c s ∷ map stepOf cs)) (step c s ∷ map stepOf cs) refl (λ b p k e. e)
+  left-at : (s : Status) → leftSteps (at p c q s) ≡ (let l = leftSteps q in if isAnswered s then l else c ∷ l)
+  left-at s = over (λ p k. leftSteps k ≡ leftSteps (step c s ∷ q)) (step c s ∷ q) refl (λ b p k e. e)
       (λ b p k e. e) p a
 
-  answered-at : (s : Status) → answeredSteps (at p c cs s) ≡ answeredSteps p ++ (if isAnswered s then c ∷ [] else [])
-  answered-at s =
-      over (λ p k. answeredSteps k ≡ answeredSteps p ++ (if isAnswered s then c ∷ [] else [])) (step c s ∷ map stepOf cs)
-      (ap (λ l. if isAnswered s then c ∷ l else l) (to-do-over answeredSteps (λ b l. refl) cs)) (λ b p k e. ap (λ l. b ∷ l) e)
-      (λ b p k e. ap (λ l. b ∷ l) e) p a
-
-  done-at : (s : Status) → doneSteps (at p c cs s) ≡ doneSteps p ++ (if isDone s then c ∷ [] else [])
+  done-at : (s : Status) → doneSteps (at p c q s) ≡ doneSteps p ++ (if isDone s then c ∷ [] else [])
   done-at s =
-      over (λ p k. doneSteps k ≡ doneSteps p ++ (if isDone s then c ∷ [] else [])) (step c s ∷ map stepOf cs)
-      (ap (λ l. if isDone s then c ∷ l else l) (to-do-over doneSteps (λ b l. refl) cs)) (λ b p k e. ap (λ l. b ∷ l) e) (λ b p k e. e) p a
+      over (λ p k. doneSteps k ≡ doneSteps p ++ (if isDone s then c ∷ [] else [])) (step c s ∷ q)
+      (ap (λ l. if isDone s then c ∷ l else l) (behind-over doneSteps (λ b l. refl) (λ b l. refl) q w)) (λ b p k e. ap (λ l. b ∷ l) e) (λ b p k e. e) p a
 
-  after-at : (d : ℕ) (v : ℤ) (s : Status) → afterSteps d (at p c cs s) v ≡ (if on d isDone (step c s) then c .setting else afterSteps d p v)
+  after-at : (d : ℕ) (v : ℤ) (s : Status) → afterSteps d (at p c q s) v ≡ (if on d isDone (step c s) then c .setting else afterSteps d p v)
   after-at d v s =
-      after-++ d p (step c s ∷ map stepOf cs) v
-      ∙ undone-after d (map stepOf cs) (if on d isDone (step c s) then c .setting else afterSteps d p v) (to-do-pass d isDone refl cs)
+      after-++ d p (step c s ∷ q) v
+      ∙ undone-after d q (if on d isDone (step c s) then c .setting else afterSteps d p v) (behind-pass d isDone refl refl q w)
 
   -- tests on its own device
-  own-at : (k : Status → Bool) (s : Status) → k s ≡ true → anyOf (on (c .device) k) (at p c cs s) ≡ true
-  own-at k s e = any-here (on (c .device) k) p (step c s) (map stepOf cs) (rw (eq-eqb (c .device) (c .device) refl) e)
+  own-at : (k : Status → Bool) (s : Status) → k s ≡ true → anyOf (on (c .device) k) (at p c q s) ≡ true
+  own-at k s e = any-here (on (c .device) k) p (step c s) q (rw (eq-eqb (c .device) (c .device) refl) e)
 
   -- on another device
-  other-at : (k : Status → Bool) (s r : Status) (d : ℕ) → c .device ≢ d → anyOf (on d k) (at p c cs s) ≡ anyOf (on d k) (at p c cs r)
-  other-at k s r d n = any-same (on d k) p (step c s) (map stepOf cs) (step c r) (rw (ne-eqb (c .device) d n) refl)
+  other-at : (k : Status → Bool) (s r : Status) (d : ℕ) → c .device ≢ d → anyOf (on d k) (at p c q s) ≡ anyOf (on d k) (at p c q r)
+  other-at k s r d n = any-same (on d k) p (step c s) q (step c r) (rw (ne-eqb (c .device) d n) refl)
 
   -- and those that say the same of both statuses
-  same-at : (k : Status → Bool) (s r : Status) → k s ≡ k r → (d : ℕ) → anyOf (on d k) (at p c cs s) ≡ anyOf (on d k) (at p c cs r)
-  same-at k s r e d = any-same (on d k) p (step c s) (map stepOf cs) (step c r) (rw e refl)
+  same-at : (k : Status → Bool) (s r : Status) → k s ≡ k r → (d : ℕ) → anyOf (on d k) (at p c q s) ≡ anyOf (on d k) (at p c q r)
+  same-at k s r e d = any-same (on d k) p (step c s) q (step c r) (rw e refl)
 
-  sent-at : (m : Member) (u : ℤ) → Sent c u (withSteps m (at p c cs to-do)) (withSteps m (at p c cs (in-flight u)))
+  sent-at : (m : Member) (u : ℤ) → Sent c u (withSteps m (at p c q to-do)) (withSteps m (at p c q (in-flight u)))
   unfolding begun finished inFlightOn
   sent-at m u = record {
     in-turn = turn-at (in-flight u);
@@ -295,37 +328,39 @@ module _ (p : List Step) (a : AllAnswered p) (c : Command) (cs : List Command) w
     flight-is = flight-at (in-flight u);
     same-after = λ d v. after-at d v (in-flight u) ∙ sym (after-at d v to-do);
     same-done = done-at (in-flight u) ∙ sym (done-at to-do);
-    same-answered = answered-at (in-flight u) ∙ sym (answered-at to-do);
+    same-answered = same-at isAnswered (in-flight u) to-do refl;
     same-left = left-at (in-flight u) ∙ sym (left-at to-do);
   }
 
   -- it had status r, and s answers it
-  lands-at : (s : Status) → isAnswered s ≡ true → (d : ℕ) → anyOf (on d isInFlight) (at p c cs s) ≡ false
+  lands-at : (s : Status) → isAnswered s ≡ true → (d : ℕ) → anyOf (on d isInFlight) (at p c q s) ≡ false
   lands-at s e d = flies-at d s ∙ unpassed d isInFlight (step c s) (landed s e .0)
 
-  ends-at : (r s : Status) → isAnswered s ≡ true → (d : ℕ) → not (anyOf (on d isOpen) (at p c cs r)) ≡ true →
-      not (anyOf (on d isOpen) (at p c cs s)) ≡ true
+  ends-at : (r s : Status) → isAnswered s ≡ true → (d : ℕ) → not (anyOf (on d isOpen) (at p c q r)) ≡ true →
+      not (anyOf (on d isOpen) (at p c q s)) ≡ true
   ends-at r s e d h =
-      ap not (any-less (on d isOpen) p (step c r) (map stepOf cs) (step c s) (unpassed d isOpen (step c s) (ap not e))
-      (not-true (anyOf (on d isOpen) (at p c cs r)) h))
+      ap not (any-less (on d isOpen) p (step c r) q (step c s) (unpassed d isOpen (step c s) (ap not e))
+      (not-true (anyOf (on d isOpen) (at p c q r)) h))
 
-  gains-at : (r s : Status) → isAnswered r ≡ false → isAnswered s ≡ true → answeredSteps (at p c cs s) ≡ answeredSteps (at p c cs r)
-      ++ (c ∷ [])
-  gains-at r s f e = rw (answered-at s, answered-at r, e, f, append-nil (answeredSteps p)) refl
+  gains-at : (r s : Status) → isAnswered r ≡ false → isAnswered s ≡ true → (d : ℕ) →
+      answeredOn d (at p c q s) ≡ (answeredOn d (at p c q r) || eqb (c .device) d)
+  gains-at r s f e d =
+      rw (anyOf-++ (on d isAnswered) p (step c s ∷ q), anyOf-++ (on d isAnswered) p (step c r ∷ q), e, f)
+      (one-more (anyOf (on d isAnswered) p) (eqb (c .device) d) (anyOf (on d isAnswered) q))
 
-  leaves-at : (r s : Status) → isAnswered r ≡ false → isAnswered s ≡ true → leftSteps (at p c cs r) ≡ c ∷ leftSteps (at p c cs s)
+  leaves-at : (r s : Status) → isAnswered r ≡ false → isAnswered s ≡ true → leftSteps (at p c q r) ≡ c ∷ leftSteps (at p c q s)
   leaves-at r s f e = rw (left-at s, left-at r, e, f) refl
 
   -- done: it is one more, and its device is due its setting
-  done-gains-at : (u : ℤ) → doneSteps (at p c cs was-done) ≡ doneSteps (at p c cs (in-flight u)) ++ (c ∷ [])
+  done-gains-at : (u : ℤ) → doneSteps (at p c q was-done) ≡ doneSteps (at p c q (in-flight u)) ++ (c ∷ [])
   done-gains-at u = rw (done-at was-done, done-at (in-flight u), append-nil (doneSteps p)) refl
 
   done-after-at : (u : ℤ) (d : ℕ) (v : ℤ) →
-      afterSteps d (at p c cs was-done) v ≡ (if eqb (c .device) d then c .setting else afterSteps d (at p c cs (in-flight u)) v)
+      afterSteps d (at p c q was-done) v ≡ (if eqb (c .device) d then c .setting else afterSteps d (at p c q (in-flight u)) v)
   done-after-at u d v =
       rw (after-at d v was-done, after-at d v (in-flight u), and-true (eqb (c .device) d), and-false (eqb (c .device) d)) refl
 
-  skipped-at : (m : Member) → Skipped c (withSteps m (at p c cs to-do)) (withSteps m (at p c cs was-skipped))
+  skipped-at : (m : Member) → Skipped c (withSteps m (at p c q to-do)) (withSteps m (at p c q was-skipped))
   unfolding begun finished inFlightOn
   skipped-at m = record {
     in-turn = turn-at was-skipped;
@@ -342,7 +377,7 @@ module _ (p : List Step) (a : AllAnswered p) (c : Command) (cs : List Command) w
   }
 
   answer-at : (m : Member) (u : ℤ) (s : Status) → isAnswered s ≡ true →
-      AnsweredOne c (withSteps m (at p c cs (in-flight u))) (withSteps m (at p c cs s))
+      AnsweredOne c (withSteps m (at p c q (in-flight u))) (withSteps m (at p c q s))
   unfolding begun finished inFlightOn
   answer-at m u s e = record {
     in-turn = turn-at s;
@@ -360,43 +395,43 @@ module _ (p : List Step) (a : AllAnswered p) (c : Command) (cs : List Command) w
 -- the next command is sent or skipped
 at-next : (P : List Step → List Step → Type 0) (c : Command) (s : Status) → Goes c to-do s P →
     (l : List Step) → Parts l → next l ≡ some c → flight l ≡ none → P l (advance s l)
-at-next P c s h _ (rests p a []) e f =
-    absurd (Option·none-ne-some c (sym (over (λ p k. next k ≡ none) [] refl (λ b p k q. q) (λ b p k q. q) p a) ∙ e))
-at-next P c s h _ (rests p a (b ∷ cs)) e f =
-    let q : b ≡ c =
-    Option·some-injective b c (sym (over (λ p k. next k ≡ some b) (map stepOf (b ∷ cs)) refl (λ b p k q. q) (λ b p k q. q) p a) ∙ e) in
-    subst (λ k. P (at p b cs to-do) k)
-    (sym (over (λ p k. advance s k ≡ at p b cs s) (map stepOf (b ∷ cs)) refl (λ b p k. ap (λ n. step b was-done ∷ n))
+at-next P c s h _ (ends p a) e f =
+    absurd (Option·none-ne-some c (sym (all-over (λ k. next k ≡ none) refl (λ b k n. n) (λ b k n. n) p a) ∙ e))
+at-next P c s h _ (rests p a b q w) e f =
+    let same : b ≡ c = Option·some-injective b c (sym (over (λ p k. next k ≡ some b) (step b to-do ∷ q) refl (λ b p k n. n) (λ b p k n. n) p a)
+    ∙ e) in
+    subst (λ k. P (at p b q to-do) k)
+    (sym (over (λ p k. advance s k ≡ p ++ (step b s ∷ q)) (step b to-do ∷ q) refl (λ b p k. ap (λ n. step b was-done ∷ n))
     (λ b p k. ap (λ n. step b was-skipped ∷ n)) p a))
-    (subst (λ b. P (at p b cs to-do) (at p b cs s)) (sym q) (h p a cs))
-at-next P c s h _ (flies p a b u cs) e f =
-    absurd (Option·some-ne-none (record { command = b; dueThen = u }) (sym (flight-at p a b cs (in-flight u)) ∙ f))
+    (subst (λ b. P (at p b q to-do) (at p b q s)) (sym same) (h p a q w))
+at-next P c s h _ (flies p a b u q w) e f =
+    absurd (Option·some-ne-none (record { command = b; dueThen = u }) (sym (flight-at p a b q w (in-flight u)) ∙ f))
 
 -- the command in flight is answered
 at-flight : (P : List Step → List Step → Type 0) (x : Flight) (s : Status) → Goes (x .command) (in-flight (x .dueThen)) s P →
     (l : List Step) → Parts l → flight l ≡ some x → P l (answerFlight s l)
-at-flight P x s h _ (rests p a cs) e =
-    absurd (Option·none-ne-some x
-    (sym (over (λ p k. flight k ≡ none) (map stepOf cs) (to-do-over flight (λ b l. refl) cs) (λ b p k q. q) (λ b p k q. q) p a) ∙ e))
-at-flight P x s h _ (flies p a c u cs) e =
-    let q : record { command = c; dueThen = u } ≡ x =
-    Option·some-injective (record { command = c; dueThen = u }) x (sym (flight-at p a c cs (in-flight u)) ∙ e) in
-    subst (λ k. P (at p c cs (in-flight u)) k)
-    (sym (over (λ p k. answerFlight s k ≡ at p c cs s) (step c (in-flight u) ∷ map stepOf cs) refl (λ b p k. ap (λ n. step b was-done ∷ n))
+at-flight P x s h _ (ends p a) e =
+    absurd (Option·none-ne-some x (sym (all-over (λ k. flight k ≡ none) refl (λ b k n. n) (λ b k n. n) p a) ∙ e))
+at-flight P x s h _ (rests p a c q w) e = absurd (Option·none-ne-some x (sym (flight-at p a c q w to-do) ∙ e))
+at-flight P x s h _ (flies p a c u q w) e =
+    let same : record { command = c; dueThen = u } ≡ x =
+    Option·some-injective (record { command = c; dueThen = u }) x (sym (flight-at p a c q w (in-flight u)) ∙ e) in
+    subst (λ k. P (at p c q (in-flight u)) k)
+    (sym (over (λ p k. answerFlight s k ≡ p ++ (step c s ∷ q)) (step c (in-flight u) ∷ q) refl (λ b p k. ap (λ n. step b was-done ∷ n))
     (λ b p k. ap (λ n. step b was-skipped ∷ n)) p a))
-    (subst (λ y. P (at p (y .command) cs (in-flight (y .dueThen))) (at p (y .command) cs s)) (sym q) (h p a cs))
+    (subst (λ y. P (at p (y .command) q (in-flight (y .dueThen))) (at p (y .command) q s)) (sym same) (h p a q w))
 
 module _ (m : Member) (t : InTurn (m .steps)) where
   pub send-step : (c : Command) (u : ℤ) → next (m .steps) ≡ some c → flight (m .steps) ≡ none →
       Sent c u m (withSteps m (advance (in-flight u) (m .steps)))
   send-step c u e f =
-      at-next (λ k l. Sent c u (withSteps m k) (withSteps m l)) c (in-flight u) (λ p a cs. sent-at p a c cs m u) (m .steps)
+      at-next (λ k l. Sent c u (withSteps m k) (withSteps m l)) c (in-flight u) (λ p a q w. sent-at p a c q w m u) (m .steps)
       (apart (m .steps) t) e f
 
   pub skip-step : (c : Command) → next (m .steps) ≡ some c → flight (m .steps) ≡ none →
       Skipped c m (withSteps m (advance was-skipped (m .steps)))
   skip-step c e f =
-      at-next (λ k l. Skipped c (withSteps m k) (withSteps m l)) c was-skipped (λ p a cs. skipped-at p a c cs m) (m .steps)
+      at-next (λ k l. Skipped c (withSteps m k) (withSteps m l)) c was-skipped (λ p a q w. skipped-at p a c q w m) (m .steps)
       (apart (m .steps) t) e f
 
   answers : (P : List Step → List Step → Type 0) (x : Flight) (s : Status) → Goes (x .command) (in-flight (x .dueThen)) s P →
@@ -406,36 +441,36 @@ module _ (m : Member) (t : InTurn (m .steps)) where
   pub done-step : (x : Flight) → flight (m .steps) ≡ some x → AnsweredOne (x .command) m (withSteps m (answerFlight was-done (m .steps)))
   done-step x e =
       answers (λ k l. AnsweredOne (x .command) (withSteps m k) (withSteps m l)) x was-done
-      (λ p a cs. answer-at p a (x .command) cs m (x .dueThen) was-done refl) e
+      (λ p a q w. answer-at p a (x .command) q w m (x .dueThen) was-done refl) e
 
   pub done-after : (x : Flight) → flight (m .steps) ≡ some x → (d : ℕ) (v : ℤ) →
       afterSteps d (answerFlight was-done (m .steps)) v ≡
       (if eqb (x .command .device) d then x .command .setting else afterSteps d (m .steps) v)
   done-after x e d v =
       answers (λ k l. afterSteps d l v ≡ (if eqb (x .command .device) d then x .command .setting else afterSteps d k v)) x was-done
-      (λ p a cs. done-after-at p a (x .command) cs (x .dueThen) d v) e
+      (λ p a q w. done-after-at p a (x .command) q w (x .dueThen) d v) e
 
   pub done-gains : (x : Flight) → flight (m .steps) ≡ some x → doneSteps (answerFlight was-done (m .steps)) ≡ doneSteps (m .steps)
       ++ (x .command ∷ [])
   done-gains x e =
       answers (λ k l. doneSteps l ≡ doneSteps k ++ (x .command ∷ [])) x was-done
-      (λ p a cs. done-gains-at p a (x .command) cs (x .dueThen)) e
+      (λ p a q w. done-gains-at p a (x .command) q w (x .dueThen)) e
 
   pub fail-step : (x : Flight) → flight (m .steps) ≡ some x → AnsweredOne (x .command) m (withSteps m (answerFlight was-skipped (m .steps)))
   fail-step x e =
       answers (λ k l. AnsweredOne (x .command) (withSteps m k) (withSteps m l)) x was-skipped
-      (λ p a cs. answer-at p a (x .command) cs m (x .dueThen) was-skipped refl) e
+      (λ p a q w. answer-at p a (x .command) q w m (x .dueThen) was-skipped refl) e
 
   pub fail-after : (x : Flight) → flight (m .steps) ≡ some x → (d : ℕ) (v : ℤ) →
       afterSteps d (answerFlight was-skipped (m .steps)) v ≡ afterSteps d (m .steps) v
   fail-after x e d v =
       answers (λ k l. afterSteps d l v ≡ afterSteps d k v) x was-skipped
-      (λ p a cs. after-at p a (x .command) cs d v was-skipped ∙ sym (after-at p a (x .command) cs d v (in-flight (x .dueThen)))) e
+      (λ p a q w. after-at p a (x .command) q w d v was-skipped ∙ sym (after-at p a (x .command) q w d v (in-flight (x .dueThen)))) e
 
   pub fail-done : (x : Flight) → flight (m .steps) ≡ some x → doneSteps (answerFlight was-skipped (m .steps)) ≡ doneSteps (m .steps)
   fail-done x e =
       answers (λ k l. doneSteps l ≡ doneSteps k) x was-skipped
-      (λ p a cs. done-at p a (x .command) cs was-skipped ∙ sym (done-at p a (x .command) cs (in-flight (x .dueThen)))) e
+      (λ p a q w. done-at p a (x .command) q w was-skipped ∙ sym (done-at p a (x .command) q w (in-flight (x .dueThen)))) e
 
   -- a command in flight on d is the one in flight
   pub flight-on : (d : ℕ) → inFlightOn d m ≡ true → (x : Flight) × (flight (m .steps) ≡ some x) × (x .command .device ≡ d)
@@ -443,12 +478,14 @@ module _ (m : Member) (t : InTurn (m .steps)) where
   flight-on d e = go (m .steps) (apart (m .steps) t) e
     where
       go : (l : List Step) → Parts l → anyOf (on d isInFlight) l ≡ true → (x : Flight) × (flight l ≡ some x) × (x .command .device ≡ d)
-      go _ (rests p a cs) h = t≠f (sym h ∙ past-flies d (map stepOf cs) p a ∙ to-do-pass d isInFlight refl cs)
-      go _ (flies p a c u cs) h = (
+      go _ (ends p a) h =
+          t≠f (sym h ∙ ap (anyOf (on d isInFlight)) (sym (append-nil p)) ∙ past-flies d [] p a)
+      go _ (rests p a c q w) h = t≠f (sym h ∙ flies-at p a c q w d to-do ∙ unpassed d isInFlight (step c to-do) refl)
+      go _ (flies p a c u q w) h = (
         record { command = c; dueThen = u },
-        flight-at p a c cs (in-flight u),
+        flight-at p a c q w (in-flight u),
         eqb-true (c .device) d
-            (and-left (eqb (c .device) d) true (sym (flies-at p a c cs d (in-flight u)) ∙ h)),
+            (and-left (eqb (c .device) d) true (sym (flies-at p a c q w d (in-flight u)) ∙ h)),
       )
 
 -- ---- laws of one routine
@@ -503,19 +540,243 @@ pub unbegun-after : (m : Member) (d : ℕ) (v : ℤ) → begun d m ≡ false →
 unfolding begun
 unbegun-after m d v e = undone-after d (m .steps) v (fewer-on d isBegun isDone (unbegun isDone refl) (m .steps) e)
 
-unanswered : (d : ℕ) (l : List Step) → anyOf (on d isAnswered) l ≡ false →
-    anyOf (λ (c : Command). eqb (c .device) d) (answeredSteps l) ≡ false
-unanswered d [] e = refl
-unanswered d (x ∷ l) e =
-    let h = unanswered d l (or-right (on d isAnswered x) (anyOf (on d isAnswered) l) e) in
-    byIf (λ k. anyOf (λ (c : Command). eqb (c .device) d) k ≡ false) (isAnswered (x .status))
-    (λ t. rw (sym (and-true (isOn d x)) ∙ ap (λ b. isOn d x && b) (sym t) ∙ or-left (on d isAnswered x) (anyOf (on d isAnswered) l) e) h)
-    (λ t. h)
-
-pub unbegun-answered : (m : Member) (d : ℕ) → begun d m ≡ false →
-    anyOf (λ (c : Command). eqb (c .device) d) (answeredSteps (m .steps)) ≡ false
+pub unbegun-answered : (m : Member) (d : ℕ) → begun d m ≡ false → answeredOn d (m .steps) ≡ false
 unfolding begun
-unbegun-answered m d e = unanswered d (m .steps) (fewer-on d isBegun isAnswered (unbegun isAnswered refl) (m .steps) e)
+unbegun-answered m d e = fewer-on d isBegun isAnswered (unbegun isAnswered refl) (m .steps) e
+
+-- begun: one on d is answered, or in flight
+pub begun-is : (m : Member) (d : ℕ) → begun d m ≡ (answeredOn d (m .steps) || inFlightOn d m)
+unfolding begun inFlightOn
+begun-is m d = go (m .steps)
+  where
+    four : (a b x y : Bool) → ((a || b) || (x || y)) ≡ ((a || x) || (b || y))
+    four true b x y = refl
+    four false true true y = refl
+    four false true false y = refl
+    four false false x y = refl
+
+    one : (t : Bool) (s : Status) → (t && isBegun s) ≡ ((t && isAnswered s) || (t && isInFlight s))
+    one true to-do = refl
+    one true (in-flight u) = refl
+    one true was-done = refl
+    one true was-skipped = refl
+    one false s = refl
+
+    go : (l : List Step) → anyOf (on d isBegun) l ≡ (anyOf (on d isAnswered) l || anyOf (on d isInFlight) l)
+    go [] = refl
+    go (x ∷ l) =
+        rw (one (isOn d x) (x .status), go l)
+        (four (on d isAnswered x) (on d isInFlight x) (anyOf (on d isAnswered) l) (anyOf (on d isInFlight) l))
+
+-- a command left on d is not answered yet
+pub left-on : (m : Member) (d : ℕ) → anyOf (isFor d) (leftSteps (m .steps)) ≡ not (finished d m)
+unfolding finished
+left-on m d =
+    by-status (λ l. anyOf (isFor d) (leftSteps l) ≡ anyOf (on d isOpen) l) refl
+    (λ c l h. ap₂ _||_ (sym (and-true (isFor d c))) h) (λ c u l h. ap₂ _||_ (sym (and-true (isFor d c))) h)
+    (λ c l h. rw (and-false (isFor d c)) h) (λ c l h. rw (and-false (isFor d c)) h) (m .steps)
+    ∙ sym (twice (anyOf (on d isOpen) (m .steps)))
+  where
+    twice : (b : Bool) → not (not b) ≡ b
+    twice true = refl
+    twice false = refl
+
+-- ---- an event skips what is left on d
+
+-- a law of a list of steps and what an event of d makes of it: a command stays, or is skipped
+by-skip : (d : ℕ) (P : List Step → List Step → Type 0) → P [] [] →
+    ((c : Command) (s : Status) (l : List Step) → (eqb (c .device) d && isOpen s) ≡ false → P l (skipLeft d l) →
+    P (step c s ∷ l) (step c s ∷ skipLeft d l)) →
+    ((c : Command) (s : Status) (l : List Step) → c .device ≡ d → isAnswered s ≡ false → P l (skipLeft d l) →
+    P (step c s ∷ l) (step c was-skipped ∷ skipLeft d l)) →
+    (l : List Step) → P l (skipLeft d l)
+by-skip d P nil stays goes [] = nil
+by-skip d P nil stays goes (x ∷ l) =
+    byIf (λ (y : Step). P (x ∷ l) (y ∷ skipLeft d l)) (on d isOpen x)
+    (λ t. goes (x .command) (x .status) l (eqb-true (x .command .device) d (and-left (isOn d x) (isOpen (x .status)) t))
+    (not-true (isAnswered (x .status)) (and-right (isOn d x) (isOpen (x .status)) t)) (by-skip d P nil stays goes l))
+    (λ t. stays (x .command) (x .status) l t (by-skip d P nil stays goes l))
+
+module _ (d : ℕ) where
+  -- tests on another device
+  skip-other : (k : Status → Bool) (e : ℕ) → d ≢ e → (l : List Step) → anyOf (on e k) (skipLeft d l) ≡ anyOf (on e k) l
+  skip-other k e n =
+      by-skip d (λ l m. anyOf (on e k) m ≡ anyOf (on e k) l) refl (λ c s l t h. ap (λ b. on e k (step c s) || b) h)
+      (λ c s l t u h. rw (ne-eqb (c .device) e (λ z. n (sym t ∙ z))) h)
+
+  -- what holds of a skipped command
+  skip-own : (k : Status → Bool) → k was-skipped ≡ true → (l : List Step) → anyOf (on d k) l ≡ true → anyOf (on d k) (skipLeft d l) ≡ true
+  skip-own k y =
+      by-skip d (λ l m. anyOf (on d k) l ≡ true → anyOf (on d k) m ≡ true) (λ e. e) (λ c s l t h. either (on d k (step c s)) h)
+      (λ c s l t u h e. rw (eq-eqb (c .device) d t, y) refl)
+    where
+      either : {x y : Bool} (b : Bool) → (x ≡ true → y ≡ true) → b || x ≡ true → b || y ≡ true
+      either true f e = refl
+      either false f e = f e
+
+  -- none is left on d
+  skip-closes : (l : List Step) → anyOf (on d isOpen) (skipLeft d l) ≡ false
+  skip-closes =
+      by-skip d (λ l m. anyOf (on d isOpen) m ≡ false) refl (λ c s l t h. rw t h)
+      (λ c s l t u h. rw (unpassed d isOpen (step c was-skipped) refl) h)
+
+  skip-open : (e : ℕ) (l : List Step) → anyOf (on e isOpen) l ≡ false → anyOf (on e isOpen) (skipLeft d l) ≡ false
+  skip-open e =
+      by-skip d (λ l m. anyOf (on e isOpen) l ≡ false → anyOf (on e isOpen) m ≡ false) (λ f. f)
+      (λ c s l t h f. rw (or-left (on e isOpen (step c s)) (anyOf (on e isOpen) l) f)
+      (h (or-right (on e isOpen (step c s)) (anyOf (on e isOpen) l) f)))
+      (λ c s l t u h f. rw (unpassed e isOpen (step c was-skipped) refl) (h (or-right (on e isOpen (step c s)) (anyOf (on e isOpen) l) f)))
+
+  skip-behind : (l : List Step) → AllBehind l → AllBehind (skipLeft d l)
+  skip-behind =
+      by-skip d (λ l m. AllBehind l → AllBehind m) (λ w. w) (λ c s l t h w. (w .0, h (w .1))) (λ c s l t u h w. (refl, h (w .1)))
+
+  skip-turn : (l : List Step) → InTurn l → InTurn (skipLeft d l)
+  skip-turn = by-skip d (λ l m. InTurn l → InTurn m) (λ w. w) stays goes
+    where
+      stays : (c : Command) (s : Status) (l : List Step) → (eqb (c .device) d && isOpen s) ≡ false → (InTurn l → InTurn (skipLeft d l)) →
+          InTurnAt s l (InTurn l) → InTurnAt s (skipLeft d l) (InTurn (skipLeft d l))
+      stays c to-do l t h w = skip-behind l w
+      stays c (in-flight u) l t h w = skip-behind l w
+      stays c was-done l t h w = h w
+      stays c was-skipped l t h w = h w
+
+      goes : (c : Command) (s : Status) (l : List Step) → c .device ≡ d → isAnswered s ≡ false → (InTurn l → InTurn (skipLeft d l)) →
+          InTurnAt s l (InTurn l) → InTurn (skipLeft d l)
+      goes c to-do l t u h w = behind-turn (skipLeft d l) (skip-behind l w)
+      goes c (in-flight v) l t u h w = behind-turn (skipLeft d l) (skip-behind l w)
+      goes c was-done l t u h w = t≠f u
+      goes c was-skipped l t u h w = t≠f u
+
+  skip-after : (e : ℕ) (l : List Step) (v : ℤ) → afterSteps e (skipLeft d l) v ≡ afterSteps e l v
+  skip-after e =
+      by-skip d (λ l m. (v : ℤ) → afterSteps e m v ≡ afterSteps e l v) (λ v. refl) (λ c s l t h v. h _)
+      (λ c s l t u h v. ap (λ b. afterSteps e (skipLeft d l) (if b then c .setting else v)) (unpassed e isDone (step c was-skipped) refl)
+      ∙ h v ∙ sym (ap (λ b. afterSteps e l (if b then c .setting else v)) (unpassed e isDone (step c s) (undone s u))))
+    where
+      undone : (s : Status) → isAnswered s ≡ false → isDone s ≡ false
+      undone to-do e = refl
+      undone (in-flight u) e = refl
+      undone was-done e = t≠f e
+      undone was-skipped e = t≠f e
+
+  skip-done : (l : List Step) → doneSteps (skipLeft d l) ≡ doneSteps l
+  skip-done =
+      by-skip d (λ l m. doneSteps m ≡ doneSteps l) refl (λ c s l t h. ap (λ m. if isDone s then c ∷ m else m) h) goes
+    where
+      goes : (c : Command) (s : Status) (l : List Step) → c .device ≡ d → isAnswered s ≡ false → doneSteps (skipLeft d l) ≡ doneSteps l →
+          doneSteps (skipLeft d l) ≡ doneSteps (step c s ∷ l)
+      goes c to-do l t u h = h
+      goes c (in-flight v) l t u h = h
+      goes c was-done l t u h = t≠f u
+      goes c was-skipped l t u h = t≠f u
+
+  skip-left : (l : List Step) → leftSteps (skipLeft d l) ≡ notOn d (leftSteps l)
+  skip-left =
+      by-skip d (λ l m. leftSteps m ≡ notOn d (leftSteps l)) refl stays
+      (λ c s l t u h. rw u (rw (eq-eqb (c .device) d t) h))
+    where
+      stays : (c : Command) (s : Status) (l : List Step) → (eqb (c .device) d && isOpen s) ≡ false →
+          leftSteps (skipLeft d l) ≡ notOn d (leftSteps l) →
+          leftSteps (step c s ∷ skipLeft d l) ≡ notOn d (leftSteps (step c s ∷ l))
+      stays c to-do l t h = rw (sym (and-true (eqb (c .device) d)) ∙ t) (ap (λ m. c ∷ m) h)
+      stays c (in-flight u) l t h = rw (sym (and-true (eqb (c .device) d)) ∙ t) (ap (λ m. c ∷ m) h)
+      stays c was-done l t h = h
+      stays c was-skipped l t h = h
+
+  -- the command in flight, if it is on another device, stays in flight
+  skip-flight-was : (x : Flight) (l : List Step) → InTurn l → flight (skipLeft d l) ≡ some x →
+      (flight l ≡ some x) × (x .command .device ≢ d)
+  skip-flight-was x =
+      by-skip d (λ l m. InTurn l → flight m ≡ some x → (flight l ≡ some x) × (x .command .device ≢ d))
+      (λ w e. absurd (Option·none-ne-some x e)) stays goes
+    where
+      none-behind : (l : List Step) → AllBehind l → flight (skipLeft d l) ≡ none
+      none-behind l w = behind-over flight (λ b l. refl) (λ b l. refl) (skipLeft d l) (skip-behind l w)
+
+      stays : (c : Command) (s : Status) (l : List Step) → (eqb (c .device) d && isOpen s) ≡ false →
+          (InTurn l → flight (skipLeft d l) ≡ some x → (flight l ≡ some x) × (x .command .device ≢ d)) →
+          InTurnAt s l (InTurn l) → flight (step c s ∷ skipLeft d l) ≡ some x →
+          (flight (step c s ∷ l) ≡ some x) × (x .command .device ≢ d)
+      stays c to-do l t h w e = absurd (Option·none-ne-some x (sym (none-behind l w) ∙ e))
+      stays c (in-flight u) l t h w e =
+          let y : record { command = c; dueThen = u } ≡ x = Option·some-injective (record { command = c; dueThen = u }) x e in
+          (e, λ z. t≠f (sym (eq-eqb (c .device) d (ap (λ (f : Flight). f .command .device) y ∙ z))
+          ∙ sym (and-true (eqb (c .device) d)) ∙ t))
+      stays c was-done l t h w e = h w e
+      stays c was-skipped l t h w e = h w e
+
+      goes : (c : Command) (s : Status) (l : List Step) → c .device ≡ d → isAnswered s ≡ false →
+          (InTurn l → flight (skipLeft d l) ≡ some x → (flight l ≡ some x) × (x .command .device ≢ d)) →
+          InTurnAt s l (InTurn l) → flight (skipLeft d l) ≡ some x →
+          (flight (step c s ∷ l) ≡ some x) × (x .command .device ≢ d)
+      goes c to-do l t u h w e = absurd (Option·none-ne-some x (sym (none-behind l w) ∙ e))
+      goes c (in-flight v) l t u h w e = absurd (Option·none-ne-some x (sym (none-behind l w) ∙ e))
+      goes c was-done l t u h w e = t≠f u
+      goes c was-skipped l t u h w e = t≠f u
+
+  skip-flight-stays : (x : Flight) (l : List Step) → flight l ≡ some x → x .command .device ≢ d → flight (skipLeft d l) ≡ some x
+  skip-flight-stays x =
+      by-skip d (λ l m. flight l ≡ some x → x .command .device ≢ d → flight m ≡ some x) (λ e n. e) stays goes
+    where
+      stays : (c : Command) (s : Status) (l : List Step) → (eqb (c .device) d && isOpen s) ≡ false →
+          (flight l ≡ some x → x .command .device ≢ d → flight (skipLeft d l) ≡ some x) →
+          flight (step c s ∷ l) ≡ some x → x .command .device ≢ d → flight (step c s ∷ skipLeft d l) ≡ some x
+      stays c to-do l t h e n = h e n
+      stays c (in-flight u) l t h e n = e
+      stays c was-done l t h e n = h e n
+      stays c was-skipped l t h e n = h e n
+
+      goes : (c : Command) (s : Status) (l : List Step) → c .device ≡ d → isAnswered s ≡ false →
+          (flight l ≡ some x → x .command .device ≢ d → flight (skipLeft d l) ≡ some x) →
+          flight (step c s ∷ l) ≡ some x → x .command .device ≢ d → flight (skipLeft d l) ≡ some x
+      goes c to-do l t u h e n = h e n
+      goes c (in-flight v) l t u h e n =
+          absurd (n (ap (λ (f : Flight). f .command .device) (sym (Option·some-injective (record { command = c; dueThen = v }) x e)) ∙ t))
+      goes c was-done l t u h e n = t≠f u
+      goes c was-skipped l t u h e n = t≠f u
+
+  -- none of them is a must
+  left-bests : (l : List Step) → anyOf (λ x. isLeftOn d x && isMust (x .command)) l ≡ false →
+      Each (λ c. isMust c ≡ false) (onlyOn d (leftSteps l))
+  left-bests [] e = tt
+  left-bests (x ∷ l) e =
+      let here = or-left (isLeftOn d x && isMust (x .command)) (anyOf (λ x. isLeftOn d x && isMust (x .command)) l) e in
+      let rest = left-bests l (or-right (isLeftOn d x && isMust (x .command)) (anyOf (λ x. isLeftOn d x && isMust (x .command)) l) e) in
+      byIf (λ m. Each (λ c. isMust c ≡ false) (onlyOn d m)) (isAnswered (x .status)) (λ _. rest)
+      (λ t. byIf (Each (λ c. isMust c ≡ false)) (isOn d x) (λ u. (sym (ap₂ (λ a b. a && not b && isMust (x .command)) u t) ∙ here, rest))
+      (λ _. rest))
+
+pub skip-steps : (d : ℕ) (m : Member) → InTurn (m .steps) → LeftSkipped d m (withSteps m (skipLeft d (m .steps)))
+unfolding begun finished inFlightOn mustLeft
+skip-steps d m t = record {
+  in-turn = skip-turn d l t;
+  finishes-it = ap not (skip-closes d l);
+  finishes = λ e f. ap not (skip-open d e l (not-true (anyOf (on e isOpen) l) f));
+  same-begun = λ b e. this-or-other (λ e. anyOf (on e isBegun) (skipLeft d l) ≡ anyOf (on e isBegun) l) d e
+      (skip-own d isBegun refl l b ∙ sym b) (λ n. skip-other d isBegun e n l);
+  other-flies = λ e n. skip-other d isInFlight e n l;
+  flight-was = λ x. skip-flight-was d x l t;
+  flight-stays = λ x. skip-flight-stays d x l;
+  same-after = λ e. skip-after d e l;
+  same-done = skip-done d l;
+  own-answered = λ b. own b;
+  other-answered = λ e n. skip-other d isAnswered e n l;
+  left-is = skip-left d l;
+  left-best = left-bests d l;
+}
+  where
+    l : List Step
+    l = m .steps
+
+    n : Member
+    n = withSteps m (skipLeft d (m .steps))
+
+    own : anyOf (on d isBegun) l ≡ true → answeredOn d (skipLeft d l) ≡ true
+    own b =
+        let f : inFlightOn d n ≡ false = finished-grounded n d (ap not (skip-closes d l)) in
+        sym (or-false (answeredOn d (skipLeft d l))) ∙ ap (λ y. answeredOn d (skipLeft d l) || y) (sym f) ∙ sym (begun-is n d)
+        ∙ skip-own d isBegun refl l b
 
 -- ---- a newcomer
 
@@ -524,20 +785,24 @@ pub record Fresh (cs : List Command) (m : Member) : Type 0 where
   pub unbegun : (d : ℕ) → begun d m ≡ false
   pub flight-is : flight (m .steps) ≡ none
   pub done-is : doneSteps (m .steps) ≡ []
-  pub answered-is : answeredSteps (m .steps) ≡ []
+  pub unanswered : (d : ℕ) → answeredOn d (m .steps) ≡ false
   pub left-is : leftSteps (m .steps) ≡ cs
 
 pub fresh-newcomer : (i : ℕ) (cs : List Command) → Fresh cs (newcomer i cs)
 unfolding newcomer begun
 fresh-newcomer i cs = record {
-  in-turn = to-do-turn cs;
-  unbegun = λ d. to-do-pass d isBegun refl cs;
-  flight-is = to-do-over flight (λ c l. refl) cs;
-  done-is = to-do-over doneSteps (λ c l. refl) cs;
-  answered-is = to-do-over answeredSteps (λ c l. refl) cs;
+  in-turn = behind-turn (map stepOf cs) (new-behind cs);
+  unbegun = unbegun-new cs;
+  flight-is = behind-over flight (λ c l. refl) (λ c l. refl) (map stepOf cs) (new-behind cs);
+  done-is = behind-over doneSteps (λ c l. refl) (λ c l. refl) (map stepOf cs) (new-behind cs);
+  unanswered = λ d. fewer-on d isBegun isAnswered (unbegun isAnswered refl) (map stepOf cs) (unbegun-new cs d);
   left-is = all-left cs;
 }
   where
+    unbegun-new : (cs : List Command) (d : ℕ) → anyOf (on d isBegun) (map stepOf cs) ≡ false
+    unbegun-new [] d = refl
+    unbegun-new (c ∷ cs) d = rw (unpassed d isBegun (stepOf c) refl) (unbegun-new cs d)
+
     all-left : (cs : List Command) → leftSteps (map stepOf cs) ≡ cs
     all-left [] = refl
     all-left (c ∷ cs) = ap (λ l. c ∷ l) (all-left cs)

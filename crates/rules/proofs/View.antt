@@ -28,7 +28,7 @@ use Rattle.rules.specs.Open.{limitCheck}
 use Rattle.rules.specs.Submit.{submitCheck, blocks, upToLast, pastLast, newcomer, place, submitOf}
 use Rattle.rules.specs.Turn.{firstHolding, commit, commitTurn, sendTurn, skipTurn, waitOr, turnNext, turnFlight, turnFound, turnOf}
 use Rattle.rules.specs.Report.{codeDone, codeFailed, doneReport, skipReport, reportFlight, reportFound, reportOf}
-use Rattle.rules.specs.Events.{isHalfway, abortIfAny, abortHalfway, failureResult, restartResult, failureOf, restartOf}
+use Rattle.rules.specs.Events.{isHalfway, mustLeft, skipLeft, skipRest, stopIfAny, stopHalfway, failureResult, restartResult, failureOf, restartOf}
 use Rattle.rules.specs.Cancel.{cancelFound, cancelOf}
 use Rattle.rules.specs.Limit.{withPassLimit, limitOf}
 use Rattle.rules.specs.Calls.{resultOf}
@@ -51,6 +51,10 @@ doneMember g = withSteps (g .member) (answerFlight was-done (g .member .steps))
 abbrev pub failedMember : Group → Member
 failedMember g = withSteps (g .member) (answerFlight was-skipped (g .member .steps))
 
+-- the routine that an event of d leaves without the commands left on d
+abbrev pub skippedLeft : ℕ → Group → Member
+skippedLeft d g = withSteps (g .member) (skipLeft d (g .member .steps))
+
 -- why a routine aborts at a call of its own
 pub data Aborts (g : Group) : Call → Type 0 where
   by-turn : (i : ℕ) → g .member .id ≡ i → flight (g .member .steps) ≡ none → Aborts g (turn i)
@@ -58,11 +62,14 @@ pub data Aborts (g : Group) : Call → Type 0 where
       Aborts g (report i code)
   by-cancel : (i : ℕ) → g .member .id ≡ i → Aborts g (cancel i)
 
--- the abort ahead of an event of d
+-- ahead of an event of d nobody is halfway with it; or somebody aborts; or loses what is left on d
 pub data Gone (s : State) (d : ℕ) (l : List Group) : Result → List Event → List Group → Type 0 where
   nobody : Each (NotHalfway d) l → Gone s d l (record { state = s; answers = [] }) [] l
   somebody : (a : List Group) (g : Group) (b : List Group) → l ≡ a ++ (g ∷ b) → isHalfway d (g .member) ≡ true →
       Gone s d l (abort s (foundAt a g b)) (leadOf a g) (leaving a g b)
+  loses : (a : List Group) (g : Group) (b : List Group) → l ≡ a ++ (g ∷ b) → isHalfway d (g .member) ≡ true →
+      mustLeft d (g .member) ≡ false →
+      Gone s d l (record { state = skipRest d s (foundAt a g b); answers = [] }) [] (a ++ (with g (skippedLeft d g) ∷ b))
 
 -- a call that changes something, before it settles: the result, the events attached to 0, the groups
 pub data Moves (s : State) (l : List Group) : Call → Result → List Event → List Group → Type 0 where
@@ -172,15 +179,19 @@ divide p (g ∷ l) = go (divide p l) (anyOf p (members (g ∷ l))) refl
     }
     go h false e = record { ahead = []; behind = g ∷ l; whole = refl; ahead-is = rw e refl; behind-is = rw e refl; none-behind = e }
 
--- the abort ahead of an event
-gone : (d : ℕ) (s : State) (l : List Group) → s .sequence ≡ members l → (lead : List Event) × (k : List Group)
-    × Gone s d l (abortHalfway d s) lead k
-unfolding abortHalfway
+-- what comes ahead of an event
+abbrev IsGone : State → ℕ → List Group → Result → Type 0
+IsGone s d l r = (lead : List Event) × (k : List Group) × Gone s d l r lead k
+
+gone : (d : ℕ) (s : State) (l : List Group) → s .sequence ≡ members l → IsGone s d l (stopHalfway d s)
+unfolding stopHalfway
 gone d s l e = go (find-group (isHalfway d) s l e)
   where
-    go : {o : Option Found} → Finding (isHalfway d) l o → (lead : List Event) × (k : List Group) × Gone s d l (abortIfAny s o) lead k
+    go : {o : Option Found} → Finding (isHalfway d) l o → IsGone s d l (stopIfAny d s o)
     go (missing n) = ([], l, nobody (each-map _ _ (λ g t. record { not-halfway = t }) l n))
-    go (located a g b w t) = (leadOf a g, leaving a g b, somebody a g b w t)
+    go (located a g b w t) =
+        byIf (IsGone s d l) (mustLeft d (g .member)) (λ _. (leadOf a g, leaving a g b, somebody a g b w t))
+        (λ m. ([], a ++ (with g (skippedLeft d g) ∷ b), loses a g b w t m))
 
 -- ---- the calls
 

@@ -6,6 +6,7 @@ use Prim.Native.Nat.{ℕ, _<_}
 use Rattle.routine.specs.declared.Command.{Command}
 use Rattle.rules.specs.Tables.{anyOf}
 use Rattle.rules.specs.State.{State}
+use Rattle.rules.specs.Progress.{isMust}
 use Rattle.rules.specs.Open.{opened, openOf}
 use Rattle.rules.specs.History.{Outcome, reported-done, reported-failed, not-sent, by-event, Answered, Account, workingOf}
 use Rattle.rules.specs.Order.{Event, isOf, Entry, routine, event, Order, entries, orderOf}
@@ -49,8 +50,8 @@ SettledStands w acts =
     Begins (orderIn (worldAfterAll w before) .settled) (entries (orderIn (worldAfterAll w acts)))
 
 -- Part 3, where commands stand. Document 01, The hub's order: "In it every done command finds its device up; every skipped one was reported
--- failed or finds it down." Document 02, item 3, has "a third ground for a skipped command": an event of its device, which "follows the
--- routine in the order".
+-- failed or finds it down." Document 02, item 3, has "a third ground for a skipped command", a best-effort one: an event of its device, which
+-- "follows the routine in the order".
 
 -- The events behind a routine and before the next one, in what stands behind it.
 abbrev pub eventsNext : List Entry → List Event
@@ -58,12 +59,12 @@ eventsNext [] = []
 eventsNext (routine i cs b ∷ l) = []
 eventsNext (event e ∷ l) = e ∷ eventsNext l
 
--- A command on d, answered so, which finds d up or not; `behind`: the events behind its routine.
-abbrev pub Finds : List Event → ℕ → Bool → Outcome → Type 0
-Finds behind d isUp reported-done = isUp ≡ true
-Finds behind d isUp reported-failed = Unit {0}
-Finds behind d isUp not-sent = isUp ≡ false
-Finds behind d isUp by-event = anyOf (isOf d) behind ≡ true
+-- A command c, answered so, whose device is up or not where its routine stands; `behind`: the events behind the routine.
+abbrev pub Finds : List Event → Command → Bool → Outcome → Type 0
+Finds behind c isUp reported-done = isUp ≡ true
+Finds behind c isUp reported-failed = Unit {0}
+Finds behind c isUp not-sent = isUp ≡ false
+Finds behind c isUp by-event = (isMust c ≡ false) × (anyOf (isOf (c .device)) behind ≡ true)
 
 -- What a command that was answered so leaves: a done one is run.
 abbrev pub afterAnswered : Outcome → Command → (ℕ → DeviceState) → ℕ → DeviceState
@@ -75,7 +76,7 @@ afterAnswered by-event c t = t
 -- The answered commands of a routine, as they were answered.
 abbrev pub AllFind : List Event → List Answered → (ℕ → DeviceState) → Type 0
 AllFind behind [] t = Unit {0}
-AllFind behind (x ∷ l) t = Finds behind (x .command .device) (t (x .command .device) .up) (x .outcome)
+AllFind behind (x ∷ l) t = Finds behind (x .command) (t (x .command .device) .up) (x .outcome)
     × AllFind behind l (afterAnswered (x .outcome) (x .command) t)
 
 -- Those of them that were done.
