@@ -1,16 +1,17 @@
 -- Worlds in which a wrong rule shows: each is computed, and one of the three parts of demand 3 fails in it as soon as the rule is changed
 -- as the edit of the same name in `must-fail/` does. (`failed_never_puts_back` shows in `failedAfterChange` of `Worlds.antt`.) Assumes
 -- nothing.
-use mathlib.Core.Path.{refl}
+use mathlib.Core.Path.{refl, sym}
 use mathlib.Core.List.{List, [], _∷_, _++_}
 use lib.IntN.{pos}
 use Rattle.rules.specs.Answers.{submit, turn, report, failure, restart, cancel}
 use Rattle.rules.specs.Open.{newHub}
 use Rattle.rules.specs.Order.{failure-of, event, entries}
 use Rattle.rules.specs.Serial.{allUp}
-use Rattle.rules.specs.World.{Act, calls, takes-one, accounts, worldAfterAll, newWorld}
+use Rattle.rules.specs.World.{World, Act, calls, takes-one, accounts, worldAfterAll, Truthful, newWorld}
 use Rattle.rules.specs.Demand3.{orderIn, Begins, CommandsStand}
 use Rattle.rules.specs.Examples.{must, best}
+use Rattle.rules.proofs.Lists.{t≠f}
 use Rattle.rules.proofs.Worlds.{calcWorld, Passage, endOf, Passes, call, elsewhere}
 
 -- commit_leaves_at_once: 2 is committed behind 1, which runs; 3 follows 2. If 2 were gone, 3 would be placed ahead of both, and the serial
@@ -200,14 +201,17 @@ events-stay = record {
   stands = (refl, (refl, (refl, tt)), tt);
 }
 
--- where the commands stand after these acts, with one device and K = 0
-abbrev pub Stands : List Act → Type 0
-Stands acts = let w = worldAfterAll (newWorld (newHub 1 0 1)) acts in CommandsStand (accounts w) (entries (orderIn w)) allUp
+-- the world after these acts, with two devices and K = 0, and where the commands stand in it
+abbrev pub at : List Act → World
+at acts = worldAfterAll (newWorld (newHub 2 0 1)) acts
 
--- restart_aborts_nobody: 1 has skipped 0 as down and has 0 left: the restart aborts it. Else it would do 0 ahead of the restart, where 0 is
--- down.
+abbrev pub Stands : List Act → Type 0
+Stands acts = CommandsStand (accounts (at acts)) (entries (orderIn (at acts))) allUp
+
+-- restart_stops_nobody: 1 has skipped 0 as down and has a must on 0 left: the restart aborts it. Else it would do 0 ahead of the restart,
+-- where 0 is down.
 pub restart-aborts :
-    Stands (call (failure 0) ∷ call (submit (best 0 (pos 5) ∷ best 0 (pos 6) ∷ [])) ∷ call (turn 1) ∷ call (restart 0 (pos 0)) ∷ call
+    Stands (call (failure 0) ∷ call (submit (best 0 (pos 5) ∷ must 0 (pos 6) ∷ [])) ∷ call (turn 1) ∷ call (restart 0 (pos 0)) ∷ call
     (turn 1) ∷ takes-one 0 0 ∷ call (report 1 0) ∷ [])
 unfolding calcWorld
 restart-aborts = tt
@@ -226,3 +230,53 @@ pub settled-stands :
     Begins (orderIn (worldAfterAll o first) .settled) (entries (orderIn (worldAfterAll o (first ++ (call (failure 0) ∷ [])))))
 unfolding calcWorld
 settled-stands = (event (failure-of 0) ∷ [], refl)
+
+-- ---- a lamp, device 0, that dies after its work (document 02, item 3)
+
+-- must_skipped: a must is left on the lamp behind a best-effort command: it aborts. Skipped, it would be a must that an event skipped.
+pub must-aborts : Stands (call (submit (best 0 (pos 5) ∷ must 0 (pos 6) ∷ must 1 (pos 7) ∷ [])) ∷ call (turn 1) ∷ call (failure 0) ∷ [])
+unfolding calcWorld
+must-aborts = tt
+
+-- first_left_skipped: two commands are left on the lamp, and both are skipped. The second one, sent once the lamp is up again, would be
+-- done ahead of the failure and the restart, and the account has skipped it.
+pub all-left-skipped :
+    Stands (call (submit (best 0 (pos 5) ∷ best 0 (pos 6) ∷ best 0 (pos 7) ∷ [])) ∷ call (turn 1) ∷ takes-one 0 0 ∷ call
+    (report 1 0) ∷ call (failure 0) ∷ call (restart 0 (pos 0)) ∷ call (turn 1) ∷ takes-one 0 0
+    ∷ call (report 1 0) ∷ [])
+unfolding calcWorld
+all-left-skipped = (refl, (refl, ((refl, refl), ((refl, refl), tt))), tt)
+
+-- flight_stays: the lamp is in flight when it fails, and nothing is in flight then: the late report is refused. Taken for a command in
+-- flight, it would be a done one that the account does not have.
+pub flight-ends :
+    Stands (call (submit (best 0 (pos 5) ∷ must 1 (pos 6) ∷ [])) ∷ call (turn 1) ∷ takes-one 0 0 ∷ call (failure 0) ∷ call (report 1 0) ∷ [])
+unfolding calcWorld
+flight-ends = (refl, ((refl, refl), tt), tt)
+
+-- event_ahead: the lamp was done: its failure stands behind the routine. Ahead of it, the done command would find the lamp down.
+pub event-behind :
+    Stands (call (submit (best 0 (pos 5) ∷ must 1 (pos 6) ∷ best 0 (pos 7) ∷ [])) ∷ call (turn 1) ∷ takes-one 0 0 ∷ call
+    (report 1 0) ∷ call (failure 0) ∷ [])
+unfolding calcWorld
+event-behind = (refl, (refl, ((refl, refl), tt)), tt)
+
+-- unbegun_skipped: the routine has not begun the lamp, and loses nothing. Else the account would have another command done than the order.
+pub unbegun-keeps :
+    Stands (call (submit (must 1 (pos 5) ∷ best 0 (pos 6) ∷ must 1 (pos 7) ∷ [])) ∷ call (turn 1) ∷ takes-one 1 0 ∷ call
+    (report 1 0) ∷ call (failure 0) ∷ call (turn 1) ∷ call (turn 1) ∷ takes-one 1 0 ∷ call (report 1 0) ∷ [])
+unfolding calcWorld
+unbegun-keeps = (refl, (refl, (refl, (refl, tt))), tt)
+
+-- late_report_counts: the lamp has failed, and the routine has sent the shelter's second command, which is not taken. A late done report
+-- on the lamp's, which was, would be accepted for the shelter's, and breaks the premise: the server must drop it. So would a late failed
+-- one, on a lamp that took nothing, once the shelter has taken its own.
+abbrev pub lampLate : List Act → List Act
+lampLate taken = call (submit (best 1 (pos 5) ∷ best 0 (pos 6) ∷ best 1 (pos 7) ∷ [])) ∷ call (turn 1) ∷ takes-one 1 0 ∷ call
+    (report 1 0) ∷ call (turn 1) ∷ (taken ++ (call (failure 0) ∷ call (turn 1) ∷ []))
+
+pub late-reports :
+    (Truthful (at (lampLate (takes-one 0 0 ∷ []))) (report 1 0) → ⊥)
+    × (Truthful (at (lampLate [] ++ (takes-one 1 0 ∷ []))) (report 1 1) → ⊥)
+unfolding calcWorld
+late-reports = ((λ e. t≠f (sym e)), (λ e. t≠f e))

@@ -20,7 +20,7 @@ use Rattle.rules.proofs.Lists.{byIf, t≠f, or-left, or-right, NotIn, I
 use Rattle.rules.proofs.Groups.{Group, members, ids, with, passAll, leaving, stillHeld}
 use Rattle.rules.proofs.Same.{Pairwise, no-pair, pair, pairs-last}
 use Rattle.rules.proofs.Steps.{leftSteps}
-use Rattle.rules.proofs.Told.{has, none-has, any-held}
+use Rattle.rules.proofs.Running.{has, none-has, any-held}
 use Rattle.rules.specs.Attach.{attachTo}
 
 -- what a newcomer brings at most

@@ -28,7 +28,7 @@ use Rattle.rules.proofs.Invariant.{HubOk}
 use Rattle.rules.proofs.View.{sentMember, skippedMember, doneMember, failedMember, by-turn, by-report, by-cancel}
 use Rattle.rules.proofs.View.{Moves, places, commits, sends, skips, dones, misses, aborts, fails, restarts}
 use Rattle.rules.proofs.Marks.{in-turn}
-use Rattle.rules.proofs.Told.{has, none-has, other-has, idle-has, any-swap, any-drop, any-same, same-runs}
+use Rattle.rules.proofs.Running.{has, none-has, other-has, idle-has, any-swap, any-drop, any-same, same-runs}
 use Rattle.rules.proofs.Measure.{weight, measure, Runs, most-weight, swap-at-most, swap-falls, leave-at-most}
 use Rattle.rules.proofs.Measure.{leave-falls, place-at-most}
 use Rattle.rules.proofs.Ready.{new-few-left, Ready}

@@ -25,8 +25,8 @@ use Rattle.rules.proofs.Lists.{or-left, or-right, each-++, each-left, e
 use Rattle.rules.proofs.Groups.{Group, members, alone, with, passAll, leaving, attachEvent, addEvent, stillHeld, each-held, added-is}
 use Rattle.rules.proofs.Same.{pairs-last, pairs-attached, pairs-each}
 use Rattle.rules.proofs.Invariant.{HubOk}
-use Rattle.rules.proofs.View.{sentMember, skippedMember, doneMember, failedMember, Gone, nobody, somebody, Moves, places, commits}
-use Rattle.rules.proofs.View.{sends, skips, dones, misses, aborts, fails, restarts, Seen, is-refused, waits, limits, moves, see}
+use Rattle.rules.proofs.View.{sentMember, skippedMember, doneMember, failedMember, skippedLeft, Gone, nobody, somebody, loses}
+use Rattle.rules.proofs.View.{Moves, places, commits, sends, skips, dones, misses, aborts, fails, restarts, Seen, is-refused, waits, limits, moves, see}
 use Rattle.rules.proofs.Fields.{Fixed, settle-fixed}
 use Rattle.rules.proofs.Moved.{hub-limit, hub-settles}
 use Rattle.rules.proofs.Kept.{hub-moves}
@@ -61,6 +61,9 @@ low-gone : (s : State) (d : ℕ) (l : List Group) {r : Result} {lead : List Even
     Each LowCount k
 low-gone s d l w (nobody q) = w
 low-gone s d l w (somebody a g b e q) = low-leaving a g b (subst (Each LowCount) e w)
+low-gone s d l w (loses a g b e q m) =
+    let v = subst (Each LowCount) e w in
+    each-swap LowCount a g (with g (skippedLeft d g)) b v (record { low = each-mid LowCount a g b v .low })
 
 -- who is passed may still be passed
 low-passed : (s : State) (cs : List Command) → s .passLimit ≤ highestPassLimit → (b : List Group) → Each LowCount b →

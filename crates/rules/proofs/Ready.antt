@@ -23,25 +23,26 @@ use Rattle.rules.specs.Submit.{submitCheck, newcomer, place}
 use Rattle.rules.specs.Turn.{commit, commitTurn, sendTurn, skipTurn}
 use Rattle.rules.specs.Report.{doneReport, skippedState, skipReport}
 use Rattle.rules.specs.Calls.{resultOf, stateAfter}
-use Rattle.rules.specs.History.{Told, noteAnswers, accountsOf}
+use Rattle.rules.specs.History.{Told, isFor, notOn, noteAnswers, accountsOf}
 use Rattle.rules.specs.Order.{Event, failure-of, restart-of}
 use Rattle.rules.specs.Attach.{attach, oneRestart}
-use Rattle.rules.specs.Rounds.{callsTold, toldThen, flyingAfterAll, flyingOf, limitAfter, limitAfterAll, limitTold, KeepsLimit}
+use Rattle.rules.specs.Rounds.{callsTold, toldThen, flyingOf, limitAfter, limitAfterAll, limitTold, KeepsLimit}
 use Rattle.rules.proofs.Lists.{byIf, each-mid, each-drop, each-insert, each-swap}
 use Rattle.rules.proofs.Groups.{Group, members, alone, with, leaving, attachEvent, stillHeld, each-held}
 use Rattle.rules.proofs.Same.{Pairwise, no-pair, pair, Same, same-placed, same-leaving, same-attached, same-each}
-use Rattle.rules.proofs.Steps.{leftSteps, send-step, skip-step, done-step, fail-step, fresh-newcomer}
-use Rattle.rules.proofs.Invariant.{unmarked, HubOk, FirstRuns}
-use Rattle.rules.proofs.View.{sentMember, skippedMember, doneMember, failedMember, Gone}
-use Rattle.rules.proofs.View.{nobody, somebody, Moves, places, commits, sends, skips, dones, misses, aborts, fails, restarts}
+use Rattle.rules.proofs.Steps.{leftSteps, skip-left, send-step, skip-step, done-step, fail-step, fresh-newcomer}
+use Rattle.rules.proofs.Invariant.{unmarked, HubOk, FirstRuns, AccountTells}
+use Rattle.rules.proofs.View.{sentMember, skippedMember, doneMember, failedMember, skippedLeft, Gone}
+use Rattle.rules.proofs.View.{nobody, somebody, loses, Moves, places, commits, sends, skips, dones, misses, aborts, fails, restarts}
 use Rattle.rules.proofs.View.{Seen, is-refused, waits, limits, moves, see}
 use Rattle.rules.proofs.Fields.{Fixed, gone-fixed, attach-fixed, settle-fixed}
 use Rattle.rules.proofs.Marks.{in-turn}
 use Rattle.rules.proofs.Moved.{hub-limit, hub-settles}
 use Rattle.rules.proofs.Kept.{hub-moves}
 use Rattle.rules.proofs.Serial.{first-runs}
-use Rattle.rules.proofs.Told.{RunsTold}
-use Rattle.rules.proofs.Told.{runs-moves, runs-held, FliesTold, flies-told, flies-held}
+use Rattle.rules.proofs.Running.{RunsTold, runs-moves, runs-held}
+use Rattle.rules.proofs.Accounts.{accounts-moves}
+use Rattle.rules.proofs.Told.{FliesTold, flies-told, flies-held}
 use Rattle.rules.proofs.Measure.{FewLeft}
 use Rattle.rules.proofs.Theorem.{see-any, opening}
 
@@ -57,12 +58,24 @@ less-few-left g h c e w =
     let m = w .few-left in
     record { few-left = omega arith }
 
+fewer-left : (d : ℕ) (l : List Command) → length (notOn d l) ≤ length l
+fewer-left d [] = omega arith
+fewer-left d (c ∷ l) =
+    let h = fewer-left d l in
+    byIf (λ k. length k ≤ suc (length l)) (isFor d c) (λ _. omega arith) (λ _. omega arith)
+
 few-left-gone : (s : State) (d : ℕ) (l : List Group) {r : Result} {lead : List Event} {k : List Group} → Each FewLeft l →
     Gone s d l r lead k →
     Each FewLeft k
 few-left-gone s d l h (nobody q) = h
 few-left-gone s d l h (somebody a g b e q) =
     same-each FewLeft same-few-left (same-leaving a g b) (each-drop FewLeft a g b (subst (Each FewLeft) e h))
+few-left-gone s d l h (loses a g b e q m) =
+    let w = subst (Each FewLeft) e h in
+    let n = fewer-left d (leftSteps (g .member .steps)) in
+    let p = each-mid FewLeft a g b w .few-left in
+    each-swap FewLeft a g (with g (skippedLeft d g)) b w
+    (record { few-left = subst (λ l. length l ≤ maxCommands) (sym (skip-left d (g .member .steps))) (omega arith) })
 
 pub new-few-left : (s : State) (cs : List Command) → submitCheck s cs ≡ Accepted → FewLeft (alone (newcomer (s .nextId) cs))
 unfolding submitCheck
@@ -172,6 +185,7 @@ gone-room : (s : State) (d : ℕ) (l : List Group) {r : Result} {lead : List Eve
     length k ≤ maxHeld
 gone-room s d l n (nobody q) = n
 gone-room s d l n (somebody a g b e q) = left-room a g b e n
+gone-room s d l n (loses a g b e q m) = swapped-room a g (with g (skippedLeft d g)) b e n
 
 event-room : (j : ℕ) (x : Event) (l : List Group) → length l ≤ maxHeld → length (attachEvent j x l) ≤ maxHeld
 event-room j x l n = let q = same-length (same-attached j x l) in omega arith
@@ -202,7 +216,8 @@ pub record Ready (s : State) (h : List Told) (l : List Group) : Type 0 where
   pub hub : HubOk s l
   pub first : FirstRuns l
   pub running-told : RunsTold (accountsOf h) l
-  pub flying-told : FliesTold (flyingOf h) l
+  pub tells : Each (AccountTells (accountsOf h)) l
+  pub flying-told : FliesTold (accountsOf h) l
   pub few-left : Each FewLeft l
   pub room : length l ≤ maxHeld
 
@@ -213,7 +228,10 @@ ready-moves s h l y {c = c} {r = r} {m = m} v = record {
   hub = hub-settles (r .state) m (hub-moves s l (y .hub) v);
   first = first-runs m;
   running-told = runs-held (noteAnswers c (r .answers) (accountsOf h)) m (runs-moves s (accountsOf h) l (y .hub) (y .running-told) v);
-  flying-told = flies-held (flyingAfterAll (r .answers) (flyingOf h)) m (flies-told s (flyingOf h) l (y .hub) (y .flying-told) v);
+  tells = each-held (AccountTells (noteAnswers c (r .answers) (accountsOf h))) m
+      (accounts-moves s (accountsOf h) l (y .hub) (y .running-told) (y .tells) v);
+  flying-told = flies-held (noteAnswers c (r .answers) (accountsOf h)) m
+      (flies-told s (accountsOf h) l (y .hub) (y .running-told) (y .tells) (y .flying-told) v);
   few-left = each-held FewLeft m (few-left-moves s l (y .hub) (y .few-left) v);
   room = held-at-most maxHeld m (room-moves s l (y .hub) (y .room) v);
 }
@@ -223,13 +241,13 @@ abbrev pub saying : Call → List Answer → Told
 saying c answers = record { call = c; answers = answers }
 
 -- a call that tells nothing
-pub untold : (s : State) (h : List Told) (l : List Group) (t : Told) → accountsOf (t ∷ h) ≡ accountsOf h →
-    flyingOf (t ∷ h) ≡ flyingOf h → Ready s h l → Ready s (t ∷ h) l
-untold s h l t a f y = record {
+pub untold : (s : State) (h : List Told) (l : List Group) (t : Told) → accountsOf (t ∷ h) ≡ accountsOf h → Ready s h l → Ready s (t ∷ h) l
+untold s h l t a y = record {
   hub = y .hub;
   first = y .first;
   running-told = subst (λ x. RunsTold x l) (sym a) (y .running-told);
-  flying-told = subst (λ x. FliesTold x l) (sym f) (y .flying-told);
+  tells = subst (λ x. Each (AccountTells x) l) (sym a) (y .tells);
+  flying-told = subst (λ x. FliesTold x l) (sym a) (y .flying-told);
   few-left = y .few-left;
   room = y .room;
 }
@@ -241,6 +259,7 @@ ready-limit s h l y k = record {
   hub = hub-limit s k l (y .hub);
   first = y .first;
   running-told = y .running-told;
+  tells = y .tells;
   flying-told = y .flying-told;
   few-left = y .few-left;
   room = y .room;
@@ -248,8 +267,8 @@ ready-limit s h l y k = record {
 
 pub ready-seen : (s : State) (h : List Told) (l : List Group) → Ready s h l → {c : Call} {r : Result} → Seen s l c r →
     (m : List Group) × Ready (r .state) (saying c (r .answers) ∷ h) m
-ready-seen s h l y {c = c} (is-refused r) = (l, untold s h l (saying c (refused r ∷ [])) refl refl y)
-ready-seen s h l y (waits i a g b d j e n f) = (l, untold s h l (saying (turn i) (wait (g .member .id) j ∷ [])) refl refl y)
+ready-seen s h l y {c = c} (is-refused r) = (l, untold s h l (saying c (refused r ∷ [])) refl y)
+ready-seen s h l y (waits i a g b d j e n f) = (l, untold s h l (saying (turn i) (wait (g .member .id) j ∷ [])) refl y)
 ready-seen s h l y (limits k e) = (l, ready-limit s h l y k)
 ready-seen s h l y (moves {k = m} v) = (stillHeld m, ready-moves s h l y v)
 
@@ -260,6 +279,7 @@ ready-new n k first p = record {
   hub = record { sequence-is = refl; ids-ok = tt; marks = λ d. unmarked refl tt; nothing-left-all = tt; turns = tt; some-id = p };
   first = tt;
   running-told = λ i. refl;
+  tells = tt;
   flying-told = λ i. refl;
   few-left = tt;
   room = omega arith;
@@ -284,6 +304,7 @@ gone-limit : (s : State) (d : ℕ) (l : List Group) (x : Answer) (n : ℕ) {r : 
 unfolding abort
 gone-limit s d l x n (nobody q) = refl
 gone-limit s d l x n (somebody a g b q f) = refl
+gone-limit s d l x n (loses a g b q f m) = refl
 
 limit-moves : (s : State) (l : List Group) {c : Call} {r : Result} {lead : List Event} {k : List Group} → Moves s l c r lead k → (n : ℕ) →
     limitAfterAll (r .answers) n ≡ n

@@ -38,7 +38,7 @@ use Rattle.rules.proofs.Schedules.{opensAt}
 use Rattle.rules.proofs.Schedules.{placing, placedState, roundsOf, changed, toldAfter}
 use Rattle.rules.proofs.Schedules.{lowered, loweredTo, afterLowering, lowered-placed}
 use Rattle.rules.proofs.Schedules.{overtaken, overtaken-placed, calcRounds}
-use Rattle.rules.proofs.Told.{has, Tells, none-has}
+use Rattle.rules.proofs.Running.{has, Tells, none-has}
 use Rattle.rules.proofs.Ready.{Ready, saying, ready-seen, ready-opened, ready-calls, limit-kept, opened-limit}
 use Rattle.rules.proofs.Waiting.{told-by-calls, state-calls, limit-is}
 use Rattle.rules.proofs.LimitLaws.{limit-passes}
@@ -224,22 +224,19 @@ module _ (s : State) (h : List Told) (l : List Group) (i j : ℕ) (other : i ≢
   elsewhere {ℓ} : {A : Type ℓ} (f : ℕ → A) (g : Group) (v : A) → g .member .id ≡ j → put f (g .member .id) v i ≡ f i
   elsewhere f g v e = put-other f (g .member .id) v i (λ z. other (z ∙ e))
 
-  others-told : {c : Call} {r : Result} → Asks j c → Seen s l c r →
-      (accountsOf (saying c (r .answers) ∷ h) i ≡ accountsOf h i) × (flyingOf (saying c (r .answers) ∷ h) i ≡ flyingOf h i)
+  others-told : {c : Call} {r : Result} → Asks j c → Seen s l c r → accountsOf (saying c (r .answers) ∷ h) i ≡ accountsOf h i
   unfolding commitTurn sendTurn skipTurn doneReport skipReport abort
-  others-told o (is-refused r) = (refl, refl)
-  others-told o (waits w a g b d x e n f) = (refl, refl)
+  others-told o (is-refused r) = refl
+  others-told o (waits w a g b d x e n f) = refl
   others-told o (limits w e) = absurd o
   others-told o (moves (places cs a b q e u p n)) = absurd o
-  others-told o (moves (commits w a g b e n r f q)) = (elsewhere (accountsOf h) g _ (n ∙ o), refl)
-  others-told o (moves (sends w a g b c e n r f q x u)) = (elsewhere (accountsOf h) g _ (n ∙ o), elsewhere (flyingOf h) g true (n ∙ o))
-  others-told o (moves (skips w a g b c e n r f q x u)) = (elsewhere (accountsOf h) g _ (n ∙ o), elsewhere (flyingOf h) g false (n ∙ o))
-  others-told o (moves (dones w code a g b x e n r f q)) = (elsewhere (accountsOf h) g _ (n ∙ o), elsewhere (flyingOf h) g false (n ∙ o))
-  others-told o (moves (misses w code a g b x e n r f q)) = (elsewhere (accountsOf h) g _ (n ∙ o), elsewhere (flyingOf h) g false (n ∙ o))
-  others-told o (moves (aborts _ a g b e r (by-turn w n f))) =
-      (elsewhere (accountsOf h) g _ (n ∙ o), elsewhere (flyingOf h) g false (n ∙ o))
-  others-told o (moves (aborts _ a g b e r (by-report w code x n f q))) =
-      (elsewhere (accountsOf h) g _ (n ∙ o), elsewhere (flyingOf h) g false (n ∙ o))
+  others-told o (moves (commits w a g b e n r f q)) = elsewhere (accountsOf h) g _ (n ∙ o)
+  others-told o (moves (sends w a g b c e n r f q x u)) = elsewhere (accountsOf h) g _ (n ∙ o)
+  others-told o (moves (skips w a g b c e n r f q x u)) = elsewhere (accountsOf h) g _ (n ∙ o)
+  others-told o (moves (dones w code a g b x e n r f q)) = elsewhere (accountsOf h) g _ (n ∙ o)
+  others-told o (moves (misses w code a g b x e n r f q)) = elsewhere (accountsOf h) g _ (n ∙ o)
+  others-told o (moves (aborts _ a g b e r (by-turn w n f))) = elsewhere (accountsOf h) g _ (n ∙ o)
+  others-told o (moves (aborts _ a g b e r (by-report w code x n f q))) = elsewhere (accountsOf h) g _ (n ∙ o)
   others-told o (moves (aborts _ a g b e r (by-cancel w n))) = absurd o
   others-told o (moves (fails d r lead m n u g)) = absurd o
   others-told o (moves (restarts d v r lead m n u g)) = absurd o
@@ -273,8 +270,7 @@ rest-passes test after j js once same i =
 module _ (make : ℕ → Call) (asks : (j : ℕ) → Asks j (make j)) (test : List Told → ℕ → Bool)
     (ok : (s : State) (h : List Told) (l : List Group) → Ready s h l → (j : ℕ) → test h j ≡ true →
     isAccepted (resultOf s (make j) .answers) ≡ true)
-    (still : (h : List Told) (t : Told) (i : ℕ) → accountsOf (t ∷ h) i ≡ accountsOf h i → flyingOf (t ∷ h) i ≡ flyingOf h i →
-    test (t ∷ h) i ≡ test h i) where
+    (still : (h : List Told) (t : Told) (i : ℕ) → accountsOf (t ∷ h) i ≡ accountsOf h i → test (t ∷ h) i ≡ test h i) where
   asked-once : (s : State) (h : List Told) (l : List Group) → Ready s h l → (js : List ℕ) →
       ((i : ℕ) → times i js ≤ oneIf (test h i)) →
       (acceptedIn (callsTold s (map make js)) ≡ map make js)
@@ -289,7 +285,7 @@ module _ (make : ℕ → Call) (asks : (j : ℕ) → Asks j (make j)) (test : Li
       let passes = first-passes (test h) j js once .0 in
       let r = asked-once u (t ∷ h) (n .0) (n .1) js
       (rest-passes (test h) (test (t ∷ h)) j js once
-      (λ i z. let o = others-told s h l i j z (asks j) v in still h t i (o .0) (o .1))) in
+      (λ i z. still h t i (others-told s h l i j z (asks j) v))) in
       (ap (λ b. if b then make j ∷ rest else rest) (ok s h l y j passes) ∙ ap (λ x. make j ∷ x) (r .0), r .1, r .2)
 
 -- ---- a round
@@ -305,7 +301,7 @@ turns-made : (s : State) (h : List Told) (l : List Group) → Ready s h l → (j
     × (m : List Group) × Ready (stateAfter s (map turn js)) (toldThen h (callsTold s (map turn js))) m
 turns-made s h l y js once =
     asked-once turn (λ j. refl) idleOf (λ s h l y j. turn-accepted j s h l y)
-    (λ h t i a f. ap (λ (x : Account). x .running && not (flyingOf (t ∷ h) i)) a ∙ ap (λ b. accountsOf h i .running && not b) f) s h l y js
+    (λ h t i. ap (λ (x : Account). x .running && not (x .flying))) s h l y js
     (λ i. let e = once i in omega arith)
 
 -- then each of those gets its report
@@ -320,7 +316,7 @@ module _ (codes : ℕ → ℕ) (fit : (i : ℕ) → codes i ≤ codeFailed) (s :
   halves-made =
       let t = turns-made s h l y ts each-turn in
       asked-once (λ i. report i (codes i)) (λ j. refl) flyingOf (λ s h l y j e. report-accepted j (codes j) s h l y e (fit j))
-      (λ h t i a f. f) (stateAfter s (map turn ts)) (toldThen h (callsTold s (map turn ts))) (t .1) (t .2) rs
+      (λ h t i. ap (λ (x : Account). x .flying)) (stateAfter s (map turn ts)) (toldThen h (callsTold s (map turn ts))) (t .1) (t .2) rs
       (λ i. let e = each-report i in omega arith)
 
   is-round : Round h (callsTold s (map turn ts)) (callsTold (stateAfter s (map turn ts)) (map (λ i. report i (codes i)) rs))

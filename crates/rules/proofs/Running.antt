@@ -101,7 +101,7 @@ module _ (q : Member → Bool) where
       (λ y. e i ∙ any-drop i a g b (other-has i g (λ w. t≠f (sym (eq-eqb i (g .member .id) (sym w)) ∙ y))))
 
   -- x comes
-  tells-new : (t : ℕ → Bool) (a : List Group) (x : Group) (b : List Group) → NotIn (x .member .id) (ids (a ++ b)) →
+  pub tells-new : (t : ℕ → Bool) (a : List Group) (x : Group) (b : List Group) → NotIn (x .member .id) (ids (a ++ b)) →
       Tells q t (a ++ b) → Tells q (put t (x .member .id) (q (x .member))) (a ++ (x ∷ b))
   tells-new t a x b n e i =
       byIf (λ y. y ≡ anyOf (has q i) (a ++ (x ∷ b))) (eqb i (x .member .id))
@@ -228,12 +228,12 @@ runs-moves s a l h t (fails d r lead k n u w) =
     subst (λ b. RunsTold b (attachEvent (r .state .mark d) (failure-of d) k))
     (sym (note-++ (failure d) (r .answers) (down d (r .state .mark d) ∷ []) a))
     (tells-same isRunning same-runs _ (same-attached (r .state .mark d) (failure-of d) k)
-    (λ i. event-runs d _ ∙ gone-runs s _ (failure d) d a l h t w i))
+    (λ i. event-runs d (noteAnswers (failure d) (r .answers) a i) ∙ gone-runs s _ (failure d) d a l h t w i))
 runs-moves s a l h t (restarts d v r lead k n u w) =
     subst (λ b. RunsTold b (attachEvent (r .state .mark d) (restart-of d v) k))
     (sym (note-++ (restart d v) (r .answers) (up d (r .state .mark d) ∷ []) a))
     (tells-same isRunning same-runs _ (same-attached (r .state .mark d) (restart-of d v) k)
-    (λ i. event-runs d _ ∙ gone-runs s _ (restart d v) d a l h t w i))
+    (λ i. event-runs d (noteAnswers (restart d v) (r .answers) a i) ∙ gone-runs s _ (restart d v) d a l h t w i))
 
 -- those that settle do not run
 pub any-held : (i : ℕ) (k : List Group) → anyOf (has isRunning i) k ≡ anyOf (has isRunning i) (stillHeld k)

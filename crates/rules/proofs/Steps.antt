@@ -671,7 +671,7 @@ module _ (d : ℕ) where
       goes c was-done l t u h = t≠f u
       goes c was-skipped l t u h = t≠f u
 
-  skip-left : (l : List Step) → leftSteps (skipLeft d l) ≡ notOn d (leftSteps l)
+  pub skip-left : (l : List Step) → leftSteps (skipLeft d l) ≡ notOn d (leftSteps l)
   skip-left =
       by-skip d (λ l m. leftSteps m ≡ notOn d (leftSteps l)) refl stays
       (λ c s l t u h. rw u (rw (eq-eqb (c .device) d t) h))

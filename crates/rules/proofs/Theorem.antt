@@ -39,13 +39,14 @@ use Rattle.rules.proofs.Lists.{byIf, t≠f, fold-++, anyOf-++}
 use Rattle.rules.proofs.Groups.{Group, members, alone, flat, stillHeld, each-held}
 use Rattle.rules.proofs.Invariant.{unmarked, HubOk, InFlightIsUp, FirstRuns, OrderOk, AccountTells, backTo, ReachesSetting, has}
 use Rattle.rules.proofs.Invariant.{goes-back, OneFlightOn, DeviceAt, is-down, none-on-it, one-on-it, DeviceOk, PremiseOnCall}
-use Rattle.rules.proofs.View.{Gone, nobody, somebody, Moves, places, commits, sends, skips, dones, misses, aborts, fails, restarts}
-use Rattle.rules.proofs.View.{Seen, is-refused, waits, limits, moves, see}
+use Rattle.rules.proofs.View.{Gone, nobody, somebody, loses, Moves, places, commits, sends, skips, dones, misses, aborts, fails}
+use Rattle.rules.proofs.View.{restarts, Seen, is-refused, waits, limits, moves, see}
 use Rattle.rules.proofs.Fields.{Fixed, gone-fixed, attach-fixed, settle-fixed}
 use Rattle.rules.proofs.Moved.{hub-limit, hub-settles}
 use Rattle.rules.proofs.Kept.{hub-moves, no-flight-on-up, flies-moves, flies-settles}
 use Rattle.rules.proofs.Serial.{serial-setting, serial-up, order-due, bar-entries, bar-stays, first-runs, order-settles}
 use Rattle.rules.proofs.Ordered.{order-moves}
+use Rattle.rules.proofs.Running.{RunsTold, runs-moves, runs-held}
 use Rattle.rules.proofs.Accounts.{accounts-moves, Unsent, unsent-moves, working-moves}
 use Rattle.rules.proofs.Stands.{stands-moves}
 use Rattle.rules.proofs.Messages.{ok-state, device-takes, device-settles}
@@ -65,6 +66,7 @@ record Known (s : State) (o : Order) (a : ℕ → Account) (k : ℕ → Bool) (l
   flies : Each (InFlightIsUp s) l
   order : OrderOk s o [] l
   first : FirstRuns l
+  runs : RunsTold a l
   tells : Each (AccountTells a) l
   unsent : Unsent s a
   works : (d : ℕ) → k d ≡ s .up d
@@ -102,6 +104,7 @@ gone-accepted : (s : State) (d : ℕ) (l : List Group) (x : Answer) {r : Result}
 unfolding abort
 gone-accepted s d l x e (nobody q) = e
 gone-accepted s d l x e (somebody a g b q f) = refl
+gone-accepted s d l x e (loses a g b q f m) = e
 
 -- it is accepted, and the devices are as many as before
 pub moves-same : (s : State) (l : List Group) {c : Call} {r : Result} {lead : List Event} {k : List Group} → Moves s l c r lead k →
@@ -188,6 +191,7 @@ holds-limit P w k h =
           barred = j .order .barred;
         };
         first = j .first;
+        runs = j .runs;
         tells = j .tells;
         unsent = j .unsent;
         works = j .works;
@@ -208,12 +212,13 @@ told P w c v h {r = r} {lead = lead} {k = k} m = record {
       flies = flies-settles (r .state) k (flies-moves s l (j .hub) (j .flies) m);
       order = settled .0;
       first = first-runs k;
-      tells = each-held (AccountTells (noteAnswers c (r .answers) a)) k (accounts-moves s a l (j .hub) (j .tells) m);
+      runs = runs-held (noteAnswers c (r .answers) a) k (runs-moves s a l (j .hub) (j .runs) m);
+      tells = each-held (AccountTells (noteAnswers c (r .answers) a)) k (accounts-moves s a l (j .hub) (j .runs) (j .tells) m);
       unsent = λ i e. unsent-moves s a l (j .hub) (j .unsent) m i (subst (λ (q : Fixed). q .nextId ≤ i) (settle-fixed (r .state)) e);
       works = λ d. working-moves s (workingOf (w .history)) l (j .works) m d ∙ ap (λ (q : Fixed). q .up d) (sym (settle-fixed (r .state)));
       stands = subst (λ q. CommandsStand (noteAnswers c (r .answers) a) q allUp)
           (sym (bar-entries (orderAfterAll c a (r .answers) (orderIn w))))
-          (stands-moves s (orderIn w) a l (j .hub) (j .flies) (j .order) (j .tells) (j .stands) m);
+          (stands-moves s (orderIn w) a l (j .hub) (j .flies) (j .order) (j .runs) (j .tells) (j .stands) m);
     };
     devices = λ p d n. device-settles d (r .state) _ k _ hub
         (device-moves d s a l (w .devices) v (subst (λ q. d < q) same n) (j .hub) (j .order .events-ok) (j .tells)
@@ -328,6 +333,7 @@ new-holds n k first p = record {
     flies = tt;
     order = record { unsettled-is = refl; settled-is = λ d. refl; up-is = λ d. refl; events-ok = tt; ids-ok = tt; barred = refl };
     first = tt;
+    runs = λ i. refl;
     tells = tt;
     unsent = λ i e. refl;
     works = λ d. refl;

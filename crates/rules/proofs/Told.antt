@@ -1,250 +1,41 @@
--- Which routines run and which have a command in flight, told by the answers, is what the hub holds. Assumes nothing.
+-- Which routines have a command in flight, told by the answers, is what the hub holds. Assumes nothing.
 use mathlib.Core.Path.{_≡_, refl, sym, ap, _∙_, subst}
-use mathlib.Core.Logic.{_≢_}
-use mathlib.Core.Bool.{Bool, true, false, not, _&&_, _||_, and-false}
+use mathlib.Core.Bool.{Bool, true, false, and-false}
 use mathlib.Core.List.{List, [], _∷_, _++_}
 use mathlib.Core.Option.{none}
 use Prim.Native.Nat.{ℕ}
-use borrow.Author.Tests.{eqb-true, eq-eqb, ne-eqb}
-use lib.Dec.{eqb}
-use Rattle.routine.specs.Choice.{if_then_else_}
 use Rattle.routine.specs.declared.Command.{Command}
-use Rattle.rules.specs.Tables.{anyOf, put}
+use Rattle.rules.specs.Tables.{put, Each}
 use Rattle.rules.specs.State.{Member, State}
 use Rattle.rules.specs.Answers.{Call, failure, restart, Answer, down, up, Result}
 use Rattle.rules.specs.Progress.{flight}
 use Rattle.rules.specs.Due.{due}
-use Rattle.rules.specs.Sequence.{isRunning}
+use Rattle.rules.specs.Sequence.{isRunning, withUp}
 use Rattle.rules.specs.Abort.{abort}
 use Rattle.rules.specs.Submit.{newcomer}
 use Rattle.rules.specs.Turn.{commit, commitTurn, sendTurn, skipTurn}
 use Rattle.rules.specs.Report.{doneReport, skipReport}
 use Rattle.rules.specs.History.{Outcome, reported-done, reported-failed, not-sent, Account, placedAccount, sentAccount}
-use Rattle.rules.specs.History.{answeredAccount, endedAccount, noteAnswers}
-use Rattle.rules.specs.Order.{Event, failure-of, restart-of}
-use Rattle.rules.specs.Rounds.{flyingAfterAll}
-use Rattle.rules.proofs.Schedules.{isFlying}
-use Rattle.rules.proofs.Lists.{byIf, t≠f, fold-++, put-keeps, NotIn, ids-fresh}
+use Rattle.rules.specs.History.{answeredAccount, endedAccount, skippedAccount, noteAnswers}
+use Rattle.rules.specs.Order.{Event, failure-of, restart-of, deviceOf}
+use Rattle.rules.proofs.Schedules.{hasFlight, isFlying}
+use Rattle.rules.proofs.Lists.{NotIn, each-mid, ids-fresh, put-same}
 use Rattle.rules.proofs.Groups.{Group, ids, alone, with, leaving, attachEvent, stillHeld, other-ids}
-use Rattle.rules.proofs.Same.{Pairwise, no-pair, pair, Same, same-placed, same-leaving, same-attached}
-use Rattle.rules.proofs.Steps.{send-step, skip-step, done-step, fail-step, fresh-newcomer}
-use Rattle.rules.proofs.Invariant.{HubOk}
-use Rattle.rules.proofs.View.{sentMember, skippedMember, doneMember, failedMember, Gone, nobody, somebody, Moves, places, commits}
-use Rattle.rules.proofs.View.{sends, skips, dones, misses, aborts, fails, restarts}
-use Rattle.rules.proofs.Accounts.{note-++}
-use Rattle.rules.proofs.Marks.{in-turn}
+use Rattle.rules.proofs.Same.{Same, same-placed, same-leaving, same-attached}
+use Rattle.rules.proofs.Steps.{leftSteps, send-step, skip-step, done-step, fail-step, fresh-newcomer}
+use Rattle.rules.proofs.Invariant.{HubOk, AccountTells}
+use Rattle.rules.proofs.View.{sentMember, skippedMember, doneMember, failedMember, skippedLeft, Gone, nobody, somebody, loses}
+use Rattle.rules.proofs.View.{Moves, places, commits, sends, skips, dones, misses, aborts, fails, restarts}
+use Rattle.rules.proofs.Marks.{in-turn, Halfway, halfway-is}
+use Rattle.rules.proofs.Moved.{hub-up}
+use Rattle.rules.proofs.Running.{Tells, tells-put, tells-drop, tells-new, tells-held, tells-same, put-part, RunsTold}
+use Rattle.rules.proofs.Accounts.{eventTold, gone-tells, TellsEvent, event-accounts}
 
--- ---- a table over ids that says whether the routine with an id passes a test
+abbrev pub flyingIn : (ℕ → Account) → ℕ → Bool
+flyingIn a i = a i .flying
 
-abbrev pub has : (Member → Bool) → ℕ → Group → Bool
-has q i g = eqb (g .member .id) i && q (g .member)
-
--- the table says of each id whether a routine of the list has it and passes
-abbrev pub Tells : (Member → Bool) → (ℕ → Bool) → List Group → Type 0
-Tells q t l = (i : ℕ) → t i ≡ anyOf (has q i) l
-
-module _ (q : Member → Bool) where
-  -- nobody has the id
-  pub none-has : (i : ℕ) (l : List Group) → NotIn i (ids l) → anyOf (has q i) l ≡ false
-  none-has i [] n = refl
-  none-has i (g ∷ l) n = rw (ne-eqb (g .member .id) i (n .0), none-has i l (n .1)) refl
-
-  pub other-has : (i : ℕ) (g : Group) → g .member .id ≢ i → has q i g ≡ false
-  other-has i g n = rw (ne-eqb (g .member .id) i n) refl
-
-  own-has : (i : ℕ) (g : Group) → g .member .id ≡ i → has q i g ≡ q (g .member)
-  own-has i g e = rw (eq-eqb (g .member .id) i e) refl
-
-  pub idle-has : (i : ℕ) (g : Group) → q (g .member) ≡ false → has q i g ≡ false
-  idle-has i g e = rw e (and-false (eqb (g .member .id) i))
-
-  -- g becomes h, and nobody else has its id
-  any-own : (i : ℕ) (a : List Group) (h : Group) (b : List Group) → NotIn i (ids (a ++ b)) → anyOf (has q i) (a ++ (h ∷ b)) ≡ has q i h
-  any-own i [] h b n = rw (none-has i b n) (go (has q i h))
-    where
-      go : (t : Bool) → (t || false) ≡ t
-      go true = refl
-      go false = refl
-  any-own i (g ∷ a) h b n = rw (other-has i g (n .0)) (any-own i a h b (n .1))
-
-  pub any-swap : (i : ℕ) (a : List Group) (g h : Group) (b : List Group) → has q i g ≡ has q i h →
-      anyOf (has q i) (a ++ (g ∷ b)) ≡ anyOf (has q i) (a ++ (h ∷ b))
-  any-swap i [] g h b e = ap (λ t. t || anyOf (has q i) b) e
-  any-swap i (x ∷ a) g h b e = ap (λ t. has q i x || t) (any-swap i a g h b e)
-
-  pub any-drop : (i : ℕ) (a : List Group) (g : Group) (b : List Group) → has q i g ≡ false →
-      anyOf (has q i) (a ++ (g ∷ b)) ≡ anyOf (has q i) (a ++ b)
-  any-drop i [] g b e = rw e refl
-  any-drop i (x ∷ a) g b e = ap (λ t. has q i x || t) (any-drop i a g b e)
-
-  -- what the table says of a routine of the list
-  pub told-of : (t : ℕ → Bool) (a : List Group) (g : Group) (b : List Group) → NotIn (g .member .id) (ids (a ++ b)) →
-      Tells q t (a ++ (g ∷ b)) → t (g .member .id) ≡ q (g .member)
-  told-of t a g b n e = e (g .member .id) ∙ any-own (g .member .id) a g b n ∙ own-has (g .member .id) g refl
-
-  -- g becomes h, and the table gets what h is
-  tells-put : (t : ℕ → Bool) (v : Bool) (a : List Group) (g h : Group) (b : List Group) → NotIn (g .member .id) (ids (a ++ b)) →
-      h .member .id ≡ g .member .id → q (h .member) ≡ v → Tells q t (a ++ (g ∷ b)) →
-      Tells q (put t (g .member .id) v) (a ++ (h ∷ b))
-  tells-put t v a g h b n same is e i =
-      byIf (λ x. x ≡ anyOf (has q i) (a ++ (h ∷ b))) (eqb i (g .member .id))
-      (λ y. let z = eqb-true i (g .member .id) y in
-      sym (any-own i a h b (subst (λ j. NotIn j (ids (a ++ b))) (sym z) n) ∙ own-has i h (same ∙ sym z) ∙ is))
-      (λ y. e i ∙ any-swap i a g h b
-      (let z : g .member .id ≢ i = λ w. t≠f (sym (eq-eqb i (g .member .id) (sym w)) ∙ y) in
-      other-has i g z ∙ sym (other-has i h (λ w. z (sym same ∙ w)))))
-
-  -- g becomes h, and the table stays
-  tells-stay : (t : ℕ → Bool) (a : List Group) (g h : Group) (b : List Group) → h .member .id ≡ g .member .id →
-      q (h .member) ≡ q (g .member) → Tells q t (a ++ (g ∷ b)) → Tells q t (a ++ (h ∷ b))
-  tells-stay t a g h b same is e i =
-      e i ∙ any-swap i a g h b (ap (λ j. eqb j i && q (g .member)) (sym same) ∙ ap (λ x. eqb (h .member .id) i && x) (sym is))
-
-  -- g leaves
-  tells-drop : (t : ℕ → Bool) (a : List Group) (g : Group) (b : List Group) → NotIn (g .member .id) (ids (a ++ b)) →
-      Tells q t (a ++ (g ∷ b)) → Tells q (put t (g .member .id) false) (a ++ b)
-  tells-drop t a g b n e i =
-      byIf (λ x. x ≡ anyOf (has q i) (a ++ b)) (eqb i (g .member .id))
-      (λ y. sym (none-has i (a ++ b) (subst (λ j. NotIn j (ids (a ++ b))) (sym (eqb-true i (g .member .id) y)) n)))
-      (λ y. e i ∙ any-drop i a g b (other-has i g (λ w. t≠f (sym (eq-eqb i (g .member .id) (sym w)) ∙ y))))
-
-  -- x comes
-  tells-new : (t : ℕ → Bool) (a : List Group) (x : Group) (b : List Group) → NotIn (x .member .id) (ids (a ++ b)) →
-      Tells q t (a ++ b) → Tells q (put t (x .member .id) (q (x .member))) (a ++ (x ∷ b))
-  tells-new t a x b n e i =
-      byIf (λ y. y ≡ anyOf (has q i) (a ++ (x ∷ b))) (eqb i (x .member .id))
-      (λ y. let z = eqb-true i (x .member .id) y in
-      sym (any-own i a x b (subst (λ j. NotIn j (ids (a ++ b))) (sym z) n) ∙ own-has i x (sym z)))
-      (λ y. e i ∙ sym (any-drop i a x b (other-has i x (λ w. t≠f (sym (eq-eqb i (x .member .id) (sym w)) ∙ y)))))
-
-  -- x comes, and does not pass
-  tells-idle : (t : ℕ → Bool) (a : List Group) (x : Group) (b : List Group) → q (x .member) ≡ false → Tells q t (a ++ b) →
-      Tells q t (a ++ (x ∷ b))
-  tells-idle t a x b f e i = e i ∙ sym (any-drop i a x b (idle-has i x f))
-
-  -- what is committed does not pass
-  tells-held : ((g : Group) → g .member .committed ≡ true → q (g .member) ≡ false) → (t : ℕ → Bool) (k : List Group) → Tells q t k →
-      Tells q t (stillHeld k)
-  tells-held f t [] e = e
-  tells-held f t (g ∷ k) e =
-      byIf (Tells q t) (g .member .committed) (λ y. tells-held f t k (λ i. e i ∙ any-drop i [] g k (idle-has i g (f g y)))) (λ _. e)
-
-  -- the test looks at id, commands and commit alone
-  pub any-same : ((g h : Group) → Same g h → q (h .member) ≡ q (g .member)) → (i : ℕ) {l k : List Group} → Pairwise Same l k →
-      anyOf (has q i) l ≡ anyOf (has q i) k
-  any-same f i no-pair = refl
-  any-same f i (pair {g = g} {h = h} {l = l} r p) =
-      ap (λ j. (eqb j i && q (g .member)) || anyOf (has q i) l) (sym (r .same-id))
-      ∙ ap (λ x. (eqb (h .member .id) i && x) || anyOf (has q i) l) (sym (f g h r))
-      ∙ ap (λ x. has q i h || x) (any-same f i p)
-
-  tells-same : ((g h : Group) → Same g h → q (h .member) ≡ q (g .member)) → (t : ℕ → Bool) {l k : List Group} → Pairwise Same l k →
-      Tells q t l → Tells q t k
-  tells-same f t p e i = e i ∙ any-same f i p
-
--- a part of what is put
-put-part {ℓ κ} : {A : Type ℓ} {B : Type κ} (part : A → B) (f : ℕ → A) (j : ℕ) (v : A) (i : ℕ) →
-    part (put f j v i) ≡ put (λ k. part (f k)) j (part v) i
-put-part part f j v i = go (eqb i j)
-  where
-    go : (t : Bool) → part (if t then v else f i) ≡ (if t then part v else part (f i))
-    go true = refl
-    go false = refl
-
--- ---- which routines run
-
-abbrev runningIn : (ℕ → Account) → ℕ → Bool
-runningIn a i = a i .running
-
-abbrev pub RunsTold : (ℕ → Account) → List Group → Type 0
-RunsTold a l = Tells isRunning (runningIn a) l
-
-answered-runs : (o : Outcome) (l : List Command) (x : Account) → answeredAccount o l x .running ≡ x .running
-answered-runs o [] x = refl
-answered-runs o (c ∷ l) x = refl
-
-pub same-runs : (g h : Group) → Same g h → isRunning (h .member) ≡ isRunning (g .member)
-unfolding isRunning
-same-runs g h e = ap not (e .same-committed)
-
--- an account changes, and runs as before
-keeps-running : (a : ℕ → Account) (j : ℕ) (x : Account) → x .running ≡ a j .running → (i : ℕ) → put a j x i .running ≡ a i .running
-keeps-running = put-keeps (λ (x : Account). x .running)
-
-module _ (s : State) (a : ℕ → Account) (ga : List Group) (g : Group) (gb : List Group) (w : HubOk s (ga ++ (g ∷ gb)))
-    (t : RunsTold a (ga ++ (g ∷ gb))) where
-  stays-running : (x : Account) (h : Group) → x .running ≡ a (g .member .id) .running → h .member .id ≡ g .member .id →
-      isRunning (h .member) ≡ isRunning (g .member) →
-      RunsTold (put a (g .member .id) x) (ga ++ (h ∷ gb))
-  stays-running x h e same is i =
-      keeps-running a (g .member .id) x e i ∙ tells-stay isRunning (runningIn a) ga g h gb same is t i
-
-  answers-running : (o : Outcome) (h : Group) → h .member .id ≡ g .member .id → isRunning (h .member) ≡ isRunning (g .member) →
-      RunsTold (put a (g .member .id) (answeredAccount o (a (g .member .id) .left) (a (g .member .id)))) (ga ++ (h ∷ gb))
-  answers-running o h =
-      let y = a (g .member .id) in
-      stays-running (answeredAccount o (y .left) y) h (answered-runs o (y .left) y)
-
-  stops-running : RunsTold (put a (g .member .id) (endedAccount (a (g .member .id)))) (leaving ga g gb)
-  stops-running =
-      let x = endedAccount (a (g .member .id)) in
-      tells-same isRunning same-runs (runningIn (put a (g .member .id) x)) (same-leaving ga g gb)
-      (λ i. put-part (λ (y : Account). y .running) a (g .member .id) x i
-      ∙ tells-drop isRunning (runningIn a) ga g gb (other-ids (s .nextId) ga g gb (w .ids-ok)) t i)
-
-gone-runs : (s u : State) (c : Call) (d : ℕ) (a : ℕ → Account) (l : List Group) {r : Result} {lead : List Event} {k : List Group} →
-    HubOk s l → RunsTold a l → Gone u d l r lead k → RunsTold (noteAnswers c (r .answers) a) k
-unfolding abort
-gone-runs s u c d a l h t (nobody q) = t
-gone-runs s u c d a l h t (somebody ga g gb e q) = stops-running s a ga g gb (subst (HubOk s) e h) (subst (RunsTold a) e t)
-
-pub runs-moves : (s : State) (a : ℕ → Account) (l : List Group) {c : Call} {r : Result} {lead : List Event} {k : List Group} → HubOk s l →
-    RunsTold a l → Moves s l c r lead k →
-    RunsTold (noteAnswers c (r .answers) a) k
-unfolding newcomer commit commitTurn sendTurn skipTurn doneReport skipReport abort isRunning
-runs-moves s a l h t (places cs ga gb q e u p n) =
-    let new = newcomer (s .nextId) cs in
-    tells-same isRunning same-runs _ (same-placed ga (alone new) gb)
-    (λ i. put-part (λ (y : Account). y .running) a (s .nextId) (placedAccount cs) i
-    ∙ tells-new isRunning (runningIn a) ga (alone new) gb (ids-fresh (s .nextId) (ids (ga ++ gb)) (subst (HubOk s) e h .ids-ok))
-    (subst (RunsTold a) e t) i)
-runs-moves s a l h t (commits i ga g gb e n r f q) =
-    let w = subst (HubOk s) e h in
-    λ i. put-part (λ (y : Account). y .running) a (g .member .id) (endedAccount (a (g .member .id))) i
-    ∙ tells-put isRunning (runningIn a) false ga g (with g (commit (g .member))) gb (other-ids (s .nextId) ga g gb (w .ids-ok)) refl refl
-    (subst (RunsTold a) e t) i
-runs-moves s a l h t (sends i ga g gb c e n r f q w u) =
-    stays-running s a ga g gb (subst (HubOk s) e h) (subst (RunsTold a) e t) (sentAccount c (a (g .member .id)))
-    (with g (sentMember s g c)) refl refl refl
-runs-moves s a l h t (skips i ga g gb c e n r f q w u) =
-    answers-running s a ga g gb (subst (HubOk s) e h) (subst (RunsTold a) e t) not-sent (with g (skippedMember g)) refl refl
-runs-moves s a l h t (dones i code ga g gb x e n r f q) =
-    answers-running s a ga g gb (subst (HubOk s) e h) (subst (RunsTold a) e t) reported-done (with g (doneMember g)) refl refl
-runs-moves s a l h t (misses i code ga g gb x e n r f q) =
-    answers-running s a ga g gb (subst (HubOk s) e h) (subst (RunsTold a) e t) reported-failed (with g (failedMember g)) refl refl
-runs-moves s a l h t (aborts c ga g gb e r k) = stops-running s a ga g gb (subst (HubOk s) e h) (subst (RunsTold a) e t)
-runs-moves s a l h t (fails d r lead k n u w) =
-    subst (λ b. RunsTold b (attachEvent (r .state .mark d) (failure-of d) k))
-    (sym (note-++ (failure d) (r .answers) (down d (r .state .mark d) ∷ []) a))
-    (tells-same isRunning same-runs _ (same-attached (r .state .mark d) (failure-of d) k) (gone-runs s _ (failure d) d a l h t w))
-runs-moves s a l h t (restarts d v r lead k n u w) =
-    subst (λ b. RunsTold b (attachEvent (r .state .mark d) (restart-of d v) k))
-    (sym (note-++ (restart d v) (r .answers) (up d (r .state .mark d) ∷ []) a))
-    (tells-same isRunning same-runs _ (same-attached (r .state .mark d) (restart-of d v) k) (gone-runs s _ (restart d v) d a l h t w))
-
--- those that settle do not run
-pub any-held : (i : ℕ) (k : List Group) → anyOf (has isRunning i) k ≡ anyOf (has isRunning i) (stillHeld k)
-unfolding isRunning
-any-held i k = tells-held isRunning (λ g e. ap not e) (λ j. anyOf (has isRunning j) k) k (λ j. refl) i
-
-pub runs-held : (a : ℕ → Account) (k : List Group) → RunsTold a k → RunsTold a (stillHeld k)
-unfolding isRunning
-runs-held a k = tells-held isRunning (λ g e. ap not e) (runningIn a) k
-
--- ---- which have a command in flight
-
-abbrev pub FliesTold : (ℕ → Bool) → List Group → Type 0
-FliesTold f l = Tells isFlying f l
+abbrev pub FliesTold : (ℕ → Account) → List Group → Type 0
+FliesTold a l = Tells isFlying (flyingIn a) l
 
 same-flying : (g h : Group) → Same g h → isFlying (h .member) ≡ isFlying (g .member)
 unfolding isFlying isRunning
@@ -254,62 +45,93 @@ grounded-flying : (m : Member) → flight (m .steps) ≡ none → isFlying m ≡
 unfolding isFlying
 grounded-flying m e = rw e (and-false (isRunning m))
 
-module _ (s : State) (f : ℕ → Bool) (ga : List Group) (g : Group) (gb : List Group) (w : HubOk s (ga ++ (g ∷ gb)))
-    (t : FliesTold f (ga ++ (g ∷ gb))) where
-  now-flies : (v : Bool) (h : Group) → h .member .id ≡ g .member .id → isFlying (h .member) ≡ v →
-      FliesTold (put f (g .member .id) v) (ga ++ (h ∷ gb))
-  now-flies v h same is = tells-put isFlying f v ga g h gb (other-ids (s .nextId) ga g gb (w .ids-ok)) same is t
+module _ (s : State) (a : ℕ → Account) (ga : List Group) (g : Group) (gb : List Group) (w : HubOk s (ga ++ (g ∷ gb)))
+    (t : FliesTold a (ga ++ (g ∷ gb))) where
+  -- g becomes h, and its account x
+  now-flies : (x : Account) (h : Group) → h .member .id ≡ g .member .id → isFlying (h .member) ≡ x .flying →
+      FliesTold (put a (g .member .id) x) (ga ++ (h ∷ gb))
+  now-flies x h same is i =
+      put-part (λ (y : Account). y .flying) a (g .member .id) x i
+      ∙ tells-put isFlying (flyingIn a) (x .flying) ga g h gb (other-ids (s .nextId) ga g gb (w .ids-ok)) same is t i
 
-  gone-down : FliesTold (put f (g .member .id) false) (leaving ga g gb)
+  -- the first command that is left is answered
+  lands : (o : Outcome) (h : Group) (c : Command) → AccountTells a g → h .member .id ≡ g .member .id →
+      leftSteps (g .member .steps) ≡ c ∷ leftSteps (h .member .steps) → flight (h .member .steps) ≡ none →
+      FliesTold (put a (g .member .id) (answeredAccount o (a (g .member .id) .left) (a (g .member .id)))) (ga ++ (h ∷ gb))
+  lands o h c k same left e =
+      now-flies (answeredAccount o (a (g .member .id) .left) (a (g .member .id))) h same
+      (grounded-flying (h .member) e ∙ sym (ap (λ l. answeredAccount o l (a (g .member .id)) .flying) (k .left-is ∙ left)))
+
+  gone-down : FliesTold (put a (g .member .id) (endedAccount (a (g .member .id)))) (leaving ga g gb)
   gone-down =
-      tells-same isFlying same-flying (put f (g .member .id) false) (same-leaving ga g gb)
-      (tells-drop isFlying f ga g gb (other-ids (s .nextId) ga g gb (w .ids-ok)) t)
+      let x = endedAccount (a (g .member .id)) in
+      tells-same isFlying same-flying (flyingIn (put a (g .member .id) x)) (same-leaving ga g gb)
+      (λ i. put-part (λ (y : Account). y .flying) a (g .member .id) x i
+      ∙ tells-drop isFlying (flyingIn a) ga g gb (other-ids (s .nextId) ga g gb (w .ids-ok)) t i)
 
-gone-flies : (s u : State) (d : ℕ) (f : ℕ → Bool) (l : List Group) {r : Result} {lead : List Event} {k : List Group} →
-    HubOk s l → FliesTold f l → Gone u d l r lead k → FliesTold (flyingAfterAll (r .answers) f) k
-unfolding abort
-gone-flies s u d f l h t (nobody q) = t
-gone-flies s u d f l h t (somebody ga g gb e q) = gone-down s f ga g gb (subst (HubOk s) e h) (subst (FliesTold f) e t)
+gone-flies : (s : State) (d : ℕ) (a : ℕ → Account) (l : List Group) {r : Result} {lead : List Event} {k : List Group} →
+    HubOk s l → Each (AccountTells a) l → FliesTold a l → (w : Gone s d l r lead k) → FliesTold (eventTold w a) k
+unfolding isFlying isRunning
+gone-flies s d a l h u t (nobody q) = t
+gone-flies s d a l h u t (somebody ga g gb e q) = gone-down s a ga g gb (subst (HubOk s) e h) (subst (FliesTold a) e t)
+gone-flies s d a l h u t (loses ga g gb e q m) =
+    let i = g .member .id in
+    let x = skippedAccount d (a i) in
+    let n = with g (skippedLeft d g) in
+    let k = each-mid (AccountTells (put a i x)) ga n gb (gone-tells s d a l h u (loses ga g gb e q m)) in
+    now-flies s a ga g gb (subst (HubOk s) e h) (subst (FliesTold a) e t) x n refl
+    (rw (halfway-is d (g .member) q .runs) (sym (k .flies-is) ∙ ap (λ (y : Account). y .flying) (put-same a i x)))
 
-flying-++ : (l k : List Answer) (f : ℕ → Bool) → flyingAfterAll (l ++ k) f ≡ flyingAfterAll k (flyingAfterAll l f)
-flying-++ = fold-++ flyingAfterAll (λ f. refl) (λ x l f. refl)
+event-flies : (s : State) (x : Event) (j : ℕ) (c : Call) (y : Answer) (a : ℕ → Account) (l : List Group)
+    {r : Result} {lead : List Event} {k : List Group} →
+    TellsEvent (deviceOf x) c y → HubOk s l → RunsTold a l → Each (AccountTells a) l → FliesTold a l → Gone s (deviceOf x) l r lead k →
+    FliesTold (noteAnswers c (r .answers ++ (y ∷ [])) a) (attachEvent j x k)
+event-flies s x j c y a l {k = k} n h u v t w =
+    subst (λ b. FliesTold b (attachEvent j x k)) (sym (event-accounts s (deviceOf x) c y a l n h u v w))
+    (tells-same isFlying same-flying _ (same-attached j x k) (gone-flies s (deviceOf x) a l h v t w))
 
-pub flies-told : (s : State) (f : ℕ → Bool) (l : List Group) {c : Call} {r : Result} {lead : List Event} {k : List Group} → HubOk s l →
-    FliesTold f l → Moves s l c r lead k →
-    FliesTold (flyingAfterAll (r .answers) f) k
-unfolding commitTurn commit sendTurn skipTurn doneReport skipReport abort isFlying isRunning
-flies-told s f l h t (places cs ga gb q e u p n) =
+pub flies-told : (s : State) (a : ℕ → Account) (l : List Group) {c : Call} {r : Result} {lead : List Event} {k : List Group} → HubOk s l →
+    RunsTold a l → Each (AccountTells a) l → FliesTold a l → Moves s l c r lead k →
+    FliesTold (noteAnswers c (r .answers) a) k
+unfolding commitTurn commit sendTurn skipTurn doneReport skipReport abort isFlying isRunning newcomer
+flies-told s a l h u v t (places cs ga gb q e z p n) =
     let new = newcomer (s .nextId) cs in
-    tells-same isFlying same-flying f (same-placed ga (alone new) gb)
-    (tells-idle isFlying f ga (alone new) gb (grounded-flying new (fresh-newcomer (s .nextId) cs .flight-is)) (subst (FliesTold f) e t))
-flies-told s f l h t (commits i ga g gb e n r x q) =
-    tells-stay isFlying f ga g (with g (commit (g .member))) gb refl (sym (grounded-flying (g .member) x)) (subst (FliesTold f) e t)
-flies-told s f l h t (sends i ga g gb c e n r x q w u) =
+    let f = grounded-flying new (fresh-newcomer (s .nextId) cs .flight-is) in
+    tells-same isFlying same-flying _ (same-placed ga (alone new) gb)
+    (λ i. put-part (λ (y : Account). y .flying) a (s .nextId) (placedAccount cs) i
+    ∙ ap (λ b. put (flyingIn a) (s .nextId) b i) (sym f)
+    ∙ tells-new isFlying (flyingIn a) ga (alone new) gb (ids-fresh (s .nextId) (ids (ga ++ gb)) (subst (HubOk s) e h .ids-ok))
+    (subst (FliesTold a) e t) i)
+flies-told s a l h u v t (commits i ga g gb e n r x q) =
+    now-flies s a ga g gb (subst (HubOk s) e h) (subst (FliesTold a) e t) (endedAccount (a (g .member .id))) (with g (commit (g .member)))
+    refl refl
+flies-told s a l h u v t (sends i ga g gb c e n r x q w z) =
     let y = subst (HubOk s) e h in
     let k = send-step (g .member) (in-turn s ga g gb y) c (due s (c .device)) q x in
-    now-flies s f ga g gb y (subst (FliesTold f) e t) true (with g (sentMember s g c)) refl (rw (r, k .flight-is) refl)
-flies-told s f l h t (skips i ga g gb c e n r x q w u) =
+    now-flies s a ga g gb y (subst (FliesTold a) e t) (sentAccount c (a (g .member .id))) (with g (sentMember s g c)) refl
+    (rw (r, k .flight-is) refl)
+flies-told s a l h u v t (skips i ga g gb c e n r x q w z) =
     let y = subst (HubOk s) e h in
-    now-flies s f ga g gb y (subst (FliesTold f) e t) false (with g (skippedMember g)) refl
-    (grounded-flying (skippedMember g) (skip-step (g .member) (in-turn s ga g gb y) c q x .flight-is))
-flies-told s f l h t (dones i code ga g gb x e n r z q) =
+    let k = skip-step (g .member) (in-turn s ga g gb y) c q x in
+    lands s a ga g gb y (subst (FliesTold a) e t) not-sent (with g (skippedMember g)) c
+    (each-mid (AccountTells a) ga g gb (subst (Each (AccountTells a)) e v)) refl (k .left-is) (k .flight-is)
+flies-told s a l h u v t (dones i code ga g gb x e n r z q) =
     let y = subst (HubOk s) e h in
-    now-flies s f ga g gb y (subst (FliesTold f) e t) false (with g (doneMember g)) refl
-    (grounded-flying (doneMember g) (done-step (g .member) (in-turn s ga g gb y) x z .flight-is))
-flies-told s f l h t (misses i code ga g gb x e n r z q) =
+    let k = done-step (g .member) (in-turn s ga g gb y) x z in
+    lands s a ga g gb y (subst (FliesTold a) e t) reported-done (with g (doneMember g)) (x .command)
+    (each-mid (AccountTells a) ga g gb (subst (Each (AccountTells a)) e v)) refl (k .left-is) (k .flight-is)
+flies-told s a l h u v t (misses i code ga g gb x e n r z q) =
     let y = subst (HubOk s) e h in
-    now-flies s f ga g gb y (subst (FliesTold f) e t) false (with g (failedMember g)) refl
-    (grounded-flying (failedMember g) (fail-step (g .member) (in-turn s ga g gb y) x z .flight-is))
-flies-told s f l h t (aborts c ga g gb e r k) = gone-down s f ga g gb (subst (HubOk s) e h) (subst (FliesTold f) e t)
-flies-told s f l h t (fails d r lead k n u w) =
-    subst (λ b. FliesTold b (attachEvent (r .state .mark d) (failure-of d) k))
-    (sym (flying-++ (r .answers) (down d (r .state .mark d) ∷ []) f))
-    (tells-same isFlying same-flying _ (same-attached (r .state .mark d) (failure-of d) k) (gone-flies s _ d f l h t w))
-flies-told s f l h t (restarts d v r lead k n u w) =
-    subst (λ b. FliesTold b (attachEvent (r .state .mark d) (restart-of d v) k))
-    (sym (flying-++ (r .answers) (up d (r .state .mark d) ∷ []) f))
-    (tells-same isFlying same-flying _ (same-attached (r .state .mark d) (restart-of d v) k) (gone-flies s _ d f l h t w))
+    let k = fail-step (g .member) (in-turn s ga g gb y) x z in
+    lands s a ga g gb y (subst (FliesTold a) e t) reported-failed (with g (failedMember g)) (x .command)
+    (each-mid (AccountTells a) ga g gb (subst (Each (AccountTells a)) e v)) refl (k .left-is) (k .flight-is)
+flies-told s a l h u v t (aborts c ga g gb e r k) = gone-down s a ga g gb (subst (HubOk s) e h) (subst (FliesTold a) e t)
+flies-told s a l h u v t (fails d r lead k n z w) =
+    event-flies (withUp s (put (s .up) d false)) (failure-of d) (r .state .mark d) (failure d) (down d (r .state .mark d)) a l (λ b. refl)
+    (hub-up s (put (s .up) d false) l h) u v t w
+flies-told s a l h u v t (restarts d x r lead k n z w) =
+    event-flies s (restart-of d x) (r .state .mark d) (restart d x) (up d (r .state .mark d)) a l (λ b. refl) h u v t w
 
-pub flies-held : (f : ℕ → Bool) (k : List Group) → FliesTold f k → FliesTold f (stillHeld k)
+pub flies-held : (a : ℕ → Account) (k : List Group) → FliesTold a k → FliesTold a (stillHeld k)
 unfolding isFlying isRunning
-flies-held f k = tells-held isFlying (λ g e. rw e refl) f k
+flies-held a k = tells-held isFlying (λ g e. rw e refl) (flyingIn a) k

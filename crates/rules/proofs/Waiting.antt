@@ -35,7 +35,7 @@ use Rattle.rules.proofs.View.{Moves, places, aborts}
 use Rattle.rules.proofs.View.{Seen, is-refused, waits, limits, moves, see}
 use Rattle.rules.proofs.Fields.{Fixed, settle-fixed}
 use Rattle.rules.proofs.Kept.{hub-moves}
-use Rattle.rules.proofs.Told.{any-held, told-of}
+use Rattle.rules.proofs.Running.{any-held, told-of}
 use Rattle.rules.proofs.Schedules.{hasFlight, isFlying}
 use Rattle.rules.proofs.Measure.{measure, Runs}
 use Rattle.rules.proofs.Measure.{settle-at-most, runs-positive, most-measure}
@@ -58,11 +58,11 @@ record Now (k i : ℕ) (s : State) (h : List Told) : Type 0 where
 
 -- the same hub, after a call that tells nothing
 abbrev same-now : (k i : ℕ) (s : State) (h : List Told) → Now k i s h → (t : Told) → accountsOf (t ∷ h) ≡ accountsOf h →
-    flyingOf (t ∷ h) ≡ flyingOf h → Now k i s (t ∷ h)
-same-now k i s h now t a f =
+    Now k i s (t ∷ h)
+same-now k i s h now t a =
     record {
       groups = now .groups;
-      ready = untold s h (now .groups) t a f (now .ready);
+      ready = untold s h (now .groups) t a (now .ready);
       in-force = now .in-force;
       given = now .given;
     }
@@ -97,9 +97,9 @@ module _ (k i : ℕ) (s : State) (h : List Told) (now : Now k i s h) where
   of-schedule : {c : Call} {r : Result} → OfSchedule c → Seen s (now .groups) c r →
       (next : Now k i (r .state) (saying c (r .answers) ∷ h)) × NotRaised k i (now .groups) (next .groups)
   of-schedule {c = c} of (is-refused r) =
-      (same-now k i s h now (saying c (refused r ∷ [])) refl refl, not-raised-same k i (now .groups))
+      (same-now k i s h now (saying c (refused r ∷ [])) refl, not-raised-same k i (now .groups))
   of-schedule of (waits j a g b d w e n f) =
-      (same-now k i s h now (saying (turn j) (wait (g .member .id) w ∷ [])) refl refl, not-raised-same k i (now .groups))
+      (same-now k i s h now (saying (turn j) (wait (g .member .id) w ∷ [])) refl, not-raised-same k i (now .groups))
   of-schedule of (limits j e) = absurd of
   of-schedule of (moves {r = r} {k = m} v) = (
     record {
@@ -194,7 +194,7 @@ as-told k i s u h t P e = subst (λ a. Reached k i u (saying (t .call) a ∷ h) 
 -- a call that was refused changes nothing
 refused-same : (k i : ℕ) (s : State) (h : List Told) (now : Now k i s h) {c : Call} {r : Result} → Seen s (now .groups) c r →
     isAccepted (r .answers) ≡ false → (P : List Group → Type 0) → P (now .groups) → Reached k i (r .state) (saying c (r .answers) ∷ h) P
-refused-same k i s h now {c = c} (is-refused r) e P p = (same-now k i s h now (saying c (refused r ∷ [])) refl refl, p)
+refused-same k i s h now {c = c} (is-refused r) e P p = (same-now k i s h now (saying c (refused r ∷ [])) refl, p)
 refused-same k i s h now (waits j a g b d w x n f) e P p = t≠f e
 refused-same k i s h now (limits j x) e P p = t≠f e
 refused-same k i s h now (moves v) e P p = t≠f (sym (moves-same s (now .groups) v .0) ∙ e)

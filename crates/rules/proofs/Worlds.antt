@@ -122,7 +122,7 @@ abbrev pub failedInFlight : Passage
 failedInFlight = record {
   devices = 1;
   passLimit = 0;
-  acts = call (submit (best 0 (pos 50) ∷ [])) ∷ call (turn 1) ∷ calls (failure 0) (pos 33) ∷ call (restart 0 (pos 33)) ∷ [];
+  acts = call (submit (must 0 (pos 50) ∷ [])) ∷ call (turn 1) ∷ calls (failure 0) (pos 33) ∷ call (restart 0 (pos 33)) ∷ [];
   settings = pos 33 ∷ [];
 }
 
@@ -235,6 +235,66 @@ limited-anew = record {
   stands = (refl, (refl, tt), (refl, (refl, tt), tt));
 }
 
+-- A lamp, device 0, is in flight and has taken its setting when it fails (document 02, item 3): what is left on it is skipped, its routine
+-- goes on with the shelter, device 1, and commits. Late reports, a done and a failed one, are refused.
+abbrev pub lampFails : Passage
+lampFails = record {
+  devices = 2;
+  passLimit = 0;
+  acts = call (submit (best 0 (pos 50) ∷ must 1 (pos 20) ∷ best 0 (pos 60) ∷ [])) ∷ call (turn 1) ∷ takes-one 0 0 ∷ calls
+      (failure 0) (pos 33) ∷ call (report 1 0) ∷ call (turn 1) ∷ takes-one 1 0
+      ∷ call (report 1 0) ∷ call (turn 1) ∷ call (report 1 1) ∷ call (restart 0 (pos 33)) ∷ [];
+  settings = pos 33 ∷ pos 20 ∷ [];
+}
+
+pub lamp-fails : Passes lampFails
+unfolding calcWorld
+lamp-fails = record {
+  accepted = refl;
+  premise = (
+    (λ _. tt),
+    (
+      (λ _. tt),
+      (
+        tt,
+        (
+          (λ _. tt),
+          ((λ e. t≠f (sym e)), ((λ _. tt), (tt, ((λ _. refl), ((λ _. tt), ((λ e. t≠f (sym e)), ((λ _. refl), tt))))))),
+        ),
+      ),
+    ),
+  );
+  none-runs = λ i. elsewhere (accounts (endOf lampFails)) 1 refl i (λ n. rw n refl);
+  ready = refl;
+  settings-are = refl;
+  serial-is = refl;
+  stands = (refl, ((refl, refl), ((refl, refl), (refl, tt))), tt);
+}
+
+-- A lamp that is down is skipped, and restarts: what is left on it is skipped, too. The first command finds it down, the other one has the
+-- restart behind its routine.
+abbrev pub lampRestarts : Passage
+lampRestarts = record {
+  devices = 2;
+  passLimit = 0;
+  acts = calls (failure 0) (pos 33) ∷ call (submit (best 0 (pos 5) ∷ must 1 (pos 20) ∷ best 0 (pos 6) ∷ [])) ∷ call (turn 1) ∷ call
+      (restart 0 (pos 33)) ∷ call (turn 1) ∷ takes-one 1 0
+      ∷ call (report 1 0) ∷ call (turn 1) ∷ [];
+  settings = pos 33 ∷ pos 20 ∷ [];
+}
+
+pub lamp-restarts : Passes lampRestarts
+unfolding calcWorld
+lamp-restarts = record {
+  accepted = refl;
+  premise = ((λ _. tt), ((λ _. tt), ((λ _. tt), ((λ _. refl), ((λ _. tt), (tt, ((λ _. refl), ((λ _. tt), tt))))))));
+  none-runs = λ i. elsewhere (accounts (endOf lampRestarts)) 1 refl i (λ n. rw n refl);
+  ready = refl;
+  settings-are = refl;
+  serial-is = refl;
+  stands = (refl, (refl, ((refl, refl), (refl, tt))), tt);
+}
+
 -- the world after the first n acts
 abbrev pub after : ℕ → Passage → World
 after n p = worldAfterAll (newWorld (newHub (p .devices) (p .passLimit) 1)) (take n (p .acts))
@@ -243,9 +303,9 @@ abbrev lastAnswers : List Told → List Answer
 lastAnswers [] = []
 lastAnswers (t ∷ l) = t .answers
 
--- What is claimed of the six on their way: 50 is taken after `aborted`, with the put-back behind it; 70 is taken past a put-back; 50 is on
+-- What is claimed of them on their way: 50 is taken after `aborted`, with the put-back behind it; 70 is taken past a put-back; 50 is on
 -- its way when the failure leaves 33; the restart reports −7; the report finds the due setting changed; 2 passes 1, by a K of 1, and 9 is
--- refused.
+-- refused; the lamp has taken 50 when it fails, the answer names the failure alone, and late reports are 12 and 10.
 pub midways :
     (lastAnswers (after 3 takenLate .history) ≡ aborted 1 (back 0 (pos 0) ∷ []) ∷ []) × (after 4 takenLate .devices 0 .setting ≡ pos 50)
     × (after 4 takenLate .devices 0 .sent ≡ record { setting = pos 0; origin = put-back } ∷ [])
@@ -258,5 +318,29 @@ pub midways :
     × (lastAnswers (after 8 failedAfterChange .history) ≡ skipped 2 (back 0 (pos 0) ∷ []) ∷ [])
     × (lastAnswers (after 3 limitedAnew .history) ≡ placed 2 0 ∷ []) × (lastAnswers (after 5 limitedAnew .history) ≡ limited 0 ∷ [])
     × (lastAnswers (after 8 limitedAnew .history) ≡ refused (Number 2) ∷ [])
+    × (after 3 lampFails .devices 0 .setting ≡ pos 50) × (lastAnswers (after 4 lampFails .history) ≡ down 0 1 ∷ [])
+    × (lastAnswers (after 5 lampFails .history) ≡ refused (Number 12) ∷ [])
+    × (lastAnswers (after 10 lampFails .history) ≡ refused (Number 10) ∷ [])
+    × (lastAnswers (after 4 lampRestarts .history) ≡ up 0 1 ∷ [])
 unfolding calcWorld
-midways = (refl, refl, refl, refl, refl, refl, refl, refl, refl, refl, refl, refl, refl, refl)
+midways = (
+  refl,
+  refl,
+  refl,
+  refl,
+  refl,
+  refl,
+  refl,
+  refl,
+  refl,
+  refl,
+  refl,
+  refl,
+  refl,
+  refl,
+  refl,
+  refl,
+  refl,
+  refl,
+  refl,
+)
