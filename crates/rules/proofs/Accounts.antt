@@ -22,7 +22,7 @@ use Rattle.rules.specs.Abort.{leave, abort}
 use Rattle.rules.specs.Submit.{newcomer, place}
 use Rattle.rules.specs.Turn.{commit, commitTurn, sendTurn, skipTurn}
 use Rattle.rules.specs.Report.{doneReport, skippedState, skipReport}
-use Rattle.rules.specs.Events.{isHalfway, skipRest}
+use Rattle.rules.specs.Events.{isHalfway}
 use Rattle.rules.specs.History.{Outcome, reported-done, reported-failed, not-sent, by-event, Answered, Account, placedAccount}
 use Rattle.rules.specs.History.{sentAccount, answeredBy, answeredAccount, endedAccount, isFor, hasBegun, onlyOn, notOn}
 use Rattle.rules.specs.History.{skippedAccount, eventAccount, noteAnswer, noteAnswers, workingAfterAll}

@@ -238,14 +238,14 @@ pub must-aborts : Stands (call (submit (best 0 (pos 5) ∷ must 0 (pos 6) ∷ mu
 unfolding calcWorld
 must-aborts = tt
 
--- first_left_skipped: two commands are left on the lamp, and both are skipped. The second one, sent once the lamp is up again, would be
--- done ahead of the failure and the restart, and the account has skipped it.
+-- first_left_skipped: three commands are left on the lamp, and all are skipped. If the failure skipped the first and the restart the next,
+-- the last would be done ahead of both; the account has skipped it.
 pub all-left-skipped :
-    Stands (call (submit (best 0 (pos 5) ∷ best 0 (pos 6) ∷ best 0 (pos 7) ∷ [])) ∷ call (turn 1) ∷ takes-one 0 0 ∷ call
+    Stands (call (submit (best 0 (pos 5) ∷ best 0 (pos 6) ∷ best 0 (pos 7) ∷ best 0 (pos 8) ∷ [])) ∷ call (turn 1) ∷ takes-one 0 0 ∷ call
     (report 1 0) ∷ call (failure 0) ∷ call (restart 0 (pos 0)) ∷ call (turn 1) ∷ takes-one 0 0
     ∷ call (report 1 0) ∷ [])
 unfolding calcWorld
-all-left-skipped = (refl, (refl, ((refl, refl), ((refl, refl), tt))), tt)
+all-left-skipped = (refl, (refl, ((refl, refl), ((refl, refl), ((refl, refl), tt)))), tt)
 
 -- flight_stays: the lamp is in flight when it fails, and nothing is in flight then: the late report is refused. Taken for a command in
 -- flight, it would be a done one that the account does not have.

@@ -26,8 +26,8 @@ use Rattle.rules.specs.Order.{Event, failure-of, restart-of, deviceOf, i
 use Rattle.rules.specs.Demand3.{eventsNext}
 use Rattle.rules.specs.Attach.{attachTo}
 use Rattle.rules.proofs.Lists.{put-same, put-other, put-keeps, each-++, each-left, each-right, each-mid, each-drop, each-insert}
-use Rattle.rules.proofs.Lists.{each-map, anyOf-++, IsNot, NotIn, IdsOk, ids-fresh, ids-other, ids-left}
-use Rattle.rules.proofs.Groups.{Group, ids, flat, entryIds, lastRestart, alone, with, changed, passAll, addEvents, leaving, addEvent}
+use Rattle.rules.proofs.Lists.{each-map, anyOf-++, IsNot, NotIn, IdsOk, ids-fresh, ids-other}
+use Rattle.rules.proofs.Groups.{Group, ids, flat, entryIds, lastRestart, alone, with, passAll, addEvents, leaving, addEvent}
 use Rattle.rules.proofs.Groups.{attachEvent, ids-++, added-is, attach-hit}
 use Rattle.rules.proofs.Same.{Pairwise, pairs-each, pairs-placed, pairs-last, pairs-attached}
 use Rattle.rules.proofs.Steps.{skip-steps}

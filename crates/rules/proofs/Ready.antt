@@ -26,7 +26,7 @@ use Rattle.rules.specs.Calls.{resultOf, stateAfter}
 use Rattle.rules.specs.History.{Told, isFor, notOn, noteAnswers, accountsOf}
 use Rattle.rules.specs.Order.{Event, failure-of, restart-of}
 use Rattle.rules.specs.Attach.{attach, oneRestart}
-use Rattle.rules.specs.Rounds.{callsTold, toldThen, flyingOf, limitAfter, limitAfterAll, limitTold, KeepsLimit}
+use Rattle.rules.specs.Rounds.{callsTold, toldThen, limitAfter, limitAfterAll, limitTold, KeepsLimit}
 use Rattle.rules.proofs.Lists.{byIf, each-mid, each-drop, each-insert, each-swap}
 use Rattle.rules.proofs.Groups.{Group, members, alone, with, leaving, attachEvent, stillHeld, each-held}
 use Rattle.rules.proofs.Same.{Pairwise, no-pair, pair, Same, same-placed, same-leaving, same-attached, same-each}

@@ -5,7 +5,6 @@ use mathlib.Core.Bool.{Bool, true, false}
 use mathlib.Core.List.{List, [], _∷_, _++_, map, append-assoc}
 use Prim.Native.Nat.{ℕ}
 use borrow.Author.Tests.{eqb-false, eq-eqb, ne-eqb}
-use lib.Dec.{eqb}
 use Rattle.routine.specs.Choice.{if_then_else_}
 use Rattle.routine.specs.declared.Command.{Command}
 use Rattle.rules.specs.Tables.{anyOf, put, Each}
@@ -22,7 +21,7 @@ use Rattle.rules.specs.Order.{Event, failure-of, restart-of, deviceOf, E
 use Rattle.rules.specs.Serial.{DeviceState, allUp, runEntry}
 use Rattle.rules.specs.Demand3.{eventsNext, Finds, afterAnswered, AllFind, doneOnes, CommandsStand}
 use Rattle.rules.specs.HubOrder.{doneSteps}
-use Rattle.rules.proofs.Lists.{or-left, or-right, put-same, put-other, put-keeps, each-++, each-left, each-right, each-mid, IsNot}
+use Rattle.rules.proofs.Lists.{or-left, or-right, put-same, put-other, each-++, each-left, each-right, each-mid, IsNot}
 use Rattle.rules.proofs.Lists.{NotIn, IdsOk, ids-fresh, ids-other}
 use Rattle.rules.proofs.Groups.{Group, ids, flat, entryIds, alone, changed, passAll, leaving, leadOf, attachEvent}
 use Rattle.rules.proofs.Groups.{leadWith, flat-++, entryIds-++, entryIds-flat, flat-pass, flat-leaving}

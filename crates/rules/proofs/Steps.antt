@@ -700,9 +700,11 @@ module _ (d : ℕ) where
           (flight (step c s ∷ l) ≡ some x) × (x .command .device ≢ d)
       stays c to-do l t h w e = absurd (Option·none-ne-some x (sym (none-behind l w) ∙ e))
       stays c (in-flight u) l t h w e =
-          let y : record { command = c; dueThen = u } ≡ x = Option·some-injective (record { command = c; dueThen = u }) x e in
-          (e, λ z. t≠f (sym (eq-eqb (c .device) d (ap (λ (f : Flight). f .command .device) y ∙ z))
-          ∙ sym (and-true (eqb (c .device) d)) ∙ t))
+          let y : record { command = c; dueThen = u } ≡ x = Option·some-injective (record { command = c; dueThen = u }) x e in (
+            e,
+            λ z. t≠f (sym (eq-eqb (c .device) d (ap (λ (f : Flight). f .command .device) y ∙ z))
+                ∙ sym (and-true (eqb (c .device) d)) ∙ t),
+          )
       stays c was-done l t h w e = h w e
       stays c was-skipped l t h w e = h w e
 

@@ -1,6 +1,6 @@
 -- Which routines have a command in flight, told by the answers, is what the hub holds. Assumes nothing.
 use mathlib.Core.Path.{_≡_, refl, sym, ap, _∙_, subst}
-use mathlib.Core.Bool.{Bool, true, false, and-false}
+use mathlib.Core.Bool.{Bool, false, and-false}
 use mathlib.Core.List.{List, [], _∷_, _++_}
 use mathlib.Core.Option.{none}
 use Prim.Native.Nat.{ℕ}
@@ -18,15 +18,15 @@ use Rattle.rules.specs.Report.{doneReport, skipReport}
 use Rattle.rules.specs.History.{Outcome, reported-done, reported-failed, not-sent, Account, placedAccount, sentAccount}
 use Rattle.rules.specs.History.{answeredAccount, endedAccount, skippedAccount, noteAnswers}
 use Rattle.rules.specs.Order.{Event, failure-of, restart-of, deviceOf}
-use Rattle.rules.proofs.Schedules.{hasFlight, isFlying}
-use Rattle.rules.proofs.Lists.{NotIn, each-mid, ids-fresh, put-same}
+use Rattle.rules.proofs.Schedules.{isFlying}
+use Rattle.rules.proofs.Lists.{each-mid, ids-fresh, put-same}
 use Rattle.rules.proofs.Groups.{Group, ids, alone, with, leaving, attachEvent, stillHeld, other-ids}
 use Rattle.rules.proofs.Same.{Same, same-placed, same-leaving, same-attached}
 use Rattle.rules.proofs.Steps.{leftSteps, send-step, skip-step, done-step, fail-step, fresh-newcomer}
 use Rattle.rules.proofs.Invariant.{HubOk, AccountTells}
 use Rattle.rules.proofs.View.{sentMember, skippedMember, doneMember, failedMember, skippedLeft, Gone, nobody, somebody, loses}
 use Rattle.rules.proofs.View.{Moves, places, commits, sends, skips, dones, misses, aborts, fails, restarts}
-use Rattle.rules.proofs.Marks.{in-turn, Halfway, halfway-is}
+use Rattle.rules.proofs.Marks.{in-turn, halfway-is}
 use Rattle.rules.proofs.Moved.{hub-up}
 use Rattle.rules.proofs.Running.{Tells, tells-put, tells-drop, tells-new, tells-held, tells-same, put-part, RunsTold}
 use Rattle.rules.proofs.Accounts.{eventTold, gone-tells, TellsEvent, event-accounts}

@@ -43,8 +43,8 @@ stopIfAny d s (some f) = if mustLeft d (f .it) then abort s f else record { stat
 unfoldable pub stopHalfway : ℕ → State → Result
 stopHalfway d s = stopIfAny d s (find (isHalfway d) (s .sequence))
 
--- "On a failure D first becomes down." The abort, or the skips; "Then the event is attached to D's mark": it changes no due setting, so the state keeps
--- nothing of it but that D is down; the answer has the mark.
+-- "On a failure D first becomes down." The abort, or the skips; "Then the event is attached to D's mark": it changes no due setting, so the
+-- state keeps nothing of it but that D is down; the answer has the mark.
 unfoldable pub failureResult : State → ℕ → Result
 failureResult s d =
     let r = stopHalfway d (withUp s (put (s .up) d false)) in

@@ -330,15 +330,15 @@ lampRestarted = record {
   settings = some (pos 8) ∷ some (pos 20) ∷ [];
 }
 
--- Two commands are left on the lamp with one on the shelter between them: both are skipped, and the turn passes over the first. The lamp
+-- Three commands are left on the lamp with one on the shelter between them: all are skipped, and the turn passes over the first. The lamp
 -- counts as finished: routine 2 waits no more, and 1 does not wait for 2, which is behind it. 2 has not begun the lamp: it loses nothing.
-abbrev pub lampTwice : Example
-lampTwice = record {
+abbrev pub lampBetween : Example
+lampBetween = record {
   devices = 2;
   passLimit = 0;
   firstId = 1;
-  calls = submit (best 0 (pos 1) ∷ best 0 (pos 2) ∷ must 1 (pos 20) ∷ best 0 (pos 3) ∷ []) ∷ submit (best 0 (pos 7) ∷ []) ∷ turn 1
-      ∷ report 1 0 ∷ turn 2 ∷ failure 0 ∷ restart 0 (pos 33) ∷ turn 2 ∷ turn 1 ∷ report 1 0 ∷ turn 1 ∷ report 2 0 ∷ turn 2 ∷ [];
+  calls = submit (best 0 (pos 1) ∷ best 0 (pos 2) ∷ must 1 (pos 20) ∷ best 0 (pos 3) ∷ best 0 (pos 4) ∷ []) ∷ submit (best 0 (pos 7) ∷ [])
+      ∷ turn 1 ∷ report 1 0 ∷ turn 2 ∷ failure 0 ∷ restart 0 (pos 33) ∷ turn 2 ∷ turn 1 ∷ report 1 0 ∷ turn 1 ∷ report 2 0 ∷ turn 2 ∷ [];
   answers = (placed 1 0 ∷ []) ∷ (placed 2 1 ∷ []) ∷ (send 1 (best 0 (pos 1)) ∷ []) ∷ (done 1 ∷ []) ∷ (wait 2 1 ∷ []) ∷ (down 0 1 ∷ [])
       ∷ (up 0 1 ∷ []) ∷ (send 2 (best 0 (pos 7)) ∷ []) ∷ (send 1 (must 1 (pos 20)) ∷ []) ∷ (done 1 ∷ []) ∷ (committed 1 ∷ [])
       ∷ (done 2 ∷ []) ∷ (committed 2 ∷ []) ∷ [];
@@ -358,7 +358,7 @@ lampNotBegun = record {
   settings = some (pos 5) ∷ some (pos 20) ∷ [];
 }
 
-pub lamps-hold : AllHold (lampInFlight ∷ lampDone ∷ lampMustBehind ∷ lampRestarted ∷ lampTwice ∷ lampNotBegun ∷ [])
+pub lamps-hold : AllHold (lampInFlight ∷ lampDone ∷ lampMustBehind ∷ lampRestarted ∷ lampBetween ∷ lampNotBegun ∷ [])
 unfolding calc
 lamps-hold = (
   (refl, refl, refl),
