@@ -54,12 +54,21 @@ pub aborted-first : PrintsAll
 unfolding calc
 aborted-first = refl
 
--- The same of `R`: the routine has begun the device with a skipped command, and the restart finds it unfinished.
+-- The same of `R`: the routine has begun the device with a skipped command, and the restart finds it with a must left there.
 pub aborted-by-restart : Prints
-    "O 1 0 1\nF 0\nS 0 1 5 0 1 6\nN 1\nR 0 7\n"
+    "O 1 0 1\nF 0\nS 0 1 5 0 0 6\nN 1\nR 0 7\n"
     "opened\ndown 0 after 0\nplaced 1 after 0\nskipped 1\naborted 1 back 0\nup 0 after 0\ndevice 0 up 7\n"
 unfolding calc
 aborted-by-restart = refl
+
+-- A lamp that dies after its work (document 02, item 3): it is in flight when it fails, and its routine goes on; no line tells of the skips.
+-- Late reports are 12 while nothing is in flight and 10 once the routine has ended.
+pub lamp-dies : PrintsAll
+    ("O 2 0 1\nS 0 1 5 1 0 20 0 1 6\nN 1\nF 0\nD 1\nB 1\nN 1\nD 1\nN 1\nD 1\nB 1\nR 0 7\n" ∷ [])
+    ("opened\nplaced 1 after 0\nsend 1 0 5\ndown 0 after 1\nrefused 12\nrefused 12\nsend 1 1 20\ndone 1\ncommitted 1\n"
+    ∷ "refused 10\nrefused 10\nup 0 after 0\ndevice 0 up 7\ndevice 1 up 20\n" ∷ [])
+unfolding calc
+lamp-dies = refl
 
 -- A cancel that puts two devices back, by rising device, at settings below 0: on one a command is in flight, on the other the due setting
 -- changes.

@@ -28,14 +28,14 @@ use Rattle.rules.specs.History.{sentAccount, answeredBy, answeredAccount
 use Rattle.rules.specs.History.{skippedAccount, eventAccount, noteAnswer, noteAnswers, workingAfterAll}
 use Rattle.rules.specs.Order.{Event, failure-of, restart-of, deviceOf}
 use Rattle.rules.specs.Demand3.{doneOnes}
-use Rattle.rules.specs.HubOrder.{doneSteps}
+use Rattle.rules.specs.HubOrder.{doneSteps, leftSteps}
 use Rattle.rules.specs.Attach.{attach, oneRestart}
 use Rattle.rules.proofs.Lists.{byIf, t≠f, or-left, or-right, and-left, and-right, this-or-other, put-same, put-other, put-keeps}
 use Rattle.rules.proofs.Lists.{fold-++, each-++, each-mid, each-drop, each-insert, anyOf-++, IsNot, NotIn, ids-fresh, ids-right}
 use Rattle.rules.proofs.Groups.{Group, ids, alone, with, leaving, attachEvent, ids-++, other-ids}
 use Rattle.rules.proofs.Same.{Pairwise, Same, same-refl, same-placed, same-leaving, same-attached, same-each}
 use Rattle.rules.proofs.Schedules.{hasFlight}
-use Rattle.rules.proofs.Steps.{InTurn, leftSteps, answeredOn, LeftSkipped, send-step, skip-step, done-step, done-gains, fail-step}
+use Rattle.rules.proofs.Steps.{InTurn, answeredOn, LeftSkipped, send-step, skip-step, done-step, done-gains, fail-step}
 use Rattle.rules.proofs.Steps.{fail-done, grounded, finished-grounded, begun-is, left-on, skip-steps, Fresh, fresh-newcomer}
 use Rattle.rules.proofs.Invariant.{CommandsInTurn, HubOk, NotHalfway, answeredFor, AccountTells}
 use Rattle.rules.proofs.View.{sentMember, skippedMember, doneMember, failedMember, skippedLeft, Gone, nobody, somebody, loses}

@@ -20,11 +20,11 @@ use Rattle.rules.specs.Order.{isOf}
 use Rattle.rules.specs.Order.{Event, failure-of, restart-of, Entry, routine, event, Order, beforeBar, entries}
 use Rattle.rules.specs.World.{Origin, put-back, sent-for, sameOrigin, Message, Device}
 use Rattle.rules.specs.Demand3.{doneOnes}
-use Rattle.rules.specs.HubOrder.{doneSteps}
+use Rattle.rules.specs.HubOrder.{doneSteps, leftSteps}
 use Rattle.rules.proofs.Lists.{IdsOk}
 use Rattle.rules.proofs.Groups.{Group, members, ids, flat, entryIds, lastRestart}
 use Rattle.rules.proofs.Schedules.{hasFlight}
-use Rattle.rules.proofs.Steps.{InTurn, leftSteps, answeredOn}
+use Rattle.rules.proofs.Steps.{InTurn, answeredOn}
 
 -- ---- marks
 

@@ -20,10 +20,11 @@ use Rattle.rules.specs.Turn.{commit}
 use Rattle.rules.specs.History.{Told}
 use Rattle.rules.specs.Order.{Event}
 use Rattle.rules.specs.Attach.{attachTo}
+use Rattle.rules.specs.HubOrder.{leftSteps}
 use Rattle.rules.proofs.Lists.{byIf, t≠f, anyOf-++, NotIn, IdsOk}
 use Rattle.rules.proofs.Groups.{Group, ids, alone, with, passAll, addEvents, addToLast, leaving, stillHeld, other-ids}
 use Rattle.rules.proofs.Same.{same-placed, same-leaving}
-use Rattle.rules.proofs.Steps.{leftSteps, send-step, skip-step, done-step, fail-step}
+use Rattle.rules.proofs.Steps.{send-step, skip-step, done-step, fail-step}
 use Rattle.rules.proofs.Invariant.{HubOk}
 use Rattle.rules.proofs.View.{sentMember, skippedMember, doneMember, failedMember, by-turn, by-report, by-cancel}
 use Rattle.rules.proofs.View.{Moves, places, commits, sends, skips, dones, misses, aborts, fails, restarts}

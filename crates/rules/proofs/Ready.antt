@@ -27,10 +27,11 @@ use Rattle.rules.specs.History.{Told, isFor, notOn, noteAnswers, account
 use Rattle.rules.specs.Order.{Event, failure-of, restart-of}
 use Rattle.rules.specs.Attach.{attach, oneRestart}
 use Rattle.rules.specs.Rounds.{callsTold, toldThen, limitAfter, limitAfterAll, limitTold, KeepsLimit}
+use Rattle.rules.specs.HubOrder.{leftSteps}
 use Rattle.rules.proofs.Lists.{byIf, each-mid, each-drop, each-insert, each-swap}
 use Rattle.rules.proofs.Groups.{Group, members, alone, with, leaving, attachEvent, stillHeld, each-held}
 use Rattle.rules.proofs.Same.{Pairwise, no-pair, pair, Same, same-placed, same-leaving, same-attached, same-each}
-use Rattle.rules.proofs.Steps.{leftSteps, skip-left, send-step, skip-step, done-step, fail-step, fresh-newcomer}
+use Rattle.rules.proofs.Steps.{skip-left, send-step, skip-step, done-step, fail-step, fresh-newcomer}
 use Rattle.rules.proofs.Invariant.{unmarked, HubOk, FirstRuns, AccountTells}
 use Rattle.rules.proofs.View.{sentMember, skippedMember, doneMember, failedMember, skippedLeft, Gone}
 use Rattle.rules.proofs.View.{nobody, somebody, loses, Moves, places, commits, sends, skips, dones, misses, aborts, fails, restarts}

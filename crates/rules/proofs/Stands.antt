@@ -20,12 +20,12 @@ use Rattle.rules.specs.History.{sentAccount, answeredBy, answeredAccount
 use Rattle.rules.specs.Order.{Event, failure-of, restart-of, deviceOf, Entry, routine, event, Order, orderAfterAll, entries}
 use Rattle.rules.specs.Serial.{DeviceState, allUp, runEntry}
 use Rattle.rules.specs.Demand3.{eventsNext, Finds, afterAnswered, AllFind, doneOnes, CommandsStand}
-use Rattle.rules.specs.HubOrder.{doneSteps}
+use Rattle.rules.specs.HubOrder.{doneSteps, leftSteps}
 use Rattle.rules.proofs.Lists.{or-left, or-right, put-same, put-other, each-++, each-left, each-right, each-mid, IsNot}
 use Rattle.rules.proofs.Lists.{NotIn, IdsOk, ids-fresh, ids-other}
 use Rattle.rules.proofs.Groups.{Group, ids, flat, entryIds, alone, changed, passAll, leaving, leadOf, attachEvent}
 use Rattle.rules.proofs.Groups.{leadWith, flat-++, entryIds-++, entryIds-flat, flat-pass, flat-leaving}
-use Rattle.rules.proofs.Steps.{leftSteps, skip-step, done-step, fail-step, unbegun-answered}
+use Rattle.rules.proofs.Steps.{skip-step, done-step, fail-step, unbegun-answered}
 use Rattle.rules.proofs.Invariant.{NotBegun, HubOk, InFlightIsUp, upEvent, upAfter, OrderOk, answeredFor, AccountTells}
 use Rattle.rules.proofs.View.{sentMember, skippedMember, doneMember, failedMember, skippedLeft, Gone, nobody, somebody, loses}
 use Rattle.rules.proofs.View.{Moves, places, commits, sends, skips, dones, misses, aborts, fails, restarts}

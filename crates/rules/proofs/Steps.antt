@@ -19,7 +19,7 @@ use Rattle.rules.specs.Due.{afterSteps}
 use Rattle.rules.specs.Submit.{stepOf, newcomer}
 use Rattle.rules.specs.Events.{mustLeft, skipLeft}
 use Rattle.rules.specs.History.{isFor, onlyOn, notOn}
-use Rattle.rules.specs.HubOrder.{doneSteps}
+use Rattle.rules.specs.HubOrder.{doneSteps, leftSteps}
 use Rattle.rules.proofs.Lists.{byIf, t≠f, this-or-other, or-left, or-right, and-left, and-right, fold-++, anyOf-++}
 
 -- neither in flight nor done
@@ -43,11 +43,6 @@ InTurnAt was-skipped l rest = rest
 abbrev pub InTurn : List Step → Type 0
 InTurn [] = Unit {0}
 InTurn (x ∷ l) = InTurnAt (x .status) l (InTurn l)
-
--- the commands that are not answered
-abbrev pub leftSteps : List Step → List Command
-leftSteps [] = []
-leftSteps (x ∷ l) = if isAnswered (x .status) then leftSteps l else x .command ∷ leftSteps l
 
 -- is one on d answered?
 abbrev pub answeredOn : ℕ → List Step → Bool

@@ -33,7 +33,7 @@ use Rattle.rules.specs.Serial.{allUp, serialRun}
 use Rattle.rules.specs.World.{Message, Device, takes, World, Act, calls, takes-one, accounts, afterCall, worldAfter, worldAfterAll}
 use Rattle.rules.specs.World.{taken, isAccepted, Truthful, Premised, Premise, PremiseAll, newWorld}
 use Rattle.rules.specs.Demand3.{orderIn, NoneRuns, isBack, committedPart, EndState, Begins, CommandsStand, Statement}
-use Rattle.rules.specs.HubOrder.{entryOf, routinesIn, OrderIsHubs}
+use Rattle.rules.specs.HubOrder.{LeftTold, entryOf, routinesIn, OrderIsHubs}
 use Rattle.rules.specs.Attach.{oneRestart, attach}
 use Rattle.rules.proofs.Lists.{byIf, t≠f, fold-++, anyOf-++}
 use Rattle.rules.proofs.Groups.{Group, members, alone, flat, stillHeld, each-held}
@@ -450,7 +450,13 @@ hub-order n k first s e acts =
       routines-are = ap routinesIn (h .known .order .unsettled-is) ∙ routines-flat (h .groups)
           ∙ ap (map entryOf) (sym (h .known .hub .sequence-is));
       devices-are = serial-is (Unit {0} × PremiseAll (newWorld s) acts) (worldAfterAll (newWorld s) acts) h;
+      left-are = subst (Each (LeftTold (accounts (worldAfterAll (newWorld s) acts)))) (sym (h .known .hub .sequence-is))
+          (all-left (accounts (worldAfterAll (newWorld s) acts)) (h .groups) (h .known .tells));
     }
+  where
+    all-left : (a : ℕ → Account) (l : List Group) → Each (AccountTells a) l → Each (LeftTold a) (members l)
+    all-left a [] t = tt
+    all-left a (g ∷ l) t = (t .0 .left-is, all-left a l (t .1))
 
 -- if no routine runs after the list, what demand 3 has of the committed routines is the whole order
 pub order-committed : (n k first : ℕ) (s : State) → openOf n k first ≡ opened s → (acts : List Act) →
