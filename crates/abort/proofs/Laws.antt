@@ -3,7 +3,7 @@ use mathlib.Core.Path.{_≡_, refl, sym, ap, _∙_, subst, fun-ext}
 use mathlib.Core.Logic.{inl, inr}
 use mathlib.Core.Bool.{Bool, true, false, not, _&&_, _||_, or-true, or-false}
 use mathlib.Core.List.{List, [], _∷_, _++_, append-assoc, append-nil}
-use mathlib.Core.Option.{none, some}
+use mathlib.Core.Option.{none}
 use Prim.Native.Nat.{ℕ, zero, suc, _+_, _-_, _*_, _<_, _≤_}
 use native.Mathlib.Numerals.{add-one}
 use native.Mathlib.Omega.{arith}
@@ -156,14 +156,14 @@ module _ (h : HubState) (x down : ℕ) (t : Tables) (a : TablesAre h x down t) w
 
   -- what an abort puts back
   pub backs-are-by : (l : List Back) → l ≡ backsBy (isBackBy t) (settingsOf (t .after)) 0 (h .devices) →
-      l ≡ backsLeft (downIf (stateOf h) down) (some (there h x))
+      l ≡ backsLeft (downIf (stateOf h) down) (there h x)
   unfolding stateOf
   backs-are-by l e =
       e
       ∙ (λ j. backsBy (test-by j) (after-by j) 0 (h .devices))
       ∙ backs-by failing (memberAt h x) (leave failing (there h x)) 0 (h .devices)
       ∙ ap (λ (m : Member). putBacks failing m (leave failing (there h x)) 0 (h .devices)) (sym (there-it h x))
-      ∙ ap (λ (s : State). backsLeft s (some (there h x))) (fails-up (stateOf h) down)
+      ∙ ap (λ (s : State). backsLeft s (there h x)) (fails-up (stateOf h) down)
 
 -- ---- the devices with a command of a routine in flight
 

@@ -1,10 +1,10 @@
 -- A command comes to a stage, or a routine commits: the slot's routine becomes another, and all others stay. Assumes nothing.
-use Prim.Native.Nat.{ℕ, suc, _+_, _*_, _<_}
+use Prim.Native.Nat.{ℕ, _+_, _-_, _*_, _<_}
 use native.Mathlib.Omega.{arith}
 use borrow.Author.Tests.{eq-eqb, ne-eqb}
-use mathlib.Core.Path.{_≡_, refl, sym, ap, subst, _∙_}
+use mathlib.Core.Path.{_≡_, refl, ap, subst}
 use mathlib.Core.Bool.{Bool, true, false}
-use mathlib.Core.List.{List}
+use mathlib.Core.List.{List, _∷_, _++_}
 use lib.Dec.{eqb}
 use lib.IntN.{ℤ, pos}
 use lib.ListN.{length, getD, set}
@@ -20,14 +20,20 @@ use Rattle.rules.specs.Turn.{commit}
 use Rattle.rules.proofs.Lists.{t≠f}
 use Rattle.sequence.specs.Links.{Stands}
 use Rattle.sequence.proofs.Tables.{fun-ext, byEq}
-use Rattle.state.specs.View.{inFlightCode, doneCode, toDoCode, statusOf, rowsOf, stepsAt, memberAt, stateOf, there, marksOf}
-use Rattle.state.specs.Valid.{AnsweredUpTo, SlotOk, StateOk}
+use Rattle.state.specs.View.{inFlightCode, doneCode, toDoCode, statusOf, rowsOf, stepsFrom, stepsAt, memberAt, membersOf, stateOf, there}
+use Rattle.state.specs.View.{marksOf}
+use Rattle.state.specs.Valid.{AnsweredUpTo, StateOk}
 use Rattle.state.specs.Contract.{setStatus, staged, committedAt, StageOk}
+use Rattle.state.specs.Open.{answeredAt}
 use Rattle.state.specs.declared.HubState.{HubState}
 use Rattle.state.specs.declared.Staged.{Staged}
-use Rattle.state.proofs.Steps.{each-setStatus, answered-next, sent-stays}
-use Rattle.state.proofs.Rows.{steps-outside, steps-staged}
-use Rattle.state.proofs.Members.{changed-held, length-steps, stands-below, counts-most, place-within}
+use Rattle.state.proofs.Steps.{each-setStatus, sent-stays}
+use Rattle.state.proofs.Rows.{answered-code, withStages, steps-outside, steps-staged}
+use Rattle.state.proofs.Codes.{codes-upto}
+use Rattle.state.proofs.Members.{changed-held, length-steps, stands-below, place-within}
+use Rattle.apply.specs.Stages.{FirstOpen}
+use Rattle.apply.proofs.CodeLaws.{codes-answered}
+use Rattle.apply.proofs.MoveLaws.{movedRows, Moved, move-valid, move-sequence, fromOf, openOf, endOf, come-codes, places-apart}
 
 -- ---- a routine commits
 
@@ -89,29 +95,6 @@ module _ (h : HubState) (x : ℕ) (v : StateOk h) (s : Stands (h .links) x) (n :
 
 -- ---- a command comes to a stage
 
--- the rows of stages and of due settings with the new entries; how many are answered, and the marks, are given
-abbrev pub stagedRows : HubState → Staged → List ℕ → List ℕ → HubState
-stagedRows h c answered mark = record {
-  devices = h .devices;
-  «pass_limit» = h .«pass_limit»;
-  «next_id» = h .«next_id»;
-  links = h .links;
-  ids = h .ids;
-  passed = h .passed;
-  committed = h .committed;
-  counts = h .counts;
-  answered = answered;
-  «due_then» = set (h .«due_then») (c .at) (c .«due_then»);
-  device = h .device;
-  tag = h .tag;
-  setting = h .setting;
-  stage = set (h .stage) (c .at * maxCommands + getD (h .answered) (c .at) 0) (c .stage);
-  restarts = h .restarts;
-  settled = h .settled;
-  up = h .up;
-  mark = mark;
-}
-
 -- one that was sent or answered: it is in flight, or answered
 sent-in-flight : (code : ℕ) (due : ℤ) → code ≡ inFlightCode → isAnswered (statusOf code due) ≡ false
 unfolding statusOf
@@ -134,115 +117,99 @@ module _ (h : HubState) (c : Staged) (v : StateOk h) (ok : StageOk h c) where
   abbrev newStatus : Status
   newStatus = statusOf (c .stage) (c .«due_then»)
 
-  abbrev soFar : ℕ
-  soFar = getD (h .answered) (c .at) 0
+  abbrev newStages : List ℕ
+  newStages = set (h .stage) (openOf h (c .at)) (c .stage)
 
   -- How many are answered now, in each slot.
   pub record AnsweredNow (answered : List ℕ) : Type 0 where
-    pub here : AnsweredUpTo (getD answered (c .at) 0) (setStatus soFar newStatus (stepsAt h (c .at)))
+    pub here : AnsweredUpTo (getD answered (c .at) 0) (setStatus (answeredAt h (c .at)) newStatus (stepsAt h (c .at)))
     pub others : (y : ℕ) → (y ≡ c .at → ⊥) → getD answered y 0 ≡ getD (h .answered) y 0
 
-  few : soFar < length (stepsAt h (c .at))
-  few = omega (arith, ok .not-all, length-steps h (c .at))
-
-  come : AnsweredUpTo soFar (stepsAt h (c .at))
+  come : AnsweredUpTo (answeredAt h (c .at)) (stepsAt h (c .at))
   come = v .slots-ok (c .at) (ok .stands) .come-so-far
 
   pub at-slot : c .at < maxHeld
   at-slot = stands-below h (c .at) v (ok .stands)
 
   -- the place of the stage
-  pub at-place : c .at * maxCommands + soFar < maxHeld * maxCommands
-  at-place = place-within h (c .at) v (ok .stands) soFar (ok .not-all)
+  pub at-place : openOf h (c .at) < maxHeld * maxCommands
+  at-place = place-within h (c .at) v (ok .stands) (answeredAt h (c .at)) (ok .not-all)
 
-  pub not-all-answered : soFar < maxCommands
-  not-all-answered = omega (arith, ok .not-all, counts-most h (c .at) v (ok .stands))
+  new-steps : length (h .stage) ≡ maxHeld * maxCommands →
+      stepsFrom (withStages (rowsOf h) newStages) (c .«due_then») (fromOf (c .at)) (getD (h .counts) (c .at) 0)
+      ≡ setStatus (answeredAt h (c .at)) newStatus (stepsAt h (c .at))
+  unfolding stepsAt
+  new-steps m = steps-staged (rowsOf h) _ _ _ _ _ (c .stage) come (ok .not-all) (omega (arith, at-place))
 
-  pub one-more : (c .stage ≡ inFlightCode → ⊥) → length (h .answered) ≡ maxHeld → AnsweredNow (set (h .answered) (c .at) (soFar + 1))
-  one-more n l = let i = at-slot in
-      let e : getD (set (h .answered) (c .at) (soFar + 1)) (c .at) 0 ≡ suc soFar
-      = getD-set-same (h .answered) (c .at) (soFar + 1) 0 (omega arith) ∙ omega arith in
+  -- those behind it that are answered already are passed over
+  pub next-open : (c .stage ≡ inFlightCode → ⊥) → length (h .answered) ≡ maxHeld → length (h .stage) ≡ maxHeld * maxCommands → (r : ℕ) →
+      FirstOpen newStages (openOf h (c .at) + 1) (endOf h (c .at)) r → AnsweredNow (set (h .answered) (c .at) (r - fromOf (c .at)))
+  next-open n l m r f =
+      let i = at-slot in
+      let j = at-place in
+      let done = answered-code (c .stage) (c .«due_then») (sent-answered (c .stage) (c .«due_then») (ok .sent-or-answered) n) in
+      let codes = codes-answered _ _ _ _ (come-codes h (c .at) v (ok .stands)) r (c .stage) (omega arith) done f in
+      let e = getD-set-same (h .answered) (c .at) (r - fromOf (c .at)) 0 (omega arith) in
+      let p : r ≡ fromOf (c .at) + (r - fromOf (c .at)) = omega (arith, codes .within .0) in
       record {
         here = rw e
-            (answered-next soFar (stepsAt h (c .at)) come newStatus
-            (sent-answered (c .stage) (c .«due_then») (ok .sent-or-answered) n) few);
-        others = λ y m. getD-set-other (h .answered) (c .at) y (soFar + 1) 0 m;
+            (subst (AnsweredUpTo (r - fromOf (c .at))) (new-steps m) (codes-upto _ _ _ _ _ _ _ p refl codes));
+        others = λ y o. getD-set-other (h .answered) (c .at) y (r - fromOf (c .at)) 0 o;
       }
 
   pub no-more : c .stage ≡ inFlightCode → AnsweredNow (h .answered)
   no-more e =
       record {
-        here = sent-stays soFar (stepsAt h (c .at)) come newStatus (sent-in-flight (c .stage) (c .«due_then») e) few;
+        here = sent-stays (answeredAt h (c .at)) (stepsAt h (c .at)) come newStatus (sent-in-flight (c .stage) (c .«due_then») e)
+            (omega (arith, ok .not-all, length-steps h (c .at)));
         others = λ y m. refl;
       }
 
   module _ (answered mark : List ℕ) (a : AnsweredNow answered)
       (stage-long : length (h .stage) ≡ maxHeld * maxCommands) (due-long : length (h .«due_then») ≡ maxHeld)
     where
-      abbrev nowStaged : HubState
-      nowStaged = stagedRows h c answered mark
+      abbrev newDue : List ℤ
+      newDue = set (h .«due_then») (c .at) (c .«due_then»)
 
-      steps-here : stepsAt nowStaged (c .at) ≡ setStatus soFar newStatus (stepsAt h (c .at))
+      abbrev nowStaged : HubState
+      nowStaged = movedRows h answered newDue newStages mark
+
+      steps-here : stepsAt nowStaged (c .at) ≡ setStatus (answeredAt h (c .at)) newStatus (stepsAt h (c .at))
       unfolding stepsAt
       steps-here =
           let i = at-slot in
-          rw (getD-set-same (h .«due_then») (c .at) (c .«due_then») (pos 0) (omega arith))
-          (steps-staged (rowsOf h) _ _ (c .at * maxCommands) _ soFar (c .stage) come (ok .not-all) (omega (arith, at-place)))
+          rw (getD-set-same (h .«due_then») (c .at) (c .«due_then») (pos 0) (omega arith)) (new-steps stage-long)
 
       steps-others : (y : ℕ) → Stands (h .links) y → (y ≡ c .at → ⊥) → stepsAt nowStaged y ≡ stepsAt h y
       unfolding stepsAt
       steps-others y t n =
-          let p = counts-most h (c .at) v (ok .stands) in
-          let q = counts-most h y v t in
           let i = ok .not-all in
           rw (getD-set-other (h .«due_then») (c .at) y (c .«due_then») (pos 0) n)
-          (steps-outside (rowsOf h) _ (y * maxCommands) (getD (h .counts) y 0) (c .at * maxCommands + soFar) (c .stage)
-          (λ d e. n (omega arith)))
+          (steps-outside (rowsOf h) _ (fromOf y) (getD (h .counts) y 0) (openOf h (c .at)) (c .stage)
+          (λ d e. places-apart h (c .at) v (ok .stands) y _ t n d e (omega arith) (omega arith)))
 
-      stage-it : memberAt nowStaged (c .at) ≡ withSteps (there h (c .at) .it) (setStatus soFar newStatus (there h (c .at) .it .steps))
-      unfolding memberAt there
-      stage-it = λ i. withSteps (memberAt h (c .at)) (steps-here i)
+      stage-moved : Moved h (c .at) answered newDue newStages mark (setStatus (answeredAt h (c .at)) newStatus (stepsAt h (c .at)))
+      stage-moved = record {
+        fit = each-setStatus _ newStatus (stepsAt h (c .at)) (v .slots-ok (c .at) (ok .stands) .devices-fit);
+        come = a .here;
+        here = steps-here;
+        others = steps-others;
+        as-many = a .others;
+      }
 
-      stage-others : (y : ℕ) → Stands (h .links) y → (y ≡ c .at → ⊥) → memberAt nowStaged y ≡ memberAt h y
-      unfolding memberAt
-      stage-others y t n = λ i. withSteps (memberAt h y) (steps-others y t n i)
-
-      stage-slot : (y : ℕ) → Stands (h .links) y → SlotOk nowStaged y
-      stage-slot y t = let w = v .slots-ok y t in
-          byEq y (c .at)
-          (λ e. subst (SlotOk nowStaged) (sym e)
-          (record {
-            fits = counts-most h (c .at) v (ok .stands);
-            devices-fit =
-                rw steps-here (each-setStatus soFar newStatus (stepsAt h (c .at)) (v .slots-ok (c .at) (ok .stands) .devices-fit));
-            come-so-far = rw steps-here (a .here);
-            has-id = v .slots-ok (c .at) (ok .stands) .has-id;
-          }))
-          (λ n. record {
-            fits = w .fits;
-            devices-fit = rw (steps-others y t n) (w .devices-fit);
-            come-so-far = rw (steps-others y t n, a .others y n) (w .come-so-far);
-            has-id = w .has-id;
-          })
-
-      stage-valid : StateOk nowStaged
-      stage-valid =
-          record {
-            devices-fit = v .devices-fit;
-            some-id = v .some-id;
-            ids-fit = v .ids-fit;
-            links-ok = v .links-ok;
-            slots-ok = stage-slot;
-            ids-below = v .ids-below;
-            ids-differ = v .ids-differ;
-          }
+      stage-sequence : membersOf nowStaged
+          ≡ there h (c .at) .ahead
+          ++ (withSteps (there h (c .at) .it) (setStatus (answeredAt h (c .at)) newStatus (there h (c .at) .it .steps))
+          ∷ there h (c .at) .behind)
+      unfolding there memberAt
+      stage-sequence = move-sequence h (c .at) v (ok .stands) stage-moved
 
       pub stage-applied : marksOf mark ≡ (if c .begins then put (marksOf (h .mark)) (c .device) (c .id) else marksOf (h .mark)) →
           (StateOk nowStaged) × (stateOf nowStaged ≡ staged h c)
       unfolding stateOf staged
       stage-applied e = (
-        stage-valid,
-        (λ i. withMark (withSequence (stateOf h) (changed-held h nowStaged (c .at) v (ok .stands) stage-others _ refl stage-it i)) (e i)),
+        move-valid h (c .at) v (ok .stands) stage-moved,
+        (λ i. withMark (withSequence (stateOf h) (stage-sequence i)) (e i)),
       )
 
 -- ---- the marks

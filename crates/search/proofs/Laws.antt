@@ -17,25 +17,26 @@ use Rattle.routine.proofs.Laws.{length-commandsOf, commandsOf-held}
 use Rattle.rules.specs.Tables.{anyOf}
 use Rattle.rules.specs.State.{maxHeld, Member}
 use Rattle.rules.specs.Sequence.{isRunning, runs}
-use Rattle.rules.specs.Progress.{begun, flight}
+use Rattle.rules.specs.Progress.{begun}
 use Rattle.rules.specs.Turn.{holds, firstHolding}
-use Rattle.rules.specs.Events.{isHalfway}
+use Rattle.rules.specs.Events.{isHalfway, mustLeft}
 use Rattle.rules.specs.Submit.{blocks}
 use Rattle.sequence.specs.Lists.{count}
 use Rattle.sequence.specs.Links.{none, along, slotsOf, Stands}
 use Rattle.sequence.proofs.Lists.{same-self, same-other, past-within}
 use Rattle.sequence.proofs.Tables.{byEq, byLess}
 use Rattle.sequence.proofs.ReadLaws.{once-held, stands-slot, back-reversed}
-use Rattle.state.specs.View.{stepsAt, memberAt, membersOf, stateOf, there}
+use Rattle.state.specs.View.{toDoCode, inFlightCode, memberAt, membersOf, stateOf, there}
 use Rattle.state.specs.Valid.{CommandOk, CommandsOk, StateOk}
 use Rattle.state.proofs.Steps.{each-at}
+use Rattle.state.proofs.Members.{member-committed}
 use Rattle.state.specs.declared.HubState.{HubState}
 use Rattle.state.specs.declared.Place.the-variants.{At, Nowhere}
-use Rattle.search.specs.Contract.{hasId, Finds, anyOn, between, marksFor, Latest}
+use Rattle.search.specs.Contract.{hasId, Finds, anyOn, anyStaged, highestStage, anyMust, marksFor, Latest}
 use Rattle.search.proofs.Slots.{firstSlot, Seeks, stopAt, seeks-there, seeks-found, seeks-end, first-same, first-some, find-slot}
 use Rattle.search.proofs.Slots.{find-nowhere, holding-none, holding-some}
 use Rattle.search.proofs.Back.{back-around, back-place}
-use Rattle.search.proofs.Commands.{anyAt, openAt, among-at, holds-slot, begun-slot, halfway-slot, slot-fits}
+use Rattle.search.proofs.Commands.{anyAt, openAt, among-at, holds-slot, begun-slot, left-slot, must-slot, slot-fits}
 
 -- ---- the tests of a slot, as the rows have them
 
@@ -63,12 +64,16 @@ open-start counts answered device stage d x =
 unfoldable pub holdsIn : List Bool → List ℕ → List ℕ → List ℕ → List ℕ → ℕ → ℕ → Bool
 holdsIn committed counts answered device stage d x = not (getD committed x false) && openIn counts answered device stage d x
 
-abbrev pub betweenIn : List ℕ → List ℕ → List ℕ → List ℕ → ℕ → ℕ → Bool
-betweenIn counts answered device stage d x =
-    between device stage (x * maxCommands) (x * maxCommands + getD answered x 0) (x * maxCommands + getD counts x 0) d
+-- it has begun the device; a command on it is left
+abbrev pub begunIn : List ℕ → List ℕ → List ℕ → ℕ → ℕ → Bool
+begunIn counts device stage d x = anyStaged device stage d inFlightCode highestStage (x * maxCommands) (getD counts x 0)
 
-unfoldable pub halfwayIn : List Bool → List ℕ → List ℕ → List ℕ → List ℕ → ℕ → ℕ → Bool
-halfwayIn committed counts answered device stage d x = not (getD committed x false) && betweenIn counts answered device stage d x
+abbrev pub leftIn : List ℕ → List ℕ → List ℕ → ℕ → ℕ → Bool
+leftIn counts device stage d x = anyStaged device stage d toDoCode inFlightCode (x * maxCommands) (getD counts x 0)
+
+unfoldable pub halfwayIn : List Bool → List ℕ → List ℕ → List ℕ → ℕ → ℕ → Bool
+halfwayIn committed counts device stage d x =
+    not (getD committed x false) && begunIn counts device stage d x && leftIn counts device stage d x
 
 -- its id is one of the first n of these, or it runs and was passed often enough
 unfoldable pub blocksIn : List ℕ → ℕ → ℕ → List ℕ → List ℕ → List Bool → ℕ → Bool
@@ -90,15 +95,33 @@ pub id-other : (ids : List ℕ) (i x : ℕ) → (getD ids x 0 ≡ i → ⊥) →
 unfolding idIn
 id-other ids i x n = ne-eqb (getD ids x 0) i n
 
-module _ (committed : List Bool) (counts answered device stage : List ℕ) (d x : ℕ) where
-  pub halfway-committed : not (getD committed x false) ≡ false → halfwayIn committed counts answered device stage d x ≡ false
+-- the commands of a slot, from its first to past its last
+slot-places : (at n : ℕ) → at * maxCommands + n - at * maxCommands ≡ n
+slot-places at n = omega arith
+
+module _ (committed : List Bool) (counts device stage : List ℕ) (d x : ℕ) where
+  pub halfway-committed : not (getD committed x false) ≡ false → halfwayIn committed counts device stage d x ≡ false
   unfolding halfwayIn
   halfway-committed e = rw e
 
-  pub halfway-off : betweenIn counts answered device stage d x ≡ false → halfwayIn committed counts answered device stage d x ≡ false
-  unfolding halfwayIn
-  halfway-off e = rw e (and-false (not (getD committed x false)))
+  module _ {t : Bool} where
+    pub halfway-unbegun :
+        t ≡ anyStaged device stage d inFlightCode highestStage (x * maxCommands) (x * maxCommands + getD counts x 0 - x * maxCommands) →
+        t ≡ false → halfwayIn committed counts device stage d x ≡ false
+    unfolding halfwayIn
+    halfway-unbegun e f =
+        let b : begunIn counts device stage d x ≡ false = rw (slot-places x (getD counts x 0)) at (sym e ∙ f) in
+        rw (b, and-false (not (getD committed x false)))
 
+    pub halfway-finished :
+        t ≡ anyStaged device stage d toDoCode inFlightCode (x * maxCommands) (x * maxCommands + getD counts x 0 - x * maxCommands) →
+        t ≡ false → halfwayIn committed counts device stage d x ≡ false
+    unfolding halfwayIn
+    halfway-finished e f =
+        let b : leftIn counts device stage d x ≡ false = rw (slot-places x (getD counts x 0)) at (sym e ∙ f) in
+        rw b (and-false (not (getD committed x false) && begunIn counts device stage d x))
+
+module _ (committed : List Bool) (counts answered device stage : List ℕ) (d x : ℕ) where
   module _ (at : ℕ) (n : x ≡ at → ⊥) where
     pub holds-committed : not (getD committed x false) ≡ false → stopAt at (holdsIn committed counts answered device stage d) x ≡ false
     unfolding stopAt holdsIn
@@ -170,11 +193,18 @@ module _ (h : HubState) (v : StateOk h) where
     pub commands-fit : (at < maxHeld) × (getD (h .answered) at 0 ≤ getD (h .counts) at 0) × (getD (h .counts) at 0 ≤ maxCommands)
     commands-fit = let f = slot-fits h at (v .slots-ok at st) 0 in (stands-slot (h .links) at (v .links-ok) st, f .0, f .1)
 
-    pub begun-is : (device : List ℕ) (d : ℕ) → device ≡ h .device → flight (stepsAt h at) ≡ nothing → {t : Bool} →
-        t ≡ anyOn device d (at * maxCommands) (at * maxCommands + getD (h .answered) at 0 - at * maxCommands) → t ≡ begun d (memberAt h at)
-    begun-is device d e f g =
-        let n : at * maxCommands + getD (h .answered) at 0 - at * maxCommands ≡ getD (h .answered) at 0 = omega arith in
-        g ∙ rw (n, e) (sym (begun-slot h at (v .slots-ok at st) d f))
+    pub begun-is : (device stage : List ℕ) (d : ℕ) → device ≡ h .device → stage ≡ h .stage →
+        ((j : ℕ) → getD (h .stage) j 0 ≤ highestStage) → {t : Bool} →
+        t ≡ anyStaged device stage d inFlightCode highestStage (at * maxCommands)
+        (at * maxCommands + getD (h .counts) at 0 - at * maxCommands) →
+        t ≡ begun d (memberAt h at)
+    begun-is device stage d e f b g = g ∙ rw (slot-places at (getD (h .counts) at 0), e, f) (sym (begun-slot h at d b))
+
+    pub must-is : (d : ℕ) {t : Bool} →
+        t ≡ anyMust (h .device) (h .tag) (h .stage) d (at * maxCommands)
+        (at * maxCommands + getD (h .counts) at 0 - at * maxCommands) →
+        t ≡ mustLeft d (memberAt h at)
+    must-is d g = g ∙ rw (slot-places at (getD (h .counts) at 0)) (sym (must-slot h at d))
 
   -- ---- the first that passes
 
@@ -221,19 +251,31 @@ module _ (h : HubState) (v : StateOk h) where
 
   -- ---- on the device
 
-  module _ (d : ℕ) where
+  module _ (d : ℕ) (b : (j : ℕ) → getD (h .stage) j 0 ≤ highestStage) where
     halfway-is : (y : ℕ) → Stands (h .links) y →
-        halfwayIn (h .committed) (h .counts) (h .answered) (h .device) (h .stage) d y ≡ isHalfway d (memberAt h y)
-    unfolding halfwayIn
-    halfway-is y k = sym (halfway-slot h y (v .slots-ok y k) d)
+        halfwayIn (h .committed) (h .counts) (h .device) (h .stage) d y ≡ isHalfway d (memberAt h y)
+    unfolding halfwayIn isHalfway isRunning
+    halfway-is y k =
+        let n = sym (member-committed h y) in
+        let p = sym (begun-slot h y d b) in
+        let q = sym (left-slot h y d) in
+        λ i. not (n i) && p i && q i
 
     module _ {x : ℕ}
-        (s : Seeks (halfwayIn (h .committed) (h .counts) (h .answered) (h .device) (h .stage) d) (h .links .behind) (h .links .first) x)
+        (s : Seeks (halfwayIn (h .committed) (h .counts) (h .device) (h .stage) d) (h .links .behind) (h .links .first) x)
       where
-        pub halfway-at : x < maxHeld → not (getD (h .committed) x false) ≡ true → {t : Bool} →
-            t ≡ betweenIn (h .counts) (h .answered) (h .device) (h .stage) d x → t ≡ true → Finds h (isHalfway d) (At x)
+        pub halfway-at : x < maxHeld → not (getD (h .committed) x false) ≡ true → {t u : Bool} →
+            t ≡ anyStaged (h .device) (h .stage) d toDoCode inFlightCode (x * maxCommands)
+            (x * maxCommands + getD (h .counts) x 0 - x * maxCommands) →
+            u ≡ anyStaged (h .device) (h .stage) d inFlightCode highestStage (x * maxCommands)
+            (x * maxCommands + getD (h .counts) x 0 - x * maxCommands) →
+            t ≡ true → u ≡ true → Finds h (isHalfway d) (At x)
         unfolding halfwayIn
-        halfway-at k n e f = finds-at (isHalfway d) _ halfway-is s k (rw (n, sym e, f))
+        halfway-at k n e f p q =
+            let z = slot-places x (getD (h .counts) x 0) in
+            let a : leftIn (h .counts) (h .device) (h .stage) d x ≡ true = rw z at (sym e ∙ p) in
+            let c : begunIn (h .counts) (h .device) (h .stage) d x ≡ true = rw z at (sym f ∙ q) in
+            finds-at (isHalfway d) _ halfway-is s k (rw (n, c, a))
 
         pub halfway-nowhere : maxHeld ≤ x → Finds h (isHalfway d) Nowhere
         halfway-nowhere k = finds-nowhere (isHalfway d) _ halfway-is s k

@@ -36,7 +36,7 @@ anyStaged device stage d low high k zero = false
 anyStaged device stage d low high k (suc n) =
     (eqb (getD device k 0) d && leb low (getD stage k 0) && leb (getD stage k 0) high) || anyStaged device stage d low high (suc k) n
 
--- The stages of a command that begins its device, and of one that is left: from one to another.
+-- No stage is higher.
 abbrev pub highestStage : ℕ
 highestStage = 255
 

@@ -2,7 +2,6 @@
 use mathlib.Core.Path.{_≡_, refl, sym, ap, _∙_}
 use mathlib.Core.Bool.{Bool, false}
 use mathlib.Core.List.{List, [], _∷_, _++_}
-use mathlib.Core.Option.{some}
 use Prim.Native.Nat.{ℕ}
 use native.Mathlib.Omega.{arith}
 use Rattle.routine.specs.Choice.{if_then_else_}
@@ -112,7 +111,7 @@ module _ (h : HubState) (cs : List Command) (result : Result) where
   unfolding abort
   abort-decides i x ok k e =
       let f = there h x in
-      let backs = backsLeft (stateOf h) (some f) in
+      let backs = backsLeft (stateOf h) f in
       record {
         change-ok = ok;
         gives = ap (λ (j : ℕ). settling (record { state = leave (stateOf h) f; answers = aborted j backs ∷ [] })) k ∙ e;

@@ -20,9 +20,9 @@ use Rattle.rules.specs.Submit.{stepOf}
 use Rattle.rules.proofs.Lists.{byIf, t≠f}
 use Rattle.state.specs.View.{noRestart, isRestart, restartOf, toDoCode, inFlightCode, doneCode, skippedCode, statusOf, Rows, stepAt}
 use Rattle.state.specs.View.{stepsFrom, restartsAt}
-use Rattle.state.specs.Valid.{AnsweredUpTo}
+use Rattle.state.specs.Valid.{isBehind, AnsweredUpTo}
 use Rattle.state.specs.Contract.{setStatus}
-use Rattle.state.proofs.Steps.{answered-is, flight-not, to-do-flight}
+use Rattle.state.proofs.Steps.{answered-is, flight-not, behind-flight}
 
 -- ---- one command
 
@@ -101,6 +101,26 @@ module _ (code : ℕ) (u : ℤ) where
 
   pub status-open : code < doneCode → isAnswered (statusOf code u) ≡ false
   status-open h = by-code (λ st. isAnswered st ≡ false) (λ e. refl) (λ e. refl) (λ e. absurd (omega arith)) (λ e. absurd (omega arith))
+
+  pub status-behind : (code ≡ inFlightCode → ⊥) → (code ≡ doneCode → ⊥) → isBehind (statusOf code u) ≡ true
+  status-behind n m = by-code (λ st. isBehind st ≡ true) (λ e. refl) (λ e. absurd (n e)) (λ e. absurd (m e)) (λ e. refl)
+
+  -- and back to the code
+  pub answered-code : isAnswered (statusOf code u) ≡ true → doneCode ≤ code
+  answered-code t =
+      by-code (λ st. isAnswered st ≡ true → doneCode ≤ code)
+      (λ e f. t≠f (sym f)) (λ e f. t≠f (sym f)) (λ e f. omega arith) (λ e f. omega arith) t
+
+  pub open-code : isAnswered (statusOf code u) ≡ false → code < doneCode
+  open-code t =
+      by-code (λ st. isAnswered st ≡ false → code < doneCode)
+      (λ e f. omega arith) (λ e f. omega arith) (λ e f. t≠f f) (λ e f. t≠f f) t
+
+  pub behind-code : isBehind (statusOf code u) ≡ true → (code ≡ inFlightCode → ⊥) × (code ≡ doneCode → ⊥)
+  behind-code t =
+      by-code (λ st. isBehind st ≡ true → (code ≡ inFlightCode → ⊥) × (code ≡ doneCode → ⊥))
+      (λ e f. ((λ i. omega arith), (λ i. omega arith))) (λ e f. t≠f (sym f)) (λ e f. t≠f (sym f))
+      (λ e f. ((λ i. omega arith), (λ i. omega arith))) t
 
 -- the due setting matters to one in flight alone
 status-due : (code : ℕ) (u v : ℤ) → isInFlight (statusOf code u) ≡ false → statusOf code v ≡ statusOf code u
@@ -235,7 +255,7 @@ staged-at rows u v k (suc n) zero i code p a h q =
     let x : stepAt (withStages rows (set (rows .stages) i code)) v k ≡ withStatus (statusOf code v) (stepAt rows u k)
     = ap (λ (m : ℕ). stepAt (withStages rows (set (rows .stages) m code)) v k) (sym e) ∙ step-staged rows u v k code (omega arith) in
     let r = steps-outside rows v (suc k) n i code (λ b c. omega arith)
-    ∙ steps-due rows u v (suc k) n (to-do-flight (stepsFrom rows u (suc k) n) (a .1)) in
+    ∙ steps-due rows u v (suc k) n (behind-flight (stepsFrom rows u (suc k) n) (a .1)) in
     λ m. x m ∷ r m
 staged-at rows u v k (suc n) (suc j) i code p a h q =
     let x = step-outside rows v k i code (λ e. omega arith) ∙ step-due rows u v k (answered-is (stepAt rows u k .status) (a .0) .1) in

@@ -16,15 +16,12 @@ use Rattle.rules.specs.Progress.{isOn, isToDo, isInFlight, isDone, isAnswered, 
 use Rattle.rules.specs.Due.{afterSteps}
 use Rattle.rules.specs.Submit.{stepOf}
 use Rattle.rules.proofs.Lists.{t≠f}
-use Rattle.state.specs.Valid.{CommandsOk, StepOk, IsToDo, AnsweredUpTo}
+use Rattle.state.specs.Valid.{CommandsOk, StepOk, isBehind, IsBehind, AnsweredUpTo}
 use Rattle.state.specs.Contract.{setStatus}
 
--- the tests of `begun`, `finished` and `inFlightOn`
+-- the tests of `begun` and `inFlightOn`
 abbrev pub begins : ℕ → Step → Bool
 begins d x = isOn d x && not (isToDo (x .status))
-
-abbrev pub unanswered : ℕ → Step → Bool
-unanswered d x = isOn d x && not (isAnswered (x .status))
 
 abbrev pub flies : ℕ → Step → Bool
 flies d x = isOn d x && isInFlight (x .status)
@@ -77,6 +74,12 @@ to-do-is (in-flight u) e = t≠f (sym e)
 to-do-is was-done e = t≠f (sym e)
 to-do-is was-skipped e = t≠f (sym e)
 
+behind-is : (st : Status) → isBehind st ≡ true → (isInFlight st ≡ false) × (isDone st ≡ false)
+behind-is to-do e = (refl, refl)
+behind-is (in-flight u) e = t≠f (sym e)
+behind-is was-done e = t≠f (sym e)
+behind-is was-skipped e = (refl, refl)
+
 open-not-done : (st : Status) → isAnswered st ≡ false → isDone st ≡ false
 open-not-done to-do e = refl
 open-not-done (in-flight u) e = refl
@@ -114,41 +117,29 @@ flight-this x (in-flight u) other f n e = let c : x .command ≡ f .command = fl
 flight-this x was-done other f n e = not-none f (sym n ∙ e)
 flight-this x was-skipped other f n e = not-none f (sym n ∙ e)
 
--- ---- all are to do
+-- ---- none is in flight or done
 
-to-do-unanswered : (d : ℕ) (l : List Step) → Each IsToDo l → anyOf (unanswered d) l ≡ anyOf (isOn d) l
-to-do-unanswered d [] h = refl
-to-do-unanswered d (x ∷ l) h = rw (to-do-is (x .status) (h .0) .0, and-true (isOn d x), to-do-unanswered d l (h .1))
+behind-flies : (d : ℕ) (l : List Step) → Each IsBehind l → anyOf (flies d) l ≡ false
+behind-flies d [] h = refl
+behind-flies d (x ∷ l) h = rw (behind-is (x .status) (h .0) .0, and-false (isOn d x)) (behind-flies d l (h .1))
 
-to-do-begun : (d : ℕ) (l : List Step) → Each IsToDo l → anyOf (begins d) l ≡ false
-to-do-begun d [] h = refl
-to-do-begun d (x ∷ l) h = rw (h .0, and-false (isOn d x)) (to-do-begun d l (h .1))
+pub behind-flight : (l : List Step) → Each IsBehind l → flight l ≡ none
+behind-flight [] h = refl
+behind-flight (x ∷ l) h = flight-past x (x .status) (flight l) (behind-is (x .status) (h .0) .0) ∙ behind-flight l (h .1)
 
-to-do-flies : (d : ℕ) (l : List Step) → Each IsToDo l → anyOf (flies d) l ≡ false
-to-do-flies d [] h = refl
-to-do-flies d (x ∷ l) h = rw (to-do-is (x .status) (h .0) .1, and-false (isOn d x)) (to-do-flies d l (h .1))
-
-pub to-do-flight : (l : List Step) → Each IsToDo l → flight l ≡ none
-to-do-flight [] h = refl
-to-do-flight (x ∷ l) h = flight-past x (x .status) (flight l) (to-do-is (x .status) (h .0) .1) ∙ to-do-flight l (h .1)
-
-to-do-after : (d : ℕ) (l : List Step) (v : ℤ) → Each IsToDo l → afterSteps d l v ≡ v
-to-do-after d [] v h = refl
-to-do-after d (x ∷ l) v h =
-    rw (open-not-done (x .status) (to-do-is (x .status) (h .0) .0), and-false (isOn d x)) (to-do-after d l v (h .1))
-
-to-do-upto : (l : List Step) → Each IsToDo l → AnsweredUpTo 0 l
-to-do-upto [] h = tt
-to-do-upto (x ∷ l) h = (to-do-is (x .status) (h .0) .0, h .1)
+behind-after : (d : ℕ) (l : List Step) (v : ℤ) → Each IsBehind l → afterSteps d l v ≡ v
+behind-after d [] v h = refl
+behind-after d (x ∷ l) v h = rw (behind-is (x .status) (h .0) .1, and-false (isOn d x)) (behind-after d l v (h .1))
 
 -- ---- a newcomer
 
-new-to-do : (cs : List Command) → Each IsToDo (map stepOf cs)
-new-to-do [] = tt
-new-to-do (c ∷ cs) = (refl, new-to-do cs)
+new-behind : (cs : List Command) → Each IsBehind (map stepOf cs)
+new-behind [] = tt
+new-behind (c ∷ cs) = (refl, new-behind cs)
 
 pub new-upto : (cs : List Command) → AnsweredUpTo 0 (map stepOf cs)
-new-upto cs = to-do-upto (map stepOf cs) (new-to-do cs)
+new-upto [] = tt
+new-upto (c ∷ cs) = (refl, new-behind cs)
 
 pub new-fit : (cs : List Command) → CommandsOk cs → Each StepOk (map stepOf cs)
 new-fit [] h = tt
@@ -161,45 +152,17 @@ upto-length zero l a = omega arith
 upto-length (suc n) [] a = absurd a
 upto-length (suc n) (x ∷ l) a = let i = upto-length n l (a .1) in omega arith
 
--- those not answered are those from n on
-pub unanswered-from : (n : ℕ) (l : List Step) → AnsweredUpTo n l → (d : ℕ) → anyOf (unanswered d) l ≡ anyOf (isOn d) (drop n l)
-unanswered-from zero [] a d = refl
-unanswered-from zero (x ∷ l) a d = rw (a .0, and-true (isOn d x), to-do-unanswered d l (a .1))
-unanswered-from (suc n) [] a d = absurd a
-unanswered-from (suc n) (x ∷ l) a d = rw (a .0, and-false (isOn d x)) (unanswered-from n l (a .1) d)
-
--- those that are not to do are the first n, and the one in flight
-pub begun-upto : (n : ℕ) (l : List Step) → AnsweredUpTo n l → flight l ≡ none → (d : ℕ) → anyOf (begins d) l ≡ anyOf (isOn d) (take n l)
-begun-upto zero [] a e d = refl
-begun-upto zero (x ∷ l) a e d =
-    let t = open-to-do (x .status) (a .0) (flight-not x (x .status) (flight l) e .0) in
-    rw (t, and-false (isOn d x)) (to-do-begun d l (a .1))
-begun-upto (suc n) [] a e d = absurd a
-begun-upto (suc n) (x ∷ l) a e d =
-    rw (answered-is (x .status) (a .0) .0, and-true (isOn d x), begun-upto n l (a .1) (flight-not x (x .status) (flight l) e .1) d)
-
-pub begun-flight : (n : ℕ) (l : List Step) → AnsweredUpTo n l → (f : Flight) → flight l ≡ some f → (d : ℕ) →
-    anyOf (begins d) l ≡ anyOf (isOn d) (take (suc n) l)
-begun-flight zero [] a f e d = not-none f e
-begun-flight zero (x ∷ l) a f e d =
-    let t = flight-this x (x .status) (flight l) f (to-do-flight l (a .1)) e in
-    rw (t .0, and-true (isOn d x), to-do-begun d l (a .1))
-begun-flight (suc n) [] a f e d = absurd a
-begun-flight (suc n) (x ∷ l) a f e d =
-    let t = answered-is (x .status) (a .0) in
-    rw (t .0, and-true (isOn d x), begun-flight n l (a .1) f (sym (flight-past x (x .status) (flight l) (t .1)) ∙ e) d)
-
 -- those that are done are among the first n
 pub done-upto : (n : ℕ) (l : List Step) → AnsweredUpTo n l → (d : ℕ) (v : ℤ) → afterSteps d l v ≡ afterSteps d (take n l) v
 done-upto zero [] a d v = refl
-done-upto zero (x ∷ l) a d v = rw (open-not-done (x .status) (a .0), and-false (isOn d x)) (to-do-after d l v (a .1))
+done-upto zero (x ∷ l) a d v = rw (open-not-done (x .status) (a .0), and-false (isOn d x)) (behind-after d l v (a .1))
 done-upto (suc n) [] a d v = absurd a
 done-upto (suc n) (x ∷ l) a d v = done-upto n l (a .1) d _
 
 -- the one in flight, if there is one
 pub flights-none : (n : ℕ) (l : List Step) → AnsweredUpTo n l → flight l ≡ none → (d : ℕ) → anyOf (flies d) l ≡ false
 flights-none zero [] a e d = refl
-flights-none zero (x ∷ l) a e d = rw (flight-not x (x .status) (flight l) e .0, and-false (isOn d x)) (to-do-flies d l (a .1))
+flights-none zero (x ∷ l) a e d = rw (flight-not x (x .status) (flight l) e .0, and-false (isOn d x)) (behind-flies d l (a .1))
 flights-none (suc n) [] a e d = absurd a
 flights-none (suc n) (x ∷ l) a e d =
     let t = flight-not x (x .status) (flight l) e in rw (t .0, and-false (isOn d x)) (flights-none n l (a .1) (t .1) d)
@@ -208,8 +171,8 @@ pub flights-some : (n : ℕ) (l : List Step) → AnsweredUpTo n l → (f : Fligh
     anyOf (flies d) l ≡ eqb (f .command .device) d
 flights-some zero [] a f e d = not-none f e
 flights-some zero (x ∷ l) a f e d =
-    let t = flight-this x (x .status) (flight l) f (to-do-flight l (a .1)) e in
-    rw (t .1, and-true (isOn d x), to-do-flies d l (a .1)) (or-false (isOn d x)) ∙ ap (λ (c : Command). eqb (c .device) d) (t .2)
+    let t = flight-this x (x .status) (flight l) f (behind-flight l (a .1)) e in
+    rw (t .1, and-true (isOn d x), behind-flies d l (a .1)) (or-false (isOn d x)) ∙ ap (λ (c : Command). eqb (c .device) d) (t .2)
 flights-some (suc n) [] a f e d = absurd a
 flights-some (suc n) (x ∷ l) a f e d =
     let t = answered-is (x .status) (a .0) .1 in
@@ -233,9 +196,6 @@ next-all (suc n) (x ∷ l) a h = rw (answered-is (x .status) (a .0) .0) (next-al
 pub flights-all : (n : ℕ) (l : List Step) → AnsweredUpTo n l → length l ≤ n → (d : ℕ) → anyOf (flies d) l ≡ false
 flights-all n l a h d = flights-none n l a (flight-all n l a h) d
 
-pub begun-all : (n : ℕ) (l : List Step) → AnsweredUpTo n l → length l ≤ n → (d : ℕ) → anyOf (begins d) l ≡ anyOf (isOn d) (take n l)
-begun-all n l a h d = begun-upto n l a (flight-all n l a h) d
-
 -- ---- the first that is not answered
 
 pub open-unanswered : (n : ℕ) (l : List Step) → AnsweredUpTo n l → (x : Step) (r : List Step) → drop n l ≡ x ∷ r →
@@ -248,7 +208,7 @@ open-unanswered (suc n) (y ∷ l) a x r e = open-unanswered n l (a .1) x r e
 pub flights-open : (n : ℕ) (l : List Step) → AnsweredUpTo n l → (x : Step) (r : List Step) → drop n l ≡ x ∷ r → (d : ℕ) →
     anyOf (flies d) l ≡ flies d x
 flights-open zero [] a x r e d = no-steps x r e
-flights-open zero (y ∷ l) a x r e d = rw (to-do-flies d l (a .1)) (or-false (flies d y)) ∙ ap (flies d) (same-first y x l r e)
+flights-open zero (y ∷ l) a x r e d = rw (behind-flies d l (a .1)) (or-false (flies d y)) ∙ ap (flies d) (same-first y x l r e)
 flights-open (suc n) [] a x r e d = absurd a
 flights-open (suc n) (y ∷ l) a x r e d = rw (answered-is (y .status) (a .0) .1, and-false (isOn d y)) (flights-open n l (a .1) x r e d)
 
@@ -260,7 +220,8 @@ pub flight-to-do : (n : ℕ) (l : List Step) → AnsweredUpTo n l → (x : Step)
     isInFlight (x .status) ≡ false → flight l ≡ none
 flight-to-do zero [] a x r e t = no-steps x r e
 flight-to-do zero (y ∷ l) a x r e t =
-    flight-past y (y .status) (flight l) (to-do-is (y .status) (first-to-do y x (same-first y x l r e) (a .0) t) .1) ∙ to-do-flight l (a .1)
+    flight-past y (y .status) (flight l) (to-do-is (y .status) (first-to-do y x (same-first y x l r e) (a .0) t) .1)
+    ∙ behind-flight l (a .1)
 flight-to-do (suc n) [] a x r e t = absurd a
 flight-to-do (suc n) (y ∷ l) a x r e t =
     flight-past y (y .status) (flight l) (answered-is (y .status) (a .0) .1) ∙ flight-to-do n l (a .1) x r e t
@@ -317,13 +278,6 @@ answer-sent (suc n) (y ∷ l) a x r e u t st =
     rw (answered-is (y .status) (a .0) .1) (ap (λ (m : List Step). y ∷ m) (answer-sent n l (a .1) x r e u t st))
 
 -- ---- it comes to another status
-
-pub answered-next : (n : ℕ) (l : List Step) → AnsweredUpTo n l → (st : Status) → isAnswered st ≡ true → n < length l →
-    AnsweredUpTo (suc n) (setStatus n st l)
-answered-next zero [] a st t h = absurd (omega arith)
-answered-next zero (x ∷ l) a st t h = (t, to-do-upto l (a .1))
-answered-next (suc n) [] a st t h = absurd a
-answered-next (suc n) (x ∷ l) a st t h = (a .0, answered-next n l (a .1) st t (omega arith))
 
 pub sent-stays : (n : ℕ) (l : List Step) → AnsweredUpTo n l → (st : Status) → isAnswered st ≡ false → n < length l →
     AnsweredUpTo n (setStatus n st l)

@@ -1,17 +1,17 @@
 -- `apply::with_stage` meets its contract. Assumes nothing.
 use borrow.Author.Needs.{needs}
-use Prim.Native.Nat.{ℕ, _*_, _<_}
+use Prim.Native.Nat.{ℕ, _+_, _*_, _≤_, _<_}
 use native.Mathlib.Omega.{arith}
 use mathlib.Core.Path.{_≡_}
 use mathlib.Core.Logic.{⊎-elim}
-use lib.ListN.{length}
+use lib.ListN.{length, getD}
 use mir.Syntax.{w16}
 use mir.Val.{toZ, ofZ}
 use Rattle.routine.specs.Routine.{maxDevices, maxCommands}
 use Rattle.routine.proofs.Laws.{length-mapped}
 use Rattle.rules.specs.State.{maxHeld}
-use Rattle.apply.proofs.StageLaws.{at-slot, at-place, not-all-answered, one-more, no-more, AnsweredNow, stage-applied, begins-marks}
-use Rattle.apply.proofs.StageLaws.{same-marks}
+use Rattle.state.proofs.Members.{counts-most}
+use Rattle.apply.proofs.StageLaws.{at-slot, at-place, next-open, no-more, AnsweredNow, stage-applied, begins-marks, same-marks}
 use Rattle.apply.proofs.with_stage.Statement.{statement}
 use Rattle.apply.proofs.with_stage.Tie as tie
 
@@ -29,37 +29,64 @@ long-mark c =
     length-mapped ℕ ℕ (λ x. x) (c .args .state .mark) maxDevices
     (c .good .0 .1 .1 .1 .1 .1 .1 .1 .1 .1 .1 .1 .1 .1 .1 .1 .1 .1 .1 .1 .0 .1 .0 .1)
 
--- the slot
-slot : (c : tie.Start) → c .args .change .at < maxHeld
-slot c = at-slot _ _ (c .pre .0) (c .pre .1)
+-- the slot, and how many commands it has
+fits : (c : tie.Start) → (c .args .change .at < maxHeld)
+    × (getD (c .args .state .answered) (c .args .change .at) 0 < getD (c .args .state .counts) (c .args .change .at) 0)
+    × (getD (c .args .state .counts) (c .args .change .at) 0 ≤ maxCommands)
+fits c = (at-slot _ _ (c .pre .0) (c .pre .1), c .pre .1 .not-all, counts-most _ _ (c .pre .0) (c .pre .1 .stands))
 
-array-read-so-far : tie.Need-array-read-so-far
-array-read-so-far c = slot (start c)
+mul-from : tie.Need-mul-from
+mul-from c = let f = fits (start c) in omega (arith, f .0)
 
-mul-stage : tie.Need-mul-stage
-mul-stage c = let h = slot (start c) in omega arith
+array-read-end : tie.Need-array-read-end
+array-read-end c = fits (start c) .0
 
-cast-stage : tie.Need-cast-stage
-cast-stage c = search needs
+cast-end : tie.Need-cast-end
+cast-end c = let f = fits (start c) in omega arith
 
-add-stage : tie.Need-add-stage
-add-stage c = let s = start c in let h = at-place _ _ (s .pre .0) (s .pre .1) in omega arith
+add-end : tie.Need-add-end
+add-end c = let f = fits (start c) in omega arith
+
+array-read-open : tie.Need-array-read-open
+array-read-open c = fits (start c) .0
+
+cast-open : tie.Need-cast-open
+cast-open c = let f = fits (start c) in omega arith
+
+add-open : tie.Need-add-open
+add-open c = let f = fits (start c) in omega arith
 
 array-write-stage : tie.Need-array-write-stage
 array-write-stage c = let s = start c in at-place _ _ (s .pre .0) (s .pre .1)
 
 mul-due-then : tie.Need-mul-due-then
-mul-due-then c = let h = slot (start (c .before)) in omega arith
+mul-due-then c = let f = fits (start (c .before)) in omega (arith, f .0)
 
 array-set-from-due-then : tie.Need-array-set-from-due-then
-array-set-from-due-then c = slot (start (c .before))
+array-set-from-due-then c = fits (start (c .before)) .0
 
-add-answered : tie.Need-add-answered
-add-answered c = let s = start (c .before .before .before) in
-    let h = not-all-answered _ _ (s .pre .0) (s .pre .1) in omega arith
+add-first-open : tie.Need-add-first-open
+add-first-open c = let f = fits (start (c .before .before .before .before)) in omega arith
+
+first-open-requires : tie.Need-first-open-requires
+first-open-requires c κs = let f = fits (start (c .before .before .before .before)) in (omega arith, omega arith)
+
+-- where the next command stands
+next-within : (c : tie.After-first-open) → let s = start (c .before .before .before .before .before) in
+    let from = s .args .change .at * maxCommands in (from ≤ c .first-open .result) × (c .first-open .result ≤ from + maxCommands)
+next-within c =
+    let f = fits (start (c .before .before .before .before .before)) in
+    let w = c .first-open .ensures .within in
+    (omega (arith, w .0), omega (arith, w .1))
+
+sub-answered : tie.Need-sub-answered
+sub-answered c = next-within c .0
+
+cast-answered : tie.Need-cast-answered
+cast-answered c = let w = next-within c in omega arith
 
 array-write-answered : tie.Need-array-write-answered
-array-write-answered c = slot (start (c .before .before .before))
+array-write-answered c = fits (start (c .before .before .before .before .before)) .0
 
 cast-d : tie.Need-cast-d
 cast-d c = search needs
@@ -74,7 +101,7 @@ array-write-mark c = search needs
 come : (c : tie.Joined1) → let s = start (c .before .before .before) in AnsweredNow _ _ (s .pre .0) (s .pre .1) (c .if1 .answered)
 come c = let s = start (c .before .before .before) in
     ⊎-elim
-    (λ w. rw (w .1) (one-more _ _ (s .pre .0) (s .pre .1) (w .0 .taken) (long s .0)))
+    (λ w. rw (w .3) (next-open _ _ (s .pre .0) (s .pre .1) (w .0 .taken) (long s .0) (long s .1) _ (w .2 .ensures)))
     (λ w. rw (w .1) (no-more _ _ (s .pre .0) (s .pre .1) (w .0 .left)))
     (c .if1 .came)
 
@@ -105,14 +132,20 @@ pub with-stage-spec : {M : Type 1} → statement M
 with-stage-spec =
     tie.close
     (tie.spec
-    array-read-so-far
-    mul-stage
-    cast-stage
-    add-stage
+    mul-from
+    array-read-end
+    cast-end
+    add-end
+    array-read-open
+    cast-open
+    add-open
     array-write-stage
     mul-due-then
     array-set-from-due-then
-    add-answered
+    add-first-open
+    first-open-requires
+    sub-answered
+    cast-answered
     array-write-answered
     cast-d
     mul-mark

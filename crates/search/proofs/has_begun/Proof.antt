@@ -1,11 +1,14 @@
--- `search::has_begun` meets its contract: a routine with nothing in flight has begun what its answered commands are on. Assumes nothing.
+-- `search::has_begun` meets its contract. Assumes nothing.
+use borrow.Author.Needs.{needs}
 use native.Mathlib.Omega.{arith}
-use Prim.Native.Nat.{_≤_, _<_}
+use Prim.Native.Nat.{ℕ, _≤_, _<_}
 use lib.ListN.{getD}
+use mir.Syntax.{w8}
+use mir.Val.{Fits}
 use Rattle.routine.specs.Routine.{maxCommands}
 use Rattle.rules.specs.State.{maxHeld}
+use Rattle.search.specs.Contract.{highestStage}
 use Rattle.search.proofs.Laws.{commands-fit, begun-is}
-use borrow.Author.Needs.{needs}
 use Rattle.search.proofs.has_begun.Statement.{statement}
 use Rattle.search.proofs.has_begun.Tie as tie
 
@@ -13,6 +16,10 @@ fits : (c : tie.Start) → (c .args .at < maxHeld)
     × (getD (c .args .state .answered) (c .args .at) 0 ≤ getD (c .args .state .counts) (c .args .at) 0)
     × (getD (c .args .state .counts) (c .args .at) 0 ≤ maxCommands)
 fits c = commands-fit _ (c .pre .0) _ (c .pre .1)
+
+-- a stage has 8 bits
+stages-fit : (c : tie.Start) (j : ℕ) → getD (c .args .state .stage) j 0 ≤ highestStage
+stages-fit c j = let f : Fits w8 (getD (c .args .state .stage) j 0) = search needs in omega (arith, f .fits)
 
 mul-from : tie.Need-mul-from
 mul-from c = let f = fits (c .before) in omega (arith, f .0)
@@ -26,13 +33,14 @@ cast-end c = search needs
 add-end : tie.Need-add-end
 add-end c = let f = fits (c .before) in omega arith
 
-is-on-requires : tie.Need-is-on-requires
-is-on-requires c κs = let f = fits (c .before) in (omega arith, omega arith)
+is-staged-requires : tie.Need-is-staged-requires
+is-staged-requires c κs = let f = fits (c .before) in (omega arith, omega arith)
 
 returns : tie.Need-returns
-returns c = let p = c .before .before .pre in
-    begun-is _ (p .0) _ (p .1) _ _ (p .2) (p .3) (c .is-on .ensures)
+returns c = let s = c .before .before in
+    let p = s .pre in
+    begun-is _ (p .0) _ (p .1) _ _ _ (p .2) (p .3) (stages-fit s) (c .is-staged .ensures)
 
 pub has-begun-spec : {M : Type 1} → statement M
 has-begun-spec =
-    tie.close (tie.spec mul-from array-read-end cast-end add-end is-on-requires returns)
+    tie.close (tie.spec mul-from array-read-end cast-end add-end is-staged-requires returns)

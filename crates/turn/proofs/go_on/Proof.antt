@@ -49,7 +49,7 @@ returns-2 c =
     (must-decides h _ k (l .pre .1) (l .pre .2) _ (l .pre .3) _ (c .plain .ensures))
 
 skip-requires : tie.Need-skip-requires
-skip-requires c κs = let p = c .before .before .before .before .before .pre in (p .0, p .1, p .2, p .3, p .4)
+skip-requires c κs = c .before .before .before .before .before .pre
 
 returns-3 : tie.Need-returns-3
 returns-3 c =

@@ -30,7 +30,7 @@ due-setting-requires : tie.Need-due-setting-requires
 due-setting-requires c κs = let p = c .before .before .before .before .before .pre in (p .0, p .4, p .5, refl)
 
 has-begun-requires : tie.Need-has-begun-requires
-has-begun-requires c κs = let p = c .before .before .before .before .before .before .pre in (p .0, p .1, p .4, p .2 .no-flight)
+has-begun-requires c κs = let p = c .before .before .before .before .before .before .pre in (p .0, p .1, p .4, p .5)
 
 array-read-t18 : tie.Need-array-read-t18
 array-read-t18 c = within (c .before .before .before .before .before .before .before)

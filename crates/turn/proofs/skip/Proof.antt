@@ -8,7 +8,7 @@ element-copy-out-wanted : tie.Need-element-copy-out-wanted
 element-copy-out-wanted c = in-rows _ _ _ (c .pre .0) (c .pre .1) (c .pre .2)
 
 has-begun-requires : tie.Need-has-begun-requires
-has-begun-requires c κs = let p = c .before .pre in (p .0, p .1, p .4, p .2 .no-flight)
+has-begun-requires c κs = let p = c .before .pre in (p .0, p .1, p .4, p .5)
 
 plain-requires : tie.Need-plain-requires
 plain-requires c κs = search needs
