@@ -1,9 +1,17 @@
-"""Random histories of a hub: an opening and calls, most of them fitting and some odd, with the answers of the model and its hub after them."""
+"""Random histories of a hub: an opening and calls, most of them fitting and some odd, with the answers of the model and its hub
+after them."""
 from model import Hub, LAST_ID
 
 CALLS = 60
 
+# Weights of submission, turn, report, cancel, failure, restart, and a call that is odd.
 WEIGHTS = [[12, 40, 34, 3, 3, 4, 2], [10, 40, 34, 8, 1, 2, 1], [14, 34, 26, 3, 8, 12, 2], [60, 20, 10, 1, 1, 2, 3]]
+
+# The same where devices fail and restart under routines that are amid them (document 02, item 3).
+LAMP_WEIGHTS = [14, 44, 22, 1, 10, 7, 2]
+LAMPS = 0.4
+
+SETTINGS = [-1000, -3, 0, 5, 5, 70, 1000]
 
 
 def history(rng, limits=0):
@@ -11,15 +19,26 @@ def history(rng, limits=0):
     n = rng.choice([1, 2, 2, 3, 3, 4, 32])
     k = rng.choice([0, 1, 2, 3, 8])
     first = rng.choice([1] * 9 + [LAST_ID - 9])
-    # Weights of submission, turn, report, cancel, failure, restart, and a call that is odd.
     weights = rng.choice(WEIGHTS + 3 * WEIGHTS[3:] if limits else WEIGHTS)
     devices = rng.choice([min(n, 4)] * 3 + [n])
+    lamps = rng.random() < LAMPS
+    if lamps:
+        weights = LAMP_WEIGHTS
     hub = Hub(n, k, first)
-    calls, answers = [], []
+    calls, answers, lost = [], [], []
     for _ in range(CALLS):
-        call = new_limit(rng) if limits and rng.random() < limits else any_call(rng, hub, devices, weights)
+        if limits and rng.random() < limits:
+            call = new_limit(rng)
+        elif lost and rng.random() < 0.3:
+            call = ("report", lost.pop(rng.randrange(len(lost))), rng.randrange(2))
+        else:
+            call = any_call(rng, hub, devices, weights, lamps)
+        flying = [r for r in hub.sequence if r.flight is not None]
         calls.append(call)
         answers.append(hub.call(call))
+        if call[0] == "failure":
+            # Their command in flight was skipped: a report on it may still come, late.
+            lost += [r.id for r in flying if r.flight is None for _ in range(2)]
     return (n, k, first), calls, answers, hub
 
 
@@ -34,7 +53,26 @@ def pick(rng, fitting, hub):
     return rng.choice([r.id for r in hub.sequence] + [0, hub.next_id])
 
 
-def any_call(rng, hub, devices, weights):
+def commands(rng, devices, lamps):
+    if lamps:
+        # Two or three devices, so that they come again in the routine; most are best-effort.
+        used = [rng.randrange(devices) for _ in range(rng.choice([2, 2, 3]))]
+        must = rng.choice([0, 0.1, 0.3])
+        count = rng.choice([2, 3, 4, 5, 8])
+        return [(rng.choice(used), int(rng.random() >= must), rng.choice(SETTINGS)) for _ in range(count)]
+    return [(rng.randrange(devices), rng.randrange(2), rng.choice(SETTINGS)) for _ in range(rng.choice([1, 1, 2, 2, 3, 4, 8]))]
+
+
+def event_device(rng, hub, devices, up, lamps):
+    """A device that is up, or down; with lamps mostly one that a routine has begun and not finished."""
+    fitting = [d for d in range(devices) if hub.up[d] == up]
+    amid = [d for d in fitting if any(not r.committed and r.begun(d) and not r.finished(d) for r in hub.sequence)]
+    if lamps and amid and rng.random() < 0.8:
+        return rng.choice(amid)
+    return rng.choice(fitting or [0])
+
+
+def any_call(rng, hub, devices, weights, lamps):
     running = [r for r in hub.sequence if not r.committed]
     flying = [r for r in running if r.flight is not None]
     kind = rng.choices(["submit", "turn", "report", "cancel", "failure", "restart", "odd"], weights)[0]
@@ -43,7 +81,7 @@ def any_call(rng, hub, devices, weights):
     if not flying and kind == "report" and rng.random() < 0.9:
         kind = "turn"
     if kind == "submit":
-        return ("submit", [(rng.randrange(devices), rng.randrange(2), rng.choice([-1000, -3, 0, 5, 5, 70, 1000])) for _ in range(rng.choice([1, 1, 2, 2, 3, 4, 8]))])
+        return ("submit", commands(rng, devices, lamps))
     if kind == "turn":
         return ("turn", pick(rng, [r for r in running if r.flight is None], hub))
     if kind == "report":
@@ -51,12 +89,11 @@ def any_call(rng, hub, devices, weights):
     if kind == "cancel":
         return ("cancel", pick(rng, running, hub))
     if kind == "failure":
-        return ("failure", rng.randrange(devices))
+        return ("failure", event_device(rng, hub, devices, True, lamps) if lamps else rng.randrange(devices))
     if kind == "restart":
-        down = [d for d in range(devices) if not hub.up[d]]
-        return ("restart", rng.choice(down or [0]), rng.choice([0, 5, 70, -3, 15]))
+        return ("restart", event_device(rng, hub, devices, False, lamps), rng.choice([0, 5, 70, -3, 15]))
     return rng.choice([
-        ("submit", []), ("submit", [(0, 0, 1)] * 9), ("submit", [(0, 0, 1), (hub.n, 0, 1)]), ("submit", [(0, 0, 1001)]), ("submit", [(0, 2, 1)]),
-        ("submit", [(40, 9, -1001)]), ("report", pick(rng, flying, hub), 2), ("failure", hub.n), ("restart", hub.n, 1),
-        ("restart", rng.randrange(devices), 1001), ("cancel", 0),
+        ("submit", []), ("submit", [(0, 0, 1)] * 9), ("submit", [(0, 0, 1), (hub.n, 0, 1)]), ("submit", [(0, 0, 1001)]),
+        ("submit", [(0, 2, 1)]), ("submit", [(40, 9, -1001)]), ("report", pick(rng, flying, hub), 2), ("failure", hub.n),
+        ("restart", hub.n, 1), ("restart", rng.randrange(devices), 1001), ("cancel", 0),
     ])

@@ -18,21 +18,39 @@ class Routine:
     def __init__(self, rid, commands):
         self.id = rid
         self.commands = commands
-        self.answers = []  # "done" or "skipped", in turn
+        self.answers = [None] * len(commands)  # "done" or "skipped"; None: left
         self.flight = None  # the due setting when the command now in flight was sent
         self.committed = False
         self.passed = 0
         self.events = []  # ("failure", device) or ("restart", device, setting)
 
+    def next(self):
+        """The place of the first command left: the one in flight, if one is."""
+        return self.answers.index(None) if None in self.answers else None
+
+    def left(self, device):
+        """The places of the commands on the device that are not answered."""
+        return [i for i, c in enumerate(self.commands) if c[0] == device and self.answers[i] is None]
+
     def begun(self, device):
-        reached = len(self.answers) + (self.flight is not None)
-        return any(c[0] == device for c in self.commands[:reached])
+        return self.on_its_way(device) or any(c[0] == device and a is not None for c, a in zip(self.commands, self.answers))
 
     def finished(self, device):
-        return all(c[0] != device for c in self.commands[len(self.answers):])
+        return not self.left(device)
 
     def on_its_way(self, device):
-        return self.flight is not None and self.commands[len(self.answers)][0] == device
+        return self.flight is not None and self.commands[self.next()][0] == device
+
+    def answer_next(self, answer):
+        self.answers[self.next()] = answer
+        self.flight = None
+
+    def skip_left(self, device):
+        """Document 02, item 3: what is left on the device is skipped, one in flight included."""
+        if self.on_its_way(device):
+            self.flight = None
+        for i in self.left(device):
+            self.answers[i] = "skipped"
 
     def effects(self):
         done = [(c[0], c[2]) for c, a in zip(self.commands, self.answers) if a == "done"]
@@ -151,10 +169,10 @@ class Hub:
         r = self.running(rid)
         if r.flight is not None:
             raise Refused(11)
-        if len(r.answers) == len(r.commands):
+        if r.next() is None:
             r.committed = True
             return [("committed", r.id)]
-        device, tag, setting = r.commands[len(r.answers)]
+        device, tag, setting = r.commands[r.next()]
         for o in self.sequence[:self.sequence.index(r)]:
             if not o.committed and not o.finished(device):
                 return [("wait", r.id, o.id)]
@@ -163,7 +181,7 @@ class Hub:
         if not r.begun(device):
             self.mark[device] = r.id
         if not self.up[device]:
-            r.answers.append("skipped")
+            r.answer_next("skipped")
             return [("skipped", r.id, [])]
         r.flight = self.due(device)
         return [("send", r.id, (device, tag, setting))]
@@ -174,16 +192,14 @@ class Hub:
             raise Refused(12)
         if code > 1:
             raise Refused(13)
-        device, tag, setting = r.commands[len(r.answers)]
+        device, tag, setting = r.commands[r.next()]
         if code == 0:
-            r.answers.append("done")
-            r.flight = None
+            r.answer_next("done")
             return [("done", r.id)]
         if tag == 0:
             return [self.abort(r)]
         then = r.flight
-        r.answers.append("skipped")
-        r.flight = None
+        r.answer_next("skipped")
         back = [] if self.due(device) == then else [(device, self.due(device))]
         return [("skipped", r.id, back)]
 
@@ -198,7 +214,12 @@ class Hub:
         return [("limited", k)]
 
     def event(self, device, event, word):
-        answers = [self.abort(r) for r in list(self.sequence) if not r.committed and r.begun(device) and not r.finished(device)]
+        answers = []
+        for r in [r for r in self.sequence if not r.committed and r.begun(device) and not r.finished(device)]:
+            if any(r.commands[i][1] == 0 for i in r.left(device)):
+                answers.append(self.abort(r))
+            else:
+                r.skip_left(device)
         after = self.mark[device]
         self.attach(after, [event])
         return answers + [(word, device, after)]
