@@ -107,7 +107,7 @@ struct Habit {
 const HABITS: [Habit; 7] = [
     // An ordinary sitting.
     Habit {
-        weights: [20, 61, 3, 4, 4, 4, 3, 1],
+        weights: [20, 57, 3, 8, 4, 4, 3, 1],
         first: (1, 4),
         enough: 5,
         most_commands: 8,
@@ -119,7 +119,7 @@ const HABITS: [Habit; 7] = [
     },
     // Short routines on few devices, many cancelled: settings go back.
     Habit {
-        weights: [20, 55, 9, 8, 2, 3, 2, 1],
+        weights: [20, 53, 9, 10, 2, 3, 2, 1],
         first: (2, 5),
         enough: 4,
         most_commands: 3,
@@ -131,7 +131,7 @@ const HABITS: [Habit; 7] = [
     },
     // Devices go down and come back all the time.
     Habit {
-        weights: [18, 50, 3, 6, 10, 10, 2, 1],
+        weights: [18, 44, 3, 12, 10, 10, 2, 1],
         first: (2, 5),
         enough: 4,
         most_commands: 5,
@@ -179,7 +179,7 @@ const HABITS: [Habit; 7] = [
     },
     // Long routines over many devices.
     Habit {
-        weights: [15, 69, 3, 4, 3, 3, 2, 1],
+        weights: [15, 66, 3, 7, 3, 3, 2, 1],
         first: (2, 6),
         enough: 6,
         most_commands: 8,
@@ -202,13 +202,15 @@ struct Sitting {
     printed: Vec<u8>,
     /// So many lines in a hundred are damaged before they are said.
     damage: usize,
+    /// Routines whose command in flight was skipped by a failure: a report on it may still come, late.
+    lost: Vec<u32>,
 }
 
 impl Sitting {
     fn new(random: Random, damage: usize) -> Sitting {
         let mut random = random;
         let habit = random.pick(&HABITS);
-        Sitting { random, habit, text: Vec::new(), line_count: 0, program: Program::new(), printed: Vec::new(), damage }
+        Sitting { random, habit, text: Vec::new(), line_count: 0, program: Program::new(), printed: Vec::new(), damage, lost: Vec::new() }
     }
 
     fn say(&mut self, line: String) {
@@ -216,11 +218,15 @@ impl Sitting {
         if self.random.percent(self.damage) {
             damage_line(&mut self.random, &mut line);
         }
+        let flying = if line.first() == Some(&b'F') { self.running() } else { Vec::new() };
         line.push(b'\n');
         self.printed.clear();
         self.program.lines(&line, &mut self.printed);
         self.text.extend_from_slice(&line);
         self.line_count += 1;
+        let now = self.running();
+        let lost = |r: &&Glance| r.in_flight && now.iter().any(|later| later.id == r.id && !later.in_flight);
+        self.lost.extend(flying.iter().filter(lost).flat_map(|r| [r.id; 2]));
     }
 
     fn whole(mut self) -> Vec<u8> {
@@ -268,14 +274,20 @@ impl Sitting {
         if self.program.hub().is_none() {
             return self.open();
         }
+        if !self.lost.is_empty() && self.random.percent(20) {
+            return self.late_report();
+        }
         let action = ACTIONS[self.random.weighed(&self.habit.weights)];
         match action {
             Action::Submit if self.running().len() >= self.habit.enough && self.random.percent(75) => self.advance(),
             Action::Submit => self.submit(),
             Action::Advance => self.advance(),
             Action::Cancel => self.cancel(),
-            Action::Scene if self.random.percent(50) => self.undercut(),
-            Action::Scene => self.event_amid(),
+            Action::Scene => match self.random.below(100) {
+                0..=34 => self.undercut(),
+                35..=64 => self.event_amid(),
+                _ => self.lamp(),
+            },
             Action::Failure => self.failure(),
             Action::Restart => self.restart(),
             Action::Refused => self.refused_or_early(),
@@ -299,6 +311,7 @@ impl Sitting {
             self.random.between(1, LAST_ID.into())
         };
         self.say(format!("O {n} {k} {first}"));
+        self.lost.clear();
     }
 
     fn setting(&mut self) -> i64 {
@@ -439,7 +452,7 @@ impl Sitting {
         }
         let other = *self.random.pick(&others);
         let settings = [self.setting(), self.setting(), self.setting()];
-        let tag = self.random.below(2);
+        let tag = if self.random.percent(85) { MUST } else { BEST_EFFORT };
         self.say(format!("S {other} 0 {} {device} 1 {} {device} {tag} {}", settings[0], settings[1], settings[2]));
         self.say_of_newest("NDN");
         if self.random.percent(80) {
@@ -447,6 +460,38 @@ impl Sitting {
             let line = if lame { format!("R {device} {setting}") } else { format!("F {device}") };
             self.say(line);
         }
+    }
+
+    /// A routine that comes back to a device, mostly best-effort, and is somewhere amid when that goes down or comes back (document 02,
+    /// item 3).
+    fn lamp(&mut self) {
+        let n = self.device_count() as usize;
+        let down = self.devices(false);
+        let is_down = !down.is_empty() && self.random.percent(60);
+        let device = if is_down { *self.random.pick(&down) as usize } else { self.random.below(n) };
+        let other = (device + 1) % n;
+        let count = self.random.between(2, 6);
+        let mut line = format!("S {device} 1 {}", self.setting());
+        for _ in 1..count {
+            let at = if self.random.percent(60) { device } else { other };
+            let tag = if self.random.percent(if at == device { 90 } else { 50 }) { BEST_EFFORT } else { MUST };
+            line += &format!(" {at} {tag} {}", self.setting());
+        }
+        self.say(line);
+        let steps = self.random.between(1, 2 * count - 1) as usize;
+        self.say_of_newest(if is_down { "N" } else { &"NDNDNDNDNDND"[..steps] });
+        if self.random.percent(80) {
+            let setting = self.setting();
+            let up = self.devices(true).contains(&(device as u8));
+            self.say(if up { format!("F {device}") } else { format!("R {device} {setting}") });
+        }
+    }
+
+    fn late_report(&mut self) {
+        let at = self.random.below(self.lost.len());
+        let id = self.lost.swap_remove(at);
+        let letter = *self.random.pick(&['D', 'B']);
+        self.say(format!("{letter} {id}"));
     }
 
     fn say_of_newest(&mut self, letters: &str) {
@@ -463,7 +508,8 @@ impl Sitting {
             return self.restart();
         }
         // Mostly a device that a running routine is amid.
-        let near: Vec<u8> = self.running().iter().filter_map(|r| r.next).map(|c| c.device).filter(|d| up.contains(d)).collect();
+        let running = self.running();
+        let near: Vec<u8> = up.iter().copied().filter(|&d| running.iter().any(|r| r.amid >> d & 1 == 1)).collect();
         let device = if near.is_empty() || self.random.percent(40) { *self.random.pick(&up) } else { *self.random.pick(&near) };
         self.say(format!("F {device}"));
     }
@@ -473,7 +519,9 @@ impl Sitting {
         if down.is_empty() {
             return self.advance();
         }
-        let device = *self.random.pick(&down);
+        let running = self.running();
+        let near: Vec<u8> = down.iter().copied().filter(|&d| running.iter().any(|r| r.amid >> d & 1 == 1)).collect();
+        let device = if near.is_empty() || self.random.percent(50) { *self.random.pick(&down) } else { *self.random.pick(&near) };
         let setting = self.setting();
         self.say(format!("R {device} {setting}"));
     }

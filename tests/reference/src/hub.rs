@@ -99,6 +99,9 @@ impl Restarts {
     }
 }
 
+/// A bit for each command of a routine.
+type Places = u16;
+
 /// The numbers of the bits that are set, rising.
 fn bits(mut set: u32) -> impl Iterator<Item = u8> {
     std::iter::from_fn(move || {
@@ -117,11 +120,11 @@ struct Routine {
     id: u32,
     commands: [Command; MOST_COMMANDS],
     count: u8,
-    /// Commands are answered in turn: so many of the first are.
-    answered: u8,
-    /// Which of the answered were done, a bit each; the others were skipped.
-    done: u8,
-    /// The first unanswered command is in flight.
+    /// The commands that are not answered.
+    left: Places,
+    /// Those that were done; what is neither left nor done was skipped.
+    done: Places,
+    /// The first command left is in flight.
     in_flight: bool,
     /// The due setting of the device of the command in flight, when that was sent.
     due_at_send: i16,
@@ -135,16 +138,8 @@ impl Routine {
         &self.commands[..self.count as usize]
     }
 
-    fn answered(&self) -> &[Command] {
-        &self.commands[..self.answered as usize]
-    }
-
-    fn unanswered(&self) -> &[Command] {
-        &self.commands[self.answered as usize..self.count as usize]
-    }
-
     fn next(&self) -> Option<Command> {
-        self.unanswered().first().copied()
+        (self.left != 0).then(|| self.commands[self.left.trailing_zeros() as usize])
     }
 
     fn command_in_flight(&self) -> Option<Command> {
@@ -155,12 +150,18 @@ impl Routine {
         }
     }
 
+    /// Those of some commands that are on this device.
+    fn on(&self, device: u8, places: Places) -> Places {
+        let commands = self.commands().iter().enumerate();
+        commands.fold(0, |found, (i, c)| found | Places::from(c.device == device) << i) & places
+    }
+
     fn has_begun(&self, device: u8) -> bool {
-        self.answered().iter().any(|c| c.device == device) || self.is_in_flight_on(device)
+        self.on(device, !self.left) != 0 || self.is_in_flight_on(device)
     }
 
     fn has_left(&self, device: u8) -> bool {
-        self.unanswered().iter().any(|c| c.device == device)
+        bits(self.left.into()).any(|i| self.commands[i as usize].device == device)
     }
 
     fn is_in_flight_on(&self, device: u8) -> bool {
@@ -171,18 +172,31 @@ impl Routine {
         self.done >> index & 1 == 1
     }
 
+    /// A bit for each device on which a command was done.
+    fn done_devices(&self) -> u32 {
+        bits(self.done.into()).fold(0, |set, i| set | 1 << self.commands[i as usize].device)
+    }
+
     /// The setting that stands last for a device after the routine's done commands and then its restarts.
     fn last_setting(&self, device: u8) -> Option<i16> {
         self.restarts.get(device).or_else(|| {
-            let commands = self.answered().iter().enumerate().rev();
+            let commands = self.commands().iter().enumerate().rev();
             commands.filter(|(i, c)| c.device == device && self.is_done(*i)).map(|(_, c)| c.setting).next()
         })
     }
 
     fn answer_next(&mut self, done: bool) {
-        self.done |= (done as u8) << self.answered;
-        self.answered += 1;
+        let place = self.left & self.left.wrapping_neg();
+        self.left ^= place;
+        self.done |= if done { place } else { 0 };
         self.in_flight = false;
+    }
+
+    /// These commands, all of them left, are skipped: document 02, item 3. One in flight is so no longer.
+    fn skip(&mut self, places: Places) {
+        let first = self.left & self.left.wrapping_neg();
+        self.in_flight &= first & places == 0;
+        self.left &= !places;
     }
 }
 
@@ -199,6 +213,8 @@ pub struct Glance {
     pub answered: usize,
     /// A bit for each device on which a command was done.
     pub done_devices: u32,
+    /// A bit for each device that it has begun and not finished.
+    pub amid: u32,
 }
 
 #[derive(Clone, Debug)]
@@ -266,7 +282,7 @@ impl Hub {
             id,
             commands: [Command::default(); MOST_COMMANDS],
             count: commands.len() as u8,
-            answered: 0,
+            left: Places::MAX >> (Places::BITS as usize - commands.len()),
             done: 0,
             in_flight: false,
             due_at_send: 0,
@@ -359,8 +375,8 @@ impl Hub {
             return refused(15);
         }
         self.down |= 1 << device;
-        let aborted = self.abort_amid(device);
-        // The abort may have moved the mark. The event itself leaves no setting, so there is nothing to attach.
+        let aborted = self.disturb(device);
+        // An abort may have moved the mark. The event itself leaves no setting, so there is nothing to attach.
         let after = self.marks[device as usize];
         self.settle();
         Ok(Answer::Down { device, after, aborted })
@@ -377,7 +393,7 @@ impl Hub {
             return refused(17);
         }
         // The device is still down while the abort goes out.
-        let aborted = self.abort_amid(device);
+        let aborted = self.disturb(device);
         let after = self.marks[device as usize];
         match self.position(after) {
             Some(at) => self.sequence[at].restarts.attach(device, setting),
@@ -432,8 +448,9 @@ impl Hub {
             in_flight: r.in_flight,
             next: r.next(),
             due_at_send: r.due_at_send,
-            answered: r.answered as usize,
-            done_devices: (0..r.answered).filter(|&i| r.is_done(i.into())).fold(0, |set, i| set | 1 << r.commands[i as usize].device),
+            answered: usize::from(r.count) - r.left.count_ones() as usize,
+            done_devices: r.done_devices(),
+            amid: r.commands().iter().map(|c| c.device).filter(|&d| r.has_begun(d) && r.has_left(d)).fold(0, |set, d| set | 1 << d),
         })
     }
 
@@ -487,18 +504,25 @@ impl Hub {
         self.sequence.iter().rposition(bars).map_or(0, |at| at + 1)
     }
 
-    /// Aborts the running routine that has begun the device and not finished it, if there is one. There is never more
-    /// than one: a routine behind it waits before it begins the device, and newcomers go behind the device's mark.
-    fn abort_amid(&mut self, device: u8) -> Option<Aborted> {
+    /// What an event of the device does to the running routine that has begun it and not finished it, if there is one: a must left on
+    /// the device aborts it; otherwise what is left there is skipped (document 02, item 3). There is never more than one: a routine
+    /// behind it waits before it begins the device, and newcomers go behind the device's mark.
+    fn disturb(&mut self, device: u8) -> Option<Aborted> {
         let at = self.sequence.iter().position(|r| !r.committed && r.has_begun(device) && r.has_left(device))?;
-        Some(self.abort(at))
+        let routine = &mut self.sequence[at];
+        let left = routine.on(device, routine.left);
+        if bits(left.into()).any(|i| routine.commands[i as usize].tag == MUST) {
+            return Some(self.abort(at));
+        }
+        routine.skip(left);
+        None
     }
 
     fn abort(&mut self, at: usize) -> Aborted {
         // Only the routine's done commands leave the order, so no other device's due setting can change.
         let routine = &self.sequence[at];
         let in_flight = routine.command_in_flight().map_or(0, |c| 1u32 << c.device);
-        let touched = routine.answered().iter().fold(in_flight, |set, c| set | 1 << c.device);
+        let touched = in_flight | routine.done_devices();
         let mut due_before = [0; MOST_DEVICES];
         for device in bits(touched) {
             due_before[device as usize] = self.due_setting(device);

@@ -1,6 +1,7 @@
 //! The hub's order, built from the lines and what they print alone, and run: it must give every due setting. And devices
 //! that take what is sent to them: whenever nothing is in flight on one that is up, it stands at its due setting. So it is
-//! with new pass limits anywhere between the calls (document 02, item 13): they tell nothing about the order.
+//! with new pass limits anywhere between the calls (document 02, item 13): they tell nothing about the order. What an event
+//! skips (item 3) no line tells: it is worked out, and behind its routine and before the next one stands that event.
 
 use reference::histories::{self, Random};
 use reference::line::Program;
@@ -9,11 +10,13 @@ use std::collections::{HashMap, HashSet};
 #[derive(Clone, Copy)]
 struct Command {
     device: usize,
+    tag: i64,
     setting: i64,
 }
 
 enum Item {
-    Routine { id: u64, done: Vec<Command>, lame: Vec<Command>, committed: bool },
+    /// Lame: skipped in its turn. Dark: skipped by an event of its device.
+    Routine { id: u64, done: Vec<Command>, lame: Vec<Command>, dark: Vec<Command>, committed: bool },
     Failure { device: usize },
     Restart { device: usize, setting: i64 },
 }
@@ -22,13 +25,15 @@ enum Item {
 struct Watch {
     list: Vec<Item>,
     bar: usize,
-    submitted: HashMap<u64, Vec<Command>>,
-    answered: HashMap<u64, usize>,
+    /// Of each routine the commands left, in turn, and the devices that it has begun. If one is in flight it is the first left.
+    left: HashMap<u64, Vec<Command>>,
+    begun: HashMap<u64, HashSet<usize>>,
     in_flight: HashSet<u64>,
     down: Vec<bool>,
     /// Where the devices stand, those that are up.
     stand: Vec<i64>,
     random: Random,
+    dark_count: usize,
 }
 
 impl Watch {
@@ -36,12 +41,13 @@ impl Watch {
         Watch {
             list: Vec::new(),
             bar: 0,
-            submitted: HashMap::new(),
-            answered: HashMap::new(),
+            left: HashMap::new(),
+            begun: HashMap::new(),
             in_flight: HashSet::new(),
             down: vec![false; devices],
             stand: vec![0; devices],
             random: Random::new(seed, 0),
+            dark_count: 0,
         }
     }
 
@@ -58,7 +64,30 @@ impl Watch {
     }
 
     fn current(&self, id: u64) -> Command {
-        self.submitted[&id][self.answered[&id]]
+        self.left[&id][0]
+    }
+
+    fn begin(&mut self, id: u64, device: usize) {
+        self.begun.get_mut(&id).unwrap().insert(device);
+    }
+
+    /// Each routine that runs, has begun the device and has commands left on it loses them.
+    fn skip(&mut self, lost: usize) {
+        for item in &mut self.list {
+            let Item::Routine { id, dark, committed: false, .. } = item else { continue };
+            let left = self.left.get_mut(id).unwrap();
+            if !self.begun[id].contains(&lost) {
+                continue;
+            }
+            if left.first().is_some_and(|c| c.device == lost) {
+                self.in_flight.remove(id);
+            }
+            let gone: Vec<Command> = left.iter().copied().filter(|c| c.device == lost).collect();
+            assert!(gone.iter().all(|c| c.tag == 1), "a must is skipped");
+            left.retain(|c| c.device != lost);
+            self.dark_count += gone.len();
+            dark.extend(gone);
+        }
     }
 
     fn answer(&mut self, line: &[&str], said: &str) {
@@ -68,22 +97,24 @@ impl Watch {
             "placed" => {
                 let numbers: Vec<i64> = line[1..].iter().map(|w| w.parse().unwrap()).collect();
                 let id = n(1) as u64;
-                let commands = numbers.chunks(3).map(|c| Command { device: c[0] as usize, setting: c[2] }).collect();
-                self.submitted.insert(id, commands);
-                self.answered.insert(id, 0);
-                self.put(n(3) as u64, Item::Routine { id, done: Vec::new(), lame: Vec::new(), committed: false });
+                let commands = numbers.chunks(3).map(|c| Command { device: c[0] as usize, tag: c[1], setting: c[2] }).collect();
+                self.left.insert(id, commands);
+                self.begun.insert(id, HashSet::new());
+                self.put(n(3) as u64, Item::Routine { id, done: Vec::new(), lame: Vec::new(), dark: Vec::new(), committed: false });
             }
             "send" => {
                 let current = self.current(n(1) as u64);
                 assert_eq!((current.device as i64, current.setting), (n(2), n(3)));
                 assert!(!self.down[current.device]);
                 self.in_flight.insert(n(1) as u64);
+                self.begin(n(1) as u64, current.device);
             }
             "done" | "skipped" => {
                 let id = n(1) as u64;
                 let command = self.current(id);
                 let was_in_flight = self.in_flight.remove(&id);
-                *self.answered.get_mut(&id).unwrap() += 1;
+                self.begin(id, command.device);
+                self.left.get_mut(&id).unwrap().remove(0);
                 let at = self.routine(id);
                 let Item::Routine { done, lame, .. } = &mut self.list[at] else { unreachable!() };
                 if words[0] == "done" {
@@ -98,6 +129,7 @@ impl Watch {
                 }
             }
             "committed" => {
+                assert!(self.left[&(n(1) as u64)].is_empty());
                 let at = self.routine(n(1) as u64);
                 let Item::Routine { committed, .. } = &mut self.list[at] else { unreachable!() };
                 *committed = true;
@@ -117,12 +149,14 @@ impl Watch {
             }
             "down" => {
                 self.down[n(1) as usize] = true;
+                self.skip(n(1) as usize);
                 self.put(n(3) as u64, Item::Failure { device: n(1) as usize });
             }
             "up" => {
                 let (device, setting) = (n(1) as usize, line[2].parse().unwrap());
                 self.down[device] = false;
                 self.stand[device] = setting;
+                self.skip(device);
                 self.put(n(3) as u64, Item::Restart { device, setting });
             }
             "wait" => assert!(!self.in_flight.contains(&(n(1) as u64))),
@@ -151,14 +185,19 @@ impl Watch {
         let hub = program.hub().unwrap();
         let mut down = vec![false; self.down.len()];
         let mut settings = vec![0; self.down.len()];
-        for item in &self.list {
+        for (at, item) in self.list.iter().enumerate() {
             match item {
-                Item::Routine { done, lame, .. } => {
+                Item::Routine { done, lame, dark, .. } => {
                     for c in done {
                         assert!(!down[c.device]);
                         settings[c.device] = c.setting;
                     }
                     assert!(lame.iter().all(|c| down[c.device]));
+                    let events = self.list[at + 1..].iter().map_while(|item| match item {
+                        Item::Failure { device } | Item::Restart { device, .. } => Some(*device),
+                        Item::Routine { .. } => None,
+                    });
+                    assert!(dark.iter().all(|c| events.clone().any(|device| device == c.device)));
                 }
                 Item::Failure { device } => down[*device] = true,
                 Item::Restart { device, setting } => {
@@ -190,6 +229,7 @@ fn the_order_gives_the_due_settings_whatever_the_pass_limit() {
 }
 
 fn check_histories(limits: bool) {
+    let mut dark = 0;
     for index in 0..600 {
         let mut random = Random::new(index, 1);
         let input = String::from_utf8(histories::random(3, index)).unwrap();
@@ -201,6 +241,7 @@ fn check_histories(limits: bool) {
             program.line(line.as_bytes(), &mut out);
             let said = String::from_utf8(out).unwrap();
             if said == "opened\n" {
+                dark += watch.as_ref().map_or(0, |watch: &Watch| watch.dark_count);
                 watch = Some(Watch::new(words[1].parse().unwrap(), index));
             }
             let Some(watch) = &mut watch else { continue };
@@ -218,5 +259,7 @@ fn check_histories(limits: bool) {
                 watch.check(&program);
             }
         }
+        dark += watch.as_ref().map_or(0, |watch| watch.dark_count);
     }
+    assert!(dark > 500, "events skip {dark} commands");
 }

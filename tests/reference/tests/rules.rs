@@ -121,7 +121,7 @@ fn a_restart_aborts_while_the_device_is_still_down() {
     let devices = lines(&[
         ("O 3 0 1", "opened"),
         ("F 0", "down 0 after 0"),
-        ("S 2 0 8 1 0 9 0 1 50 0 1 60", "placed 1 after 0"),
+        ("S 2 0 8 1 0 9 0 1 50 0 0 60", "placed 1 after 0"),
         ("N 1", "send 1 2 8"),
         ("D 1", "done 1"),
         ("N 1", "send 1 1 9"),
