@@ -5,16 +5,19 @@
 //!
 //! A history is made while it runs: what is called next depends on the answers. From calls and answers, and nothing else,
 //! this program keeps the order, as document 01's paragraph "The hub's order" says, and the devices, as "The devices"
-//! says. After every call it checks that
+//! says. What an event skips (document 02, item 3) no answer tells: it is worked out. Reports on what was skipped in flight
+//! may come late; this program is the server, too, and drops them while another command of the routine is in flight.
+//! After every call it checks that
 //!   - the settled part of before stands unchanged at the beginning of the order;
-//!   - in the order's serial run every done command finds its device up, and every skipped one was reported failed or
-//!     finds it down;
+//!   - in the order's serial run every done command finds its device up, and every skipped one was reported failed, finds it
+//!     down, or was skipped by an event: then an event of its device stands behind its routine and before the next one;
+//!   - a late report is refused, with 12 while its routine runs, with 10 once that has ended;
 //!   - the device lines printed at the end of the input so far are those of the serial run;
 //!   - if no routine runs: whatever the working devices still take of what was sent to them, once every setting put back
 //!     is carried out they have the settings of the serial run.
 
 use outside::{archive, number, run_all, Answer, Back, Random};
-use std::collections::{BTreeMap, HashSet};
+use std::collections::{BTreeMap, HashSet, VecDeque};
 use std::process::ExitCode;
 
 // ---- calls and answers as text
@@ -35,6 +38,8 @@ enum Call {
     Cancel(u64),
     Failure(usize),
     Restart(usize, i64),
+    /// A late report, done or failed, and the number that it must be refused with.
+    Late { id: u64, done: bool, number: u8 },
     /// A line that tells nothing, whatever it is; its answer must be a refusal or `unread`.
     Idle(String),
 }
@@ -46,8 +51,8 @@ impl Call {
                 commands.iter().fold("S".to_string(), |line, c| line + &format!(" {} {} {}", c.device, c.tag, c.setting))
             }
             Call::Turn(id) => format!("N {id}"),
-            Call::Done(id) => format!("D {id}"),
-            Call::Failed(id) => format!("B {id}"),
+            Call::Done(id) | Call::Late { id, done: true, .. } => format!("D {id}"),
+            Call::Failed(id) | Call::Late { id, done: false, .. } => format!("B {id}"),
             Call::Cancel(id) => format!("C {id}"),
             Call::Failure(device) => format!("F {device}"),
             Call::Restart(device, setting) => format!("R {device} {setting}"),
@@ -75,11 +80,12 @@ enum Answered {
     Done { device: usize, setting: i64 },
     ReportedFailed,
     SkippedAsDown { device: usize },
+    SkippedByEvent { device: usize },
 }
 
 #[derive(Clone, PartialEq, Debug)]
 enum Entry {
-    /// Its answered commands in turn.
+    /// Its answered commands, in the order of the answers.
     Routine { id: u64, commands: Vec<Answered>, committed: bool },
     Failure(usize),
     Restart(usize, i64),
@@ -88,6 +94,10 @@ enum Entry {
 impl Entry {
     fn is_routine(&self) -> bool {
         matches!(self, Entry::Routine { .. })
+    }
+
+    fn is_event_of(&self, wanted: usize) -> bool {
+        matches!(self, Entry::Failure(device) | Entry::Restart(device, _) if *device == wanted)
     }
 }
 
@@ -148,7 +158,8 @@ impl Order {
     /// Runs it from all devices up at 0. Err: a command stands where it must not.
     fn serial_run(&self, device_count: usize) -> Result<Vec<(bool, i64)>, String> {
         let mut devices = vec![(true, 0); device_count];
-        for entry in &self.entries {
+        for (at, entry) in self.entries.iter().enumerate() {
+            let events = self.entries[at + 1..].iter().take_while(|entry| !entry.is_routine());
             match entry {
                 Entry::Failure(device) => devices[*device].0 = false,
                 Entry::Restart(device, setting) => devices[*device] = (true, *setting),
@@ -160,9 +171,12 @@ impl Order {
                             }
                             Answered::Done { device, setting } => devices[device].1 = setting,
                             Answered::SkippedAsDown { device } if devices[device].0 => {
-                                return Err(format!("a command that routine {id} skipped was not reported failed and finds device {device} up"));
+                                return Err(format!("a command that routine {id} skipped in its turn finds device {device} up"));
                             }
-                            Answered::SkippedAsDown { .. } | Answered::ReportedFailed => {}
+                            Answered::SkippedByEvent { device } if !events.clone().any(|event| event.is_event_of(device)) => {
+                                return Err(format!("routine {id} skipped by an event of device {device}; behind it stands none"));
+                            }
+                            Answered::SkippedAsDown { .. } | Answered::SkippedByEvent { .. } | Answered::ReportedFailed => {}
                         }
                     }
                 }
@@ -201,10 +215,20 @@ struct Flight {
 }
 
 struct Routine {
-    commands: Vec<Command>,
-    /// So many of them are answered.
-    answered: usize,
+    /// The commands that are not answered, in turn. The one in flight is the first.
+    left: VecDeque<Command>,
+    /// The devices of those that are, or were sent.
+    begun: HashSet<usize>,
     flight: Option<Flight>,
+}
+
+/// A report that has not come yet, on a command that was skipped in flight.
+#[derive(Clone, Copy)]
+struct Late {
+    id: u64,
+    device: usize,
+    /// The device took it before it failed.
+    done: bool,
 }
 
 /// How often something happened that a history must reach for the checks to say anything.
@@ -221,6 +245,17 @@ enum Seen {
     RestartAtOther,
     AbortByFailure,
     AbortByRestart,
+    FlightSkipped,
+    SkippedByFailure,
+    SkippedByRestart,
+    SkippedApart,
+    SkippedToTheEnd,
+    LateDone12,
+    LateFailed12,
+    LateDone10,
+    LateFailed10,
+    LateDoneDropped,
+    LateFailedDropped,
     BackByAbort,
     BackBySkip,
     SkippedAsDown,
@@ -230,7 +265,7 @@ enum Seen {
     EndStates,
 }
 
-const SEEN: [(Seen, &str); 18] = [
+const SEEN: [(Seen, &str); 29] = [
     (Seen::Calls, "calls"),
     (Seen::Refusals, "refused or unread"),
     (Seen::Settled, "entries settled"),
@@ -242,6 +277,17 @@ const SEEN: [(Seen, &str); 18] = [
     (Seen::RestartAtOther, "restarts at another setting than the serial run's before"),
     (Seen::AbortByFailure, "aborts by a failure"),
     (Seen::AbortByRestart, "aborts by a restart"),
+    (Seen::FlightSkipped, "commands in flight skipped by a failure"),
+    (Seen::SkippedByFailure, "other commands skipped by a failure"),
+    (Seen::SkippedByRestart, "commands skipped by a restart"),
+    (Seen::SkippedApart, "of them with one on another device between"),
+    (Seen::SkippedToTheEnd, "routines whose last commands an event skipped"),
+    (Seen::LateDone12, "late done reports refused with 12"),
+    (Seen::LateFailed12, "late failed reports refused with 12"),
+    (Seen::LateDone10, "late done reports refused with 10"),
+    (Seen::LateFailed10, "late failed reports refused with 10"),
+    (Seen::LateDoneDropped, "late done reports dropped"),
+    (Seen::LateFailedDropped, "late failed reports dropped"),
     (Seen::BackByAbort, "settings put back by an abort"),
     (Seen::BackBySkip, "settings put back by a skip"),
     (Seen::SkippedAsDown, "commands skipped as down"),
@@ -266,6 +312,7 @@ struct World {
     devices: Vec<Device>,
     running: BTreeMap<u64, Routine>,
     committed: Vec<u64>,
+    late: Vec<Late>,
     /// Routines whose command in flight is to fail if it still can.
     to_fail: HashSet<u64>,
     taken: HashSet<usize>,
@@ -285,7 +332,10 @@ struct Rates {
     submissions: usize,
     idle: usize,
     best_effort: usize,
+    /// Routines that come back to a device, mostly best-effort.
+    lamps: usize,
     reported_failed: usize,
+    late: usize,
     most_commands: i64,
     most_running: usize,
     settings: Vec<i64>,
@@ -304,7 +354,9 @@ impl World {
             submissions: *random.pick(&[12, 20, 30]),
             idle: *random.pick(&[1, 5, 15]),
             best_effort: *random.pick(&[10, 40, 70]),
+            lamps: *random.pick(&[0, 20, 80]),
             reported_failed: *random.pick(&[10, 30, 60]),
+            late: *random.pick(&[5, 15, 40]),
             most_commands: *random.pick(&[2, 4, 8]),
             most_running: *random.pick(&[3, 6, 18]),
             settings,
@@ -319,6 +371,7 @@ impl World {
             devices: Vec::new(),
             running: BTreeMap::new(),
             committed: Vec::new(),
+            late: Vec::new(),
             to_fail: HashSet::new(),
             taken: HashSet::new(),
             tickets: 0,
@@ -476,6 +529,17 @@ impl World {
     fn tell(&mut self, call: &Call, answers: &[Answer], lines: &[String]) -> Result<(), String> {
         let unexpected = || Err(format!("`{}` is answered with {lines:?}", call.line()));
         match (call, answers) {
+            (Call::Late { done, number, .. }, _) => {
+                if lines != [format!("refused {number}")] {
+                    return unexpected();
+                }
+                self.seen(match (number, done) {
+                    (12, true) => Seen::LateDone12,
+                    (12, false) => Seen::LateFailed12,
+                    (_, true) => Seen::LateDone10,
+                    (_, false) => Seen::LateFailed10,
+                });
+            }
             (Call::Idle(_), [Answer::Refused | Answer::Unread]) => self.seen(Seen::Refusals),
             (Call::Idle(_), _) | (_, [Answer::Unread]) => return unexpected(),
             (_, [Answer::Refused]) => {
@@ -493,7 +557,7 @@ impl World {
                 if self.order.entries[self.order.place_of(*id)? + 1..].iter().any(Entry::is_routine) {
                     self.seen(Seen::PlacedAhead);
                 }
-                self.running.insert(*id, Routine { commands: commands.clone(), answered: 0, flight: None });
+                self.running.insert(*id, Routine { left: commands.iter().copied().collect(), begun: HashSet::new(), flight: None });
             }
             (Call::Turn(id), [Answer::Wait { id: same }]) if id == same => {
                 self.routine(*id)?;
@@ -501,22 +565,23 @@ impl World {
             (Call::Turn(id), [Answer::Send { id: same, device, setting }]) if id == same => {
                 let ticket = self.send(*device, *setting, false)?;
                 let routine = self.routine(*id)?;
-                let next = routine.commands.get(routine.answered);
+                let next = routine.left.front();
                 if routine.flight.is_some() || next.is_none_or(|c| (c.device, c.setting) != (*device, *setting)) {
                     return unexpected();
                 }
+                routine.begun.insert(*device);
                 routine.flight = Some(Flight { device: *device, setting: *setting, ticket });
             }
             (Call::Turn(id), [Answer::Skipped { id: same, back }]) if id == same && back.is_empty() => {
                 let routine = self.routine(*id)?;
-                let Some(&Command { device, tag: 1, .. }) = routine.commands.get(routine.answered) else { return unexpected() };
-                routine.answered += 1;
+                let Some(Command { device, tag: 1, .. }) = routine.left.pop_front() else { return unexpected() };
+                routine.begun.insert(device);
                 self.order.answered(*id, Answered::SkippedAsDown { device })?;
                 self.seen(Seen::SkippedAsDown);
             }
             (Call::Turn(id), [Answer::Committed { id: same }]) if id == same => {
                 let routine = self.routine(*id)?;
-                if routine.answered < routine.commands.len() {
+                if !routine.left.is_empty() {
                     return unexpected();
                 }
                 self.running.remove(id);
@@ -530,18 +595,16 @@ impl World {
             (Call::Done(id), [Answer::Done { id: same }]) if id == same => {
                 let routine = self.routine(*id)?;
                 let Some(flight) = routine.flight.take() else { return unexpected() };
-                routine.answered += 1;
+                routine.left.pop_front();
                 // The premise: a report says done only if the device took the command.
                 assert!(self.taken.contains(&flight.ticket), "this test broke the premise of a done report");
                 self.order.answered(*id, Answered::Done { device: flight.device, setting: flight.setting })?;
             }
             (Call::Failed(id), [Answer::Skipped { id: same, back }]) if id == same => {
                 self.never_taken(*id)?;
-                let routine = self.routine(*id)?;
-                if routine.commands[routine.answered].tag != 1 {
+                if self.routine(*id)?.left.pop_front().is_none_or(|command| command.tag != 1) {
                     return unexpected();
                 }
-                routine.answered += 1;
                 self.order.answered(*id, Answered::ReportedFailed)?;
                 self.put_back(back, Seen::BackBySkip)?;
             }
@@ -566,12 +629,13 @@ impl World {
                 self.devices[*device].failed = true;
                 match before {
                     [] => {}
-                    [Answer::Aborted { id, back }] => {
+                    [Answer::Aborted { id, back }] if self.has_must_left(*id, *device)? => {
                         self.aborted(*id, back)?;
                         self.seen(Seen::AbortByFailure);
                     }
                     _ => return unexpected(),
                 }
+                self.skipped(*device, Seen::SkippedByFailure)?;
                 self.order.insert(Entry::Failure(*device), *after)?;
             }
             (Call::Restart(device, setting), [before @ .., Answer::Up { device: same, after }]) if device == same && before.len() <= 1 => {
@@ -579,7 +643,7 @@ impl World {
                 assert_eq!(self.devices[*device].actual, *setting, "this test broke the premise of a restart");
                 match before {
                     [] => {}
-                    [Answer::Aborted { id, back }] => {
+                    [Answer::Aborted { id, back }] if self.has_must_left(*id, *device)? => {
                         self.aborted(*id, back)?;
                         self.seen(Seen::AbortByRestart);
                     }
@@ -588,6 +652,7 @@ impl World {
                 if self.order.serial_run(self.devices.len())?[*device].1 != *setting {
                     self.seen(Seen::RestartAtOther);
                 }
+                self.skipped(*device, Seen::SkippedByRestart)?;
                 self.devices[*device].failed = false;
                 self.order.insert(Entry::Restart(*device, *setting), *after)?;
             }
@@ -602,6 +667,71 @@ impl World {
         assert!(!self.taken.contains(&flight.ticket), "this test broke the premise of a failed report");
         self.devices[flight.device].sent.retain(|sent| sent.ticket != flight.ticket);
         Ok(())
+    }
+
+    /// It has begun the device, and a must is left on it.
+    fn has_must_left(&mut self, id: u64, device: usize) -> Result<bool, String> {
+        let routine = self.routine(id)?;
+        Ok(routine.begun.contains(&device) && routine.left.iter().any(|command| command.device == device && command.tag == 0))
+    }
+
+    /// An event of this device: each routine that runs, has begun it and has commands left on it loses them.
+    fn skipped(&mut self, device: usize, seen: Seen) -> Result<(), String> {
+        let ids: Vec<u64> = self.running.keys().copied().collect();
+        for id in ids {
+            let routine = self.routine(id)?;
+            let places: Vec<usize> = (0..routine.left.len()).filter(|&i| routine.left[i].device == device).collect();
+            let (Some(first), Some(last)) = (places.first(), places.last()) else { continue };
+            if !routine.begun.contains(&device) {
+                continue;
+            }
+            if places.iter().any(|&i| routine.left[i].tag != 1) {
+                return Err(format!("routine {id} goes on, a must left on device {device}, which has an event"));
+            }
+            let flight = routine.flight.take_if(|flight| flight.device == device);
+            routine.left.retain(|command| command.device != device);
+            let to_the_end = routine.left.is_empty();
+            if let Some(flight) = flight {
+                let done = self.taken.contains(&flight.ticket);
+                self.late.push(Late { id, device, done });
+                self.seen(Seen::FlightSkipped);
+            }
+            for _ in 0..places.len() {
+                self.order.answered(id, Answered::SkippedByEvent { device })?;
+            }
+            for _ in usize::from(flight.is_some())..places.len() {
+                self.seen(seen);
+            }
+            if last - first >= places.len() {
+                self.seen(Seen::SkippedApart);
+            }
+            if to_the_end {
+                self.seen(Seen::SkippedToTheEnd);
+            }
+        }
+        Ok(())
+    }
+
+    /// The server has one of the late reports: it drops it if another command of the routine is in flight.
+    fn late_report(&mut self) -> Option<Call> {
+        let flying = self.late.iter().position(|late| self.running.get(&late.id).is_some_and(|routine| routine.flight.is_some()));
+        let at = flying.unwrap_or(self.random.below(self.late.len()));
+        let Late { id, device, done } = self.late[at];
+        if self.random.chance(30) {
+            self.late.swap_remove(at); // else it comes again
+        }
+        let number = match self.running.get(&id) {
+            None => 10,
+            Some(Routine { flight: None, .. }) => 12,
+            Some(_) => {
+                if self.shown {
+                    println!("        (a late report on {id}, device {device}, done: {done}, is dropped)");
+                }
+                self.seen(if done { Seen::LateDoneDropped } else { Seen::LateFailedDropped });
+                return None;
+            }
+        };
+        Some(Call::Late { id, done, number })
     }
 
     fn put_back(&mut self, back: &[Back], seen: Seen) -> Result<(), String> {
@@ -622,11 +752,17 @@ impl World {
     // ---- what is called
 
     fn commands(&mut self) -> Vec<Command> {
+        // Few devices, so that routines meet on them.
+        let mut devices: Vec<usize> = (0..self.devices.len().min(6)).collect();
+        let mut best_effort = self.rates.best_effort;
+        if self.random.chance(self.rates.lamps) {
+            devices = vec![*self.random.pick(&devices), *self.random.pick(&devices)];
+            best_effort = 85;
+        }
         (0..self.random.between(1, self.rates.most_commands))
             .map(|_| Command {
-                // Few devices, so that routines meet on them.
-                device: self.random.below(self.devices.len().min(6)),
-                tag: u8::from(self.random.chance(self.rates.best_effort)),
+                device: *self.random.pick(&devices),
+                tag: u8::from(self.random.chance(best_effort)),
                 setting: *self.random.pick(&self.rates.settings),
             })
             .collect()
@@ -655,7 +791,7 @@ impl World {
         let mut found = Vec::new();
         for (&flying, routine) in &self.running {
             let Some(flight) = routine.flight else { continue };
-            if routine.commands[routine.answered].tag == 0 || self.taken.contains(&flight.ticket) {
+            if routine.left[0].tag == 0 || self.taken.contains(&flight.ticket) {
                 continue;
             }
             for entry in &self.order.entries {
@@ -707,6 +843,11 @@ impl World {
                 return self.call(Call::Cancel(id));
             }
         }
+        if !self.late.is_empty() && self.random.chance(self.rates.late) {
+            if let Some(call) = self.late_report() {
+                return self.call(call);
+            }
+        }
         let device = self.random.below(self.devices.len().min(6));
         let (mut roll, rates) = (self.random.below(100), &self.rates);
         let mut turn_of = |share: usize| {
@@ -747,6 +888,11 @@ impl World {
         for tried in 0.. {
             self.some_take();
             let Some(id) = self.any_running() else { break };
+            if !self.late.is_empty() && self.random.chance(self.rates.late) {
+                if let Some(call) = self.late_report() {
+                    self.call(call)?;
+                }
+            }
             let down = self.devices.iter().position(|device| device.failed);
             match down {
                 Some(device) if self.random.chance(10) => self.call(Call::Restart(device, self.devices[device].actual))?,
@@ -765,6 +911,9 @@ impl World {
         }
         let serial = self.order.serial_run(self.devices.len())?;
         self.end_state(&serial)?;
+        while let Some(Late { id, done, .. }) = self.late.pop() {
+            self.call(Call::Late { id, done, number: 10 })?;
+        }
         // The same with devices that do it: each takes until nothing put back is left, then perhaps one more.
         for device in 0..self.devices.len() {
             while let Some(last) = self.devices[device].sent.iter().rposition(|sent| sent.is_back) {
