@@ -6,7 +6,8 @@
 //! A schedule begins after a history of any calls, failures, restarts and cancels among them. Then come rounds, in each of
 //! them one turn for each routine that runs and has nothing in flight, in any order, and then a done or failed report for
 //! each command in flight, in any order; submissions between them; and refused calls anywhere. Which routines run and what
-//! is in flight is told by the answers alone. This program checks that
+//! is in flight is known from the answers alone; a command in flight that a failure skips (item 3) is so no longer, and no
+//! answer says so. This program checks that
 //!   - no such turn and no such report is refused, and each is answered for its routine;
 //!   - each routine placed since the rounds began has ended after (8 + 1) x (16 + K) rounds.
 //! It prints the largest share of these rounds that a routine needed.
@@ -21,7 +22,8 @@ const HIGHEST_PASS_LIMIT: u64 = 8;
 
 /// A routine that runs.
 struct Routine {
-    flying: bool,
+    /// The device of its command in flight.
+    flying: Option<usize>,
     /// It was placed after so many rounds; none if that was before the rounds began.
     placed: Option<u64>,
 }
@@ -40,9 +42,10 @@ enum Seen {
     SkippedAsDown,
     FlyingAtStart,
     DownAtStart,
+    SkippedBefore,
 }
 
-const SEEN: [(Seen, &str); 11] = [
+const SEEN: [(Seen, &str); 12] = [
     (Seen::Rounds, "rounds"),
     (Seen::Placed, "routines placed since the rounds began"),
     (Seen::Ended, "of them ended"),
@@ -54,6 +57,7 @@ const SEEN: [(Seen, &str); 11] = [
     (Seen::SkippedAsDown, "commands skipped, a device being down"),
     (Seen::FlyingAtStart, "schedules that begin with a command in flight"),
     (Seen::DownAtStart, "schedules that begin with a device down"),
+    (Seen::SkippedBefore, "commands in flight skipped by a failure before the rounds"),
 ];
 
 /// How many rounds a routine needed, of how many.
@@ -124,7 +128,7 @@ impl Schedule {
             }
         } else {
             Rates {
-                before: random.between(0, 40),
+                before: random.between(0, 60),
                 rounds_with_submissions: random.between(5, 60) as u64,
                 submissions: *random.pick(&[10, 40, 80, 100]),
                 refusals: *random.pick(&[0, 5, 20]),
@@ -211,6 +215,13 @@ impl Schedule {
         Ok(())
     }
 
+    /// An event of the device: what is in flight on it, of a routine that still runs, is skipped.
+    fn skipped(&mut self, device: usize) {
+        let flying = self.running.values_mut().filter_map(|routine| routine.flying.take_if(|on| *on == device));
+        let count = flying.count() as u64;
+        self.told.counts[Seen::SkippedBefore as usize] += count;
+    }
+
     /// One answer. `round`: the number of the round that it falls into, or that ended last.
     fn tell(&mut self, answer: &Answer, round: u64) -> Result<(), String> {
         match answer {
@@ -219,7 +230,7 @@ impl Schedule {
                 if placed.is_some() {
                     self.seen(Seen::Placed);
                 }
-                if self.running.insert(*id, Routine { flying: false, placed }).is_some() {
+                if self.running.insert(*id, Routine { flying: None, placed }).is_some() {
                     return Err(format!("routine {id} is placed twice"));
                 }
             }
@@ -227,11 +238,17 @@ impl Schedule {
                 self.routine(*id)?;
                 self.seen(Seen::Waits);
             }
-            Answer::Send { id, .. } => self.routine(*id)?.flying = true,
-            Answer::Done { id } | Answer::Skipped { id, .. } => self.routine(*id)?.flying = false,
+            Answer::Send { id, device, .. } => self.routine(*id)?.flying = Some(*device),
+            Answer::Done { id } | Answer::Skipped { id, .. } => self.routine(*id)?.flying = None,
             Answer::Committed { id } | Answer::Aborted { id, .. } => self.ends(*id, round)?,
-            Answer::Down { device, .. } => self.down[*device] = true,
-            Answer::Up { device, .. } => self.down[*device] = false,
+            Answer::Down { device, .. } => {
+                self.down[*device] = true;
+                self.skipped(*device);
+            }
+            Answer::Up { device, .. } => {
+                self.down[*device] = false;
+                self.skipped(*device);
+            }
             Answer::Refused => {}
             Answer::Unread => return Err("a line is unread".to_string()),
         }
@@ -259,7 +276,7 @@ impl Schedule {
 
     /// The ids of the running routines that have a command in flight, or of those that have none.
     fn those(&self, flying: bool) -> Vec<u64> {
-        self.running.iter().filter(|(_, routine)| routine.flying == flying).map(|(id, _)| *id).collect()
+        self.running.iter().filter(|(_, routine)| routine.flying.is_some() == flying).map(|(id, _)| *id).collect()
     }
 
     fn report(&mut self, id: u64) -> String {
@@ -295,8 +312,10 @@ impl Schedule {
     fn any_call(&mut self) -> Result<(), String> {
         let device = self.random.below(self.device_count);
         let any: Vec<u64> = self.running.keys().copied().collect();
+        let flown: Vec<usize> = self.running.values().filter_map(|routine| routine.flying).collect();
         let line = match self.random.below(100) {
             0..=29 => self.submission(),
+            30..=37 if !flown.is_empty() => format!("F {}", self.random.pick(&flown)),
             30..=41 if self.down[device] => format!("R {device} {}", self.random.between(-1000, 1000)),
             30..=35 => format!("F {device}"),
             42..=46 if !any.is_empty() => format!("C {}", self.random.pick(&any)),
@@ -304,7 +323,7 @@ impl Schedule {
             _ if any.is_empty() => self.submission(),
             _ => {
                 let id = *self.random.pick(&any);
-                if self.running[&id].flying {
+                if self.running[&id].flying.is_some() {
                     self.report(id)
                 } else {
                     format!("N {id}")
