@@ -1,5 +1,5 @@
-"""The hub of document 01 and, where a request changed it, document 02, written from the documents alone: the order is kept as a list (of the settled
-part its settings, in order), and due settings are read off it each time.
+"""The hub of document 01 and, where a request changed it, document 02, written from the documents alone: the order is kept as a list
+(of the settled part its settings, in order), and due settings are read off it each time.
 
 A call is a tuple: ("submit", [(device, tag, setting), ..]), ("turn", id), ("report", id, code), ("failure", device),
 ("restart", device, setting), ("cancel", id), ("limit", k). An answer is a tuple that begins with the word that the document prints.
