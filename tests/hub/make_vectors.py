@@ -7,7 +7,7 @@ A record (two bytes of length before it) is kind, N, K, the first id in four byt
 (`S` submission, `N` turn, `P` report, `C` cancel, `F` failure, `R` restart), a byte (the number of commands, the code, or the device),
 and then four bytes of id, two of setting, or four for each command; all low byte first. Or kind 1 and a book. What is printed for it are
 the lines of document 01's line program; of a book, a line for each routine and then `end`, or the refusal. The output of the examples is
-that of document 01; the model must give it too. That of the histories is the model's.
+that of document 01, or was worked out from document 02; the model must give it too. That of the histories is the model's.
 
 Two more letters are readings of due settings. `V`, and a device: `due` and its setting. `L`, a number of entries and two bytes: all due
 settings into the first so many entries (document 02, item 14) of a list of 40 that holds the two bytes' number everywhere; printed are the
