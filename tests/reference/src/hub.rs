@@ -150,18 +150,18 @@ impl Routine {
         }
     }
 
-    /// Those of some commands that are on this device.
-    fn on(&self, device: u8, places: Places) -> Places {
-        let commands = self.commands().iter().enumerate();
-        commands.fold(0, |found, (i, c)| found | Places::from(c.device == device) << i) & places
-    }
-
     fn has_begun(&self, device: u8) -> bool {
-        self.on(device, !self.left) != 0 || self.is_in_flight_on(device)
+        // The first of them on a device is the first to be sent or skipped.
+        let first = self.commands().iter().position(|c| c.device == device);
+        first.is_some_and(|i| self.left >> i & 1 == 0) || self.is_in_flight_on(device)
     }
 
     fn has_left(&self, device: u8) -> bool {
         bits(self.left.into()).any(|i| self.commands[i as usize].device == device)
+    }
+
+    fn left_on(&self, device: u8) -> Places {
+        bits(self.left.into()).filter(|&i| self.commands[i as usize].device == device).fold(0, |found, i| found | 1 << i)
     }
 
     fn is_in_flight_on(&self, device: u8) -> bool {
@@ -180,7 +180,8 @@ impl Routine {
     /// The setting that stands last for a device after the routine's done commands and then its restarts.
     fn last_setting(&self, device: u8) -> Option<i16> {
         self.restarts.get(device).or_else(|| {
-            let commands = self.commands().iter().enumerate().rev();
+            let behind = (Places::BITS - self.done.leading_zeros()) as usize;
+            let commands = self.commands[..behind].iter().enumerate().rev();
             commands.filter(|(i, c)| c.device == device && self.is_done(*i)).map(|(_, c)| c.setting).next()
         })
     }
@@ -510,7 +511,7 @@ impl Hub {
     fn disturb(&mut self, device: u8) -> Option<Aborted> {
         let at = self.sequence.iter().position(|r| !r.committed && r.has_begun(device) && r.has_left(device))?;
         let routine = &mut self.sequence[at];
-        let left = routine.on(device, routine.left);
+        let left = routine.left_on(device);
         if bits(left.into()).any(|i| routine.commands[i as usize].tag == MUST) {
             return Some(self.abort(at));
         }
