@@ -27,8 +27,8 @@ ghost use Rattle.state.specs.Contract.{halfwayIn, stoppedBy, backsStopped, down
 ghost use Rattle.abort.specs.PutBacks.{downIf};
 ghost use Rattle.events.specs.Contract.{IsHalfway};
 
-// The routine that is halfway with an event's device, by its slot, MAX_HELD if there is none; its abort as it is told, if it aborts; and the
-// device's mark after that.
+// The routine that is halfway with an event's device, by its slot, MAX_HELD if there is none; its abort as it is told, if it aborts; and
+// the device's mark after that.
 pub struct Affected {
     pub slot: usize,
     pub first: First,
@@ -138,7 +138,7 @@ fn stopped(state: HubState, slot: usize, device: u8) -> HubState
 {
     let mut next = state;
     if slot < MAX_HELD {
-        if search::must_left(state, slot, device) {
+        if search::must_left(next, slot, device) {
             let left = leaving::left(next, slot);
             next = left;
         } else {

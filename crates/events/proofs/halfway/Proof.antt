@@ -1,11 +1,12 @@
 -- `events::halfway` meets its contract. Assumes nothing.
 use borrow.Author.Needs.{needs}
+use borrow.Author.Tests.{not-true, not-false}
 use native.Mathlib.Omega.{arith}
 use Prim.Native.Nat.{_<_}
 use Rattle.rules.specs.State.{maxHeld}
 use Rattle.sequence.specs.Links.{Stands}
 use Rattle.state.proofs.Members.{stands-below}
-use Rattle.events.proofs.Laws.{halfway-none, halfway-stands, halfway-other, halfway-marked}
+use Rattle.events.proofs.Laws.{halfway-none, halfway-stands, halfway-skips, halfway-other, halfway-marked}
 use Rattle.events.proofs.halfway.Statement.{statement}
 use Rattle.events.proofs.halfway.Tie as tie
 
@@ -38,9 +39,23 @@ stands c =
     halfway-stands (s .args .state) (s .args .device) (k .halfway .result) (k .halfway .ensures) (s .pre .0) (c .place .given .0 .0)
     (c .place .given .1)
 
-below : (c : tie.After-ids) → c .before .before .place .given .0 .0 < maxHeld
+must-left-requires : tie.Need-must-left-requires
+must-left-requires c κs = let q = c .before in (q .before .before .before .before .pre .0, stands q)
+
+returns-2 : tie.Need-returns-2
+returns-2 c =
+    let m = c .before in
+    let q = m .before .before in
+    let k = q .before .before in
+    let s = k .before .before in
+    let t = m .must-left .result in
+    halfway-skips (s .args .state) (s .args .device) (k .halfway .result) (k .halfway .ensures) (s .pre .0) (q .place .given .0 .0)
+    (q .place .given .1)
+    t (m .must-left .ensures) (not-true t (c .if1 .taken))
+
+below : (c : tie.After-ids) → c .before .before .before .before .place .given .0 .0 < maxHeld
 below c =
-    let q = c .before .before in
+    let q = c .before .before .before .before in
     let s = q .before .before .before .before in
     stands-below (s .args .state) (q .place .given .0 .0) (s .pre .0) (stands q)
 
@@ -50,26 +65,32 @@ mul-id c = let i = below c in omega arith
 array-read-id : tie.Need-array-read-id
 array-read-id c = below c
 
-returns-2 : tie.Need-returns-2
-returns-2 c =
-    let q = c .before .before .before in
-    let k = q .before .before in
-    let s = k .before .before in
-    halfway-other (s .args .state) (s .args .device) (k .halfway .result) (k .halfway .ensures) (s .pre .0) (q .place .given .0 .0)
-    (q .place .given .1)
-    (c .if1 .taken)
-
-id-ahead-requires : tie.Need-id-ahead-requires
-id-ahead-requires c κs = let q = c .before .before .before in (q .before .before .before .before .pre .0, stands q)
-
 returns-3 : tie.Need-returns-3
 returns-3 c =
-    let q = c .before .before .before .before in
+    let e = c .before .before in
+    let m = e .before in
+    let q = m .before .before in
     let k = q .before .before in
     let s = k .before .before in
+    let t = m .must-left .result in
+    halfway-other (s .args .state) (s .args .device) (k .halfway .result) (k .halfway .ensures) (s .pre .0) (q .place .given .0 .0)
+    (q .place .given .1)
+    t (m .must-left .ensures) (not-false t (e .if1 .left)) (c .if2 .taken)
+
+id-ahead-requires : tie.Need-id-ahead-requires
+id-ahead-requires c κs = let q = c .before .before .before .before .before in (q .before .before .before .before .pre .0, stands q)
+
+returns-4 : tie.Need-returns-4
+returns-4 c =
+    let e = c .before .before .before in
+    let m = e .before in
+    let q = m .before .before in
+    let k = q .before .before in
+    let s = k .before .before in
+    let t = m .must-left .result in
     halfway-marked (s .args .state) (s .args .device) (k .halfway .result) (k .halfway .ensures) (s .pre .0) (q .place .given .0 .0)
     (q .place .given .1)
-    (c .id-ahead .result) (c .id-ahead .ensures) (c .before .if1 .left)
+    t (m .must-left .ensures) (not-false t (e .if1 .left)) (c .id-ahead .result) (c .id-ahead .ensures) (c .before .if2 .left)
 
 pub halfway-spec : {M : Type 1} → statement M
 halfway-spec =
@@ -81,8 +102,10 @@ halfway-spec =
     enum-known-place
     enum-told
     returns
+    must-left-requires
+    returns-2
     mul-id
     array-read-id
-    returns-2
+    returns-3
     id-ahead-requires
-    returns-3)
+    returns-4)
