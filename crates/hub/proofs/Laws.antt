@@ -20,9 +20,10 @@ use Rattle.answers.specs.declared.Answer.{Answer}
 use Rattle.answers.specs.declared.Answer.the-variants.{Refused, Placed, Wait, Sent, Done, Skipped, Committed, Aborted, Down, Up, Limited}
 use Rattle.answers.specs.declared.PutBacks.{PutBacks}
 use Rattle.answers.proofs.Answer.{the-type}
-use Rattle.state.specs.View.{firstCommitted}
+use Rattle.state.specs.View.{stateOf, firstCommitted}
 use Rattle.abort.specs.PutBacks.{downIf}
-use Rattle.state.specs.Contract.{downWith, appliedTo, backsBy, ChangeOk, backsOfDecision, toldBy, settledUnlessNothing, resultBy, Decides}
+use Rattle.state.specs.Contract.{halfwayIn, backsStopped, downWith, appliedTo, backsBy, ChangeOk, backsOfDecision, toldBy}
+use Rattle.state.specs.Contract.{settledUnlessNothing, resultBy, Decides}
 use Rattle.state.specs.declared.HubState.{HubState}
 use Rattle.state.specs.declared.Change.{Change}
 use Rattle.state.specs.declared.Change.the-variants.{Nothing, Stage, Commit, Join, Abort, Fail, Restart}
@@ -180,8 +181,12 @@ pub backs-as : (h : HubState) (d : Decision) {c : Change} {l : List Back} → d 
 backs-as h d e f = f ∙ sym (ap (backsBy h (oneOf (d .back))) e)
 
 -- a device that fails is down by then
-pub down-is : (s : State) (d : ℕ) → d < maxDevices → downIf s d ≡ downWith s d
+down-is : (s : State) (d : ℕ) → d < maxDevices → downIf s d ≡ downWith s d
 down-is s d h = ap (λ (t : Bool). if t then downWith s d else s) (lt-ltb d maxDevices h)
+
+pub backs-down : (h : HubState) (d : Decision) {x y : ℕ} {l : List Back} → d .change ≡ Fail x y → x < maxDevices →
+    l ≡ backsStopped x (downIf (stateOf h) x) (halfwayIn h y) → l ≡ backsOfDecision h d
+backs-down h d {x} {y} e i f = backs-as h d e (f ∙ ap (λ (s : State). backsStopped x s (halfwayIn h y)) (down-is (stateOf h) x i))
 
 -- a change that is this one is carried out
 pub carries-as : {h : Hub} {cs : List Command} {c x : Change} {r : Hub} → c ≡ x → (x ≡ Nothing → ⊥) → Valid r →

@@ -1,7 +1,7 @@
 // The plot hub, by value: document 01, "The steps". Here stand the public calls with their contracts. A call decides, on a hub that stays
 // as it is, what it comes to (crates `submit`, `turn`, `report`, `events` and, the cancel, `abort`); an applier makes the next hub (crates
-// `apply`, `leaving`, `events`), which then settles. Only a new pass limit (crate `limit`) is made at once. `specs/` reads a hub as the state
-// of the rules, and an outcome as their answers.
+// `apply`, `leaving`, `events`), which then settles. Only a new pass limit (crate `limit`) is made at once. `specs/` reads a hub as the
+// state of the rules, and an outcome as their answers.
 mod carrying;
 mod opening;
 
@@ -35,8 +35,8 @@ ghost use Rattle.rules.specs.Calls.{StaysClosed};
 ghost use Rattle.sequence.specs.Links.{Stands};
 ghost use Rattle.answers.specs.View.{backsOf, BacksOk};
 ghost use Rattle.state.specs.View.{isRestart, there, firstCommitted};
-ghost use Rattle.state.specs.Contract.{staged, committedAt, joinedBehind, halfwayIn, stoppedBy, downWith, upWith, StandsOrPast, StageOk, JoinOk};
-ghost use Rattle.state.specs.Contract.{Decides, backsOfDecision};
+ghost use Rattle.state.specs.Contract.{staged, committedAt, joinedBehind, halfwayIn, stoppedBy, downWith, upWith, StandsOrPast, StageOk};
+ghost use Rattle.state.specs.Contract.{JoinOk, Decides, backsOfDecision};
 ghost use Rattle.hub.specs.View.{view};
 ghost use Rattle.hub.specs.Valid.{Valid};
 ghost use Rattle.hub.specs.Contract.{Opens, Submitted, Turned, Reported, Cancelled, Failed, Restarted, Limited};

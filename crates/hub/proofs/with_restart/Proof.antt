@@ -6,7 +6,7 @@ use mir.Syntax.{w16}
 use borrow.Author.Needs.{needs}
 use Rattle.state.specs.View.{stateOf}
 use Rattle.state.specs.Valid.{StateOk}
-use Rattle.state.specs.Contract.{goneIn, leftBy, upWith}
+use Rattle.state.specs.Contract.{halfwayIn, stoppedBy, upWith}
 use Rattle.hub.proofs.with_restart.Statement.{statement}
 use Rattle.hub.proofs.with_restart.Tie as tie
 
@@ -20,7 +20,8 @@ returns c =
     subst
     (λ (v : ℤ).
     StateOk (c .with-restart .result)
-    × (stateOf (c .with-restart .result) ≡ upWith (leftBy (stateOf (a .hub .state)) (goneIn (a .hub .state) (a .gone))) (a .device) v))
+    × (stateOf (c .with-restart .result) ≡ upWith (stoppedBy (a .device) (stateOf (a .hub .state)) (halfwayIn (a .hub .state) (a .slot)))
+    (a .device) v))
     e
     (c .with-restart .ensures)
 

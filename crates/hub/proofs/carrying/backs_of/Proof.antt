@@ -1,13 +1,11 @@
 -- `hub::carrying::backs_of` meets its contract. Assumes nothing.
 use borrow.Author.Needs.{needs}
-use mathlib.Core.Path.{ap, _∙_, subst}
+use mathlib.Core.Path.{subst}
 use Prim.Native.Nat.{_<_}
 use Rattle.routine.specs.Routine.{maxDevices}
-use Rattle.rules.specs.State.{State}
-use Rattle.state.specs.View.{stateOf}
-use Rattle.state.specs.Contract.{goneIn, backsLeft, StandsOrPast}
+use Rattle.state.specs.Contract.{StandsOrPast}
 use Rattle.hub.specs.Carrying.{LeavingOk}
-use Rattle.hub.proofs.Laws.{backs-as, down-is}
+use Rattle.hub.proofs.Laws.{backs-as, backs-down}
 use Rattle.hub.proofs.carrying.backs_of.Statement.{statement}
 use Rattle.hub.proofs.carrying.backs_of.Tie as tie
 
@@ -96,12 +94,9 @@ returns-5 c =
 returns-6 : tie.Need-returns-6
 returns-6 c =
     let b = c .before .before in
-    let a = b .before .before .args in
-    let x = b .change2 .given .0 in (
+    let a = b .before .before .args in (
       c .backs-if .ensures .0,
-      backs-as (a .state) (a .decision) (b .change2 .given .1)
-          (c .backs-if .ensures .1
-          ∙ ap (λ (s : State). backsLeft s (goneIn (a .state) (x .1 .0))) (down-is (stateOf (a .state)) (x .0) (fails-ok (c .before) .0))),
+      backs-down (a .state) (a .decision) (b .change2 .given .1) (fails-ok (c .before) .0) (c .backs-if .ensures .1),
     )
 
 returns-7 : tie.Need-returns-7

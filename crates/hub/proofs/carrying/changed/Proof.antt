@@ -8,7 +8,7 @@ use Prim.Native.Nat.{ℕ}
 use native.Mathlib.Omega.{arith}
 use borrow.Author.Needs.{needs}
 use Rattle.state.specs.View.{isRestart}
-use Rattle.state.specs.Contract.{goneIn, leftBy, upWith, ChangeOk}
+use Rattle.state.specs.Contract.{halfwayIn, stoppedBy, upWith, ChangeOk}
 use Rattle.hub.specs.View.{view}
 use Rattle.hub.proofs.Laws.{carries-as, carries-nothing}
 use Rattle.hub.proofs.carrying.changed.Statement.{statement}
@@ -105,7 +105,8 @@ returns-7 c =
     let a = b .before .before .args in
     let x = b .change6 .given .0 in
     carries-as (b .change6 .given .1) (λ e. let z : _≡_ {A = ℕ} 0 1 = cc in omega arith) (c .with-restart .ensures .0)
-    (subst (λ (z : ℤ). view (c .with-restart .result) ≡ upWith (leftBy (view (a .hub)) (goneIn (a .hub .state) (x .1 .1 .0))) (x .0) z)
+    (subst (λ (z : ℤ). view (c .with-restart .result) ≡ upWith (stoppedBy (x .0) (view (a .hub)) (halfwayIn (a .hub .state) (x .1 .1 .0)))
+    (x .0) z)
     (same-setting (c .before)) (c .with-restart .ensures .1))
 
 pub changed-spec : {M : Type 1} → statement M
