@@ -131,12 +131,13 @@ pub fn backs_if(state: HubState, slot: usize, device: u8, down: u8) -> PutBacks
     answers::no_backs()
 }
 
-// The routine that an event finds halfway with its device aborts, or its commands left there are skipped.
-fn stopped(state: HubState, slot: usize, device: u8) -> HubState
-    requires { ⌜ (StateOk state) × (StandsOrPast state slot) ⌝ }
-    ensures { λ r. ⌜ (StateOk r) × (stateOf r ≡ stoppedBy device (stateOf state) (halfwayIn state slot)) ⌝ }
+// "On a failure D first becomes down." Then the abort, or the skips. (That both events have this in their own text, and not in a function
+// called by both, keeps two states off the stack.)
+pub fn with_failure(state: HubState, device: u8, slot: usize) -> HubState
+    requires { ⌜ (StateOk state) × (device < maxDevices) × (StandsOrPast state slot) ⌝ }
+    ensures { λ r. ⌜ (StateOk r) × (stateOf r ≡ stoppedBy device (downWith (stateOf state) device) (halfwayIn state slot)) ⌝ }
 {
-    let mut next = state;
+    let mut next = leaving::with_up(state, device, false);
     if slot < MAX_HELD {
         if search::must_left(next, slot, device) {
             let left = leaving::left(next, slot);
@@ -149,21 +150,21 @@ fn stopped(state: HubState, slot: usize, device: u8) -> HubState
     next
 }
 
-// "On a failure D first becomes down." Then the abort, or the skips.
-pub fn with_failure(state: HubState, device: u8, slot: usize) -> HubState
-    requires { ⌜ (StateOk state) × (device < maxDevices) × (StandsOrPast state slot) ⌝ }
-    ensures { λ r. ⌜ (StateOk r) × (stateOf r ≡ stoppedBy device (downWith (stateOf state) device) (halfwayIn state slot)) ⌝ }
-{
-    let next = leaving::with_up(state, device, false);
-    stopped(next, slot, device)
-}
-
 // The abort, or the skips; the event is attached to D's mark; "On a restart D then becomes up at the setting it reports."
 pub fn with_restart(state: HubState, device: u8, setting: i16, slot: usize) -> HubState
     requires { ⌜ (StateOk state) × (device < maxDevices) × (isRestart setting ≡ true) × (StandsOrPast state slot) ⌝ }
     ensures { λ r. ⌜ (StateOk r) × (stateOf r ≡ upWith (stoppedBy device (stateOf state) (halfwayIn state slot)) device setting) ⌝ }
 {
-    let next = stopped(state, slot, device);
+    let mut next = state;
+    if slot < MAX_HELD {
+        if search::must_left(state, slot, device) {
+            let left = leaving::left(next, slot);
+            next = left;
+        } else {
+            let skipped = apply::with_skips(next, slot, device);
+            next = skipped;
+        }
+    }
     let marks = next.mark;
     let d = device as usize;
     let with_it = leaving::attached(next, marks[d], device, setting);
