@@ -61,8 +61,8 @@ pub aborted-by-restart : Prints
 unfolding calc
 aborted-by-restart = refl
 
--- A lamp that dies after its work (document 02, item 3): it is in flight when it fails, and its routine goes on; no line tells of the skips.
--- Late reports are 12 while nothing is in flight and 10 once the routine has ended.
+-- A lamp that dies after its work (document 02, item 3): it is in flight when it fails, and its routine goes on; no line tells of the
+-- skips. Late reports are 12 while nothing is in flight and 10 once the routine has ended.
 pub lamp-dies : PrintsAll
     ("O 2 0 1\nS 0 1 5 1 0 20 0 1 6\nN 1\nF 0\nD 1\nB 1\nN 1\nD 1\nN 1\nD 1\nB 1\nR 0 7\n" ∷ [])
     ("opened\nplaced 1 after 0\nsend 1 0 5\ndown 0 after 1\nrefused 12\nrefused 12\nsend 1 1 20\ndone 1\ncommitted 1\n"

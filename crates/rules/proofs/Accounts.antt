@@ -54,7 +54,8 @@ tells-same a b g h q k t = record {
   flies-is = ap (λ (x : Account). x .flying) e ∙ t .flies-is ∙ ap (λ l. hasFlight (flight l)) (sym (q .same-steps));
   left-is = ap (λ (x : Account). x .left) e ∙ t .left-is ∙ ap leftSteps (sym (q .same-steps));
   sent-is = λ x f. ap (λ (y : Account). y .lastSent) e ∙ t .sent-is x (ap flight (sym (q .same-steps)) ∙ f);
-  answered-on = λ d. ap (λ (x : Account). anyOf (answeredFor d) (x .answered)) e ∙ t .answered-on d ∙ ap (answeredOn d) (sym (q .same-steps));
+  answered-on = λ d. ap (λ (x : Account). anyOf (answeredFor d) (x .answered)) e ∙ t .answered-on d
+      ∙ ap (answeredOn d) (sym (q .same-steps));
   done-is = ap (λ (x : Account). doneOnes (x .answered)) e ∙ t .done-is ∙ ap doneSteps (sym (q .same-steps));
 }
   where
@@ -198,7 +199,8 @@ not-halfway-told : (d : ℕ) (a : ℕ → Account) (g : Group) → InTurn (g .me
 unfolding isHalfway isRunning
 not-halfway-told d a g w n t =
     byIf (λ (y : Account). y ≡ x) (x .running && hasBegun d x)
-    (λ e. let f : finished d (g .member) ≡ true = finishes (and-left (x .running) (hasBegun d x) e) (and-right (x .running) (hasBegun d x) e)
+    (λ e. let f : finished d (g .member) ≡ true =
+    finishes (and-left (x .running) (hasBegun d x) e) (and-right (x .running) (hasBegun d x) e)
     in
     nothing-skipped d x (ap (anyOf (isFor d)) (t .left-is) ∙ left-on (g .member) d ∙ ap not f)
     (flying-on a g d w t ∙ finished-grounded (g .member) d f))
@@ -351,7 +353,8 @@ loses-tells s d a ga g gb h t y = record {
         go true f =
             sym (no-flight (flight (n .steps)) refl
             (λ v q. let w = k .flight-was v q in
-            w .1 (ap (λ (r : Flight). r .command .device) (Option·some-injective v z (sym (w .0) ∙ e)) ∙ eqb-true (z .command .device) d f)))
+            w .1 (ap (λ (r : Flight). r .command .device) (Option·some-injective v z (sym (w .0) ∙ e))
+            ∙ eqb-true (z .command .device) d f)))
         go false f = sym (ap hasFlight (k .flight-stays z e (eqb-false (z .command .device) d f)))
 
 -- ---- every call
@@ -509,7 +512,8 @@ pub happens-sends : (s : State) (c : Call) (d : ℕ) (y : Answer) (a : ℕ → A
     {r : Result} {lead : List Event} {k : List Group} → TellsEvent d c y →
     Gone s d l r lead k → (i : ℕ) → noteAnswers c (r .answers ++ (y ∷ [])) a i .sends ≡ a i .sends
 happens-sends s c d y a l {r = r} n g i =
-    ap (λ f. f i .sends) (note-++ c (r .answers) (y ∷ []) a ∙ n _) ∙ event-sends d (noteAnswers c (r .answers) a i) ∙ gone-sends s c d a l g i
+    ap (λ f. f i .sends) (note-++ c (r .answers) (y ∷ []) a ∙ n _) ∙ event-sends d (noteAnswers c (r .answers) a i)
+    ∙ gone-sends s c d a l g i
 
 abbrev pub Unsent : State → (ℕ → Account) → Type 0
 Unsent s a = (i : ℕ) → s .nextId ≤ i → a i .sends ≡ 0

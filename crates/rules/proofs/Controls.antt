@@ -250,7 +250,8 @@ all-left-skipped = (refl, (refl, ((refl, refl), ((refl, refl), ((refl, refl), tt
 -- flight_stays: the lamp is in flight when it fails, and nothing is in flight then: the late report is refused. Taken for a command in
 -- flight, it would be a done one that the account does not have.
 pub flight-ends :
-    Stands (call (submit (best 0 (pos 5) ∷ must 1 (pos 6) ∷ [])) ∷ call (turn 1) ∷ takes-one 0 0 ∷ call (failure 0) ∷ call (report 1 0) ∷ [])
+    Stands (call (submit (best 0 (pos 5) ∷ must 1 (pos 6) ∷ [])) ∷ call (turn 1) ∷ takes-one 0 0 ∷ call (failure 0) ∷ call
+    (report 1 0) ∷ [])
 unfolding calcWorld
 flight-ends = (refl, ((refl, refl), tt), tt)
 

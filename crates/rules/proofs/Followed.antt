@@ -32,7 +32,8 @@ use Rattle.rules.proofs.Groups.{attachEvent, ids-++, added-is, attach-h
 use Rattle.rules.proofs.Same.{Pairwise, pairs-each, pairs-placed, pairs-last, pairs-attached}
 use Rattle.rules.proofs.Steps.{skip-steps}
 use Rattle.rules.proofs.Invariant.{HubOk, AccountTells}
-use Rattle.rules.proofs.View.{skippedLeft, Gone, nobody, somebody, loses, Moves, places, commits, sends, skips, dones, misses, aborts}
+use Rattle.rules.proofs.View.{skippedLeft, Gone, nobody, somebody, loses, Moves, places, commits, sends, skips, dones, misses}
+use Rattle.rules.proofs.View.{aborts}
 use Rattle.rules.proofs.View.{fails, restarts}
 use Rattle.rules.proofs.Marks.{in-turn, halfway-marked}
 use Rattle.rules.proofs.Moved.{hub-up}
@@ -226,7 +227,8 @@ ids-apart n p x g y h =
           (each-++ (IsNot i) (ids x) (ids y) (each-right (IsNot i) (entryIds p) (ids x) a) (each-right (IsNot i) k (ids y) o)),
     )
 
-module _ (s : State) (a : ℕ → Account) (p : List Entry) (x : List Group) (g : Group) (y : List Group) (f : Before s a p (x ++ (g ∷ y))) where
+module _ (s : State) (a : ℕ → Account) (p : List Entry) (x : List Group) (g : Group) (y : List Group)
+    (f : Before s a p (x ++ (g ∷ y))) where
   -- g becomes h, and its account z
   becomes : (h : Group) (z : Account) → h .member .id ≡ g .member .id → Each (FollowedBy (h .events)) (z .answered) →
       PartsFollowed (answeredIn (put a (g .member .id) z)) p (x ++ (h ∷ y))
@@ -282,7 +284,8 @@ new-followed x f (c ∷ l) h = go (isFor (deviceOf x) c) refl h (new-followed x 
       (
         h .0,
         anyOf-++ (isOf (c .device)) f (x ∷ [])
-            ∙ ap (λ b. anyOf (isOf (c .device)) f || (b || false)) (eq-eqb (deviceOf x) (c .device) (sym (eqb-true (c .device) (deviceOf x) e)))
+            ∙ ap (λ b. anyOf (isOf (c .device)) f || (b || false))
+            (eq-eqb (deviceOf x) (c .device) (sym (eqb-true (c .device) (deviceOf x) e)))
             ∙ or-true (anyOf (isOf (c .device)) f),
       ),
       ih (h .1),
@@ -301,12 +304,14 @@ event-followed s x a p l {r = r} {k = k} h t f (somebody y g z e q) =
     let n = leaves s a p y g z (subst (Before s a p) e f) in
     record { settled = n .settled; held = grows-attached (answeredIn b) (r .state .mark (deviceOf x)) x k (n .held) }
 event-followed s x a p l h t f (loses y g z e q m) =
-    subst (PartsFollowed (answeredIn (put a i new)) p) (sym hit) (becomes s a p y g z w (addEvent x n) new (ap (λ (g : Group). g .member .id) added)
+    subst (PartsFollowed (answeredIn (put a i new)) p) (sym hit)
+    (becomes s a p y g z w (addEvent x n) new (ap (λ (g : Group). g .member .id) added)
     (subst (λ (b : List Event). Each (FollowedBy b) (new .answered)) (sym (ap (λ (g : Group). g .events) added))
     (each-++ (FollowedBy (g .events ++ (x ∷ []))) (a i .answered) (map (answeredBy by-event) (onlyOn d (a i .left)))
     (all-more (g .events) (x ∷ []) (a i .answered) (own-followed s a p y g z w))
     (new-followed x (g .events) (a i .left)
-    (subst (λ l. Each (λ c. isMust c ≡ false) (onlyOn d l)) (sym (each-mid (AccountTells a) y g z (subst (Each (AccountTells a)) e t) .left-is))
+    (subst (λ l. Each (λ c. isMust c ≡ false) (onlyOn d l))
+    (sym (each-mid (AccountTells a) y g z (subst (Each (AccountTells a)) e t) .left-is))
     (skip-steps d (g .member) (in-turn s y g z hub) .left-best m))))))
   where
     d : ℕ

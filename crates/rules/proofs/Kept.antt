@@ -23,9 +23,11 @@ use Rattle.rules.specs.Attach.{attach, oneRestart}
 use Rattle.rules.proofs.Lists.{byIf, t≠f, this-or-other, put-other, each-mid, each-drop, each-insert, each-swap, each-map}
 use Rattle.rules.proofs.Groups.{Group, alone, with, passAll, foundAt, leaving, attachEvent, stillHeld, each-held}
 use Rattle.rules.proofs.Same.{Same, same-placed, same-leaving, same-attached, same-each}
-use Rattle.rules.proofs.Steps.{send-step, skip-step, done-step, fail-step, flight-on, grounded, finished-grounded, skip-steps, fresh-newcomer}
+use Rattle.rules.proofs.Steps.{send-step, skip-step, done-step, fail-step, flight-on, grounded, finished-grounded, skip-steps}
+use Rattle.rules.proofs.Steps.{fresh-newcomer}
 use Rattle.rules.proofs.Invariant.{CommittedHasNothingLeft, CommandsInTurn, HubOk, InFlightIsUp, NotHalfway, NoFlightOn}
-use Rattle.rules.proofs.View.{sentMember, skippedMember, doneMember, failedMember, skippedLeft, Gone, nobody, somebody, loses, Moves, places}
+use Rattle.rules.proofs.View.{sentMember, skippedMember, doneMember, failedMember, skippedLeft, Gone, nobody, somebody, loses}
+use Rattle.rules.proofs.View.{Moves, places}
 use Rattle.rules.proofs.View.{commits, sends, skips, dones, misses, aborts, fails, restarts}
 use Rattle.rules.proofs.Fields.{Fixed, gone-fixed, attach-fixed, settle-fixed}
 use Rattle.rules.proofs.Marks.{flight-runs, in-turn, hub-commits, hub-sends, hub-skips, hub-dones, hub-misses}

@@ -33,7 +33,8 @@ use Rattle.rules.proofs.Groups.{flat-leaving, flat-cut, flat-added, att
 use Rattle.rules.proofs.Same.{same-placed, same-leaving, same-attached, same-ids}
 use Rattle.rules.proofs.Steps.{send-step, skip-step, done-gains, fail-done, skip-steps, fresh-newcomer}
 use Rattle.rules.proofs.Invariant.{NotBegun, HubOk, setAfter, upAfter, EventsOk, OrderOk, AccountTells}
-use Rattle.rules.proofs.View.{Gone, nobody, somebody, loses, Moves, places, commits, sends, skips, dones, misses, aborts, fails, restarts}
+use Rattle.rules.proofs.View.{Gone, nobody, somebody, loses, Moves, places, commits, sends, skips, dones, misses, aborts, fails}
+use Rattle.rules.proofs.View.{restarts}
 use Rattle.rules.proofs.Runs.{set-++, up-++, set-events, bringsUp, up-event, up-flat-not-begun, settled-alone, events-placed}
 use Rattle.rules.proofs.Runs.{events-leaving, events-attached}
 use Rattle.rules.proofs.Fields.{Fixed, gone-fixed}
@@ -404,10 +405,12 @@ module _ (x : Event) (s t : State) (o : Order) (lead : List Event) where
 
 -- ---- what comes ahead of an event, then the event
 
--- `u`: what is up when a routine aborts or loses commands. On a failure the device is down by then, but the order has the event only after the abort
+-- `u`: what is up when a routine aborts or loses commands. On a failure the device is down by then, but the order has the event only after
+-- the abort
 order-gone : (s : State) (u : ℕ → Bool) (o : Order) (c : Call) (n : ℕ → Account) (d : ℕ)
     (l : List Group) {r : Result} {lead : List Event} {k : List Group} →
-    HubOk s l → OrderOk s o [] l → Gone (withUp s u) d l r lead k → Kept (withUp (r .state) (s .up)) o (orderAfterAll c n (r .answers) o) lead k
+    HubOk s l → OrderOk s o [] l → Gone (withUp s u) d l r lead k →
+    Kept (withUp (r .state) (s .up)) o (orderAfterAll c n (r .answers) o) lead k
 unfolding abort leave attach skipRest
 order-gone s u o c n d l h k (nobody f) = (k, refl)
 order-gone s u o c n d l h k (somebody a g b e f) = order-leaves s o a g b (subst (λ m. OrderOk s o [] m) e k)

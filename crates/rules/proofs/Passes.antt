@@ -26,7 +26,8 @@ use Rattle.rules.proofs.Groups.{Group, members, alone, with, passAll, l
 use Rattle.rules.proofs.Same.{pairs-last, pairs-attached, pairs-each}
 use Rattle.rules.proofs.Invariant.{HubOk}
 use Rattle.rules.proofs.View.{sentMember, skippedMember, doneMember, failedMember, skippedLeft, Gone, nobody, somebody, loses}
-use Rattle.rules.proofs.View.{Moves, places, commits, sends, skips, dones, misses, aborts, fails, restarts, Seen, is-refused, waits, limits, moves, see}
+use Rattle.rules.proofs.View.{Moves, places, commits, sends, skips, dones, misses, aborts, fails, restarts, Seen, is-refused, waits}
+use Rattle.rules.proofs.View.{limits, moves, see}
 use Rattle.rules.proofs.Fields.{Fixed, settle-fixed}
 use Rattle.rules.proofs.Moved.{hub-limit, hub-settles}
 use Rattle.rules.proofs.Kept.{hub-moves}

@@ -336,7 +336,8 @@ stand-gone s t o a d l f h (somebody x g y e n) =
 stand-gone s t o a d l f h (loses x g y e n m) =
     let z = skippedAccount d (a (g .member .id)) in
     stand-changes s o a x g y (subst (λ l. Before s o a l) e f) (skippedLeft d g .steps) (g .member .committed) z
-    (λ k. each-++ (Fits (upPast (o .settled) x)) (a (g .member .id) .answered) _ k (all-fit (upPast (o .settled) x) (onlyOn d (a (g .member .id) .left))))
+    (λ k. each-++ (Fits (upPast (o .settled) x)) (a (g .member .id) .answered) _ k
+    (all-fit (upPast (o .settled) x) (onlyOn d (a (g .member .id) .left))))
     (gone-tells t d a l h (f .tells) (loses x g y e n m))
   where
     all-fit : (u : ℕ → Bool) (l : List Command) → Each (Fits u) (map (answeredBy by-event) l)

@@ -147,7 +147,8 @@ data Parts : List Step → Type 0 where
 
 apart : (l : List Step) → InTurn l → Parts l
 apart =
-    by-status (λ l. InTurn l → Parts l) (λ t. ends [] none-yet) (λ c l h t. rests [] none-yet c l t) (λ c u l h t. flies [] none-yet c u l t)
+    by-status (λ l. InTurn l → Parts l) (λ t. ends [] none-yet) (λ c l h t. rests [] none-yet c l t)
+    (λ c u l h t. flies [] none-yet c u l t)
     (λ c l h t. longer was-done c l (then-done c) (h t)) (λ c l h t. longer was-skipped c l (then-skipped c) (h t))
   where
     longer : (s : Status) (c : Command) (l : List Step) → ((p : List Step) → AllAnswered p → AllAnswered (step c s ∷ p)) → Parts l →
@@ -292,7 +293,8 @@ module _ (p : List Step) (a : AllAnswered p) (c : Command) (q : List Step) (w : 
   done-at : (s : Status) → doneSteps (at p c q s) ≡ doneSteps p ++ (if isDone s then c ∷ [] else [])
   done-at s =
       over (λ p k. doneSteps k ≡ doneSteps p ++ (if isDone s then c ∷ [] else [])) (step c s ∷ q)
-      (ap (λ l. if isDone s then c ∷ l else l) (behind-over doneSteps (λ b l. refl) (λ b l. refl) q w)) (λ b p k e. ap (λ l. b ∷ l) e) (λ b p k e. e) p a
+      (ap (λ l. if isDone s then c ∷ l else l) (behind-over doneSteps (λ b l. refl) (λ b l. refl) q w)) (λ b p k e. ap (λ l. b ∷ l) e)
+      (λ b p k e. e) p a
 
   after-at : (d : ℕ) (v : ℤ) (s : Status) → afterSteps d (at p c q s) v ≡ (if on d isDone (step c s) then c .setting else afterSteps d p v)
   after-at d v s =
@@ -393,7 +395,8 @@ at-next : (P : List Step → List Step → Type 0) (c : Command) (s : Status) �
 at-next P c s h _ (ends p a) e f =
     absurd (Option·none-ne-some c (sym (all-over (λ k. next k ≡ none) refl (λ b k n. n) (λ b k n. n) p a) ∙ e))
 at-next P c s h _ (rests p a b q w) e f =
-    let same : b ≡ c = Option·some-injective b c (sym (over (λ p k. next k ≡ some b) (step b to-do ∷ q) refl (λ b p k n. n) (λ b p k n. n) p a)
+    let same : b ≡ c =
+    Option·some-injective b c (sym (over (λ p k. next k ≡ some b) (step b to-do ∷ q) refl (λ b p k n. n) (λ b p k n. n) p a)
     ∙ e) in
     subst (λ k. P (at p b q to-do) k)
     (sym (over (λ p k. advance s k ≡ p ++ (step b s ∷ q)) (step b to-do ∷ q) refl (λ b p k. ap (λ n. step b was-done ∷ n))

@@ -28,7 +28,8 @@ use Rattle.rules.specs.Open.{limitCheck}
 use Rattle.rules.specs.Submit.{submitCheck, blocks, upToLast, pastLast, newcomer, place, submitOf}
 use Rattle.rules.specs.Turn.{firstHolding, commit, commitTurn, sendTurn, skipTurn, waitOr, turnNext, turnFlight, turnFound, turnOf}
 use Rattle.rules.specs.Report.{codeDone, codeFailed, doneReport, skipReport, reportFlight, reportFound, reportOf}
-use Rattle.rules.specs.Events.{isHalfway, mustLeft, skipLeft, skipRest, stopIfAny, stopHalfway, failureResult, restartResult, failureOf, restartOf}
+use Rattle.rules.specs.Events.{isHalfway, mustLeft, skipLeft, skipRest, stopIfAny, stopHalfway, failureResult, restartResult}
+use Rattle.rules.specs.Events.{failureOf, restartOf}
 use Rattle.rules.specs.Cancel.{cancelFound, cancelOf}
 use Rattle.rules.specs.Limit.{withPassLimit, limitOf}
 use Rattle.rules.specs.Calls.{resultOf}

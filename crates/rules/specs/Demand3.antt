@@ -50,8 +50,8 @@ SettledStands w acts =
     Begins (orderIn (worldAfterAll w before) .settled) (entries (orderIn (worldAfterAll w acts)))
 
 -- Part 3, where commands stand. Document 01, The hub's order: "In it every done command finds its device up; every skipped one was reported
--- failed or finds it down." Document 02, item 3, has "a third ground for a skipped command", a best-effort one: an event of its device, which
--- "follows the routine in the order".
+-- failed or finds it down." Document 02, item 3, has "a third ground for a skipped command", a best-effort one: an event of its device,
+-- which "follows the routine in the order".
 
 -- The events behind a routine and before the next one, in what stands behind it.
 abbrev pub eventsNext : List Entry → List Event

@@ -1,5 +1,5 @@
-// Searches along the links: for a routine, for the one to wait for, for the one that is halfway with a device, and for the one that a newcomer
-// follows. They take the rows that they read out of the state; the long rows of a call are lent to them.
+// Searches along the links: for a routine, for the one to wait for, for the one that is halfway with a device, and for the one that a
+// newcomer follows. They take the rows that they read out of the state; the long rows of a call are lent to them.
 use routine::MAX_COMMANDS;
 use routine::MAX_DEVICES;
 use routine::Routine;
