@@ -6,7 +6,7 @@ use lib.IntN.{ℤ, pos, negsuc}
 use lib.ListN.{take}
 use Rattle.routine.specs.Range.{inRange}
 use Rattle.routine.specs.Refusals.{refusalOf}
-use Rattle.routine.specs.Routine.{routineOf, commandCheck, commandsCheck, routineCheck}
+use Rattle.routine.specs.Routine.{routineOf, commandCheck, standsAlone, commandsCheck, routineCheck}
 use Rattle.routine.specs.declared.Command.{Command}
 use Rattle.routine.specs.declared.Refusal.the-variants.{Number, Indexed}
 use Rattle.routine.specs.declared.Verdict.{Verdict}
@@ -22,7 +22,7 @@ use Rattle.layout.specs.declared.Written.the-variants.{Length, Refused a
 
 -- All that a computation opens.
 abbrev calc : Unit {0}
-unfolding inRange refusalOf commandCheck commandsCheck routineCheck twoBytes fourBytes twoAt fourAt bitsOf settingOf commandBytes
+unfolding inRange refusalOf commandCheck standsAlone commandsCheck routineCheck twoBytes fourBytes twoAt fourAt bitsOf settingOf commandBytes
     bookBytes countOf offsetAt lengthAt commandAt headCheck lengthFits placedCheck placedChecks bookCheck pairNext nextOf routineOf
     routinesCheck writeCheck writtenOf bufferAfter
 calc = tt
@@ -138,3 +138,23 @@ pub left-over : (answered (1 ∷ []) (0 ∷ 255 ∷ []) (0 ∷ 9 ∷ 9 ∷ []) (
     × (answered [] (0 ∷ []) (0 ∷ []) (pos 0 ∷ []) ≡ Length 2)
 unfolding calc
 left-over = (refl, refl)
+
+-- ---- conditions (document 02, item 4)
+
+-- A book of one routine with these commands' bytes.
+abbrev oneRoutine : ℕ → List ℕ → List ℕ
+oneRoutine size commands = 1 ∷ 0 ∷ 10 ∷ 0 ∷ 0 ∷ 0 ∷ size ∷ 0 ∷ 0 ∷ 0 ∷ commands
+
+-- Below 20 on device 3 nothing is done with device 4: read and written. The condition alone; followed by another; behind its command.
+-- A tag of 3 is 7, and comes before 22 of the same command; 22 of a command comes before 5 of the next.
+pub conditions : (bookCheck (oneRoutine 8 (3 ∷ 2 ∷ 20 ∷ 0 ∷ 4 ∷ 0 ∷ 70 ∷ 0 ∷ [])) ≡ Accepted)
+    × (bookBytes ((command 3 2 (pos 20) ∷ command 4 0 (pos 70) ∷ []) ∷ []) ≡ oneRoutine 8 (3 ∷ 2 ∷ 20 ∷ 0 ∷ 4 ∷ 0 ∷ 70 ∷ 0 ∷ []))
+    × (bookCheck (oneRoutine 4 (3 ∷ 2 ∷ 20 ∷ 0 ∷ [])) ≡ Refused (Indexed 22 0))
+    × (bookCheck (oneRoutine 12 (3 ∷ 2 ∷ 20 ∷ 0 ∷ 3 ∷ 2 ∷ 20 ∷ 0 ∷ 4 ∷ 0 ∷ 70 ∷ 0 ∷ [])) ≡ Refused (Indexed 22 0))
+    × (bookCheck (oneRoutine 8 (4 ∷ 0 ∷ 70 ∷ 0 ∷ 3 ∷ 2 ∷ 20 ∷ 0 ∷ [])) ≡ Refused (Indexed 22 1))
+    × (bookCheck (oneRoutine 4 (3 ∷ 3 ∷ 20 ∷ 0 ∷ [])) ≡ Refused (Indexed 7 0))
+    × (bookCheck (oneRoutine 8 (3 ∷ 2 ∷ 20 ∷ 0 ∷ 32 ∷ 2 ∷ 70 ∷ 0 ∷ [])) ≡ Refused (Indexed 22 0))
+    × (bookCheck (oneRoutine 8 (3 ∷ 2 ∷ 20 ∷ 0 ∷ 32 ∷ 0 ∷ 70 ∷ 0 ∷ [])) ≡ Refused (Indexed 5 1))
+    × (writtenOf ((command 4 0 (pos 70) ∷ command 3 2 (pos 20) ∷ []) ∷ []) 100 ≡ NotWritten (Indexed 22 1))
+unfolding calc
+conditions = (refl, refl, refl, refl, refl, refl, refl, refl, refl)

@@ -1,5 +1,5 @@
 -- Document 01, "When a call is turned down": "each number under its cause alone". What that means of any call; and the causes of a
--- routine, 4 to 7, each said by itself in the table's words. The causes of the hub's calls stand in `specs/Causes.antt` of crate `rules`,
+-- routine, 4 to 7 and 22, each said by itself in the table's words. The causes of the hub's calls stand in `specs/Causes.antt` of crate `rules`,
 -- those of writing a book in `specs/WritingCauses.antt` of crate `layout`, those of reading one in `specs/Claims.antt` there. Assumes
 -- nothing.
 use mathlib.Core.Path.{_≡_}
@@ -10,8 +10,9 @@ use lib.IntN.{ℤ}
 use lib.Signed.{_<ℤ_}
 use lib.ListN.{length, getD}
 use Rattle.routine.specs.Range.{lowestSetting, highestSetting}
-use Rattle.routine.specs.Refusals.{Cause, command-count, device-not-below, setting-out-of-range, tag-out-of-range, refusalOf}
-use Rattle.routine.specs.Routine.{maxCommands, highestTag, zeroCommand, routineCheck}
+use Rattle.routine.specs.Refusals.{Cause, command-count, device-not-below, setting-out-of-range, tag-out-of-range, condition-alone}
+use Rattle.routine.specs.Refusals.{refusalOf}
+use Rattle.routine.specs.Routine.{maxCommands, highestTag, conditionTag, zeroCommand, routineCheck}
 use Rattle.routine.specs.declared.Command.{Command}
 use Rattle.routine.specs.declared.Refusal.{Refusal}
 use Rattle.routine.specs.declared.Verdict.the-variants.{Accepted, Refused}
@@ -65,13 +66,18 @@ pub data RoutineCause (limit : ℕ) (cs : List Command) : Cause → Type 0 where
   device-is-out : {i : ℕ} → i < length cs → limit ≤ commandNo i cs .device → RoutineCause limit cs (device-not-below i)
   -- 6, at index i: "setting out of range"
   setting-is-out : {i : ℕ} → i < length cs → OutOfRange (commandNo i cs .setting) → RoutineCause limit cs (setting-out-of-range i)
-  -- 7, at index i: "tag above 1"
+  -- 7, at index i: a "tag above 2"
   tag-is-out : {i : ℕ} → i < length cs → highestTag < commandNo i cs .tag → RoutineCause limit cs (tag-out-of-range i)
+  -- 22, at index i: "when a condition is last in its routine or is followed by another condition"
+  condition-is-last : {i : ℕ} → suc i ≡ length cs → commandNo i cs .tag ≡ conditionTag → RoutineCause limit cs (condition-alone i)
+  conditions-follow : {i : ℕ} → suc i < length cs → commandNo i cs .tag ≡ conditionTag → commandNo (suc i) cs .tag ≡ conditionTag →
+      RoutineCause limit cs (condition-alone i)
 
--- "the commands in turn, each 5, 6, 7": those of n commands from index i on,
+-- "the commands in turn, each 5, 6, 7", then 22: those of n commands from index i on,
 unfoldable pub commandCauses : ℕ → ℕ → List Cause
 commandCauses i zero = []
-commandCauses i (suc n) = device-not-below i ∷ setting-out-of-range i ∷ tag-out-of-range i ∷ commandCauses (suc i) n
+commandCauses i (suc n) =
+    device-not-below i ∷ setting-out-of-range i ∷ tag-out-of-range i ∷ condition-alone i ∷ commandCauses (suc i) n
 
 -- and "4; then the commands in turn": eight at most, since a routine of more is turned down for 4.
 unfoldable pub routineCauses : List Cause

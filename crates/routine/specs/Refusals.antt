@@ -1,4 +1,4 @@
--- The table of document 01, "When a call is turned down". Every definition of the project that refuses does so through `refusalOf`.
+-- The table of document 01, "When a call is turned down", with the numbers of document 02. Every definition of the project that refuses does so through `refusalOf`.
 -- Assumes nothing.
 use mathlib.Core.Bool.{Bool}
 use Prim.Native.Nat.{ℕ}
@@ -16,7 +16,7 @@ pub data Cause : Type 0 where
   command-count : Cause  -- routine of 0 or over 8 commands
   device-not-below : ℕ → Cause  -- device not below N (32 in a book); the command's index
   setting-out-of-range : ℕ → Cause  -- setting out of range; the command's index
-  tag-out-of-range : ℕ → Cause  -- tag above 1; the command's index
+  tag-out-of-range : ℕ → Cause  -- tag above 2 (document 02, item 4); the command's index
   sequence-full : Cause  -- 16 routines in the sequence
   ids-used-up : Cause  -- id 4,294,967,295 already given
   not-running : Cause  -- no running routine has this id
@@ -31,6 +31,7 @@ pub data Cause : Type 0 where
   book-misplaced : Cause  -- pair not where the layout puts it, past the end, or bytes left over
   book-length : ℕ → Cause  -- length not 4 to 32 in fours; the routine's index
   no-room : Cause  -- over 64 routines to write, or buffer too short; a list of settings shorter than N (document 02, item 14)
+  condition-alone : ℕ → Cause  -- a condition that is last or followed by a condition (document 02, item 4); the command's index
 
 -- The table: the number of each cause, and the index that comes with it, if one does.
 unfoldable pub refusalOf : Cause → Refusal
@@ -55,6 +56,7 @@ refusalOf book-cut-short = Number 18
 refusalOf book-misplaced = Number 19
 refusalOf (book-length i) = Indexed 20 i
 refusalOf no-room = Number 21
+refusalOf (condition-alone i) = Indexed 22 i
 
 -- A call is turned down for a cause if the test says so.
 infix 25 refuse_when_

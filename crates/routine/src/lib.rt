@@ -1,16 +1,23 @@
-// Commands, routines, and what turns a call down: document 01, "Things and ranges" and "When a call is turned down".
+// Commands, routines, and what turns a call down: document 01, "Things and ranges" and "When a call is turned down"; conditions: document
+// 02, item 4.
 pub mod refusals;
 pub mod reports;
 pub mod tags;
 
 use refusals::COMMAND_COUNT;
+use refusals::CONDITION_ALONE;
 use refusals::DEVICE;
 use refusals::SETTING;
 use refusals::TAG;
+use tags::CONDITION;
 use tags::HIGHEST_TAG;
 ghost use mathlib.Core.Path.{_≡_};
+ghost use Prim.Native.Nat.{_+_, _<_, _≤_};
+ghost use lib.ListN.{getD};
+ghost use lib.Seq.{slice};
 ghost use Rattle.routine.specs.Range.{inRange};
-ghost use Rattle.routine.specs.Routine.{commandsOf, noRoutine, withCommand, commandCheck, routineCheck};
+ghost use Rattle.routine.specs.Routine.{maxCommands, zeroCommand, commandsOf, noRoutine, withCommand, commandCheck, standsAlone};
+ghost use Rattle.routine.specs.Routine.{routineCheck};
 
 // A routine has at most this many commands.
 pub const MAX_COMMANDS: usize = 8;
@@ -105,6 +112,24 @@ fn check_command(command: Command, limit: u8, index: usize) -> Verdict
     Verdict::Accepted
 }
 
+// Is the command at an index a condition that is last or is followed by another?
+fn stands_alone(routine: Routine, index: usize) -> bool
+    requires { ⌜ (index < routine .count) × (routine .count ≤ maxCommands) ⌝ }
+    ensures { λ r. ⌜ r ≡ standsAlone (getD (routine .commands) index zeroCommand)
+        (slice (index + 1) (routine .count) (routine .commands)) ⌝ }
+{
+    let command = routine.commands[index];
+    if command.tag != CONDITION {
+        return false;
+    }
+    let next = index + 1;
+    if routine.count <= next {
+        return true;
+    }
+    let after = routine.commands[next];
+    after.tag == CONDITION
+}
+
 // A routine against a device limit (N in the hub, 32 in a book): 4, then the commands in turn.
 pub fn check(routine: Routine, limit: u8) -> Verdict
     ensures { λ r. ⌜ r ≡ routineCheck limit (commandsOf routine) ⌝ }
@@ -123,6 +148,9 @@ pub fn check(routine: Routine, limit: u8) -> Verdict
         let Verdict::Accepted = verdict else {
             return verdict;
         };
+        if stands_alone(routine, i) {
+            return Verdict::Refused(Refusal::Indexed(CONDITION_ALONE, i));
+        }
         i += 1;
     }
     Verdict::Accepted

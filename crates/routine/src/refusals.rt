@@ -1,4 +1,4 @@
-// The numbers of document 01's table, "When a call is turned down". The definition beside them is `refusalOf` (`specs/Refusals.antt`), in
+// The numbers of document 01's table, "When a call is turned down", and of document 02. The definition beside them is `refusalOf` (`specs/Refusals.antt`), in
 // the same order.
 
 // N not 1 to 32
@@ -19,7 +19,7 @@ pub const DEVICE: u8 = 5;
 // setting out of range
 pub const SETTING: u8 = 6;
 
-// tag above 1
+// tag above 2 (document 02, item 4)
 pub const TAG: u8 = 7;
 
 // 16 routines in the sequence
@@ -63,3 +63,6 @@ pub const LENGTH: u8 = 20;
 
 // over 64 routines to write, or buffer too short; a list of settings shorter than N (document 02, item 14)
 pub const NO_ROOM: u8 = 21;
+
+// a condition that is last in its routine or followed by another condition (document 02, item 4)
+pub const CONDITION_ALONE: u8 = 22;
