@@ -1,5 +1,5 @@
 -- The calls of the hub, with any numbers and lists, and their answers as data: every value that document 01 prints, under the word that it
--- prints; and the new pass limit of document 02, item 13, which no line makes. Assumes nothing.
+-- prints, `held` and `not held` of document 02, item 4, among them; and the new pass limit of item 13, which no line makes. Assumes nothing.
 use mathlib.Core.List.{List, [], _∷_}
 use Prim.Native.Nat.{ℕ}
 use lib.IntN.{ℤ}
@@ -31,6 +31,8 @@ pub data Answer : Type 0 where
   send : ℕ → Command → Answer  -- id, the command to send
   done : ℕ → Answer  -- id
   skipped : ℕ → List Back → Answer  -- id, what is put back
+  held : ℕ → Answer  -- id
+  not-held : ℕ → Answer  -- id
   committed : ℕ → Answer  -- id
   aborted : ℕ → List Back → Answer  -- id, what is put back, by rising device
   down : ℕ → ℕ → Answer  -- device, the id that the failure follows

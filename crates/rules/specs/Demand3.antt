@@ -1,14 +1,17 @@
 -- Demand 3, its statement. The proof is `demand-3` of `proofs/Theorem.antt`; `docs/DEMAND-3.md` walks through it. Assumes nothing.
 use mathlib.Core.Path.{_≡_}
-use mathlib.Core.Bool.{Bool, true, false}
-use mathlib.Core.List.{List, [], _∷_, _++_}
+use mathlib.Core.Logic.{_⊎_}
+use mathlib.Core.Bool.{Bool, true, false, _&&_}
+use mathlib.Core.List.{List, [], _∷_, _++_, map}
 use Prim.Native.Nat.{ℕ, _<_}
+use Rattle.routine.specs.Routine.{isCondition}
 use Rattle.routine.specs.declared.Command.{Command}
 use Rattle.rules.specs.Tables.{anyOf}
 use Rattle.rules.specs.State.{State}
-use Rattle.rules.specs.Progress.{isMust}
+use Rattle.rules.specs.Progress.{countsAsMust}
 use Rattle.rules.specs.Open.{opened, openOf}
-use Rattle.rules.specs.History.{Outcome, reported-done, reported-failed, not-sent, by-event, Answered, Account, workingOf}
+use Rattle.rules.specs.History.{Outcome, not-yet, reported-done, reported-failed, not-sent, by-event, found-held, found-not-held}
+use Rattle.rules.specs.History.{Noted, Account, workingOf}
 use Rattle.rules.specs.Order.{Event, isOf, Entry, routine, event, Order, entries, orderOf}
 use Rattle.rules.specs.Serial.{DeviceState, allUp, runCommand, runEntry, serialRun}
 use Rattle.rules.specs.World.{put-back, sameOrigin, Message, World, accounts, Act, worldAfterAll, PremiseAll, newWorld}
@@ -51,7 +54,9 @@ SettledStands w acts =
 
 -- Part 3, where commands stand. Document 01, The hub's order: "In it every done command finds its device up; every skipped one was reported
 -- failed or finds it down." Document 02, item 3, has "a third ground for a skipped command", a best-effort one: an event of its device,
--- which "follows the routine in the order".
+-- which "follows the routine in the order". Item 4 has "further grounds": a command after a condition that did not hold or was skipped; a
+-- condition is skipped as its device is down, or by an event, with the tag of the command after it. One that was not skipped finds its
+-- device up; that it then has the outcome that it had live is the statement of `Replay.antt`.
 
 -- The events behind a routine and before the next one, in what stands behind it.
 abbrev pub eventsNext : List Entry → List Event
@@ -59,42 +64,68 @@ eventsNext [] = []
 eventsNext (routine i cs b ∷ l) = []
 eventsNext (event e ∷ l) = e ∷ eventsNext l
 
--- A command c, answered so, whose device is up or not where its routine stands; `behind`: the events behind the routine.
-abbrev pub Finds : List Event → Command → Bool → Outcome → Type 0
-Finds behind c isUp reported-done = isUp ≡ true
-Finds behind c isUp reported-failed = Unit {0}
-Finds behind c isUp not-sent = isUp ≡ false
-Finds behind c isUp by-event = (isMust c ≡ false) × (anyOf (isOf (c .device)) behind ≡ true)
+-- Not held, or skipped, which "counts as not held".
+abbrev pub notHeldBy : Outcome → Bool
+notHeldBy not-yet = false
+notHeldBy reported-done = false
+notHeldBy reported-failed = true
+notHeldBy not-sent = true
+notHeldBy by-event = true
+notHeldBy found-held = false
+notHeldBy found-not-held = true
+
+-- A condition after which the following command is skipped.
+abbrev pub skipsFollowing : Noted → Bool
+skipsFollowing x = isCondition (x .command) && notHeldBy (x .outcome)
+
+-- A command that was answered so: its device; is it up where the routine stands; did the condition before it skip it; is the tag that
+-- counts for it must; `behind`: the events behind the routine.
+abbrev pub Finds : List Event → ℕ → Bool → Bool → Bool → Outcome → Type 0
+Finds behind d isUp skipping must not-yet = Unit {0}
+Finds behind d isUp skipping must reported-done = isUp ≡ true
+Finds behind d isUp skipping must reported-failed = Unit {0}
+Finds behind d isUp skipping must not-sent = (skipping ≡ true) ⊎ (isUp ≡ false)
+Finds behind d isUp skipping must by-event = (must ≡ false) × (anyOf (isOf d) behind ≡ true)
+Finds behind d isUp skipping must found-held = isUp ≡ true
+Finds behind d isUp skipping must found-not-held = isUp ≡ true
 
 -- What a command that was answered so leaves: a done one is run.
-abbrev pub afterAnswered : Outcome → Command → (ℕ → DeviceState) → ℕ → DeviceState
-afterAnswered reported-done c t = runCommand c t
-afterAnswered reported-failed c t = t
-afterAnswered not-sent c t = t
-afterAnswered by-event c t = t
+abbrev pub afterNoted : Outcome → Command → (ℕ → DeviceState) → ℕ → DeviceState
+afterNoted not-yet c t = t
+afterNoted reported-done c t = runCommand c t
+afterNoted reported-failed c t = t
+afterNoted not-sent c t = t
+afterNoted by-event c t = t
+afterNoted found-held c t = t
+afterNoted found-not-held c t = t
 
--- The answered commands of a routine, as they were answered.
-abbrev pub AllFind : List Event → List Answered → (ℕ → DeviceState) → Type 0
-AllFind behind [] t = Unit {0}
-AllFind behind (x ∷ l) t = Finds behind (x .command) (t (x .command .device) .up) (x .outcome)
-    × AllFind behind l (afterAnswered (x .outcome) (x .command) t)
+-- The commands of a routine, in turn, as they were answered; `skipping`: does the command before these skip the first of them?
+abbrev pub AllFind : List Event → Bool → List Noted → (ℕ → DeviceState) → Type 0
+AllFind behind skipping [] t = Unit {0}
+AllFind behind skipping (x ∷ l) t =
+    Finds behind (x .command .device) (t (x .command .device) .up) skipping (countsAsMust (x .command) (map (λ (y : Noted). y .command) l))
+    (x .outcome)
+    × AllFind behind (skipsFollowing x) l (afterNoted (x .outcome) (x .command) t)
 
 -- Those of them that were done.
-abbrev pub doneOnes : List Answered → List Command
+abbrev pub doneOnes : List Noted → List Command
 doneOnes [] = []
 doneOnes (x ∷ l) = ifDone (x .outcome) (x .command) (doneOnes l)
   where
     ifDone : Outcome → Command → List Command → List Command
+    ifDone not-yet c cs = cs
     ifDone reported-done c cs = c ∷ cs
     ifDone reported-failed c cs = cs
     ifDone not-sent c cs = cs
     ifDone by-event c cs = cs
+    ifDone found-held c cs = cs
+    ifDone found-not-held c cs = cs
 
 -- The routines of an order, run from t: each one's done commands are those that were answered done, and its answered commands find what
 -- they should.
 abbrev pub CommandsStand : (ℕ → Account) → List Entry → (ℕ → DeviceState) → Type 0
 CommandsStand a [] t = Unit {0}
-CommandsStand a (routine i cs b ∷ l) t = (cs ≡ doneOnes (a i .answered)) × AllFind (eventsNext l) (a i .answered) t
+CommandsStand a (routine i cs b ∷ l) t = (cs ≡ doneOnes (a i .commands)) × AllFind (eventsNext l) false (a i .commands) t
     × CommandsStand a l (runEntry (routine i cs b) t)
 CommandsStand a (event e ∷ l) t = CommandsStand a l (runEntry (event e) t)
 

@@ -1,6 +1,6 @@
--- Document 01, "Failure or restart of D", with document 02, item 3, "A lamp that dies after its work". Refusals: failure 14, 15; restart
--- 14, 16, 17. Assumes nothing.
-use mathlib.Core.Bool.{Bool, true, false, not, _&&_}
+-- Document 01, "Failure or restart of D", with document 02, item 3, "A lamp that dies after its work", and the conditions of item 4.
+-- Refusals: failure 14, 15; restart 14, 16, 17. Assumes nothing.
+use mathlib.Core.Bool.{Bool, true, false, not, _&&_, _||_}
 use mathlib.Core.List.{List, [], _∷_, _++_}
 use mathlib.Core.Option.{Option, none, some}
 use Prim.Native.Nat.{ℕ}
@@ -9,10 +9,10 @@ use lib.IntN.{ℤ}
 use Rattle.routine.specs.Choice.{if_then_else_}
 use Rattle.routine.specs.Range.{inRange}
 use Rattle.routine.specs.Refusals.{event-device, failure-of-down, restart-of-up, restart-setting, refuse_when_, _andThen_}
-use Rattle.rules.specs.Tables.{anyOf, put}
+use Rattle.rules.specs.Tables.{put}
 use Rattle.rules.specs.State.{was-skipped, Step, Member, State}
 use Rattle.rules.specs.Answers.{Result, down, up, unlessRefused}
-use Rattle.rules.specs.Progress.{isMust, isLeftOn, begun, finished, withStatus, withSteps}
+use Rattle.rules.specs.Progress.{isLeftOn, begun, finished, commandsIn, countsAsMust, withStatus, withSteps}
 use Rattle.rules.specs.Sequence.{Found, find, isRunning, withUp, change}
 use Rattle.rules.specs.Attach.{oneRestart, attach}
 use Rattle.rules.specs.Abort.{abort}
@@ -22,9 +22,13 @@ use Rattle.rules.specs.Settle.{settling}
 unfoldable pub isHalfway : ℕ → Member → Bool
 isHalfway d m = isRunning m && begun d m && not (finished d m)
 
--- Is a must left on D?
+-- Is a must left on D? "On a failure or restart the condition has the tag of the command after it".
+abbrev pub mustAmong : ℕ → List Step → Bool
+mustAmong d [] = false
+mustAmong d (x ∷ l) = (isLeftOn d x && countsAsMust (x .command) (commandsIn l)) || mustAmong d l
+
 unfoldable pub mustLeft : ℕ → Member → Bool
-mustLeft d m = anyOf (λ x. isLeftOn d x && isMust (x .command)) (m .steps)
+mustLeft d m = mustAmong d (m .steps)
 
 -- Document 02, item 3: "Its remaining commands on D are skipped, one in flight included".
 abbrev pub skipLeft : ℕ → List Step → List Step

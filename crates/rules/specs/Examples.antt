@@ -9,14 +9,14 @@ use lib.ListN.{replicate}
 use Rattle.routine.specs.Choice.{if_then_else_}
 use Rattle.routine.specs.Range.{inRange}
 use Rattle.routine.specs.Refusals.{refusalOf}
-use Rattle.routine.specs.Routine.{commandCheck, commandsCheck, routineCheck}
+use Rattle.routine.specs.Routine.{commandCheck, standsAlone, commandsCheck, routineCheck}
 use Rattle.routine.specs.declared.Command.{Command}
 use Rattle.routine.specs.declared.Refusal.the-variants.{Number, Indexed}
 use Rattle.routine.specs.declared.Verdict.the-variants.{Accepted, Refused}
 use Rattle.rules.specs.State.{State}
 use Rattle.rules.specs.Answers.{Call, submit, turn, report, failure, restart, cancel, limit, Back, Answer, refused, placed, wait}
 use Rattle.rules.specs.Answers.{send}
-use Rattle.rules.specs.Answers.{done, skipped, committed, aborted, down, up, limited}
+use Rattle.rules.specs.Answers.{done, skipped, held, not-held, committed, aborted, down, up, limited}
 use Rattle.rules.specs.Progress.{begun, finished, inFlightOn}
 use Rattle.rules.specs.Due.{afterMember, due}
 use Rattle.rules.specs.AllDue.{allDue, listCheck, listAfter}
@@ -26,7 +26,8 @@ use Rattle.rules.specs.Settle.{joinSettled, settle}
 use Rattle.rules.specs.Abort.{leave, isPutBack, putBacks, abort}
 use Rattle.rules.specs.Open.{opened, openCheck, newHub, openOf}
 use Rattle.rules.specs.Submit.{submitCheck, blocks, pass, newcomer, place, submitOf}
-use Rattle.rules.specs.Turn.{holds, markBegun, commit, commitTurn, sendTurn, skipTurn, turnOf}
+use Rattle.rules.specs.Turn.{holds, hasSet, holdsUp, markBegun, commit, commitTurn, sendTurn, skipTurn, isHeld, heldTurn, notHeldTurn}
+use Rattle.rules.specs.Turn.{turnOf}
 use Rattle.rules.specs.Report.{doneReport, backIfChanged, skippedState, skipReport, reportOf}
 use Rattle.rules.specs.Events.{isHalfway, mustLeft, skipRest, stopHalfway, failureResult, restartResult, failureOf, restartOf}
 use Rattle.rules.specs.Cancel.{cancelOf}
@@ -35,9 +36,9 @@ use Rattle.rules.specs.Calls.{resultOf, stateAfter}
 
 -- All that a computation with the rules opens.
 unfoldable pub calc : Unit {0}
-unfolding inRange refusalOf commandCheck commandsCheck routineCheck begun finished inFlightOn afterMember due isRunning runs joinSettled
+unfolding inRange refusalOf commandCheck standsAlone commandsCheck routineCheck begun finished inFlightOn afterMember due isRunning runs joinSettled
     settle attachTo settleRestarts moveMarks leave isPutBack putBacks abort openCheck newHub openOf submitCheck blocks pass newcomer place
-    submitOf holds markBegun commit commitTurn sendTurn skipTurn turnOf doneReport backIfChanged skippedState skipReport reportOf isHalfway
+    submitOf holds hasSet holdsUp markBegun commit commitTurn sendTurn skipTurn isHeld heldTurn notHeldTurn turnOf doneReport backIfChanged skippedState skipReport reportOf isHalfway
     mustLeft skipRest stopHalfway attach oneRestart failureResult restartResult failureOf restartOf cancelOf
     limitOf
 calc = tt
@@ -363,6 +364,141 @@ unfolding calc
 lamps-hold = (
   (refl, refl, refl),
   ((refl, refl, refl), ((refl, refl, refl), ((refl, refl, refl), ((refl, refl, refl), ((refl, refl, refl), tt))))),
+)
+
+-- ---- water only if dry (document 02, item 4): device 0 is the soil's, device 1 the valve, device 2 a lamp
+
+abbrev pub condition : ℕ → ℤ → Command
+condition d v = record { device = d; tag = 2; setting = v }
+
+-- 0 is below 20, and not below 0: the first does not hold, and the command after it, a must on a device that is up, is skipped at its own
+-- turn; the second holds. Each takes one turn, and nothing is in flight behind it. 20 is not below 20: it holds.
+abbrev pub dryOrNot : Example
+dryOrNot = record {
+  devices = 2;
+  passLimit = 0;
+  firstId = 3;
+  calls = submit (condition 0 (pos 20) ∷ must 1 (pos 70) ∷ condition 0 (pos 0) ∷ must 0 (pos 20) ∷ []) ∷ turn 3 ∷ report 3 0 ∷ turn 3
+      ∷ turn 3 ∷ turn 3 ∷ report 3 0 ∷ turn 3 ∷ submit (condition 0 (pos 20) ∷ must 1 (pos 5) ∷ []) ∷ turn 4 ∷ turn 4 ∷ [];
+  answers = (placed 3 0 ∷ []) ∷ (not-held 3 ∷ []) ∷ none-flies ∷ (skipped 3 [] ∷ []) ∷ (held 3 ∷ []) ∷ (send 3 (must 0 (pos 20)) ∷ [])
+      ∷ (done 3 ∷ []) ∷ (committed 3 ∷ []) ∷ (placed 4 0 ∷ []) ∷ (held 4 ∷ []) ∷ (send 4 (must 1 (pos 5)) ∷ []) ∷ [];
+  settings = some (pos 20) ∷ some (pos 0) ∷ [];
+}
+
+-- 1 has done device 0 and finished it: a condition on it waits until 1 has committed.
+abbrev pub secondCause : Example
+secondCause = record {
+  devices = 3;
+  passLimit = 0;
+  firstId = 1;
+  calls = submit (must 0 (pos 30) ∷ must 1 (pos 1) ∷ []) ∷ turn 1 ∷ report 1 0 ∷ submit (condition 0 (pos 20) ∷ must 2 (pos 5) ∷ [])
+      ∷ turn 2 ∷ turn 1 ∷ report 1 0 ∷ turn 2 ∷ turn 1 ∷ turn 2 ∷ turn 2 ∷ [];
+  answers = (placed 1 0 ∷ []) ∷ (send 1 (must 0 (pos 30)) ∷ []) ∷ (done 1 ∷ []) ∷ (placed 2 1 ∷ []) ∷ (wait 2 1 ∷ [])
+      ∷ (send 1 (must 1 (pos 1)) ∷ []) ∷ (done 1 ∷ []) ∷ (wait 2 1 ∷ []) ∷ (committed 1 ∷ []) ∷ (held 2 ∷ [])
+      ∷ (send 2 (must 2 (pos 5)) ∷ []) ∷ [];
+  settings = some (pos 30) ∷ some (pos 1) ∷ some (pos 0) ∷ [];
+}
+
+-- The first in the sequence that gives either cause: 1 has a done command on device 0, 2 has it left. The condition of 3 waits on 1, a
+-- command of 4 on the same device on 2.
+abbrev pub eitherCause : Example
+eitherCause = record {
+  devices = 2;
+  passLimit = 0;
+  firstId = 1;
+  calls = submit (must 0 (pos 30) ∷ must 1 (pos 1) ∷ []) ∷ turn 1 ∷ report 1 0 ∷ submit (must 0 (pos 40) ∷ []) ∷ submit
+      (condition 0 (pos 20) ∷ must 1 (pos 5) ∷ []) ∷ submit (must 0 (pos 50) ∷ []) ∷ turn 3 ∷ turn 4 ∷ cancel 1 ∷ turn 3 ∷ turn 2
+      ∷ report 2 0 ∷ turn 3 ∷ turn 2 ∷ turn 3 ∷ [];
+  answers = (placed 1 0 ∷ []) ∷ (send 1 (must 0 (pos 30)) ∷ []) ∷ (done 1 ∷ []) ∷ (placed 2 1 ∷ []) ∷ (placed 3 2 ∷ [])
+      ∷ (placed 4 3 ∷ []) ∷ (wait 3 1 ∷ []) ∷ (wait 4 2 ∷ []) ∷ (aborted 1 (back 0 (pos 0) ∷ []) ∷ []) ∷ (wait 3 2 ∷ [])
+      ∷ (send 2 (must 0 (pos 40)) ∷ []) ∷ (done 2 ∷ []) ∷ (wait 3 2 ∷ []) ∷ (committed 2 ∷ []) ∷ (held 3 ∷ []) ∷ [];
+  settings = some (pos 40) ∷ some (pos 0) ∷ [];
+}
+
+-- A restart at 25, attached to a routine that runs, is no cause to wait: the condition holds because of it. One that is committed and not
+-- settled is none, either.
+abbrev pub restartHolds : Example
+restartHolds = record {
+  devices = 3;
+  passLimit = 0;
+  firstId = 1;
+  calls = submit (best 0 (pos 3) ∷ must 1 (pos 1) ∷ []) ∷ failure 0 ∷ turn 1 ∷ restart 0 (pos 25) ∷ submit
+      (condition 0 (pos 20) ∷ must 0 (pos 7) ∷ []) ∷ turn 2 ∷ turn 2 ∷ report 2 0 ∷ turn 2 ∷ submit
+      (condition 0 (pos 8) ∷ best 2 (pos 6) ∷ []) ∷ turn 3 ∷ turn 3 ∷ [];
+  answers = (placed 1 0 ∷ []) ∷ (down 0 0 ∷ []) ∷ (skipped 1 [] ∷ []) ∷ (up 0 1 ∷ []) ∷ (placed 2 1 ∷ []) ∷ (held 2 ∷ [])
+      ∷ (send 2 (must 0 (pos 7)) ∷ []) ∷ (done 2 ∷ []) ∷ (committed 2 ∷ []) ∷ (placed 3 2 ∷ []) ∷ (not-held 3 ∷ []) ∷ (skipped 3 [] ∷ [])
+      ∷ [];
+  settings = some (pos 7) ∷ some (pos 0) ∷ some (pos 0) ∷ [];
+}
+
+-- Device 0 is down. The command after the condition decides: a must aborts 1; a best-effort skips the condition of 2, and is itself
+-- skipped at its turn, its device up.
+abbrev pub askedDown : Example
+askedDown = record {
+  devices = 2;
+  passLimit = 0;
+  firstId = 1;
+  calls = failure 0 ∷ submit (condition 0 (pos 0) ∷ must 1 (pos 5) ∷ []) ∷ submit (condition 0 (pos 0) ∷ best 1 (pos 5) ∷ []) ∷ turn 1
+      ∷ turn 2 ∷ turn 2 ∷ turn 2 ∷ [];
+  answers = (down 0 0 ∷ []) ∷ (placed 1 0 ∷ []) ∷ (placed 2 1 ∷ []) ∷ (aborted 1 [] ∷ []) ∷ (skipped 2 [] ∷ []) ∷ (skipped 2 [] ∷ [])
+      ∷ (committed 2 ∷ []) ∷ [];
+  settings = none ∷ some (pos 0) ∷ [];
+}
+
+-- The condition of 1 is left on device 0, which 1 has begun, when that fails: it has the tag of the command after it. A best-effort one
+-- skips it, and is skipped at its turn though its device is up; a must aborts (2).
+abbrev pub askedAtEvent : Example
+askedAtEvent = record {
+  devices = 2;
+  passLimit = 0;
+  firstId = 1;
+  calls = submit (must 0 (pos 9) ∷ condition 0 (pos 5) ∷ best 1 (pos 5) ∷ must 1 (pos 6) ∷ []) ∷ turn 1 ∷ report 1 0 ∷ failure 0 ∷ turn 1
+      ∷ turn 1 ∷ report 1 0 ∷ turn 1 ∷ restart 0 (pos 9) ∷ submit (best 0 (pos 9) ∷ condition 0 (pos 5) ∷ must 1 (pos 5) ∷ []) ∷ turn 2
+      ∷ failure 0 ∷ [];
+  answers = (placed 1 0 ∷ []) ∷ (send 1 (must 0 (pos 9)) ∷ []) ∷ (done 1 ∷ []) ∷ (down 0 1 ∷ []) ∷ (skipped 1 [] ∷ [])
+      ∷ (send 1 (must 1 (pos 6)) ∷ []) ∷ (done 1 ∷ []) ∷ (committed 1 ∷ []) ∷ (up 0 0 ∷ []) ∷ (placed 2 0 ∷ [])
+      ∷ (send 2 (best 0 (pos 9)) ∷ []) ∷ (aborted 2 [] ∷ down 0 0 ∷ []) ∷ [];
+  settings = none ∷ some (pos 6) ∷ [];
+}
+
+-- The command after a condition that did not hold waits as any other (2 for 1, which has begun device 1), and aborts nothing where its
+-- device is down. The condition begins its device: a failure is attached to its routine, and the newcomer 3 follows it.
+abbrev pub skippedWaits : Example
+skippedWaits = record {
+  devices = 2;
+  passLimit = 8;
+  firstId = 1;
+  calls = submit (must 1 (pos 1) ∷ []) ∷ turn 1 ∷ submit (condition 0 (pos 5) ∷ must 1 (pos 2) ∷ []) ∷ turn 2 ∷ turn 2 ∷ failure 0
+      ∷ submit (best 0 (pos 1) ∷ []) ∷ report 1 0 ∷ failure 1 ∷ turn 2 ∷ turn 2 ∷ [];
+  answers = (placed 1 0 ∷ []) ∷ (send 1 (must 1 (pos 1)) ∷ []) ∷ (placed 2 1 ∷ []) ∷ (not-held 2 ∷ []) ∷ (wait 2 1 ∷ [])
+      ∷ (down 0 2 ∷ []) ∷ (placed 3 2 ∷ []) ∷ (done 1 ∷ []) ∷ (down 1 1 ∷ []) ∷ (skipped 2 [] ∷ []) ∷ (committed 2 ∷ []) ∷ [];
+  settings = none ∷ none ∷ [];
+}
+
+-- 5, 6, 7, 22 for each command in turn.
+abbrev pub conditionsRefused : Example
+conditionsRefused = record {
+  devices = 2;
+  passLimit = 0;
+  firstId = 1;
+  calls = submit (condition 0 (pos 5) ∷ []) ∷ submit (must 0 (pos 5) ∷ condition 0 (pos 5) ∷ condition 1 (pos 5) ∷ must 1 (pos 5) ∷ [])
+      ∷ submit (condition 2 (pos 5) ∷ []) ∷ submit (condition 0 (pos 1001) ∷ []) ∷ submit
+      (record { device = 0; tag = 3; setting = pos 0 } ∷ []) ∷ submit (condition 0 (pos 5) ∷ condition 2 (pos 5) ∷ []) ∷ submit
+      (condition 0 (pos 5) ∷ must 2 (pos 5) ∷ []) ∷ [];
+  answers = (refused (Indexed 22 0) ∷ []) ∷ (refused (Indexed 22 1) ∷ []) ∷ (refused (Indexed 5 0) ∷ []) ∷ (refused (Indexed 6 0) ∷ [])
+      ∷ (refused (Indexed 7 0) ∷ []) ∷ (refused (Indexed 22 0) ∷ []) ∷ (refused (Indexed 5 1) ∷ []) ∷ [];
+  settings = some (pos 0) ∷ some (pos 0) ∷ [];
+}
+
+pub conditions-hold : AllHold (dryOrNot ∷ secondCause ∷ eitherCause ∷ restartHolds ∷ askedDown ∷ askedAtEvent ∷ skippedWaits
+    ∷ conditionsRefused ∷ [])
+unfolding calc
+conditions-hold = (
+  (refl, refl, refl),
+  (
+    (refl, refl, refl),
+    ((refl, refl, refl), ((refl, refl, refl), ((refl, refl, refl), ((refl, refl, refl), ((refl, refl, refl), ((refl, refl, refl), tt)))))),
+  ),
 )
 
 -- ---- all due settings in one list (document 02, item 14)

@@ -1,7 +1,7 @@
 -- What the calls and their answers tell, without a look at the hub. A history is the calls with their answers, the latest first. Assumes
 -- nothing.
 use mathlib.Core.Bool.{Bool, true, false, not, _&&_, _||_}
-use mathlib.Core.List.{List, [], _∷_, _++_, map}
+use mathlib.Core.List.{List, [], _∷_, map}
 use Prim.Native.Nat.{ℕ, suc}
 use lib.Dec.{eqb}
 use Rattle.routine.specs.Choice.{if_then_else_}
@@ -10,37 +10,49 @@ use Rattle.routine.specs.declared.Command.{Command}
 use Rattle.rules.specs.Tables.{anyOf, put}
 use Rattle.rules.specs.Answers.{Call, submit, turn, report, failure, restart, cancel, limit, Answer, refused, placed, wait, send}
 use Rattle.rules.specs.Answers.{done}
-use Rattle.rules.specs.Answers.{skipped, committed, aborted, down, up, limited}
+use Rattle.rules.specs.Answers.{skipped, held, not-held, committed, aborted, down, up, limited}
 
 pub record Told : Type 0 where
   pub call : Call
   pub answers : List Answer
 
--- How a command was answered: reported done; skipped as it was reported failed; skipped by a turn, without being sent; skipped by an event
--- of its device (document 02, item 3).
+-- How a command was answered: not yet; reported done; skipped as it was reported failed; skipped by a turn, without being sent; skipped by
+-- an event of its device (document 02, item 3); a condition that was found to hold, or not to hold (item 4).
 pub data Outcome : Type 0 where
+  not-yet : Outcome
   reported-done : Outcome
   reported-failed : Outcome
   not-sent : Outcome
   by-event : Outcome
+  found-held : Outcome
+  found-not-held : Outcome
 
-pub record Answered : Type 0 where
+abbrev pub isLeft : Outcome → Bool
+isLeft not-yet = true
+isLeft reported-done = false
+isLeft reported-failed = false
+isLeft not-sent = false
+isLeft by-event = false
+isLeft found-held = false
+isLeft found-not-held = false
+
+-- A command of a routine, as it is told of.
+pub record Noted : Type 0 where
   pub command : Command
   pub outcome : Outcome
 
 -- What is told of one id: does it run ("a routine runs until committed or aborted"); has it a command in flight, one that was sent and
--- neither answered nor ended with its routine since; its commands that are not answered yet; the command last sent for it, and how many
--- were sent; its answered commands, as they were answered.
+-- neither answered nor ended with its routine since; its commands, in turn, each with how it was answered; the command last sent for it,
+-- and how many were sent.
 pub record Account : Type 0 where
   pub running : Bool
   pub flying : Bool
-  pub left : List Command
+  pub commands : List Noted
   pub lastSent : Command
   pub sends : ℕ
-  pub answered : List Answered
 
 abbrev pub noAccount : Account
-noAccount = record { running = false; flying = false; left = []; lastSent = zeroCommand; sends = 0; answered = [] }
+noAccount = record { running = false; flying = false; commands = []; lastSent = zeroCommand; sends = 0 }
 
 -- The commands that a submission brings.
 abbrev pub submittedBy : Call → List Command
@@ -62,43 +74,31 @@ skippedBy (restart d v) = not-sent
 skippedBy (cancel i) = not-sent
 skippedBy (limit k) = not-sent
 
+abbrev pub notedAs : Outcome → Command → Noted
+notedAs o c = record { command = c; outcome = o }
+
 abbrev pub placedAccount : List Command → Account
-placedAccount cs = record { running = true; flying = false; left = cs; lastSent = zeroCommand; sends = 0; answered = [] }
+placedAccount cs = record { running = true; flying = false; commands = map (notedAs not-yet) cs; lastSent = zeroCommand; sends = 0 }
 
 abbrev pub sentAccount : Command → Account → Account
-sentAccount c a = record {
-  running = a .running;
-  flying = true;
-  left = a .left;
-  lastSent = c;
-  sends = suc (a .sends);
-  answered = a .answered;
-}
-
-abbrev pub answeredBy : Outcome → Command → Answered
-answeredBy o c = record { command = c; outcome = o }
+sentAccount c a = record { running = a .running; flying = true; commands = a .commands; lastSent = c; sends = suc (a .sends) }
 
 -- The first command that is left is answered.
-abbrev pub answeredAccount : Outcome → List Command → Account → Account
-answeredAccount o [] a = a
-answeredAccount o (c ∷ cs) a = record {
+abbrev pub noteFirst : Outcome → List Noted → List Noted
+noteFirst o [] = []
+noteFirst o (x ∷ l) = if isLeft (x .outcome) then notedAs o (x .command) ∷ l else x ∷ noteFirst o l
+
+abbrev pub answeredAccount : Outcome → Account → Account
+answeredAccount o a = record {
   running = a .running;
   flying = false;
-  left = cs;
+  commands = noteFirst o (a .commands);
   lastSent = a .lastSent;
   sends = a .sends;
-  answered = a .answered ++ (answeredBy o c ∷ []);
 }
 
 abbrev pub endedAccount : Account → Account
-endedAccount a = record {
-  running = false;
-  flying = false;
-  left = a .left;
-  lastSent = a .lastSent;
-  sends = a .sends;
-  answered = a .answered;
-}
+endedAccount a = record { running = false; flying = false; commands = a .commands; lastSent = a .lastSent; sends = a .sends }
 
 -- ---- an event of D: what its answer does not name (document 02, item 3)
 
@@ -107,26 +107,20 @@ isFor d c = eqb (c .device) d
 
 -- Begun (document 01, The steps), by the account: a command on D was answered, or is in flight.
 abbrev pub hasBegun : ℕ → Account → Bool
-hasBegun d a = anyOf (λ x. isFor d (x .command)) (a .answered) || (a .flying && isFor d (a .lastSent))
-
--- Those of these commands that are on D, and the others.
-abbrev pub onlyOn : ℕ → List Command → List Command
-onlyOn d [] = []
-onlyOn d (c ∷ l) = if isFor d c then c ∷ onlyOn d l else onlyOn d l
-
-abbrev pub notOn : ℕ → List Command → List Command
-notOn d [] = []
-notOn d (c ∷ l) = if isFor d c then notOn d l else c ∷ notOn d l
+hasBegun d a = anyOf (λ x. isFor d (x .command) && not (isLeft (x .outcome))) (a .commands) || (a .flying && isFor d (a .lastSent))
 
 -- "Its remaining commands on D are skipped, one in flight included".
+abbrev pub noteLeft : ℕ → List Noted → List Noted
+noteLeft d [] = []
+noteLeft d (x ∷ l) = (if isFor d (x .command) && isLeft (x .outcome) then notedAs by-event (x .command) else x) ∷ noteLeft d l
+
 abbrev pub skippedAccount : ℕ → Account → Account
 skippedAccount d a = record {
   running = a .running;
   flying = a .flying && not (isFor d (a .lastSent));
-  left = notOn d (a .left);
+  commands = noteLeft d (a .commands);
   lastSent = a .lastSent;
   sends = a .sends;
-  answered = a .answered ++ map (answeredBy by-event) (onlyOn d (a .left));
 }
 
 -- "a running routine that has begun D". One with a must left on D has aborted: the answers tell that first, and it runs no more.
@@ -138,8 +132,10 @@ noteAnswer c (refused r) a = a
 noteAnswer c (placed i j) a = put a i (placedAccount (submittedBy c))
 noteAnswer c (wait i j) a = a
 noteAnswer c (send i x) a = put a i (sentAccount x (a i))
-noteAnswer c (done i) a = put a i (answeredAccount reported-done (a i .left) (a i))
-noteAnswer c (skipped i l) a = put a i (answeredAccount (skippedBy c) (a i .left) (a i))
+noteAnswer c (done i) a = put a i (answeredAccount reported-done (a i))
+noteAnswer c (skipped i l) a = put a i (answeredAccount (skippedBy c) (a i))
+noteAnswer c (held i) a = put a i (answeredAccount found-held (a i))
+noteAnswer c (not-held i) a = put a i (answeredAccount found-not-held (a i))
 noteAnswer c (committed i) a = put a i (endedAccount (a i))
 noteAnswer c (aborted i l) a = put a i (endedAccount (a i))
 noteAnswer c (down d j) a = λ i. eventAccount d (a i)
@@ -163,6 +159,8 @@ workingAfter (wait i j) w = w
 workingAfter (send i x) w = w
 workingAfter (done i) w = w
 workingAfter (skipped i l) w = w
+workingAfter (held i) w = w
+workingAfter (not-held i) w = w
 workingAfter (committed i) w = w
 workingAfter (aborted i l) w = w
 workingAfter (down d j) w = put w d false

@@ -24,5 +24,6 @@ pub mod World
 pub mod Demand3
 pub mod Examples
 pub mod HubOrder
+pub mod Replay
 pub mod Rounds
 pub mod NewLimit

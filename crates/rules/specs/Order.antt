@@ -9,7 +9,7 @@ use Rattle.routine.specs.Choice.{if_then_else_}
 use Rattle.routine.specs.declared.Command.{Command}
 use Rattle.rules.specs.Answers.{Call, submit, turn, report, failure, restart, cancel, limit, Answer, refused, placed, wait, send}
 use Rattle.rules.specs.Answers.{done}
-use Rattle.rules.specs.Answers.{skipped, committed, aborted, down, up, limited}
+use Rattle.rules.specs.Answers.{skipped, held, not-held, committed, aborted, down, up, limited}
 use Rattle.rules.specs.History.{Told, Account, accountsOf}
 
 pub data Event : Type 0 where
@@ -100,6 +100,8 @@ orderAfter c a (wait i j) o = o
 orderAfter c a (send i x) o = o
 orderAfter c a (done i) o = editOrder i (gains i (a i .lastSent)) o
 orderAfter c a (skipped i l) o = o
+orderAfter c a (held i) o = o
+orderAfter c a (not-held i) o = o
 orderAfter c a (committed i) o = editOrder i (noted i) o
 orderAfter c a (aborted i l) o = editOrder i goes o
 orderAfter c a (down d j) o = putAfter (event (failure-of d)) j o

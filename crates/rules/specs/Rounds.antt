@@ -12,7 +12,7 @@ use Rattle.routine.specs.declared.Command.{Command}
 use Rattle.rules.specs.Tables.{anyOf, Each}
 use Rattle.rules.specs.State.{maxHeld, State}
 use Rattle.rules.specs.Answers.{Call, submit, turn, report, failure, restart, cancel, limit, Answer, refused, placed, wait, send}
-use Rattle.rules.specs.Answers.{done, skipped, committed, aborted}
+use Rattle.rules.specs.Answers.{done, skipped, held, not-held, committed, aborted}
 use Rattle.rules.specs.Answers.{down, up, limited}
 use Rattle.rules.specs.Progress.{isInFlight}
 use Rattle.rules.specs.Sequence.{runs}
@@ -54,6 +54,8 @@ limitAfter (wait i j) k = k
 limitAfter (send i c) k = k
 limitAfter (done i) k = k
 limitAfter (skipped i l) k = k
+limitAfter (held i) k = k
+limitAfter (not-held i) k = k
 limitAfter (committed i) k = k
 limitAfter (aborted i l) k = k
 limitAfter (down d j) k = k

@@ -19,12 +19,14 @@ abbrev pub highestId : ℕ
 highestId = 4294967295
 
 -- Where a command of a routine in the sequence stands. One in flight keeps its device's due setting "when the command was sent".
--- "Answered" is done or skipped.
+-- "Answered" is done or skipped and, of a condition (document 02, item 4), held or not held.
 pub data Status : Type 0 where
   to-do : Status
   in-flight : ℤ → Status
   was-done : Status
   was-skipped : Status
+  was-held : Status
+  was-not-held : Status
 
 pub record Step : Type 0 where
   pub command : Command

@@ -1,15 +1,18 @@
--- Document 01, "Mark" and "Turn of R". Refusals: 10, 11. Assumes nothing.
-use mathlib.Core.Bool.{Bool, true, not, _&&_}
+-- Document 01, "Mark" and "Turn of R", with the conditions of document 02, item 4. Refusals: 10, 11. Assumes nothing.
+use mathlib.Core.Bool.{Bool, true, false, not, _&&_, _||_}
 use mathlib.Core.List.{List, [], _∷_}
 use mathlib.Core.Option.{Option, none, some}
 use Prim.Native.Nat.{ℕ}
+use lib.Signed.{ltZ}
 use Rattle.routine.specs.Choice.{if_then_else_}
 use Rattle.routine.specs.Refusals.{not-running, turn-in-flight}
+use Rattle.routine.specs.Routine.{isCondition}
 use Rattle.routine.specs.declared.Command.{Command}
-use Rattle.rules.specs.Tables.{put}
-use Rattle.rules.specs.State.{Status, in-flight, was-skipped, Member, State}
-use Rattle.rules.specs.Answers.{Result, wait, send, skipped, committed, refusedFor}
-use Rattle.rules.specs.Progress.{isMust, begun, finished, next, Flight, flight, advance, withSteps}
+use Rattle.rules.specs.Tables.{anyOf, put}
+use Rattle.rules.specs.State.{Status, in-flight, was-skipped, was-held, was-not-held, Member, State}
+use Rattle.rules.specs.Answers.{Result, wait, send, skipped, held, not-held, committed, refusedFor}
+use Rattle.rules.specs.Progress.{isOn, isDone, begun, finished, next, nextCountsAsMust, nextIsSkipped, Flight, flight, advance}
+use Rattle.rules.specs.Progress.{withSteps}
 use Rattle.rules.specs.Due.{due}
 use Rattle.rules.specs.Sequence.{Found, find, isRunning, runs, withMark, change}
 use Rattle.rules.specs.Abort.{abort}
@@ -19,10 +22,19 @@ use Rattle.rules.specs.Settle.{settling}
 unfoldable pub holds : ℕ → Member → Bool
 holds d m = isRunning m && not (finished d m)
 
--- "the first such id in the sequence": the wait search, through the routines ahead.
-abbrev pub firstHolding : ℕ → List Member → Option ℕ
-firstHolding d [] = none
-firstHolding d (m ∷ l) = if holds d m then some (m .id) else firstHolding d l
+-- A second cause to wait, for a condition: "while another running routine ahead has a done setting on that device".
+unfoldable pub hasSet : ℕ → Member → Bool
+hasSet d m = isRunning m && anyOf (λ x. isOn d x && isDone (x .status)) (m .steps)
+
+-- Does this routine give the command a cause to wait?
+unfoldable pub holdsUp : Command → Member → Bool
+holdsUp c m = holds (c .device) m || (isCondition c && hasSet (c .device) m)
+
+-- "the first such id in the sequence", and for a condition "the first in the sequence that gives either cause to wait": the wait search,
+-- through the routines ahead.
+abbrev pub firstHolding : Command → List Member → Option ℕ
+firstHolding c [] = none
+firstHolding c (m ∷ l) = if holdsUp c m then some (m .id) else firstHolding c l
 
 -- Mark (document 01, The steps): "It becomes R when R begins the device."
 unfoldable pub markBegun : Member → ℕ → (ℕ → ℕ) → ℕ → ℕ
@@ -47,11 +59,31 @@ sendTurn s f c = record { state = nextBecomes s f c (in-flight (due s (c .device
 unfoldable pub skipTurn : State → Found → Command → Result
 skipTurn s f c = record { state = nextBecomes s f c was-skipped; answers = skipped (f .it .id) [] ∷ [] }
 
--- "If D is down, a must aborts R and a best-effort is skipped. Otherwise the command is sent and is in flight."
+-- "if its device's due setting is below the given number, it doesn't hold"
+unfoldable pub isHeld : State → Command → Bool
+isHeld s c = not (ltZ (due s (c .device)) (c .setting))
+
+-- A condition on a device that is up "takes one turn, sends nothing and answers `held` or `not held` with the id".
+unfoldable pub heldTurn : State → Found → Command → Result
+heldTurn s f c = record { state = nextBecomes s f c was-held; answers = held (f .it .id) ∷ [] }
+
+unfoldable pub notHeldTurn : State → Found → Command → Result
+notHeldTurn s f c = record { state = nextBecomes s f c was-not-held; answers = not-held (f .it .id) ∷ [] }
+
+-- The next command, its device being up.
+abbrev pub proceedUp : State → Found → Command → Result
+proceedUp s f c =
+    if isCondition c then (if isHeld s c then settling (heldTurn s f c) else settling (notHeldTurn s f c))
+    else settling (sendTurn s f c)
+
+-- The command after a condition that did not hold "is skipped at its own turn, its device up or down, after the wait rule". Else: "If D is
+-- down, a must aborts R and a best-effort is skipped"; of a condition "the following command decides". "Otherwise the command is sent and
+-- is in flight."
 abbrev pub proceed : State → Found → Command → Result
 proceed s f c =
-    if s .up (c .device) then settling (sendTurn s f c)
-    else if isMust c then settling (abort s f)
+    if nextIsSkipped false (f .it .steps) then settling (skipTurn s f c)
+    else if s .up (c .device) then proceedUp s f c
+    else if nextCountsAsMust (f .it .steps) then settling (abort s f)
     else settling (skipTurn s f c)
 
 -- "the answer is wait, with the first such id in the sequence, and no change"
@@ -62,7 +94,7 @@ waitOr s f c none = proceed s f c
 -- "No command left: committed. Otherwise let D be the next command's device."
 abbrev pub turnNext : State → Found → Option Command → Result
 turnNext s f none = settling (commitTurn s f)
-turnNext s f (some c) = waitOr s f c (firstHolding (c .device) (f .ahead))
+turnNext s f (some c) = waitOr s f c (firstHolding c (f .ahead))
 
 abbrev pub turnFlight : State → Found → Option Flight → Result
 turnFlight s f (some x) = refusedFor turn-in-flight s

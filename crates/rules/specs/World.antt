@@ -11,7 +11,7 @@ use Rattle.rules.specs.Tables.{anyOf, put}
 use Rattle.rules.specs.State.{State}
 use Rattle.rules.specs.Answers.{Call, submit, turn, report, failure, restart, cancel, limit, Back, Answer, refused, placed, wait}
 use Rattle.rules.specs.Answers.{send}
-use Rattle.rules.specs.Answers.{done, skipped, committed, aborted, down, up, limited, Result}
+use Rattle.rules.specs.Answers.{done, skipped, held, not-held, committed, aborted, down, up, limited, Result}
 use Rattle.rules.specs.Report.{codeDone}
 use Rattle.rules.specs.Calls.{resultOf}
 use Rattle.rules.specs.History.{Told, Account, accountsOf}
@@ -82,6 +82,8 @@ devicesAfter c a v (send i x) ds =
     put ds (x .device) (receives (record { setting = x .setting; origin = sent-for i (a i .sends) }) (ds (x .device)))
 devicesAfter c a v (done i) ds = ds
 devicesAfter c a v (skipped i l) ds = putAllBack l (dropReported c a ds)
+devicesAfter c a v (held i) ds = ds
+devicesAfter c a v (not-held i) ds = ds
 devicesAfter c a v (committed i) ds = ds
 devicesAfter c a v (aborted i l) ds = putAllBack l (dropReported c a ds)
 devicesAfter c a v (down d j) ds = put ds d (record { setting = v; sent = []; took = ds d .took })
@@ -143,6 +145,8 @@ isAccepted (wait i j ∷ l) = true
 isAccepted (send i x ∷ l) = true
 isAccepted (done i ∷ l) = true
 isAccepted (skipped i b ∷ l) = true
+isAccepted (held i ∷ l) = true
+isAccepted (not-held i ∷ l) = true
 isAccepted (committed i ∷ l) = true
 isAccepted (aborted i b ∷ l) = true
 isAccepted (down d j ∷ l) = true
