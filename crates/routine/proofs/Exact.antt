@@ -17,11 +17,13 @@ use Rattle.routine.specs.Refusals.{Cause, devices-out-of-range, pass-lim
 use Rattle.routine.specs.Refusals.{setting-out-of-range, tag-out-of-range, sequence-full, ids-used-up, not-running, turn-in-flight}
 use Rattle.routine.specs.Refusals.{none-in-flight, report-code-out-of-range, event-device, failure-of-down, restart-of-up}
 use Rattle.routine.specs.Refusals.{restart-setting}
-use Rattle.routine.specs.Refusals.{book-cut-short, book-misplaced, book-length, no-room, refusalOf, refuse_when_, _andThen_}
-use Rattle.routine.specs.Routine.{maxCommands, highestTag, commandCheck, commandsCheck, routineCheck}
+use Rattle.routine.specs.Refusals.{book-cut-short, book-misplaced, book-length, no-room, condition-alone, refusalOf}
+use Rattle.routine.specs.Refusals.{refuse_when_, _andThen_}
+use Rattle.routine.specs.Routine.{maxCommands, conditionTag, highestTag, commandCheck, standsAlone, commandsCheck, routineCheck}
 use Rattle.routine.specs.Causes.{NoneOf, FirstIn, Exactly, itself, NumbersDiffer, OutOfRange, commandNo, commandCauses, routineCauses}
 use Rattle.routine.specs.Causes.{ExactRoutine}
-use Rattle.routine.specs.Causes.{RoutineCause, count-is-out, device-is-out, setting-is-out, tag-is-out}
+use Rattle.routine.specs.Causes.{RoutineCause, count-is-out, device-is-out, setting-is-out, tag-is-out, condition-is-last}
+use Rattle.routine.specs.Causes.{conditions-follow}
 use Rattle.routine.specs.declared.Command.{Command}
 use Rattle.routine.specs.declared.Refusal.{Refusal}
 use Rattle.routine.specs.declared.Refusal.the-variants.{Number, Indexed}
@@ -213,7 +215,17 @@ module _ (limit : ℕ) (cs : List Command) where
   tag-said : {i : ℕ} → RoutineCause limit cs (tag-out-of-range i) → (i < length cs) × (highestTag < commandNo i cs .tag)
   tag-said (tag-is-out h k) = (h, k)
 
+  alone-said : {i : ℕ} → RoutineCause limit cs (condition-alone i) →
+      (commandNo i cs .tag ≡ conditionTag)
+      × ((suc i ≡ length cs) ⊎ ((suc i < length cs) × (commandNo (suc i) cs .tag ≡ conditionTag)))
+  alone-said (condition-is-last h t) = (t, inl h)
+  alone-said (conditions-follow h t u) = (t, inr (h, u))
+
   -- commands that are not there are no cause
+  past : (i : ℕ) → length cs ≤ i → ¬ ((suc i ≡ length cs) ⊎ ((suc i < length cs) × (commandNo (suc i) cs .tag ≡ conditionTag)))
+  past i h (inl e) = omega arith
+  past i h (inr x) = let y = x .0 in omega arith
+
   commands-past : (n i : ℕ) → length cs ≤ i → Outcome (RoutineCause limit cs) itself (commandCauses i n) Accepted
   unfolding commandCauses
   commands-past zero i h = none
@@ -221,7 +233,8 @@ module _ (limit : ℕ) (cs : List Command) where
       passed {t = device-not-below i} (λ x. let y = device-said x .0 in omega arith)
       (passed {t = setting-out-of-range i} (λ x. let y = setting-said x .0 in omega arith)
       (passed {t = tag-out-of-range i} (λ x. let y = tag-said x .0 in omega arith)
-      (commands-past n (suc i) (omega arith))))
+      (passed {t = condition-alone i} (λ x. past i h (alone-said x .1))
+      (commands-past n (suc i) (omega arith)))))
 
   -- the commands from index i on
   record Rest (i : ℕ) (rest : List Command) : Type 0 where
@@ -237,6 +250,27 @@ module _ (limit : ℕ) (cs : List Command) where
 
   first-rest : {i : ℕ} {c : Command} {rest : List Command} → Rest i (c ∷ rest) → commandNo i cs ≡ c
   first-rest {i = i} r = let e : i ≡ i + 0 = omega arith in ap (λ (k : ℕ). commandNo k cs) e ∙ r .each 0
+
+  -- whether the first of them is a condition that stands alone: it is last, or another follows
+  alone : (i : ℕ) (c : Command) (rest : List Command) → Rest i (c ∷ rest) →
+      Decides (standsAlone c rest) (RoutineCause limit cs (condition-alone i))
+  unfolding standsAlone
+  alone i c [] r =
+      let last : suc i ≡ length cs = let e = r .counted in omega arith in
+      let at = ap (λ (k : Command). k .tag) (first-rest r) in
+      agree (same (c .tag) conditionTag) (λ t. condition-is-last last (at ∙ t)) (λ y. sym at ∙ alone-said y .0)
+  alone i c (d ∷ rest) r =
+      let more : suc i < length cs = let e = r .counted in omega arith in
+      let at = ap (λ (k : Command). k .tag) (first-rest r) in
+      let next = ap (λ (k : Command). k .tag) (first-rest (next-rest r)) in
+      agree (both _ _ (same (c .tag) conditionTag) (same (d .tag) conditionTag))
+      (λ t. conditions-follow more (at ∙ t .0) (next ∙ t .1))
+      (λ y. let a = alone-said y in (sym at ∙ a .0, followed (a .1) next more))
+    where
+      followed : (suc i ≡ length cs) ⊎ ((suc i < length cs) × (commandNo (suc i) cs .tag ≡ conditionTag)) →
+          commandNo (suc i) cs .tag ≡ d .tag → suc i < length cs → d .tag ≡ conditionTag
+      followed (inl e) n m = absurd (omega arith)
+      followed (inr x) n m = sym n ∙ x .1
 
   commands-outcome : (n i : ℕ) (rest : List Command) → Rest i rest → length rest ≤ n →
       Outcome (RoutineCause limit cs) itself (commandCauses i n) (commandsCheck limit i rest)
@@ -259,8 +293,9 @@ module _ (limit : ℕ) (cs : List Command) where
       (agree (less highestTag (c .tag))
       (λ x. tag-is-out there (subst (λ (k : Command). highestTag < k .tag) (sym at) x))
       (λ y. subst (λ (k : Command). highestTag < k .tag) at (tag-said y .1))) in
+      let behind = one H itself (condition-alone i) (standsAlone c rest) (alone i c rest r) in
       join H itself (join H itself device (λ _. join H itself setting (λ _. tag)))
-      (λ _. commands-outcome n (suc i) rest (next-rest r) (omega arith))
+      (λ _. join H itself behind (λ _. commands-outcome n (suc i) rest (next-rest r) (omega arith)))
 
   whole : Rest 0 cs
   whole = record { counted = omega arith; each = λ j. let e : 0 + j ≡ j = omega arith in ap (λ (k : ℕ). commandNo k cs) e }
@@ -319,7 +354,8 @@ indexed n i =
     if isOf n (device-not-below i) then device-not-below i
     else if isOf n (setting-out-of-range i) then setting-out-of-range i
     else if isOf n (tag-out-of-range i) then tag-out-of-range i
-    else book-length i
+    else if isOf n (book-length i) then book-length i
+    else condition-alone i
 
 abbrev told : Refusal → Cause
 told (Number n) = numbered n
@@ -348,6 +384,7 @@ told-is book-cut-short = refl
 told-is book-misplaced = refl
 told-is (book-length i) = refl
 told-is no-room = refl
+told-is (condition-alone i) = refl
 
 pub numbers-differ : NumbersDiffer
 numbers-differ c d e = sym (told-is c) ∙ ap told e ∙ told-is d

@@ -14,10 +14,11 @@ use lib.ListN.{length, take, getD, set, replicate, length-append, length-replica
 use lib.Seq.{sets, set-at, take-append-seam, slice, slice-cons, slice-empty, take-append-le, length-take-le}
 use Rattle.routine.specs.Choice.{if_then_else_}
 use Rattle.routine.specs.Range.{lowestSetting, highestSetting, inRange}
-use Rattle.routine.specs.Refusals.{Cause, command-count, device-not-below, setting-out-of-range, tag-out-of-range, refusalOf}
-use Rattle.routine.specs.Refusals.{refuse_when_, _andThen_}
-use Rattle.routine.specs.Routine.{maxCommands, highestTag, zeroCommand, commandsOf, routineOf, withCommand, commandCheck}
-use Rattle.routine.specs.Routine.{commandsCheck, routineCheck}
+use Rattle.routine.specs.Refusals.{Cause, command-count, device-not-below, setting-out-of-range, tag-out-of-range, condition-alone}
+use Rattle.routine.specs.Refusals.{refusalOf, refuse_when_, _andThen_}
+use Rattle.routine.specs.Routine.{maxCommands, conditionTag, highestTag, zeroCommand, commandsOf, routineOf, withCommand}
+use Rattle.routine.specs.Routine.{commandCheck}
+use Rattle.routine.specs.Routine.{standsAlone, commandsCheck, routineCheck}
 use Rattle.routine.specs.declared.Command.{Command}
 use Rattle.routine.specs.declared.Refusal.{Refusal}
 use Rattle.routine.specs.declared.Routine.{Routine}
@@ -192,19 +193,53 @@ check-held limit r l h k =
     check-counted limit (commandsOf r) (omega arith) (omega arith)
     ∙ ap (λ (cs : List Command). commandsCheck limit 0 cs) (commandsOf-held r (omega arith))
 
+-- ---- a condition that is last or is followed by another, by its tests
+
+-- a command that is none
+pub alone-command : (c : Command) (rest : List Command) → (c .tag ≡ conditionTag → ⊥) → standsAlone c rest ≡ false
+unfolding standsAlone
+alone-command c [] t = ne-eqb (c .tag) conditionTag t
+alone-command c (d ∷ rest) t = simp (ne-eqb (c .tag) conditionTag t)
+
+-- a condition with those of the first n behind it that stand from index i on
+module _ (c : Command) (cs : List Command) (i n : ℕ) (t : c .tag ≡ conditionTag) where
+  pub alone-last : n ≤ i → i ≤ n → standsAlone c (slice i n cs) ≡ true
+  unfolding standsAlone
+  alone-last h k = let e : i ≡ n = omega arith in rw (e, slice-empty n cs) (eq-eqb (c .tag) conditionTag t)
+
+  pub alone-followed : i < n → n ≤ length cs → standsAlone c (slice i n cs) ≡ eqb (getD cs i zeroCommand .tag) conditionTag
+  unfolding standsAlone
+  alone-followed h k = simp (slice-cons i n cs zeroCommand h k, eq-eqb (c .tag) conditionTag t)
+
 -- ---- the commands in turn: what is left from index i
 
 module _ (limit : ℕ) (cs : List Command) (i n : ℕ) (h : i < n) (k : n ≤ length cs) where
   pub commands-more : commandCheck limit i (getD cs i zeroCommand) ≡ Accepted →
+      standsAlone (getD cs i zeroCommand) (slice (i + 1) n cs) ≡ false →
       commandsCheck limit i (slice i n cs) ≡ commandsCheck limit (i + 1) (slice (i + 1) n cs)
   unfolding commandsCheck
-  commands-more e = rw (slice-cons i n cs zeroCommand h k, e, add-one i)
+  commands-more e a = let b = rw (add-one i) at a in rw (slice-cons i n cs zeroCommand h k, e, add-one i, b)
 
   pub commands-refused : (r : Refusal) → commandCheck limit i (getD cs i zeroCommand) ≡ Refused r →
       commandsCheck limit i (slice i n cs) ≡ Refused r
   unfolding commandsCheck
   commands-refused r e = rw (slice-cons i n cs zeroCommand h k, e)
 
+  pub commands-alone : commandCheck limit i (getD cs i zeroCommand) ≡ Accepted →
+      standsAlone (getD cs i zeroCommand) (slice (i + 1) n cs) ≡ true →
+      commandsCheck limit i (slice i n cs) ≡ Refused (refusalOf (condition-alone i))
+  unfolding commandsCheck
+  commands-alone e a = let b = rw (add-one i) at a in rw (slice-cons i n cs zeroCommand h k, e, b)
+
 pub commands-end : (limit : ℕ) (cs : List Command) (i n : ℕ) → i ≤ n → n ≤ i → commandsCheck limit i (slice i n cs) ≡ Accepted
 unfolding commandsCheck
 commands-end limit cs i n h k = let e : i ≡ n = omega arith in rw (e, slice-empty n cs)
+
+-- the other way round
+pub commands-accepted : (limit i : ℕ) (c : Command) (cs : List Command) → commandsCheck limit i (c ∷ cs) ≡ Accepted →
+    (commandCheck limit i c ≡ Accepted) × (standsAlone c cs ≡ false) × (commandsCheck limit (suc i) cs ≡ Accepted)
+unfolding commandsCheck
+commands-accepted limit i c cs e =
+    let a = both-accept (commandCheck limit i c) _ e in
+    let b = both-accept (refuse (condition-alone i) when standsAlone c cs) _ (a .1) in
+    (a .0, not-refused (condition-alone i) _ (b .0), b .1)
