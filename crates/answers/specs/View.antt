@@ -6,9 +6,11 @@ use mathlib.Core.List.{List, [], _∷_, _++_, map}
 use Prim.Native.Nat.{_≤_}
 use lib.ListN.{take}
 use Rattle.routine.specs.Routine.{maxDevices}
-use Rattle.rules.specs.Answers.{Back, Answer as Told, refused, placed, wait, send, done, skipped, committed, aborted, down, up, limited}
+use Rattle.rules.specs.Answers.{Back, Answer as Told, refused, placed, wait, send, done, skipped, held, not-held, committed, aborted, down, up}
+use Rattle.rules.specs.Answers.{limited}
 use Rattle.answers.specs.declared.Answer.{Answer}
 use Rattle.answers.specs.declared.Answer.the-variants.{Refused, Placed, Wait, Sent, Done, Skipped, Committed, Aborted, Down, Up, Limited}
+use Rattle.answers.specs.declared.Answer.the-variants.{Held, NotHeld}
 use Rattle.answers.specs.declared.First.{First}
 use Rattle.answers.specs.declared.First.the-variants.{NoAbort, Abort}
 use Rattle.answers.specs.declared.OneBack.{OneBack}
@@ -44,6 +46,8 @@ answerOf (Aborted i) l = aborted i l
 answerOf (Down d i) l = down d i
 answerOf (Up d i) l = up d i
 answerOf (Limited k) l = limited k
+answerOf (Held i) l = held i
+answerOf (NotHeld i) l = not-held i
 
 -- The abort that a failure or a restart brings comes first.
 abbrev pub firstOf : First → List Back → List Told
@@ -68,6 +72,8 @@ backsIn (aborted i b ∷ l) = b ++ backsIn l
 backsIn (down d i ∷ l) = backsIn l
 backsIn (up d i ∷ l) = backsIn l
 backsIn (limited k ∷ l) = backsIn l
+backsIn (held i ∷ l) = backsIn l
+backsIn (not-held i ∷ l) = backsIn l
 
 -- A refusal and a wait change nothing.
 abbrev pub changesNothing : Answer → Bool
@@ -82,3 +88,5 @@ changesNothing (Aborted i) = false
 changesNothing (Down d i) = false
 changesNothing (Up d i) = false
 changesNothing (Limited k) = false
+changesNothing (Held i) = false
+changesNothing (NotHeld i) = false

@@ -35,6 +35,8 @@ pub enum Answer {
     Down(u8, u32),
     Up(u8, u32),
     Limited(u8),
+    Held(u32),
+    NotHeld(u32),
 }
 
 // The routine that a failure or a restart aborted before its own answer.

@@ -123,6 +123,16 @@ fn print_answer(answer: Answer, backs: PutBacks) {
             print_event(device, id);
         }
         Answer::Limited(limit) => print_limited(limit),
+        Answer::Held(id) => {
+            io::write_all(STDOUT_FILENO, b"held");
+            print_id(id);
+            print_line_end();
+        }
+        Answer::NotHeld(id) => {
+            io::write_all(STDOUT_FILENO, b"not held");
+            print_id(id);
+            print_line_end();
+        }
     }
 }
 

@@ -162,5 +162,7 @@ pub fn put_words(out: &mut [u8], at: usize, answer: Answer, back: OneBack) -> us
         ),
         Answer::Up(device, id) => put_two(out, at, b"up ", device as u64, b" after ", id as u64),
         Answer::Limited(limit) => put_one(out, at, b"limited ", limit as u64),
+        Answer::Held(id) => put_one(out, at, b"held ", id as u64),
+        Answer::NotHeld(id) => put_one(out, at, b"not held ", id as u64),
     }
 }

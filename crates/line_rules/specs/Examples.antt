@@ -70,6 +70,14 @@ pub lamp-dies : PrintsAll
 unfolding calc
 lamp-dies = refl
 
+-- Water only if dry (document 02, item 4): routine 3 asks whether device 0 is at 20, and waters; then 4 asks again.
+pub only-if-dry : PrintsAll
+    ("O 2 0 3\nS 0 2 0 1 0 70 0 0 20\nN 3\nN 3\nD 3\nN 3\nS 0 2 21 1 0 5\nN 4\nD 3\nN 3\nN 4\nN 4\nN 4\nS 0 2 20\n" ∷ [])
+    ("opened\nplaced 3 after 0\nheld 3\nsend 3 1 70\ndone 3\nsend 3 0 20\nplaced 4 after 3\nwait 4 on 3\ndone 3\ncommitted 3\n"
+    ∷ "not held 4\nskipped 4\ncommitted 4\nrefused 22 0\ndevice 0 up 20\ndevice 1 up 70\n" ∷ [])
+unfolding calc
+only-if-dry = refl
+
 -- A cancel that puts two devices back, by rising device, at settings below 0: on one a command is in flight, on the other the due setting
 -- changes.
 pub two-back : PrintsAll
@@ -80,7 +88,7 @@ unfolding calc
 two-back = refl
 
 pub waits : Prints
-    "O 1 0 2\nS 0 0 1\nS 0 0 2\nN 3\nS 0 2 1\nS 0 0 1 1 0 1\n"
+    "O 1 0 2\nS 0 0 1\nS 0 0 2\nN 3\nS 0 3 1\nS 0 0 1 1 0 1\n"
     "opened\nplaced 2 after 0\nplaced 3 after 2\nwait 3 on 2\nrefused 7 0\nrefused 5 1\ndevice 0 up 0\n"
 unfolding calc
 waits = refl

@@ -9,7 +9,7 @@ use Rattle.routine.specs.declared.Refusal.{Refusal}
 use Rattle.routine.specs.declared.Refusal.the-variants.{Number, Indexed}
 use Rattle.rules.specs.State.{State}
 use Rattle.rules.specs.Due.{due}
-use Rattle.rules.specs.Answers.{Back, Answer, refused, placed, wait, send, done, skipped, committed, aborted, down, up, limited}
+use Rattle.rules.specs.Answers.{Back, Answer, refused, placed, wait, send, done, skipped, held, not-held, committed, aborted, down, up, limited}
 use Rattle.line_rules.specs.Text.{lineEnd, bytes, decimal, signed}
 
 -- "Refusals print `refused`, the number and the index if there is one."
@@ -31,7 +31,7 @@ backIfAny [] = []
 backIfAny (b ∷ bs) = backText (b ∷ bs)
 
 -- An answer, without the byte that ends its line: the forms of 01's listing. "`send` has id, device, setting"; "Other forms: `wait 3 on
--- 2`". No line is answered by the last.
+-- 2`"; of conditions `held` or `not held` with the id (document 02, item 4). No line is answered by the last.
 unfoldable pub answerText : Answer → List ℕ
 answerText (refused r) = refusalText r
 answerText (placed i after) = bytes "placed " ++ decimal i ++ bytes " after " ++ decimal after
@@ -39,6 +39,8 @@ answerText (wait i on) = bytes "wait " ++ decimal i ++ bytes " on " ++ decimal o
 answerText (send i c) = bytes "send " ++ decimal i ++ bytes " " ++ decimal (c .device) ++ bytes " " ++ signed (c .setting)
 answerText (done i) = bytes "done " ++ decimal i
 answerText (skipped i bs) = bytes "skipped " ++ decimal i ++ backIfAny bs
+answerText (held i) = bytes "held " ++ decimal i
+answerText (not-held i) = bytes "not held " ++ decimal i
 answerText (committed i) = bytes "committed " ++ decimal i
 answerText (aborted i bs) = bytes "aborted " ++ decimal i ++ backText bs
 answerText (down d after) = bytes "down " ++ decimal d ++ bytes " after " ++ decimal after

@@ -26,15 +26,15 @@ holds d m = isRunning m && not (finished d m)
 unfoldable pub hasSet : ℕ → Member → Bool
 hasSet d m = isRunning m && anyOf (λ x. isOn d x && isDone (x .status)) (m .steps)
 
--- Does this routine give the command a cause to wait?
-unfoldable pub holdsUp : Command → Member → Bool
-holdsUp c m = holds (c .device) m || (isCondition c && hasSet (c .device) m)
+-- Does this routine give a command on D, or a condition on D, a cause to wait?
+unfoldable pub holdsUp : ℕ → Bool → Member → Bool
+holdsUp d asks m = holds d m || (asks && hasSet d m)
 
 -- "the first such id in the sequence", and for a condition "the first in the sequence that gives either cause to wait": the wait search,
 -- through the routines ahead.
-abbrev pub firstHolding : Command → List Member → Option ℕ
-firstHolding c [] = none
-firstHolding c (m ∷ l) = if holdsUp c m then some (m .id) else firstHolding c l
+abbrev pub firstHolding : ℕ → Bool → List Member → Option ℕ
+firstHolding d asks [] = none
+firstHolding d asks (m ∷ l) = if holdsUp d asks m then some (m .id) else firstHolding d asks l
 
 -- Mark (document 01, The steps): "It becomes R when R begins the device."
 unfoldable pub markBegun : Member → ℕ → (ℕ → ℕ) → ℕ → ℕ
@@ -94,7 +94,7 @@ waitOr s f c none = proceed s f c
 -- "No command left: committed. Otherwise let D be the next command's device."
 abbrev pub turnNext : State → Found → Option Command → Result
 turnNext s f none = settling (commitTurn s f)
-turnNext s f (some c) = waitOr s f c (firstHolding c (f .ahead))
+turnNext s f (some c) = waitOr s f c (firstHolding (c .device) (isCondition c) (f .ahead))
 
 abbrev pub turnFlight : State → Found → Option Flight → Result
 turnFlight s f (some x) = refusedFor turn-in-flight s

@@ -3,9 +3,10 @@ use mathlib.Core.Path.{_≡_}
 use mathlib.Core.Bool.{Bool, false, _&&_, _||_}
 use mathlib.Core.List.{List, map}
 use Prim.Native.Nat.{ℕ, zero, suc}
-use lib.Dec.{eqb, leb}
+use lib.Dec.{eqb, leb, ltb}
 use lib.ListN.{getD}
-use Rattle.routine.specs.Routine.{mustTag}
+use Rattle.routine.specs.Choice.{if_then_else_}
+use Rattle.routine.specs.Routine.{mustTag, conditionTag}
 use Rattle.routine.specs.declared.Command.{Command}
 use Rattle.rules.specs.State.{Member}
 use Rattle.rules.specs.Sequence.{find}
@@ -40,11 +41,16 @@ anyStaged device stage d low high k (suc n) =
 abbrev pub highestStage : ℕ
 highestStage = 255
 
--- Is one of n commands, from a place on, on this device, not answered and a must?
+-- The tag that counts for the first of n commands, from a place on: a condition has that of the command after it.
+abbrev pub countingTag : List ℕ → ℕ → ℕ → ℕ
+countingTag tag k n = if eqb (getD tag k 0) conditionTag && ltb 1 n then getD tag (suc k) 0 else getD tag k 0
+
+-- Is one of n commands, from a place on, on this device, not answered, and does it count as a must?
 abbrev pub anyMust : List ℕ → List ℕ → List ℕ → ℕ → ℕ → ℕ → Bool
 anyMust device tag stage d k zero = false
 anyMust device tag stage d k (suc n) =
-    (eqb (getD device k 0) d && leb (getD stage k 0) inFlightCode && eqb (getD tag k 0) mustTag) || anyMust device tag stage d (suc k) n
+    (eqb (getD device k 0) d && leb (getD stage k 0) inFlightCode && eqb (countingTag tag k (suc n)) mustTag)
+    || anyMust device tag stage d (suc k) n
 
 -- The marks of the devices of these commands, in turn.
 unfoldable pub marksFor : List ℕ → List Command → List ℕ

@@ -3,6 +3,7 @@
 use routine::MAX_COMMANDS;
 use routine::MAX_DEVICES;
 use routine::Routine;
+use routine::tags::CONDITION;
 use routine::tags::MUST;
 use sequence::MAX_HELD;
 use sequence::NONE;
@@ -11,10 +12,11 @@ use state::Holder;
 use state::HubState;
 use state::IN_FLIGHT;
 use state::Place;
+use state::SKIPPED;
 use state::STEPS;
 use state::TO_DO;
 ghost use mathlib.Core.Path.{_≡_};
-ghost use Prim.Native.Nat.{_-_, _*_, _≤_};
+ghost use Prim.Native.Nat.{_-_, _*_, _<_, _≤_};
 ghost use lib.ListN.{take};
 ghost use Rattle.routine.specs.Routine.{maxCommands, commandsOf};
 ghost use Rattle.rules.specs.State.{maxHeld};
@@ -25,7 +27,7 @@ ghost use Rattle.rules.specs.Events.{isHalfway, mustLeft};
 ghost use Rattle.sequence.specs.Links.{Stands};
 ghost use Rattle.state.specs.View.{memberAt, there, holderOf};
 ghost use Rattle.state.specs.Valid.{StateOk, CommandsOk};
-ghost use Rattle.search.specs.Contract.{hasId, Finds, anyOn, anyStaged, anyMust, marksFor, Latest};
+ghost use Rattle.search.specs.Contract.{hasId, Finds, anyOn, anyStaged, countingTag, anyMust, marksFor, Latest};
 
 // No stage is higher.
 const HIGHEST_STAGE: u8 = 255;
@@ -69,33 +71,34 @@ pub fn with_id(state: HubState, id: u32) -> Place
     Place::Nowhere
 }
 
-// The wait search, "the first such id in the sequence": through the routines ahead, along the links, and the commands of each that are
-// left.
+// The wait search, "the first such id in the sequence": through the routines ahead, along the links, and the commands of each. A command
+// that is left gives a cause to wait; a condition waits for a done one, too (document 02, item 4).
 pub fn first_holder<'a>(
     state: HubState,
     device: &'a [u8; STEPS],
     stage: &'a [u8; STEPS],
     at: usize,
     wanted: u8,
+    asks: bool,
 ) -> Holder
     requires { ⌜ (StateOk state) × (Stands (state .links) at) × (now device ≡ state .device) × (now stage ≡ state .stage) ⌝ }
-    ensures { λ r. ⌜ holderOf r ≡ firstHolding wanted (there state at .ahead) ⌝ }
+    ensures { λ r. ⌜ holderOf r ≡ firstHolding wanted asks (there state at .ahead) ⌝ }
 {
     let links = state.links;
     let behind = links.behind;
     let ids = state.ids;
     let committed = state.committed;
     let counts = state.counts;
-    let answered = state.answered;
+    let past = if asks { SKIPPED } else { DONE };
     let mut holder = Holder::Nobody;
     let mut i = links.first as usize;
     'ahead: while i != at {
         if !committed[i] {
             let end = i * MAX_COMMANDS + (counts[i] as usize);
-            let mut k = i * MAX_COMMANDS + (answered[i] as usize);
+            let mut k = i * MAX_COMMANDS;
             while k < end {
                 if device[k] == wanted {
-                    if stage[k] < DONE {
+                    if stage[k] < past {
                         holder = Holder::Routine(ids[i]);
                         break 'ahead;
                     }
@@ -179,7 +182,21 @@ pub fn halfway(state: HubState, wanted: u8) -> Place
     Place::Nowhere
 }
 
-// Is one of these commands a must that is left on the device?
+// The tag that counts for the command at a place of its routine, which ends at `end`: "the condition has the tag of the command after it"
+// (document 02, item 4).
+pub fn counting_tag<'a>(tag: &'a [u8; STEPS], k: usize, end: usize) -> u8
+    requires { ⌜ (k < end) × (end ≤ maxHeld * maxCommands) ⌝ }
+    ensures { λ r. ⌜ r ≡ countingTag (now (tag .entry)) k (end - k) ⌝ }
+{
+    if tag[k] == CONDITION {
+        if k + 1 < end {
+            return tag[k + 1];
+        }
+    }
+    tag[k]
+}
+
+// Is one of these commands left on the device, and does it count as a must?
 fn is_must_left<'a>(
     device: &'a [u8; STEPS],
     tag: &'a [u8; STEPS],
@@ -195,7 +212,7 @@ fn is_must_left<'a>(
     while k < end {
         if device[k] == wanted {
             if stage[k] <= IN_FLIGHT {
-                if tag[k] == MUST {
+                if counting_tag(tag, k, end) == MUST {
                     return true;
                 }
             }

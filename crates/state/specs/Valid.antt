@@ -6,7 +6,7 @@ use Prim.Native.Nat.{ℕ, zero, suc, _<_, _≤_}
 use lib.ListN.{getD}
 use Rattle.routine.specs.Routine.{maxDevices, maxCommands}
 use Rattle.routine.specs.declared.Command.{Command}
-use Rattle.rules.specs.State.{highestId, Status, to-do, in-flight, was-done, was-skipped, Step, Member}
+use Rattle.rules.specs.State.{highestId, Status, to-do, in-flight, was-done, was-skipped, was-held, was-not-held, Step, Member}
 use Rattle.rules.specs.Sequence.{isRunning}
 use Rattle.rules.specs.Progress.{isAnswered}
 use Rattle.rules.specs.Tables.{Each}
@@ -31,11 +31,13 @@ isBehind to-do = true
 isBehind (in-flight u) = false
 isBehind was-done = false
 isBehind was-skipped = true
+isBehind was-held = false
+isBehind was-not-held = false
 
 abbrev pub IsBehind : Step → Type 0
 IsBehind x = isBehind (x .status) ≡ true
 
--- The first n of the commands are answered; the next, if there is one, is not; of those behind that none is in flight or done.
+-- The first n of the commands are answered; the next, if there is one, is not; of those behind that each is to do or skipped.
 abbrev pub AnsweredUpTo : ℕ → List Step → Type 0
 AnsweredUpTo zero [] = Unit {0}
 AnsweredUpTo zero (x ∷ l) = (isAnswered (x .status) ≡ false) × Each IsBehind l

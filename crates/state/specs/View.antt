@@ -8,7 +8,7 @@ use lib.IntN.{ℤ, pos}
 use lib.ListN.{getD}
 use Rattle.routine.specs.Choice.{if_then_else_}
 use Rattle.routine.specs.Routine.{maxDevices, maxCommands}
-use Rattle.rules.specs.State.{Status, to-do, in-flight, was-done, was-skipped, Step, Member, State}
+use Rattle.rules.specs.State.{Status, to-do, in-flight, was-done, was-skipped, was-held, was-not-held, Step, Member, State}
 use Rattle.rules.specs.Tables.{sameSetting}
 use Rattle.rules.specs.Sequence.{Found}
 use Rattle.sequence.specs.Lists.{upTo, rest}
@@ -62,11 +62,19 @@ doneCode = 2
 abbrev pub skippedCode : ℕ
 skippedCode = 3
 
+abbrev pub heldCode : ℕ
+heldCode = 4
+
+abbrev pub notHeldCode : ℕ
+notHeldCode = 5
+
 unfoldable pub statusOf : ℕ → ℤ → Status
 statusOf code due =
     if eqb code toDoCode then to-do
     else if eqb code inFlightCode then in-flight due
     else if eqb code doneCode then was-done
+    else if eqb code heldCode then was-held
+    else if eqb code notHeldCode then was-not-held
     else was-skipped
 
 -- The rows of commands.

@@ -26,6 +26,11 @@ pub const DONE: u8 = 2;
 
 pub const SKIPPED: u8 = 3;
 
+// Of a condition (document 02, item 4).
+pub const HELD: u8 = 4;
+
+pub const NOT_HELD: u8 = 5;
+
 // In the row of restarts, what stands at a device that has none. No setting is that high.
 pub const NO_RESTART: i16 = 32767;
 
