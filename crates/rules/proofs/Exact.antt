@@ -12,10 +12,10 @@ use lib.ListN.{length}
 use Rattle.routine.specs.Range.{inRange}
 use Rattle.routine.specs.Refusals.{devices-out-of-range, pass-limit-out-of-range, first-id-0, command-count, device-not-below}
 use Rattle.routine.specs.Refusals.{setting-out-of-range}
-use Rattle.routine.specs.Refusals.{tag-out-of-range, sequence-full, ids-used-up, not-running, turn-in-flight, none-in-flight}
+use Rattle.routine.specs.Refusals.{tag-out-of-range, condition-alone, sequence-full, ids-used-up, not-running, turn-in-flight, none-in-flight}
 use Rattle.routine.specs.Refusals.{report-code-out-of-range}
 use Rattle.routine.specs.Refusals.{event-device, failure-of-down, restart-of-up, restart-setting, refusalOf, refuse_when_, _andThen_}
-use Rattle.routine.specs.Routine.{maxCommands, maxDevices}
+use Rattle.routine.specs.Routine.{maxCommands, maxDevices, isCondition}
 use Rattle.routine.specs.Causes.{NoneOf, FirstIn, itself, OutOfRange, RoutineCause, commandCauses, routineCauses}
 use Rattle.routine.specs.declared.Command.{Command}
 use Rattle.routine.specs.declared.Refusal.{Refusal}
@@ -26,19 +26,20 @@ use Rattle.routine.proofs.Exact.{join, exactly}
 use Rattle.routine.proofs.Exact.{Covers, widened, routine-outcome}
 use Rattle.routine.proofs.Exact as Made
 use Rattle.rules.specs.Tables.{put}
-use Rattle.rules.specs.State.{highestPassLimit, maxHeld, highestId, Status, to-do, in-flight, was-done, was-skipped, Step, Member}
+use Rattle.rules.specs.State.{highestPassLimit, maxHeld, highestId, Status, to-do, in-flight, was-done, was-skipped, was-held, was-not-held}
+use Rattle.rules.specs.State.{Step, Member}
 use Rattle.rules.specs.State.{State}
 use Rattle.rules.specs.Answers.{Call, submit, turn, report, failure, restart, cancel, limit, Answer, refused, placed, wait, send}
 use Rattle.rules.specs.Answers.{done}
 use Rattle.rules.specs.Answers.{skipped, committed}
-use Rattle.rules.specs.Answers.{aborted, down, up, limited, Result, turnedDown, unlessRefused}
-use Rattle.rules.specs.Progress.{isMust, next, Flight, flightOr, flight}
+use Rattle.rules.specs.Answers.{held, not-held, aborted, down, up, limited, Result, turnedDown, unlessRefused}
+use Rattle.rules.specs.Progress.{isMust, next, nextCountsAsMust, nextIsSkipped, Flight, flightOr, flight}
 use Rattle.rules.specs.Sequence.{Found, onto, find, isRunning, runs, withUp}
 use Rattle.rules.specs.Settle.{settling}
 use Rattle.rules.specs.Abort.{abort}
 use Rattle.rules.specs.Open.{opened, not-opened, limitCheck, openCheck, newHub, openIf, openOf}
 use Rattle.rules.specs.Submit.{submitCheck, submitOf}
-use Rattle.rules.specs.Turn.{firstHolding, commitTurn, sendTurn, skipTurn, proceed, waitOr, turnNext, turnFlight, turnFound, turnOf}
+use Rattle.rules.specs.Turn.{firstHolding, commitTurn, sendTurn, skipTurn, isHeld, heldTurn, notHeldTurn, proceedUp, proceed, waitOr, turnNext, turnFlight, turnFound, turnOf}
 use Rattle.rules.specs.Report.{codeDone, codeFailed, doneReport, skipReport, reported, reportFlight, reportFound, reportOf}
 use Rattle.rules.specs.Events.{isHalfway, mustLeft, stopIfAny, stopHalfway, failureResult, restartResult, failureOf, restartOf}
 use Rattle.rules.specs.Cancel.{cancelFound, cancelOf}
@@ -135,6 +136,8 @@ see-flight (x ∷ l) = go (see-flight l) (x .status) refl
     go f (in-flight u) e = on-way _ x (first-at-once InFlight l x (u, e))
     go f was-done e = behind (not-flying x _ e (λ u h. let z : _≡_ {A = ℕ} 0 1 = cc in absurd (omega arith))) f
     go f was-skipped e = behind (not-flying x _ e (λ u h. let z : _≡_ {A = ℕ} 0 1 = cc in absurd (omega arith))) f
+    go f was-held e = behind (not-flying x _ e (λ u h. let z : _≡_ {A = ℕ} 0 1 = cc in absurd (omega arith))) f
+    go f was-not-held e = behind (not-flying x _ e (λ u h. let z : _≡_ {A = ℕ} 0 1 = cc in absurd (omega arith))) f
 
 -- ---- answers that are no refusal
 
@@ -145,6 +148,8 @@ isRefused (wait i j) = false
 isRefused (send i c) = false
 isRefused (done i) = false
 isRefused (skipped i l) = false
+isRefused (held i) = false
+isRefused (not-held i) = false
 isRefused (committed i) = false
 isRefused (aborted i l) = false
 isRefused (down d i) = false
@@ -274,10 +279,13 @@ module _ (s : State) (cs : List Command) where
   tag-said : (i : ℕ) → CallCause s (submit cs) (tag-out-of-range i) → RoutineCause (s .devices) cs (tag-out-of-range i)
   tag-said i (routine-is-out h) = h
 
+  alone-said : (i : ℕ) → CallCause s (submit cs) (condition-alone i) → RoutineCause (s .devices) cs (condition-alone i)
+  alone-said i (routine-is-out h) = h
+
   commands-said : (i n : ℕ) → Covers (RoutineCause (s .devices) cs) (CallCause s (submit cs)) (commandCauses i n)
   unfolding commandCauses
   commands-said i zero = tt
-  commands-said i (suc n) = (device-said i, (setting-said i, (tag-said i, commands-said (suc i) n)))
+  commands-said i (suc n) = (device-said i, (setting-said i, (tag-said i, (alone-said i, commands-said (suc i) n))))
 
   routine-said : Covers (RoutineCause (s .devices) cs) (CallCause s (submit cs)) routineCauses
   unfolding routineCauses
@@ -300,11 +308,20 @@ submit-judged s cs = judged-unless (submitCheck s cs) s _ (no-refusal _ refl, tt
 
 module _ (s : State) (i : ℕ) where
   -- the result of a turn that is made
+  up-fine : (f : Found) (c : Command) → NoneOf IsRefusal (proceedUp s f c .answers)
+  unfolding sendTurn heldTurn notHeldTurn
+  up-fine f c =
+      byIf (λ (r : Result). NoneOf IsRefusal (r .answers)) (isCondition c)
+      (λ _. byIf (λ (r : Result). NoneOf IsRefusal (r .answers)) (isHeld s c) (λ _. (no-refusal _ refl, tt)) (λ _. (no-refusal _ refl, tt)))
+      (λ _. (no-refusal _ refl, tt))
+
   proceed-fine : (f : Found) (c : Command) → NoneOf IsRefusal (proceed s f c .answers)
-  unfolding sendTurn skipTurn
+  unfolding skipTurn
   proceed-fine f c =
-      byIf (λ (r : Result). NoneOf IsRefusal (r .answers)) (s .up (c .device)) (λ _. (no-refusal _ refl, tt))
-      (λ _. byIf (λ (r : Result). NoneOf IsRefusal (r .answers)) (isMust c) (λ _. abort-fine s f) (λ _. (no-refusal _ refl, tt)))
+      byIf (λ (r : Result). NoneOf IsRefusal (r .answers)) (nextIsSkipped false (f .it .steps)) (λ _. (no-refusal _ refl, tt))
+      (λ _. byIf (λ (r : Result). NoneOf IsRefusal (r .answers)) (s .up (c .device)) (λ _. up-fine f c)
+      (λ _. byIf (λ (r : Result). NoneOf IsRefusal (r .answers)) (nextCountsAsMust (f .it .steps)) (λ _. abort-fine s f)
+      (λ _. (no-refusal _ refl, tt))))
 
   wait-fine : (f : Found) (c : Command) (o : Option ℕ) → NoneOf IsRefusal (waitOr s f c o .answers)
   wait-fine f c none = proceed-fine f c
@@ -313,7 +330,7 @@ module _ (s : State) (i : ℕ) where
   next-fine : (f : Found) (o : Option Command) → NoneOf IsRefusal (turnNext s f o .answers)
   unfolding commitTurn
   next-fine f none = (no-refusal _ refl, tt)
-  next-fine f (some c) = wait-fine f c (firstHolding (c .device) (f .ahead))
+  next-fine f (some c) = wait-fine f c (firstHolding (c .device) (isCondition c) (f .ahead))
 
   turn-none-said : CallCause s (turn i) not-running → NoneRunsUnder s i
   turn-none-said (turn-of-none h) = h
