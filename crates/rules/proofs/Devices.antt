@@ -9,6 +9,7 @@ use native.Mathlib.Omega.{arith}
 use borrow.Author.Tests.{eq-eqb, ne-eqb}
 use lib.IntN.{ℤ}
 use Rattle.routine.specs.Choice.{if_then_else_}
+use Rattle.routine.specs.Routine.{isCondition}
 use Rattle.routine.specs.declared.Command.{Command}
 use Rattle.rules.specs.Tables.{put, sameSetting, Each}
 use Rattle.rules.specs.State.{Step, Member, State}
@@ -30,7 +31,7 @@ use Rattle.rules.proofs.Steps.{fresh-newcomer}
 use Rattle.rules.proofs.Invariant.{NotBegun, HasFinished, HubOk, EventsOk, CountedSend, CountedMessage, backTo, ReachesSetting, has}
 use Rattle.rules.proofs.Invariant.{goes-back, flightOrigin, NotOrigin, OnItsWay, arrived, going, NoFlightOn, first-has-it, DeviceAt}
 use Rattle.rules.proofs.Invariant.{is-down, none-on-it, one-on-it, DeviceOk}
-use Rattle.rules.proofs.View.{sentMember, skippedMember, doneMember, failedMember}
+use Rattle.rules.proofs.View.{sentMember, passedMember, doneMember, failedMember}
 use Rattle.rules.proofs.Runs.{members-after-++, lastRestart-not-begun, not-begun-members}
 use Rattle.rules.proofs.Accounts.{put-answered}
 use Rattle.rules.proofs.Marks.{ClearOfDevice, in-turn, turn-clear, flight-clear}
@@ -89,11 +90,11 @@ module _ (s : State) (a : ℕ → Account) (p : List Group) (g : Group) (q : Lis
       (due-swap s d p g q (commit (g .member)) (h .sequence-is) (λ u. refl)) (alike-ended (g .member .id) a (ds d)) k
 
   pub device-skips : (d j : ℕ) (c : Command) → next (g .member .steps) ≡ some c → flight (g .member .steps) ≡ none →
-      Keeps d (turn j) (skipTurn s (foundAt p g q) c) (skippedMember g)
+      Keeps d (turn j) (skipTurn s (foundAt p g q) c) (passedMember st g)
   unfolding skipTurn due
   device-skips d j c e f k =
       let r = skip-step (g .member) steps-ok c e f in
-      swaps d (skippedMember g) (skipTurn s (foundAt p g q) c .state) _ (ds d) (idle-no-flight-on d f)
+      swaps d (passedMember st g) (skipTurn s (foundAt p g q) c .state) _ (ds d) (idle-no-flight-on d f)
       (record { no-flight-on = r .flies d }) refl
       (due-steps d _ (r .same-after d)) (alike-answered not-sent (g .member .id) a (ds d)) k
 
@@ -111,7 +112,7 @@ module _ (s : State) (a : ℕ → Account) (p : List Group) (g : Group) (q : Lis
       (due-steps d _ (r .same-after d)) (alike-put (g .member .id) a y (omega arith) (ds d)) k)
 
   sends-here : (j : ℕ) (c : Command) → next (g .member .steps) ≡ some c → flight (g .member .steps) ≡ none →
-      firstHolding (c .device) (members p) ≡ none → s .up (c .device) ≡ true →
+      firstHolding (c .device) (isCondition c) (members p) ≡ none → s .up (c .device) ≡ true →
       Keeps (c .device) (turn j) (sendTurn s (foundAt p g q) c) (sentMember s g c)
   unfolding sendTurn
   sends-here j c e f n y k =
@@ -169,7 +170,7 @@ module _ (s : State) (a : ℕ → Account) (p : List Group) (g : Group) (q : Lis
           ∙ no-flights-on-any d (p ++ (g ∷ q)) (each-++ (NoFlightOn d) p (g ∷ q) ahead (idle-no-flight-on d f, behind)))
 
   pub device-sends : (d j : ℕ) (c : Command) → next (g .member .steps) ≡ some c → flight (g .member .steps) ≡ none →
-      firstHolding (c .device) (members p) ≡ none → s .up (c .device) ≡ true →
+      firstHolding (c .device) (isCondition c) (members p) ≡ none → s .up (c .device) ≡ true →
       Keeps d (turn j) (sendTurn s (foundAt p g q) c) (sentMember s g c)
   device-sends d j c e f n y =
       this-or-other (λ d. Keeps d (turn j) (sendTurn s (foundAt p g q) c) (sentMember s g c)) (c .device) d

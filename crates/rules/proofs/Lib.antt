@@ -3,11 +3,12 @@
 -- `Theorem`.
 
 -- Ground: laws of lists and tables; a routine with its events (a list that only the proofs keep); groups that differ in little; the
--- commands of one routine.
+-- commands of one routine; what is told of them.
 pub mod Lists
 pub mod Groups
 pub mod Same
 pub mod Steps
+pub mod Agree
 -- What holds between calls, and every call seen once.
 pub mod Invariant
 pub mod View

@@ -33,7 +33,7 @@ use Rattle.rules.proofs.Groups.{flat-leaving, flat-cut, flat-added, att
 use Rattle.rules.proofs.Same.{same-placed, same-leaving, same-attached, same-ids}
 use Rattle.rules.proofs.Steps.{send-step, skip-step, done-gains, fail-done, skip-steps, fresh-newcomer}
 use Rattle.rules.proofs.Invariant.{NotBegun, HubOk, setAfter, upAfter, EventsOk, OrderOk, AccountTells}
-use Rattle.rules.proofs.View.{Gone, nobody, somebody, loses, Moves, places, commits, sends, skips, dones, misses, aborts, fails}
+use Rattle.rules.proofs.View.{Gone, nobody, somebody, loses, Moves, places, commits, sends, passes, dones, misses, aborts, fails}
 use Rattle.rules.proofs.View.{restarts}
 use Rattle.rules.proofs.Runs.{set-++, up-++, set-events, bringsUp, up-event, up-flat-not-begun, settled-alone, events-placed}
 use Rattle.rules.proofs.Runs.{events-leaving, events-attached}
@@ -468,10 +468,10 @@ order-moves s o n l h k t (places cs a b _ e u _ _) =
     (a ++ (alone (newcomer (s .nextId) cs) ∷ passAll b))) (sym u)
     (order-places s o cs a b (subst (λ m. HubOk s m) e h) (subst (λ m. OrderOk s o [] m) e k))
 order-moves s o n l h k t (commits i a g b e _ _ _ _) = order-commits s o a g b (subst (λ m. OrderOk s o [] m) e k) _
-order-moves s o n l h k t (sends i a g b c e _ _ f x _ _) =
+order-moves s o n l h k t (sends i a g b c e _ _ f x _ _ plain) =
     order-untouched s o a g b (subst (λ m. OrderOk s o [] m) e k) _ _ _
     (send-step (g .member) (in-turn s a g b (subst (HubOk s) e h)) c _ x f .same-done)
-order-moves s o n l h k t (skips i a g b c e _ _ f x _ _) =
+order-moves s o n l h k t (passes i a g b c e _ _ f x _ st pass) =
     order-untouched s o a g b (subst (λ m. OrderOk s o [] m) e k) _ _ _
     (skip-step (g .member) (in-turn s a g b (subst (HubOk s) e h)) c x f .same-done)
 order-moves s o n l h k t (dones i code a g b x e _ _ f _) =

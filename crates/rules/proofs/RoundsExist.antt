@@ -31,7 +31,7 @@ use Rattle.rules.specs.Rounds.{AnyOrder, RoundsExist}
 use Rattle.rules.proofs.Lists.{byIf, t≠f, and-left, and-right, put-other, each-++, each-left, IsNot, NotIn, IdsOk}
 use Rattle.rules.proofs.Groups.{Group, members, ids, foundAt, ids-++, other-ids}
 use Rattle.rules.proofs.Invariant.{HubOk}
-use Rattle.rules.proofs.View.{by-turn, by-report, by-cancel, places, commits, sends, skips, dones, misses, aborts}
+use Rattle.rules.proofs.View.{by-turn, by-report, by-cancel, places, commits, sends, passes, dones, misses, aborts}
 use Rattle.rules.proofs.View.{fails, restarts, Seen, is-refused, waits, limits, moves, see}
 use Rattle.rules.proofs.Schedules.{hasFlight, isFlying, isIdle, idsWith, turnsAt, reportsAt, allDone, busy, busyState, Sitting}
 use Rattle.rules.proofs.Schedules.{opensAt}
@@ -227,12 +227,12 @@ module _ (s : State) (h : List Told) (l : List Group) (i j : ℕ) (other : i ≢
   others-told : {c : Call} {r : Result} → Asks j c → Seen s l c r → accountsOf (saying c (r .answers) ∷ h) i ≡ accountsOf h i
   unfolding commitTurn sendTurn skipTurn doneReport skipReport abort
   others-told o (is-refused r) = refl
-  others-told o (waits w a g b d x e n f) = refl
+  others-told o (waits w a g b d asks x e n f) = refl
   others-told o (limits w e) = absurd o
   others-told o (moves (places cs a b q e u p n)) = absurd o
   others-told o (moves (commits w a g b e n r f q)) = elsewhere (accountsOf h) g _ (n ∙ o)
-  others-told o (moves (sends w a g b c e n r f q x u)) = elsewhere (accountsOf h) g _ (n ∙ o)
-  others-told o (moves (skips w a g b c e n r f q x u)) = elsewhere (accountsOf h) g _ (n ∙ o)
+  others-told o (moves (sends w a g b c e n r f q x u plain)) = elsewhere (accountsOf h) g _ (n ∙ o)
+  others-told o (moves (passes w a g b c e n r f q x st u)) = elsewhere (accountsOf h) g _ (n ∙ o)
   others-told o (moves (dones w code a g b x e n r f q)) = elsewhere (accountsOf h) g _ (n ∙ o)
   others-told o (moves (misses w code a g b x e n r f q)) = elsewhere (accountsOf h) g _ (n ∙ o)
   others-told o (moves (aborts _ a g b e r (by-turn w n f))) = elsewhere (accountsOf h) g _ (n ∙ o)

@@ -20,15 +20,15 @@ use Rattle.rules.specs.History.{sentAccount, answeredBy, answeredAccount
 use Rattle.rules.specs.Order.{Event, failure-of, restart-of, deviceOf, Entry, routine, event, Order, orderAfterAll, entries}
 use Rattle.rules.specs.Serial.{DeviceState, allUp, runEntry}
 use Rattle.rules.specs.Demand3.{eventsNext, Finds, afterAnswered, AllFind, doneOnes, CommandsStand}
-use Rattle.rules.specs.HubOrder.{doneSteps, leftSteps}
+use Rattle.rules.specs.HubOrder.{doneSteps}
 use Rattle.rules.proofs.Lists.{or-left, or-right, put-same, put-other, each-++, each-left, each-right, each-mid, IsNot}
 use Rattle.rules.proofs.Lists.{NotIn, IdsOk, ids-fresh, ids-other}
 use Rattle.rules.proofs.Groups.{Group, ids, flat, entryIds, alone, changed, passAll, leaving, leadOf, attachEvent}
 use Rattle.rules.proofs.Groups.{leadWith, flat-++, entryIds-++, entryIds-flat, flat-pass, flat-leaving}
-use Rattle.rules.proofs.Steps.{skip-step, done-step, fail-step, unbegun-answered}
+use Rattle.rules.proofs.Steps.{leftSteps, skip-step, done-step, fail-step, unbegun-answered}
 use Rattle.rules.proofs.Invariant.{NotBegun, HubOk, InFlightIsUp, upEvent, upAfter, OrderOk, answeredFor, AccountTells}
-use Rattle.rules.proofs.View.{sentMember, skippedMember, doneMember, failedMember, skippedLeft, Gone, nobody, somebody, loses}
-use Rattle.rules.proofs.View.{Moves, places, commits, sends, skips, dones, misses, aborts, fails, restarts}
+use Rattle.rules.proofs.View.{sentMember, passedMember, doneMember, failedMember, skippedLeft, Gone, nobody, somebody, loses}
+use Rattle.rules.proofs.View.{Moves, places, commits, sends, passes, dones, misses, aborts, fails, restarts}
 use Rattle.rules.proofs.Runs.{up-++, bringsUp, up-event, up-not-begun, up-flat-not-begun}
 use Rattle.rules.proofs.Marks.{ClearOfDevice, in-turn, turn-clear, flight-clear, mark-place}
 use Rattle.rules.proofs.Moved.{hub-gone, hub-up}
@@ -365,13 +365,13 @@ unfolding abort commit commitTurn sendTurn skipTurn doneReport skipReport
 stand-moves s o a l f t (places cs x y v e m n b) = stand-places s o a cs x y (subst (λ l. Before s o a l) e f)
 stand-moves s o a l f t (commits i x g y e j r n b) =
     stand-changes s o a x g y (subst (λ l. Before s o a l) e f) (g .member .steps) true (endedAccount (a (g .member .id))) (λ h. h)
-stand-moves s o a l f t (sends i x g y c e j r n b m u) =
+stand-moves s o a l f t (sends i x g y c e j r n b m u plain) =
     stand-changes s o a x g y (subst (λ l. Before s o a l) e f) (sentMember s g c .steps) (g .member .committed)
     (sentAccount c (a (g .member .id))) (λ h. h)
-stand-moves s o a l f t (skips i x g y c e j r n b m u) =
+stand-moves s o a l f t (passes i x g y c e j r n b m st u) =
     let w = subst (λ l. Before s o a l) e f in
     let k = skip-step (g .member) (in-turn s x g y (w .hub)) c b n in
-    stand-answers s o a x g y w (skippedMember g .steps) (g .member .committed) c (leftSteps (skippedMember g .steps)) not-sent (k .left-is)
+    stand-answers s o a x g y w (passedMember st g .steps) (g .member .committed) c (leftSteps (passedMember st g .steps)) not-sent (k .left-is)
     (up-before s o a x g y w (c .device) (turn-clear s x g y c (w .hub) b n m) ∙ u)
 stand-moves s o a l f t (dones i code x g y v e j r n b) =
     let w = subst (λ l. Before s o a l) e f in

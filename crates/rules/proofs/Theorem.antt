@@ -39,7 +39,7 @@ use Rattle.rules.proofs.Lists.{byIf, t≠f, fold-++, anyOf-++}
 use Rattle.rules.proofs.Groups.{Group, members, alone, flat, stillHeld, each-held}
 use Rattle.rules.proofs.Invariant.{unmarked, HubOk, InFlightIsUp, FirstRuns, OrderOk, AccountTells, backTo, ReachesSetting, has}
 use Rattle.rules.proofs.Invariant.{goes-back, OneFlightOn, DeviceAt, is-down, none-on-it, one-on-it, DeviceOk, PremiseOnCall}
-use Rattle.rules.proofs.View.{Gone, nobody, somebody, loses, Moves, places, commits, sends, skips, dones, misses, aborts, fails}
+use Rattle.rules.proofs.View.{Gone, nobody, somebody, loses, Moves, places, commits, sends, passes, dones, misses, aborts, fails}
 use Rattle.rules.proofs.View.{restarts, Seen, is-refused, waits, limits, moves, see}
 use Rattle.rules.proofs.Fields.{Fixed, gone-fixed, attach-fixed, settle-fixed}
 use Rattle.rules.proofs.Moved.{hub-limit, hub-settles}
@@ -112,8 +112,8 @@ pub moves-same : (s : State) (l : List Group) {c : Call} {r : Result} {lead : Li
 unfolding place commitTurn sendTurn skipTurn doneReport skippedState skipReport abort leave attach
 moves-same s l (places cs a b q e u p n) = (refl, refl)
 moves-same s l (commits i a g b e n r f q) = (refl, refl)
-moves-same s l (sends i a g b c e n r f q w u) = (refl, refl)
-moves-same s l (skips i a g b c e n r f q w u) = (refl, refl)
+moves-same s l (sends i a g b c e n r f q w u plain) = (refl, refl)
+moves-same s l (passes i a g b c e n r f q w st u) = (refl, refl)
 moves-same s l (dones i code a g b x e n r f q) = (refl, refl)
 moves-same s l (misses i code a g b x e n r f q) = (refl, refl)
 moves-same s l (aborts c a g b e r q) = (refl, refl)
@@ -138,7 +138,7 @@ devices-kept s c = go (see-any s c)
   where
     go : {c : Call} {r : Result} → Seen s (map alone (s .sequence)) c r → r .state .devices ≡ s .devices
     go (is-refused r) = refl
-    go (waits i a g b d j w n f) = refl
+    go (waits i a g b d asks j w n f) = refl
     go (limits k e) = refl
     go (moves {r = r} m) = ap (λ (q : Fixed). q .devices) (settle-fixed (r .state)) ∙ moves-same s (map alone (s .sequence)) m .1
 
@@ -258,7 +258,7 @@ told P w c v h {r = r} {lead = lead} {k = k} m = record {
 seen : (P : Type 0) (w : World) (c : Call) (v : ℤ) (h : Holds P w) {r : Result} → Seen (w .state) (h .groups) c r →
     Next (P × Premised w c (r .answers)) w (afterCall w c v r)
 seen P w c v h (is-refused r) = untold P _ w c (refused r) h refl refl refl
-seen P w _ v h (waits i a g b d j e n f) = untold P _ w (turn i) (wait (g .member .id) j) h refl refl refl
+seen P w _ v h (waits i a g b d asks j e n f) = untold P _ w (turn i) (wait (g .member .id) j) h refl refl refl
 seen P w _ v h (limits k e) =
     let n = untold P _ (withLimit w k) (limit k) (limited k) (holds-limit P w k h) refl refl refl in
     record { next = n .next; grows = n .grows; same-devices = n .same-devices }

@@ -18,15 +18,14 @@ use Rattle.rules.specs.Report.{doneReport, skipReport}
 use Rattle.rules.specs.History.{Outcome, reported-done, reported-failed, not-sent, Account, placedAccount, sentAccount}
 use Rattle.rules.specs.History.{answeredAccount, endedAccount, skippedAccount, noteAnswers}
 use Rattle.rules.specs.Order.{Event, failure-of, restart-of, deviceOf}
-use Rattle.rules.specs.HubOrder.{leftSteps}
 use Rattle.rules.proofs.Schedules.{isFlying}
 use Rattle.rules.proofs.Lists.{each-mid, ids-fresh, put-same}
 use Rattle.rules.proofs.Groups.{Group, ids, alone, with, leaving, attachEvent, stillHeld, other-ids}
 use Rattle.rules.proofs.Same.{Same, same-placed, same-leaving, same-attached}
-use Rattle.rules.proofs.Steps.{send-step, skip-step, done-step, fail-step, fresh-newcomer}
+use Rattle.rules.proofs.Steps.{leftSteps, send-step, skip-step, done-step, fail-step, fresh-newcomer}
 use Rattle.rules.proofs.Invariant.{HubOk, AccountTells}
-use Rattle.rules.proofs.View.{sentMember, skippedMember, doneMember, failedMember, skippedLeft, Gone, nobody, somebody, loses}
-use Rattle.rules.proofs.View.{Moves, places, commits, sends, skips, dones, misses, aborts, fails, restarts}
+use Rattle.rules.proofs.View.{sentMember, passedMember, doneMember, failedMember, skippedLeft, Gone, nobody, somebody, loses}
+use Rattle.rules.proofs.View.{Moves, places, commits, sends, passes, dones, misses, aborts, fails, restarts}
 use Rattle.rules.proofs.Marks.{in-turn, halfway-is}
 use Rattle.rules.proofs.Moved.{hub-up}
 use Rattle.rules.proofs.Running.{Tells, tells-put, tells-drop, tells-new, tells-held, tells-same, put-part, RunsTold}
@@ -106,15 +105,15 @@ flies-told s a l h u v t (places cs ga gb q e z p n) =
 flies-told s a l h u v t (commits i ga g gb e n r x q) =
     now-flies s a ga g gb (subst (HubOk s) e h) (subst (FliesTold a) e t) (endedAccount (a (g .member .id))) (with g (commit (g .member)))
     refl refl
-flies-told s a l h u v t (sends i ga g gb c e n r x q w z) =
+flies-told s a l h u v t (sends i ga g gb c e n r x q w z plain) =
     let y = subst (HubOk s) e h in
     let k = send-step (g .member) (in-turn s ga g gb y) c (due s (c .device)) q x in
     now-flies s a ga g gb y (subst (FliesTold a) e t) (sentAccount c (a (g .member .id))) (with g (sentMember s g c)) refl
     (rw (r, k .flight-is) refl)
-flies-told s a l h u v t (skips i ga g gb c e n r x q w z) =
+flies-told s a l h u v t (passes i ga g gb c e n r x q w st z) =
     let y = subst (HubOk s) e h in
     let k = skip-step (g .member) (in-turn s ga g gb y) c q x in
-    lands s a ga g gb y (subst (FliesTold a) e t) not-sent (with g (skippedMember g)) c
+    lands s a ga g gb y (subst (FliesTold a) e t) not-sent (with g (passedMember st g)) c
     (each-mid (AccountTells a) ga g gb (subst (Each (AccountTells a)) e v)) refl (k .left-is) (k .flight-is)
 flies-told s a l h u v t (dones i code ga g gb x e n r z q) =
     let y = subst (HubOk s) e h in
