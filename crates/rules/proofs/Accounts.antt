@@ -13,7 +13,7 @@ use Rattle.routine.specs.Choice.{if_then_else_}
 use Rattle.routine.specs.Routine.{zeroCommand}
 use Rattle.routine.specs.declared.Command.{Command}
 use Rattle.rules.specs.Tables.{anyOf, put, Each}
-use Rattle.rules.specs.State.{Status, to-do, in-flight, was-done, was-skipped, was-held, was-not-held, Member, State}
+use Rattle.rules.specs.State.{Status, was-done, was-skipped, Member, State}
 use Rattle.rules.specs.Answers.{Call, failure, restart, Answer, down, up, Result}
 use Rattle.rules.specs.Progress.{isLeftOn, begun, finished, inFlightOn, Flight, flight}
 use Rattle.rules.specs.Due.{due}
@@ -25,7 +25,7 @@ use Rattle.rules.specs.Report.{doneReport, skippedState, skipReport}
 use Rattle.rules.specs.Events.{isHalfway}
 use Rattle.rules.specs.History.{Outcome, reported-done, reported-failed, Noted, Account, placedAccount}
 use Rattle.rules.specs.History.{sentAccount, noteFirst, answeredAccount, endedAccount, isFor, hasBegun, noteLeft}
-use Rattle.rules.specs.History.{skippedAccount, eventAccount, noteAnswer, noteAnswers, workingAfterAll}
+use Rattle.rules.specs.History.{skippedAccount, eventAccount, noteAnswer, noteAnswers, workingAfter, workingAfterAll}
 use Rattle.rules.specs.Order.{Event, failure-of, restart-of, deviceOf}
 use Rattle.rules.specs.HubOrder.{Agree, is-done, is-failed, is-not-sent, is-held, is-not-held, AllAgree}
 use Rattle.rules.specs.Attach.{attach, oneRestart}
@@ -38,7 +38,7 @@ use Rattle.rules.proofs.Agree.{leftFor, agree-answered, agree-left, agr
 use Rattle.rules.proofs.Steps.{leftSteps, InTurn, answeredOn, LeftSkipped, send-step, skip-step, done-step, done-gains, fail-step}
 use Rattle.rules.proofs.Steps.{fail-done, grounded, finished-grounded, begun-is, left-on, skip-steps, Fresh, fresh-newcomer}
 use Rattle.rules.proofs.Invariant.{CommandsInTurn, HubOk, NotHalfway, AccountTells}
-use Rattle.rules.proofs.View.{Passes, is-down, is-off, does-hold, does-not, passAnswer, passing, sentMember, passedMember, doneMember, failedMember, skippedLeft, Gone, nobody, somebody, loses}
+use Rattle.rules.proofs.View.{Passes, is-down, is-off, does-hold, does-not, by-answer, passing, sentMember, passedMember, doneMember, failedMember, skippedLeft, Gone, nobody, somebody, loses}
 use Rattle.rules.proofs.View.{Moves, places, commits, sends, passes, dones, misses, aborts, fails, restarts}
 use Rattle.rules.proofs.Fields.{Fixed, gone-fixed, attach-fixed}
 use Rattle.rules.proofs.Marks.{in-turn, ids-at, Halfway, halfway-is}
@@ -490,21 +490,14 @@ gone-working s d w l (loses ga g gb e q m) = refl
 put-agree : (f g : ℕ → Bool) (d : ℕ) (b : Bool) (e : ℕ) → f e ≡ g e → put f d b e ≡ put g d b e
 put-agree f g d b e p = ap (λ x. if eqb e d then b else x) p
 
-pass-working : (st : Status) (j : ℕ) (w : ℕ → Bool) → workingAfterAll (passAnswer st j ∷ []) w ≡ w
-pass-working to-do j w = refl
-pass-working (in-flight u) j w = refl
-pass-working was-done j w = refl
-pass-working was-skipped j w = refl
-pass-working was-held j w = refl
-pass-working was-not-held j w = refl
-
 pub working-moves : (s : State) (w : ℕ → Bool) (l : List Group) {c : Call} {r : Result} {lead : List Event} {k : List Group} →
     ((d : ℕ) → w d ≡ s .up d) → Moves s l c r lead k → (d : ℕ) → workingAfterAll (r .answers) w d ≡ r .state .up d
 unfolding place commitTurn sendTurn doneReport skippedState skipReport abort leave attach
 working-moves s w l e (places cs ga gb q f u p n) d = e d
 working-moves s w l e (commits i ga g gb f n r k q) d = e d
 working-moves s w l e (sends i ga g gb c f n r k q x u plain) d = e d
-working-moves s w l e (passes i ga g gb c f n r k q x st u) d = ap (λ f. f d) (pass-working st (g .member .id) w) ∙ e d
+working-moves s w l e (passes i ga g gb c f n r k q x st u) d = 
+    by-answer (λ x. workingAfter x w d ≡ s .up d) (g .member .id) (e d) (e d) (e d) st
 working-moves s w l e (dones i code ga g gb x f n r k q) d = e d
 working-moves s w l e (misses i code ga g gb x f n r k q) d = e d
 working-moves s w l e (aborts c ga g gb f r k) d = e d

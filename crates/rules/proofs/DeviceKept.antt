@@ -17,7 +17,7 @@ use Rattle.rules.specs.Tables.{Each}
 use Rattle.rules.proofs.Lists.{each-mid}
 use Rattle.rules.proofs.Groups.{Group, with, foundAt}
 use Rattle.rules.proofs.Invariant.{HubOk, InFlightIsUp, EventsOk, AccountTells, DeviceOk, PremiseOnCall}
-use Rattle.rules.proofs.View.{failedMember, Moves, places, commits, sends, passes, dones, misses, aborts, fails, restarts}
+use Rattle.rules.proofs.View.{passing, failedMember, Moves, places, commits, sends, passes, dones, misses, aborts, fails, restarts}
 use Rattle.rules.proofs.Marks.{in-turn}
 use Rattle.rules.proofs.Messages.{tookLast, flies-there, AfterCall}
 use Rattle.rules.proofs.Devices.{device-commits, device-passes, device-sends, device-dones, device-misses, device-places}
@@ -44,7 +44,7 @@ device-moves d s a l ds v n h e t w z f p (commits i x g y q _ _ u _) =
 device-moves d s a l ds v n h e t w z f p (sends i x g y c q _ _ u b j k plain) =
     device-sends s a x g y ds v (subst (HubOk s) q h) d i c b u j k (subst (λ m. DeviceOk d s a m (ds d)) q w)
 device-moves d s a l ds v n h e t w z f p (passes i x g y c q _ _ u b _ st pass) =
-    device-skips s a x g y ds v (subst (HubOk s) q h) d i c b u (subst (λ m. DeviceOk d s a m (ds d)) q w)
+    device-passes s a x g y ds v (subst (HubOk s) q h) d i c st (passing pass) b u (subst (λ m. DeviceOk d s a m (ds d)) q w)
 device-moves d s a l ds v n h e t w z f p (dones i code x g y m q j _ u b) =
     device-dones s a x g y ds v (subst (HubOk s) q h) m u d i code (subst (Each EventsOk) q e)
     (reported-took a ds i code g m (each-mid (AccountTells a) x g y (subst (Each (AccountTells a)) q t)) p j u ∙ b)

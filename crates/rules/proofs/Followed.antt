@@ -188,7 +188,7 @@ notedIn a i = a i .commands
 pub put-noted : (a : ℕ → Account) (i : ℕ) (z : Account) → notedIn (put a i z) ≡ put (notedIn a) i (z .commands)
 put-noted a i z = fun-ext (λ j. go j (eqb j i))
   where
-    go : (j : ℕ) (t : Bool) → (if t then z else a j) .answered ≡ (if t then z .commands else a j .commands)
+    go : (j : ℕ) (t : Bool) → (if t then z else a j) .commands ≡ (if t then z .commands else a j .commands)
     go j true = refl
     go j false = refl
 

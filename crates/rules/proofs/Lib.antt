@@ -26,6 +26,7 @@ pub mod Ordered
 pub mod Running
 pub mod Accounts
 pub mod Followed
+pub mod Fits
 pub mod Stands
 -- Each device comes to its due setting: what was sent; placings, turns and reports; aborts and events; all calls.
 pub mod Messages

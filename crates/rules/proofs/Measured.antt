@@ -25,7 +25,7 @@ use Rattle.rules.proofs.Groups.{Group, ids, alone, with, passAll, addEv
 use Rattle.rules.proofs.Same.{same-placed, same-leaving}
 use Rattle.rules.proofs.Steps.{leftSteps, send-step, skip-step, done-step, fail-step}
 use Rattle.rules.proofs.Invariant.{HubOk}
-use Rattle.rules.proofs.View.{sentMember, passedMember, doneMember, failedMember, by-turn, by-report, by-cancel}
+use Rattle.rules.proofs.View.{passing, sentMember, passedMember, doneMember, failedMember, by-turn, by-report, by-cancel}
 use Rattle.rules.proofs.View.{Moves, places, commits, sends, passes, dones, misses, aborts, fails, restarts}
 use Rattle.rules.proofs.Marks.{in-turn}
 use Rattle.rules.proofs.Running.{has, none-has, other-has, idle-has, any-swap, any-drop, any-same, same-runs}
@@ -119,7 +119,7 @@ module _ (k i : ℕ) (s : State) (in-force : s .passLimit ≡ k) (h : List Told)
       subst (λ z. NotRaised k i z (a ++ (with g (sentMember s g c) ∷ b))) (sym e)
       (swapped k i a g (with g (sentMember s g c)) b refl refl refl (rw (x .same-left) (omega arith)))
   moves-at-most (passes j a g b c e n r f q w st u) of =
-      let x = skip-step (g .member) (in-turn s a g b (subst (HubOk s) e (y .hub))) c q f in
+      let x = skip-step (g .member) (in-turn s a g b (subst (HubOk s) e (y .hub))) c st (passing u) q f in
       let less = less-weight g (with g (passedMember st g)) c r r (x .left-is) in
       subst (λ z. NotRaised k i z (a ++ (with g (passedMember st g) ∷ b))) (sym e)
       (swapped k i a g (with g (passedMember st g)) b refl refl refl (omega arith))
@@ -261,7 +261,7 @@ module _ (k : ℕ) (s : State) (h : List Told) (l : List Group) (y : Ready s h l
         (subst (λ p. HeadIs j (sentMember s g c .steps) (p ++ (with g (sentMember s g c) ∷ b))) (sym (none-ahead a g b e (n ∙ o)))
         (head-is (with g (sentMember s g c)) b (n ∙ o) refl r)) (_, x .flight-is)
     own-moves (passes i a g b c e n r f q z st u) o =
-        let x = skip-step (g .member) (in-turn s a g b (subst (HubOk s) e (y .hub))) c q f in
+        let x = skip-step (g .member) (in-turn s a g b (subst (HubOk s) e (y .hub))) c st (passing u) q f in
         own-less a g b e (n ∙ o) (turn i) (with g (passedMember st g)) refl refl (less-weight g (with g (passedMember st g)) c r r (x .left-is))
     own-moves (dones i code a g b x e n r f q) o =
         let z = done-step (g .member) (in-turn s a g b (subst (HubOk s) e (y .hub))) x f in

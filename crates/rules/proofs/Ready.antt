@@ -20,19 +20,19 @@ use Rattle.rules.specs.Settle.{settle}
 use Rattle.rules.specs.Abort.{leave, abort}
 use Rattle.rules.specs.Open.{opened, newHub, openOf}
 use Rattle.rules.specs.Submit.{submitCheck, newcomer, place}
-use Rattle.rules.specs.Turn.{commit, commitTurn, sendTurn, skipTurn}
+use Rattle.rules.specs.Turn.{commit, commitTurn, sendTurn}
 use Rattle.rules.specs.Report.{doneReport, skippedState, skipReport}
 use Rattle.rules.specs.Calls.{resultOf, stateAfter}
-use Rattle.rules.specs.History.{Told, isFor, notOn, noteAnswers, accountsOf}
+use Rattle.rules.specs.History.{Told, isFor, noteAnswers, accountsOf}
 use Rattle.rules.specs.Order.{Event, failure-of, restart-of}
 use Rattle.rules.specs.Attach.{attach, oneRestart}
 use Rattle.rules.specs.Rounds.{callsTold, toldThen, limitAfter, limitAfterAll, limitTold, KeepsLimit}
 use Rattle.rules.proofs.Lists.{byIf, each-mid, each-drop, each-insert, each-swap}
 use Rattle.rules.proofs.Groups.{Group, members, alone, with, leaving, attachEvent, stillHeld, each-held}
 use Rattle.rules.proofs.Same.{Pairwise, no-pair, pair, Same, same-placed, same-leaving, same-attached, same-each}
-use Rattle.rules.proofs.Steps.{leftSteps, skip-left, send-step, skip-step, done-step, fail-step, fresh-newcomer}
+use Rattle.rules.proofs.Steps.{leftSteps, notOn, skip-left, send-step, skip-step, done-step, fail-step, fresh-newcomer}
 use Rattle.rules.proofs.Invariant.{unmarked, HubOk, FirstRuns, AccountTells}
-use Rattle.rules.proofs.View.{sentMember, passedMember, doneMember, failedMember, skippedLeft, Gone}
+use Rattle.rules.proofs.View.{by-answer, passing, sentMember, passedMember, doneMember, failedMember, skippedLeft, Gone}
 use Rattle.rules.proofs.View.{nobody, somebody, loses, Moves, places, commits, sends, passes, dones, misses, aborts, fails, restarts}
 use Rattle.rules.proofs.View.{Seen, is-refused, waits, limits, moves, see}
 use Rattle.rules.proofs.Fields.{Fixed, gone-fixed, attach-fixed, settle-fixed}
@@ -98,7 +98,7 @@ few-left-moves s l h t (sends i a g b c e n r f q w u plain) =
     (record { few-left = subst (λ l. length l ≤ maxCommands) (sym (y .same-left)) (each-mid FewLeft a g b z .few-left) })
 few-left-moves s l h t (passes i a g b c e n r f q w st u) =
     let z = subst (Each FewLeft) e t in
-    let y = skip-step (g .member) (in-turn s a g b (subst (HubOk s) e h)) c q f in
+    let y = skip-step (g .member) (in-turn s a g b (subst (HubOk s) e h)) c st (passing u) q f in
     each-swap FewLeft a g (with g (passedMember st g)) b z (less-few-left g _ c (y .left-is) (each-mid FewLeft a g b z))
 few-left-moves s l h t (dones i code a g b x e n r f q) =
     let z = subst (Each FewLeft) e t in
@@ -118,7 +118,7 @@ few-left-moves s l h t (restarts d v r lead k n u w) =
 -- the pass limit stays, and ids are given in turn
 pub fixed-moves : (s : State) (l : List Group) {c : Call} {r : Result} {lead : List Event} {k : List Group} → Moves s l c r lead k →
     (r .state .passLimit ≡ s .passLimit) × (s .nextId ≤ r .state .nextId)
-unfolding place commitTurn sendTurn skipTurn doneReport skippedState skipReport abort leave attach
+unfolding place commitTurn sendTurn doneReport skippedState skipReport abort leave attach
 fixed-moves s l (places cs a b q e u p n) = (refl, omega arith)
 fixed-moves s l (commits i a g b e n r f q) = (refl, omega arith)
 fixed-moves s l (sends i a g b c e n r f q w u plain) = (refl, omega arith)
@@ -308,11 +308,12 @@ gone-limit s d l x n (loses a g b q f m) = refl
 
 limit-moves : (s : State) (l : List Group) {c : Call} {r : Result} {lead : List Event} {k : List Group} → Moves s l c r lead k → (n : ℕ) →
     limitAfterAll (r .answers) n ≡ n
-unfolding commitTurn sendTurn skipTurn doneReport skipReport abort
+unfolding commitTurn sendTurn doneReport skipReport abort
 limit-moves s l (places cs a b q e u p m) n = refl
 limit-moves s l (commits i a g b e m r f q) n = refl
 limit-moves s l (sends i a g b c e m r f q w u plain) n = refl
-limit-moves s l (passes i a g b c e m r f q w st u) n = refl
+limit-moves s l (passes i a g b c e m r f q w st u) n =
+    by-answer (λ x. limitAfter x n ≡ n) (g .member .id) refl refl refl st
 limit-moves s l (dones i code a g b x e m r f q) n = refl
 limit-moves s l (misses i code a g b x e m r f q) n = refl
 limit-moves s l (aborts c a g b e r q) n = refl

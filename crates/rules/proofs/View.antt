@@ -74,6 +74,15 @@ passAnswer was-skipped i = skipped i []
 passAnswer was-held i = held i
 passAnswer was-not-held i = not-held i
 
+-- what holds of each of these answers
+pub by-answer : (P : Answer → Type 0) (i : ℕ) → P (skipped i []) → P (held i) → P (not-held i) → (st : Status) → P (passAnswer st i)
+by-answer P i s h n to-do = s
+by-answer P i s h n (in-flight u) = s
+by-answer P i s h n was-done = s
+by-answer P i s h n was-skipped = s
+by-answer P i s h n was-held = h
+by-answer P i s h n was-not-held = n
+
 abbrev pub passTurn : State → Found → Command → Status → Result
 passTurn s f c st = record { state = nextBecomes s f c st; answers = passAnswer st (f .it .id) ∷ [] }
 

@@ -133,7 +133,7 @@ asked k i s h now j o (waits w a g b d asks x e n f) _ =
         not-raised = v .1;
         others = λ f steps n hd. hd;
         own = λ steps hd. absurd (Option·none-ne-some x
-            (sym (ap (λ p. firstHolding d (members p)) (none-ahead k s h (now .groups) (now .ready) j steps hd a g b e (n ∙ o))) ∙ f));
+            (sym (ap (λ p. firstHolding d asks (members p)) (none-ahead k s h (now .groups) (now .ready) j steps hd a g b e (n ∙ o))) ∙ f));
       },
     )
 asked k i s h now j o (limits w e) _ = absurd o
