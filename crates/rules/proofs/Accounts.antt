@@ -38,7 +38,8 @@ use Rattle.rules.proofs.Agree.{leftFor, agree-answered, agree-left, agr
 use Rattle.rules.proofs.Steps.{leftSteps, InTurn, answeredOn, LeftSkipped, send-step, skip-step, done-step, done-gains, fail-step}
 use Rattle.rules.proofs.Steps.{fail-done, grounded, finished-grounded, begun-is, left-on, skip-steps, Fresh, fresh-newcomer}
 use Rattle.rules.proofs.Invariant.{CommandsInTurn, HubOk, NotHalfway, AccountTells}
-use Rattle.rules.proofs.View.{Passes, is-down, is-off, does-hold, does-not, by-answer, passing, sentMember, passedMember, doneMember, failedMember, skippedLeft, Gone, nobody, somebody, loses}
+use Rattle.rules.proofs.View.{Passes, is-down, is-off, does-hold, does-not, by-answer, passing, sentMember, passedMember}
+use Rattle.rules.proofs.View.{doneMember, failedMember, skippedLeft, Gone, nobody, somebody, loses}
 use Rattle.rules.proofs.View.{Moves, places, commits, sends, passes, dones, misses, aborts, fails, restarts}
 use Rattle.rules.proofs.Fields.{Fixed, gone-fixed, attach-fixed}
 use Rattle.rules.proofs.Marks.{in-turn, ids-at, Halfway, halfway-is}

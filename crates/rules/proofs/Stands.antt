@@ -18,7 +18,8 @@ use Rattle.rules.specs.Turn.{commit, commitTurn, sendTurn}
 use Rattle.rules.specs.Report.{doneReport, skipReport}
 use Rattle.rules.specs.Events.{mustLeft}
 use Rattle.rules.specs.History.{Outcome, not-yet, reported-done, reported-failed, not-sent, by-event, found-held, found-not-held}
-use Rattle.rules.specs.History.{Noted, Account, placedAccount, sentAccount, answeredAccount, endedAccount, skippedAccount, noteAnswers}
+use Rattle.rules.specs.History.{Noted, Account, placedAccount, sentAccount, answeredAccount, endedAccount, skippedAccount}
+use Rattle.rules.specs.History.{noteAnswers}
 use Rattle.rules.specs.Order.{Event, failure-of, restart-of, deviceOf, Entry, routine, event, Order, orderAfterAll, entries}
 use Rattle.rules.specs.Serial.{DeviceState, allUp, runEntry}
 use Rattle.rules.specs.Demand3.{eventsNext, skipsFollowing, Finds, afterNoted, AllFind, doneOnes, CommandsStand}
@@ -30,7 +31,8 @@ use Rattle.rules.proofs.Groups.{leadWith, flat-++, entryIds-++, entryId
 use Rattle.rules.proofs.Steps.{done-step, unbegun-answered}
 use Rattle.rules.proofs.Agree.{answeredFor, agree-done, agree-answered}
 use Rattle.rules.proofs.Invariant.{NotBegun, HubOk, InFlightIsUp, upEvent, upAfter, OrderOk, AccountTells}
-use Rattle.rules.proofs.View.{Passes, is-down, is-off, does-hold, does-not, sentMember, passedMember, doneMember, failedMember, skippedLeft, Gone, nobody, somebody, loses}
+use Rattle.rules.proofs.View.{Passes, is-down, is-off, does-hold, does-not, sentMember, passedMember, doneMember, failedMember}
+use Rattle.rules.proofs.View.{skippedLeft, Gone, nobody, somebody, loses}
 use Rattle.rules.proofs.View.{Moves, places, commits, sends, passes, dones, misses, aborts, fails, restarts}
 use Rattle.rules.proofs.Runs.{up-++, bringsUp, up-event, up-not-begun, up-flat-not-begun}
 use Rattle.rules.proofs.Marks.{ClearOfDevice, in-turn, turn-clear, flight-clear, mark-place}
@@ -77,7 +79,7 @@ finds-both f c b k m by-event h g = (h, g)
 finds-both f c b k m found-held h g = h
 finds-both f c b k m found-not-held h g = h
 
-noted-up : (o : Outcome) (c : Command) (t : ℕ → DeviceState) → _≡_ {A = ℕ → Bool} (λ d. afterNoted o c t d .up) (λ d. t d .up)
+pub noted-up : (o : Outcome) (c : Command) (t : ℕ → DeviceState) → _≡_ {A = ℕ → Bool} (λ d. afterNoted o c t d .up) (λ d. t d .up)
 noted-up not-yet c t = refl
 noted-up reported-done c t = fun-ext (λ d. serial-up d (routine 0 (c ∷ []) true ∷ []) t)
 noted-up reported-failed c t = refl
@@ -103,7 +105,7 @@ all-both f b (x ∷ l) t h k = (
       (subst (λ u. Fit u (skipsFollowing x) l) (sym (noted-up (x .outcome) (x .command) t)) (h .1)) (k .1),
 )
 
-entry-up : (e : Entry) (t : ℕ → DeviceState) → _≡_ {A = ℕ → Bool} (λ d. runEntry e t d .up) (λ d. upAfter d (e ∷ []) (t d .up))
+pub entry-up : (e : Entry) (t : ℕ → DeviceState) → _≡_ {A = ℕ → Bool} (λ d. runEntry e t d .up) (λ d. upAfter d (e ∷ []) (t d .up))
 entry-up e t = fun-ext (λ d. serial-up d (e ∷ []) t)
 
 stand-parts : (a : ℕ → Account) (l : List Entry) (t : ℕ → DeviceState) → CommandsStand a l t →
@@ -180,7 +182,8 @@ Spared d q i = anyOf (answeredFor d) (q i) ≡ false
 stand-spared : (d : ℕ) (q : ℕ → List Noted) (l : List Entry) (u w : ℕ → Bool) → SameBut d u w → Each (Spared d q) (entryIds l) →
     Stand q l u → Stand q l w
 stand-spared d q [] u w e n h = tt
-stand-spared d q (routine i cs b ∷ l) u w e n h = (h .0, fit-spared d u w e false (q i) (n .0) (h .1), stand-spared d q l u w e (n .1) (h .2))
+stand-spared d q (routine i cs b ∷ l) u w e n h =
+    (h .0, fit-spared d u w e false (q i) (n .0) (h .1), stand-spared d q l u w e (n .1) (h .2))
 stand-spared d q (event x ∷ l) u w e n h =
     stand-spared d q l (λ y. upEvent y x (u y)) (λ y. upEvent y x (w y)) (λ y m. ap (upEvent y x) (e y m)) n h
 
@@ -203,7 +206,7 @@ stand-event e a l q k u h =
 -- ---- the entries of groups
 
 -- f: the events attached to 0
-abbrev openPart : List Event → List Group → List Entry
+abbrev pub openPart : List Event → List Group → List Entry
 openPart f l = map event f ++ flat l
 
 -- ---- a routine is placed, or changes in its place
@@ -216,10 +219,10 @@ record Before (s : State) (o : Order) (a : ℕ → Account) (l : List Group) : T
   tells : Each (AccountTells a) l
   stand : Standing a (o .settled ++ flat l)
 
-flat-at : (p : List Entry) (a b : List Group) → p ++ flat (a ++ b) ≡ (p ++ flat a) ++ flat b
+pub flat-at : (p : List Entry) (a b : List Group) → p ++ flat (a ++ b) ≡ (p ++ flat a) ++ flat b
 flat-at p a b = ap (λ k. p ++ k) (flat-++ a b) ∙ sym (append-assoc p (flat a) (flat b))
 
-entry-ids : (s : State) (o : Order) (a b : List Group) → OrderOk s o [] (a ++ b) →
+pub entry-ids : (s : State) (o : Order) (a b : List Group) → OrderOk s o [] (a ++ b) →
     IdsOk (s .nextId) (entryIds (o .settled ++ flat a) ++ entryIds (flat b))
 entry-ids s o a b k = rw (entryIds-++ (o .settled) (flat a), entryIds-flat a, entryIds-flat b) (order-ids s o [] a b k)
 

@@ -24,11 +24,13 @@ use Rattle.rules.proofs.Groups.{Group, ids, alone, with, leaving, attac
 use Rattle.rules.proofs.Same.{Same, same-placed, same-leaving, same-attached}
 use Rattle.rules.proofs.Steps.{leftSteps, send-step, skip-step, done-step, fail-step, fresh-newcomer}
 use Rattle.rules.proofs.Invariant.{HubOk, AccountTells}
-use Rattle.rules.proofs.View.{passing, sentMember, passedMember, doneMember, failedMember, skippedLeft, Gone, nobody, somebody, loses}
+use Rattle.rules.proofs.View.{passing, sentMember, passedMember, doneMember, failedMember, skippedLeft, Gone, nobody, somebody}
+use Rattle.rules.proofs.View.{loses}
 use Rattle.rules.proofs.View.{Moves, places, commits, sends, passes, dones, misses, aborts, fails, restarts}
 use Rattle.rules.proofs.Marks.{in-turn, halfway-is}
 use Rattle.rules.proofs.Moved.{hub-up}
-use Rattle.rules.proofs.Running.{passOutcome, pass-noted, Tells, tells-put, tells-drop, tells-new, tells-held, tells-same, put-part, RunsTold}
+use Rattle.rules.proofs.Running.{passOutcome, pass-noted, Tells, tells-put, tells-drop, tells-new, tells-held, tells-same, put-part}
+use Rattle.rules.proofs.Running.{RunsTold}
 use Rattle.rules.proofs.Accounts.{eventTold, gone-tells, TellsEvent, event-accounts}
 
 abbrev pub flyingIn : (ℕ → Account) → ℕ → Bool
