@@ -6,15 +6,14 @@ use mathlib.Core.Bool.{Bool, true, false, not, _&&_, _||_, and-true, and-false}
 use mathlib.Core.List.{List, [], _∷_, _++_}
 use mathlib.Core.Option.{none, some, Option·none-ne-some, Option·some-injective}
 use Prim.Native.Nat.{ℕ}
-use borrow.Author.Tests.{eqb-true, eqb-false, ne-eqb}
-use lib.Dec.{eqb}
+use borrow.Author.Tests.{ne-eqb}
 use Rattle.routine.specs.Choice.{if_then_else_}
 use Rattle.routine.specs.Routine.{isCondition}
 use Rattle.routine.specs.declared.Command.{Command}
 use Rattle.rules.specs.Tables.{anyOf, put, Each}
 use Rattle.rules.specs.State.{Status, Step, Member, State}
 use Rattle.rules.specs.Answers.{Call, Result}
-use Rattle.rules.specs.Progress.{isOn, isDone, begun, Flight, flight}
+use Rattle.rules.specs.Progress.{isOn, isDone, Flight, flight}
 use Rattle.rules.specs.Due.{due}
 use Rattle.rules.specs.Sequence.{isRunning, withUp}
 use Rattle.rules.specs.Submit.{newcomer}
@@ -22,9 +21,9 @@ use Rattle.rules.specs.Turn.{holds, hasSet, holdsUp, commit}
 use Rattle.rules.specs.History.{isFor}
 use Rattle.rules.specs.Order.{Event, failure-of, restart-of}
 use Rattle.rules.specs.HubOrder.{doneSteps}
-use Rattle.rules.proofs.Lists.{byIf, t≠f, or-right, this-or-other, each-++, each-left, each-right, each-mid, each-drop, each-insert}
+use Rattle.rules.proofs.Lists.{byIf, t≠f, or-right, this-or-other, each-mid, each-drop, each-insert}
 use Rattle.rules.proofs.Lists.{each-swap, each-map}
-use Rattle.rules.proofs.Groups.{Group, alone, with, leaving, attachEvent, stillHeld, each-held}
+use Rattle.rules.proofs.Groups.{Group, alone, with, stillHeld}
 use Rattle.rules.proofs.Same.{Pairwise, no-pair, pair, Same, same-placed, same-leaving, same-attached, same-each}
 use Rattle.rules.proofs.Steps.{InTurn, wasAsked, askedOn, send-step, skip-step, done-step, fail-step, fail-done, done-gains}
 use Rattle.rules.proofs.Steps.{skip-steps}
@@ -58,9 +57,10 @@ module _ (R : Group → Group → Type 0) where
 
   around-pairs : (a : List Group) (g : Group) (b : List Group) → Around R a g b → AllPairs R (a ++ (g ∷ b))
   around-pairs [] g b h = (h .behind, h .others)
-  around-pairs (x ∷ a) g b h =
-      (each-insert (R x) a g b (h .others .0) (h .ahead .0),
-        around-pairs a g b (record { ahead = h .ahead .1; behind = h .behind; others = h .others .1 }))
+  around-pairs (x ∷ a) g b h = (
+    each-insert (R x) a g b (h .others .0) (h .ahead .0),
+    around-pairs a g b (record { ahead = h .ahead .1; behind = h .behind; others = h .others .1 }),
+  )
 
   pairs-same : ((x y g h : Group) → Same x y → Same g h → R x g → R y h) → {l k : List Group} → Pairwise Same l k → AllPairs R l →
       AllPairs R k
@@ -299,8 +299,10 @@ plain-moves s l h w (commits i a g b e n r f q) =
 plain-moves s l h w (sends i a g b c e n r f q x u plain) =
     let k = send-step (g .member) (in-turn s a g b (subst (HubOk s) e h)) c (due s (c .device)) q f in
     each-swap FlightIsPlain a g (with g (sentMember s g c)) b (subst (Each FlightIsPlain) e w)
-    (record { plain = λ x o. ap (λ (y : Flight). isCondition (y .command)) (sym (Option·some-injective _ x (sym (k .flight-is) ∙ o)))
-        ∙ plain })
+    (record {
+      plain = λ x o. ap (λ (y : Flight). isCondition (y .command)) (sym (Option·some-injective _ x (sym (k .flight-is) ∙ o)))
+          ∙ plain;
+    })
 plain-moves s l h w (passes i a g b c e n r f q x st u) =
     each-swap FlightIsPlain a g (with g (passedMember st g)) b (subst (Each FlightIsPlain) e w)
     (grounded-plain _ (skip-step (g .member) (in-turn s a g b (subst (HubOk s) e h)) c st (passing u) q f .flight-is))

@@ -1,12 +1,12 @@
 -- The replay of conditions is kept by every call: device by device, along the order. Assumes nothing.
 use mathlib.Core.Path.{_≡_, refl, sym, ap, ap₂, _∙_, subst}
 use mathlib.Core.Logic.{_≢_, _⊎_, inl, inr}
-use mathlib.Core.Bool.{Bool, true, false, not, _&&_, _||_, and-true}
+use mathlib.Core.Bool.{Bool, true, false, not, _&&_, _||_}
 use mathlib.Core.List.{List, [], _∷_, _++_, map, append-assoc}
 use mathlib.Core.Option.{none, some}
 use Prim.Native.Nat.{ℕ}
 use native.Mathlib.Omega.{arith}
-use borrow.Author.Tests.{eqb-true, eq-eqb, ne-eqb, not-true, not-false}
+use borrow.Author.Tests.{eqb-true, ne-eqb, not-true, not-false}
 use lib.Dec.{eqb}
 use lib.IntN.{ℤ, pos}
 use lib.Signed.{ltZ}
@@ -25,16 +25,16 @@ use Rattle.rules.specs.Turn.{hasSet, commit, commitTurn, sendTurn, isHel
 use Rattle.rules.specs.Report.{doneReport, skipReport}
 use Rattle.rules.specs.History.{Outcome, not-yet, reported-done, reported-failed, not-sent, by-event, found-held, found-not-held}
 use Rattle.rules.specs.History.{isLeft, Noted, notedAs, Account, placedAccount, sentAccount, noteFirst, answeredAccount, endedAccount}
-use Rattle.rules.specs.History.{isFor, hasBegun, noteLeft, skippedAccount, eventAccount, noteAnswer, noteAnswers}
+use Rattle.rules.specs.History.{isFor, hasBegun, noteLeft, skippedAccount, eventAccount, noteAnswers}
 use Rattle.rules.specs.Order.{Event, failure-of, restart-of, deviceOf, Entry, routine, event, Order, orderAfterAll, entries}
 use Rattle.rules.specs.Demand3.{skipsFollowing}
-use Rattle.rules.specs.HubOrder.{doneSteps, Agree, is-to-do, is-in-flight, is-done, is-failed, is-not-sent, is-by-event, is-held}
+use Rattle.rules.specs.HubOrder.{doneSteps, is-to-do, is-in-flight, is-done, is-failed, is-not-sent, is-by-event, is-held}
 use Rattle.rules.specs.HubOrder.{is-not-held, AllAgree, no-command, one-more}
-use Rattle.rules.proofs.Lists.{byIf, t≠f, or-left, or-right, and-right, this-or-other, put-same, put-other, each-++, each-left}
-use Rattle.rules.proofs.Lists.{each-right, each-mid, IsNot, NotIn, IdsOk, ids-fresh, ids-other}
+use Rattle.rules.proofs.Lists.{byIf, t≠f, or-left, or-right, and-right, this-or-other, put-same, put-other, each-left}
+use Rattle.rules.proofs.Lists.{each-right, each-mid, IsNot, NotIn, ids-fresh, ids-other}
 use Rattle.rules.proofs.Groups.{Group, ids, flat, entryIds, alone, with, passAll, leaving, leadOf, attachEvent}
-use Rattle.rules.proofs.Groups.{leadWith, flat-++, entryIds-++, entryIds-events, entryIds-flat, flat-pass, flat-leaving}
-use Rattle.rules.proofs.Steps.{InTurn, AllBehind, wasAsked, askedOn, behind-over, behind-grounded, skip-step, done-gains, fail-done}
+use Rattle.rules.proofs.Groups.{leadWith, entryIds-++, entryIds-events, entryIds-flat, flat-pass, flat-leaving}
+use Rattle.rules.proofs.Steps.{InTurn, AllBehind, askedOn, behind-over, skip-step, done-gains, fail-done}
 use Rattle.rules.proofs.Steps.{send-step, skip-steps, unbegun-asked}
 use Rattle.rules.proofs.Invariant.{NotBegun, HubOk, setEvent, setCommands, setAfter, upEvent, upAfter, EventsOk, OrderOk}
 use Rattle.rules.proofs.Invariant.{AccountTells}
@@ -42,7 +42,7 @@ use Rattle.rules.proofs.View.{Passes, is-down, is-off, does-hold, does-
 use Rattle.rules.proofs.View.{failedMember}
 use Rattle.rules.proofs.View.{skippedLeft, Gone, nobody, somebody, loses, Moves, places, commits, sends, passes, dones, misses}
 use Rattle.rules.proofs.View.{aborts, fails, restarts}
-use Rattle.rules.proofs.Runs.{set-++, up-++, set-events, lastRestart-not-begun, bringsUp, up-event, up-not-begun, up-flat-not-begun}
+use Rattle.rules.proofs.Runs.{set-++, set-events, lastRestart-not-begun, bringsUp, up-event}
 use Rattle.rules.proofs.Runs.{set-flat}
 use Rattle.rules.proofs.Runs.{not-begun-members}
 use Rattle.rules.proofs.Marks.{ClearOfDevice, in-turn, turn-clear, flight-clear, mark-place, halfway-is}
@@ -53,8 +53,8 @@ use Rattle.rules.proofs.Accounts.{eventTold, TellsEvent, event-accounts
 use Rattle.rules.proofs.Ordered.{cut-at, order-moves}
 use Rattle.rules.proofs.Followed.{notedIn, put-noted, ended-noted}
 use Rattle.rules.proofs.Fits.{AtFirst, at-next, at-flight}
-use Rattle.rules.proofs.Stands.{flat-at, entry-ids, openPart}
-use Rattle.rules.proofs.Asked.{AllPairs, Around, pairs-around, Spares, set-is, set-unasked, FlightIsPlain}
+use Rattle.rules.proofs.Stands.{flat-at, up-clear, entry-ids, openPart}
+use Rattle.rules.proofs.Asked.{AllPairs, pairs-around, Spares, set-is, set-unasked, FlightIsPlain}
 
 -- ---- what is answered as a condition is one
 
@@ -131,7 +131,7 @@ module _ (s : State) (a : ℕ → Account) (l : List Group) (h : HubOk s l) (t :
       (tagged-put a (g .member .id) (answeredAccount (passOutcome st) (a (g .member .id))) w
       (tagged-first (passOutcome st) false (a (g .member .id) .commands) (w (g .member .id))
       (at-next (λ c _ _. Tagged c (passOutcome st)) false c
-          (each-mid (AccountTells a) x g y (subst (Each (AccountTells a)) e t) .agrees) k q
+      (each-mid (AccountTells a) x g y (subst (Each (AccountTells a)) e t) .agrees) k q
       (tag u))))
     where
       tag : {st : Status} → Passes s g c st → Tagged c (passOutcome st)
@@ -403,9 +403,10 @@ on-put d a p x g y z m n h r k =
     let q = put (notedIn a) i (z .commands) in
     subst (λ l. OnDevice d (notedIn (put a i z)) l true (pos 0)) (sym (flat-at p x (g ∷ y)))
     (subst (λ q. OnDevice d q ((p ++ flat x) ++ flat (g ∷ y)) true (pos 0)) (sym (put-noted a i z))
-    (on-join d q (p ++ flat x) (flat (g ∷ y)) true (pos 0) (on-other d (notedIn a) i (z .commands) (p ++ flat x) true (pos 0) m h)
-    (subst (λ l. RunsOn d l (upAt d p x) (setAt d p x)) (sym (put-same (notedIn a) i (z .commands))) r,
-      on-other d (notedIn a) i (z .commands) (map event (g .events) ++ flat y) (upAt d p x) _ n k)))
+    (on-join d q (p ++ flat x) (flat (g ∷ y)) true (pos 0) (on-other d (notedIn a) i (z .commands) (p ++ flat x) true (pos 0) m h) (
+      subst (λ l. RunsOn d l (upAt d p x) (setAt d p x)) (sym (put-same (notedIn a) i (z .commands))) r,
+      on-other d (notedIn a) i (z .commands) (map event (g .events) ++ flat y) (upAt d p x) _ n k,
+    )))
 
 replays-places : (s : State) (o : Order) (a : ℕ → Account) (cs : List Command) (x y : List Group) → Before s o a (x ++ y) →
     ReplaysOn (put a (s .nextId) (placedAccount cs)) (o .settled ++ flat (x ++ (alone (newcomer (s .nextId) cs) ∷ passAll y)))
@@ -487,17 +488,8 @@ module _ (s : State) (o : Order) (a : ℕ → Account) (x : List Group) (g : Gro
       sym (sym (order-due s o (x ++ (g ∷ y)) (f .hub) (f .order) d) ∙ ap (λ l. setAfter d l (pos 0)) whole
       ∙ set-++ d p (flat (g ∷ y)) (pos 0) ∙ set-++ d (map event (g .events)) (flat y) v
       ∙ ap (setAfter d (flat y))
-          (set-events d (g .events) v ∙ ap (λ r. afterRestart r v) (lastRestart-not-begun d (g .events) (c .no-event)))
+      (set-events d (g .events) v ∙ ap (λ r. afterRestart r v) (lastRestart-not-begun d (g .events) (c .no-event)))
       ∙ set-flat d y v events ∙ not-begun-members d y v events (c .behind-not-begun))
-
-  up-here : (d : ℕ) → ClearOfDevice d x g y → upHere d ≡ s .up d
-  up-here d c =
-      let p = o .settled ++ flat x in
-      let u = upHere d in
-      let whole : entries o ≡ p ++ flat (g ∷ y) = ap (λ l. o .settled ++ l) (f .order .unsettled-is) ∙ flat-at (o .settled) x (g ∷ y) in
-      let same : upAfter d (flat (g ∷ y)) u ≡ u = up-++ d (map event (g .events)) (flat y) u ∙ up-flat-not-begun d y _ (c .behind-not-begun)
-      ∙ up-not-begun d (g .events) u (c .no-event) in
-      sym (ap (λ l. upAfter d l true) whole ∙ up-++ d p (flat (g ∷ y)) true ∙ same) ∙ f .order .up-is d
 
   -- the next command is answered without being sent
   replays-passes : (c : Command) (st : Status) → Passes s g c st → flight (g .member .steps) ≡ none → next (g .member .steps) ≡ some c →
@@ -515,13 +507,17 @@ module _ (s : State) (o : Order) (a : ℕ → Account) (x : List Group) (g : Gro
           FoundAs (c .setting) (upHere d) (setCommands d (doneSteps (g .member .steps)) (setHere d)) (passOutcome st)
       found d q (is-down u) = tt
       found d q (is-off u) = tt
-      found d q (does-hold u k z) = subst Held q (up-here (c .device) clear ∙ u,
-          ap (λ v. ltZ v (c .setting)) (due-here (c .device) clear) ∙ not-true (ltZ (due s (c .device)) (c .setting)) z)
+      found d q (does-hold u k z) = subst Held q (
+        up-clear s o x g y (f .order) (c .device) clear ∙ u,
+        ap (λ v. ltZ v (c .setting)) (due-here (c .device) clear) ∙ not-true (ltZ (due s (c .device)) (c .setting)) z,
+      )
         where
           Held : ℕ → Type 0
           Held d = (upHere d ≡ true) × (ltZ (setCommands d (doneSteps (g .member .steps)) (setHere d)) (c .setting) ≡ false)
-      found d q (does-not u k z) = subst NotHeld q (up-here (c .device) clear ∙ u,
-          ap (λ v. ltZ v (c .setting)) (due-here (c .device) clear) ∙ not-false (ltZ (due s (c .device)) (c .setting)) z)
+      found d q (does-not u k z) = subst NotHeld q (
+        up-clear s o x g y (f .order) (c .device) clear ∙ u,
+        ap (λ v. ltZ v (c .setting)) (due-here (c .device) clear) ∙ not-false (ltZ (due s (c .device)) (c .setting)) z,
+      )
         where
           NotHeld : ℕ → Type 0
           NotHeld d = (upHere d ≡ true) × (ltZ (setCommands d (doneSteps (g .member .steps)) (setHere d)) (c .setting) ≡ true)
@@ -532,7 +528,7 @@ module _ (s : State) (o : Order) (a : ℕ → Account) (x : List Group) (g : Gro
   replays-dones v e =
       replays-changes (doneMember g) (answeredAccount reported-done (a i)) refl
       (λ d. runs-first d reported-done (upHere d) (setHere d) agrees (in-turn s x g y (f .hub))
-          (first-any d (λ c w. FoundAs (c .setting) (upHere d) w reported-done) (λ c w. tt) (a i .commands) (setHere d)))
+      (first-any d (λ c w. FoundAs (c .setting) (upHere d) w reported-done) (λ c w. tt) (a i .commands) (setHere d)))
       (λ d. this-or-other
       (λ d. (setCommands d (doneSteps (doneMember g .steps)) (setHere d) ≡ setCommands d (doneSteps (g .member .steps)) (setHere d))
       ⊎ Each (λ g. askedOn d (g .member .steps) ≡ false) y) (v .command .device) d
@@ -574,7 +570,7 @@ replays-event : (e : Event) (a : ℕ → Account) (l : List Group) → Each (Not
     (d : ℕ) (b : Bool) (v : ℤ) → OnDevice d (notedIn a) (flat l) b v → OnDevice d (notedIn a) (event e ∷ flat l) b v
 replays-event e a l n t d b v h =
     this-or-other (λ d. OnDevice d (notedIn a) (flat l) b v → OnDevice d (notedIn a) (flat l) (upEvent d e b) (setEvent d e v))
-        (deviceOf e) d
+    (deviceOf e) d
     (λ _. quiet-behind (deviceOf e) a [] l _ _ t (unbegun-unasked (deviceOf e) l n))
     (λ m h. subst (λ u. OnDevice d (notedIn a) (flat l) u (setEvent d e v)) (sym (same-up e m))
     (subst (OnDevice d (notedIn a) (flat l) b) (sym (same-set e m)) h)) h
@@ -598,7 +594,7 @@ replays-attached s e a p lead l h k w d =
     let first = p ++ c .before in
     let was : p ++ openPart lead l ≡ first ++ old = ap (λ r. p ++ r) (c .was) ∙ sym (append-assoc p (c .before) old) in
     let becomes : p ++ openPart (leadWith (s .mark (deviceOf e)) e lead) (attachEvent (s .mark (deviceOf e)) e l) ≡ first
-        ++ (event e ∷ old) =
+    ++ (event e ∷ old) =
     ap (λ r. p ++ r) (c .becomes) ∙ sym (append-assoc p (c .before) (event e ∷ old)) in
     let n = on-split d q first old true (pos 0) (subst (λ r. OnDevice d q r true (pos 0)) was (w d)) in
     subst (λ r. OnDevice d q r true (pos 0)) (sym becomes)

@@ -4,26 +4,24 @@ use mathlib.Core.Path.{_≡_, refl, sym, ap, ap₂, _∙_, subst}
 use mathlib.Core.Logic.{_≢_, _⊎_, inl, inr}
 use mathlib.Core.Bool.{Bool, true, false, not, _&&_, _||_, and-true, and-false}
 use mathlib.Core.List.{List, [], _∷_, map}
-use mathlib.Core.Option.{Option, none, some, Option·none-ne-some, Option·some-ne-none, Option·some-injective}
+use mathlib.Core.Option.{none, some, Option·none-ne-some, Option·some-ne-none, Option·some-injective}
 use Prim.Native.Nat.{ℕ}
-use borrow.Author.Tests.{eqb-true, eqb-false}
-use lib.Dec.{eqb}
-use lib.IntN.{ℤ}
+use borrow.Author.Tests.{eqb-false}
 use Rattle.routine.specs.Choice.{if_then_else_}
 use Rattle.routine.specs.Routine.{isCondition}
 use Rattle.routine.specs.declared.Command.{Command}
 use Rattle.rules.specs.Tables.{anyOf}
 use Rattle.rules.specs.State.{Step}
-use Rattle.rules.specs.Progress.{next, commandsIn, countsAsMust, nextCountsAsMust, skipsNext, nextIsSkipped, Flight, flight}
+use Rattle.rules.specs.Progress.{next, countsAsMust, nextCountsAsMust, nextIsSkipped, Flight, flight}
 use Rattle.rules.specs.Events.{mustAmong}
 use Rattle.rules.specs.History.{Outcome, not-yet, reported-done, reported-failed, not-sent, by-event, found-held, found-not-held}
 use Rattle.rules.specs.History.{isLeft, Noted, notedAs, noteFirst, isFor, noteLeft}
 use Rattle.rules.specs.Demand3.{skipsFollowing}
-use Rattle.rules.specs.HubOrder.{Agree, is-to-do, is-in-flight, is-done, is-failed, is-not-sent, is-by-event, is-held, is-not-held}
+use Rattle.rules.specs.HubOrder.{is-to-do, is-in-flight, is-done, is-failed, is-not-sent, is-by-event, is-held, is-not-held}
 use Rattle.rules.specs.HubOrder.{AllAgree, no-command, one-more}
-use Rattle.rules.proofs.Lists.{byIf, t≠f, or-left, or-right, and-left, and-right}
+use Rattle.rules.proofs.Lists.{byIf, t≠f, or-left, or-right, and-right}
 use Rattle.rules.proofs.Steps.{InTurn, behind-grounded}
-use Rattle.rules.proofs.Agree.{answeredFor, leftFor, agree-not-held, agree-commands}
+use Rattle.rules.proofs.Agree.{answeredFor, leftFor, agree-commands}
 
 -- is the device up; does the condition before it skip it; is the tag that counts must
 abbrev pub FindsUp : Bool → Bool → Bool → Outcome → Type 0

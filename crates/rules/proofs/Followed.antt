@@ -36,7 +36,7 @@ use Rattle.rules.proofs.View.{Passes, is-down, is-off, does-hold, does-
 use Rattle.rules.proofs.View.{loses, Moves, places, commits, sends, passes, dones, misses}
 use Rattle.rules.proofs.View.{aborts}
 use Rattle.rules.proofs.View.{fails, restarts}
-use Rattle.rules.proofs.Marks.{in-turn, halfway-marked}
+use Rattle.rules.proofs.Marks.{halfway-marked}
 use Rattle.rules.proofs.Moved.{hub-up}
 use Rattle.rules.proofs.Running.{passOutcome, pass-noted, RunsTold}
 use Rattle.rules.proofs.Accounts.{eventTold, TellsEvent, event-accounts}

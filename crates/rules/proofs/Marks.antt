@@ -318,7 +318,7 @@ pub hub-passes : (s : State) (a : List Group) (g : Group) (b : List Group) (c : 
 hub-passes s a g b c st p h r f e n =
     let x = skip-step (g .member) (in-turn s a g b h) c st p e f in
     hub-changes s a g b h (passedMember st g) (markBegun (g .member) (c .device) (s .mark)) refl (running g (passedMember st g) r)
-        (x .in-turn)
+    (x .in-turn)
     (begin-marks s a g b h (c .device) (passedMember st g) refl (turn-clear s a g b c h e f n) (x .unfinished) (x .begins) (x .other-begun)
     (x .finishes))
 

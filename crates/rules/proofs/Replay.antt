@@ -1,36 +1,31 @@
 -- What holds of the conditions device by device gives the statement: along the whole order, and without the routines that still run.
 -- Assumes nothing.
-use mathlib.Core.Path.{_≡_, refl, sym, ap, ap₂, _∙_, subst}
+use mathlib.Core.Path.{_≡_, refl, sym, ap, _∙_, subst}
 use mathlib.Core.Logic.{_⊎_, inl, inr}
 use mathlib.Core.Bool.{Bool, true, false}
 use mathlib.Core.List.{List, [], _∷_, _++_, map, tail-eq-of-cons-eq, nil≢cons}
 use Prim.Native.Nat.{ℕ}
 use borrow.Author.Tests.{eq-eqb}
-use lib.Dec.{eqb}
-use lib.IntN.{ℤ, pos}
-use Rattle.routine.specs.Choice.{if_then_else_}
+use lib.IntN.{ℤ}
 use Rattle.routine.specs.declared.Command.{Command}
 use Rattle.rules.specs.Tables.{Each}
-use Rattle.rules.specs.Sequence.{isRunning}
 use Rattle.rules.specs.Turn.{hasSet}
 use Rattle.rules.specs.History.{Outcome, not-yet, reported-done, reported-failed, not-sent, by-event, found-held, found-not-held}
 use Rattle.rules.specs.History.{Noted, Account}
-use Rattle.rules.specs.Order.{Event, failure-of, restart-of, Entry, routine, event, beforeBar}
-use Rattle.rules.specs.Serial.{DeviceState, allUp, runCommand, runEntry}
+use Rattle.rules.specs.Order.{Event, Entry, routine, event, beforeBar}
+use Rattle.rules.specs.Serial.{DeviceState, runEntry}
 use Rattle.rules.specs.Demand3.{committedPart, afterNoted}
 use Rattle.rules.specs.HubOrder.{doneSteps}
 use Rattle.rules.specs.Replay.{Replayed, AllReplayed, Replays}
-use Rattle.rules.proofs.Lists.{t≠f}
 use Rattle.rules.proofs.Groups.{Group, flat}
 use Rattle.rules.proofs.Steps.{askedOn}
 use Rattle.rules.proofs.Invariant.{setEvent, setCommands, upEvent, setAfter, upAfter, AccountTells}
 use Rattle.rules.proofs.Serial.{serial-setting, serial-up}
 use Rattle.rules.proofs.Followed.{notedIn}
-use Rattle.rules.proofs.Stands.{noted-up, entry-up}
+use Rattle.rules.proofs.Stands.{noted-up}
 use Rattle.rules.proofs.Asked.{AllPairs, Spares, set-unasked}
 use Rattle.rules.proofs.Conditions.{Tagged, AllTagged, TaggedAll, FoundAs, setBy, RunsOn, runs-quiet, agree-found, OnDevice}
-use Rattle.rules.proofs.Conditions.{on-split}
-use Rattle.rules.proofs.Conditions.{on-join, unset-commands, ReplaysOn}
+use Rattle.rules.proofs.Conditions.{unset-commands}
 
 -- ---- along an order, from a table of devices
 

@@ -4,7 +4,7 @@ use mathlib.Core.Logic.{_≢_, inl, inr}
 use mathlib.Core.Bool.{Bool, true, false}
 use mathlib.Core.List.{List, [], _∷_, _++_, map, append-assoc}
 use Prim.Native.Nat.{ℕ}
-use borrow.Author.Tests.{eqb-false, eq-eqb, ne-eqb}
+use borrow.Author.Tests.{eq-eqb, ne-eqb}
 use Rattle.routine.specs.Choice.{if_then_else_}
 use Rattle.routine.specs.declared.Command.{Command}
 use Rattle.rules.specs.Tables.{anyOf, put, Each}
@@ -24,7 +24,7 @@ use Rattle.rules.specs.Order.{Event, failure-of, restart-of, deviceOf, E
 use Rattle.rules.specs.Serial.{DeviceState, allUp, runEntry}
 use Rattle.rules.specs.Demand3.{eventsNext, skipsFollowing, Finds, afterNoted, AllFind, doneOnes, CommandsStand}
 use Rattle.rules.specs.HubOrder.{doneSteps, AllAgree}
-use Rattle.rules.proofs.Lists.{or-left, or-right, put-same, put-other, each-++, each-left, each-right, each-mid, IsNot}
+use Rattle.rules.proofs.Lists.{put-same, put-other, each-left, each-right, each-mid, IsNot}
 use Rattle.rules.proofs.Lists.{NotIn, IdsOk, ids-fresh, ids-other}
 use Rattle.rules.proofs.Groups.{Group, ids, flat, entryIds, alone, with, changed, passAll, leaving, leadOf, attachEvent}
 use Rattle.rules.proofs.Groups.{leadWith, flat-++, entryIds-++, entryIds-flat, flat-pass, flat-leaving}
@@ -222,6 +222,17 @@ record Before (s : State) (o : Order) (a : ℕ → Account) (l : List Group) : T
 pub flat-at : (p : List Entry) (a b : List Group) → p ++ flat (a ++ b) ≡ (p ++ flat a) ++ flat b
 flat-at p a b = ap (λ k. p ++ k) (flat-++ a b) ∙ sym (append-assoc p (flat a) (flat b))
 
+-- a device that nothing behind g touches is up before g as it is now
+pub up-clear : (s : State) (o : Order) (x : List Group) (g : Group) (y : List Group) → OrderOk s o [] (x ++ (g ∷ y)) → (d : ℕ) →
+    ClearOfDevice d x g y → upAfter d (o .settled ++ flat x) true ≡ s .up d
+up-clear s o x g y k d c =
+    let p = o .settled ++ flat x in
+    let u = upAfter d p true in
+    let whole : entries o ≡ p ++ flat (g ∷ y) = ap (λ l. o .settled ++ l) (k .unsettled-is) ∙ flat-at (o .settled) x (g ∷ y) in
+    let same : upAfter d (flat (g ∷ y)) u ≡ u = up-++ d (map event (g .events)) (flat y) u ∙ up-flat-not-begun d y _ (c .behind-not-begun)
+    ∙ up-not-begun d (g .events) u (c .no-event) in
+    sym (ap (λ l. upAfter d l true) whole ∙ up-++ d p (flat (g ∷ y)) true ∙ same) ∙ k .up-is d
+
 pub entry-ids : (s : State) (o : Order) (a b : List Group) → OrderOk s o [] (a ++ b) →
     IdsOk (s .nextId) (entryIds (o .settled ++ flat a) ++ entryIds (flat b))
 entry-ids s o a b k = rw (entryIds-++ (o .settled) (flat a), entryIds-flat a, entryIds-flat b) (order-ids s o [] a b k)
@@ -279,16 +290,6 @@ module _ (s : State) (o : Order) (a : ℕ → Account) (x : List Group) (g : Gro
 
   agrees : AllAgree (a (g .member .id) .commands) (g .member .steps)
   agrees = each-mid (AccountTells a) x g y (f .tells) .agrees
-
-  -- a device that nothing behind g touches is up before g as it is now
-  up-before : (d : ℕ) → ClearOfDevice d x g y → upPast (o .settled) x d ≡ s .up d
-  up-before d c =
-      let p = o .settled ++ flat x in
-      let u = upPast (o .settled) x d in
-      let whole : entries o ≡ p ++ flat (g ∷ y) = ap (λ l. o .settled ++ l) (f .order .unsettled-is) ∙ flat-at (o .settled) x (g ∷ y) in
-      let same : upAfter d (flat (g ∷ y)) u ≡ u = up-++ d (map event (g .events)) (flat y) u ∙ up-flat-not-begun d y _ (c .behind-not-begun)
-      ∙ up-not-begun d (g .events) u (c .no-event) in
-      sym (ap (λ l. upAfter d l true) whole ∙ up-++ d p (flat (g ∷ y)) true ∙ same) ∙ f .order .up-is d
 
 -- ---- a routine leaves
 
@@ -359,7 +360,7 @@ stand-moves s o a l f t (passes i x g y c e j r n b m st u) =
     Standing n (o .settled ++ flat (x ++ (with g (passedMember st g) ∷ y)))) (sym (pass-noted i st (g .member .id) a))
     (stand-changes s o a x g y w (passedMember st g .steps) (g .member .committed) (answeredAccount (passOutcome st) (a (g .member .id)))
     (fit-next (upPast (o .settled) x) (passOutcome st) c (agrees s o a x g y w) n b
-    (ground (up-before s o a x g y w (c .device) (turn-clear s x g y c (w .hub) b n m)) u)))
+    (ground (up-clear s o x g y (w .order) (c .device) (turn-clear s x g y c (w .hub) b n m)) u)))
   where
     ground : {isUp : Bool} → isUp ≡ s .up (c .device) → {st : Status} → Passes s g c st →
         FindsUp isUp (nextIsSkipped false (g .member .steps)) (nextCountsAsMust (g .member .steps)) (passOutcome st)
@@ -373,7 +374,7 @@ stand-moves s o a l f t (dones i code x g y v e j r n b) =
     let k = in-turn s x g y (w .hub) in
     stand-changes s o a x g y w (doneMember g .steps) (g .member .committed) (answeredAccount reported-done (a (g .member .id)))
     (fit-flight (upPast (o .settled) x) reported-done v (agrees s o a x g y w) k n
-    (λ _ _. up-before s o a x g y w d (flight-clear s x g y v (w .hub) n)
+    (λ _ _. up-clear s o x g y (w .order) d (flight-clear s x g y v (w .hub) n)
     ∙ each-mid (InFlightIsUp s) x g y (w .flies) .flies-up d (done-step (g .member) k v n .flew d ∙ eq-eqb d d refl)))
 stand-moves s o a l f t (misses i code x g y v e j r n b) =
     let w = subst (λ l. Before s o a l) e f in

@@ -1,6 +1,6 @@
 -- The commands of a routine: they are answered in turn, but for those that an event skips; at most one is in flight, and those behind it
 -- are to do or were skipped so. Assumes nothing.
-use mathlib.Core.Path.{_≡_, refl, sym, ap, _∙_, subst, ap₂}
+use mathlib.Core.Path.{_≡_, refl, sym, ap, _∙_, subst}
 use mathlib.Core.Logic.{_≢_}
 use mathlib.Core.Bool.{Bool, true, false, not, _&&_, _||_, and-true, and-false, or-true, or-false}
 use mathlib.Core.List.{List, [], _∷_, _++_, map, append-nil, cons≢nil}
@@ -11,13 +11,13 @@ use lib.Dec.{eqb}
 use lib.IntN.{ℤ}
 use Rattle.routine.specs.Choice.{if_then_else_}
 use Rattle.routine.specs.declared.Command.{Command}
-use Rattle.rules.specs.Tables.{anyOf, Each}
+use Rattle.rules.specs.Tables.{anyOf}
 use Rattle.rules.specs.State.{Status, to-do, in-flight, was-done, was-skipped, was-held, was-not-held, Step, Member}
-use Rattle.rules.specs.Progress.{isMust, isOn, isToDo, isInFlight, isDone, isAnswered, begun, isLeftOn, finished, inFlightOn, next}
+use Rattle.rules.specs.Progress.{isOn, isToDo, isInFlight, isDone, isAnswered, begun, finished, inFlightOn, next}
 use Rattle.rules.specs.Progress.{Flight, flightOr, flight, advance, answerFlight, withSteps}
 use Rattle.rules.specs.Due.{afterSteps}
 use Rattle.rules.specs.Submit.{stepOf, newcomer}
-use Rattle.rules.specs.Events.{mustLeft, skipLeft}
+use Rattle.rules.specs.Events.{skipLeft}
 use Rattle.rules.specs.History.{isFor}
 use Rattle.rules.specs.HubOrder.{doneSteps}
 use Rattle.rules.proofs.Lists.{byIf, t≠f, this-or-other, or-left, or-right, and-left, and-right, fold-++, anyOf-++}
@@ -88,7 +88,6 @@ pub record Sent (c : Command) (u : ℤ) (m n : Member) : Type 0 where
   pub flight-is : flight (n .steps) ≡ some (record { command = c; dueThen = u })
   pub same-after : (d : ℕ) (v : ℤ) → afterSteps d (n .steps) v ≡ afterSteps d (m .steps) v
   pub same-done : doneSteps (n .steps) ≡ doneSteps (m .steps)
-  pub same-answered : (d : ℕ) → answeredOn d (n .steps) ≡ answeredOn d (m .steps)
   pub same-left : leftSteps (n .steps) ≡ leftSteps (m .steps)
   pub same-asked : (d : ℕ) → askedOn d (n .steps) ≡ askedOn d (m .steps)
 
@@ -111,7 +110,6 @@ pub record Skipped (c : Command) (s : Status) (m n : Member) : Type 0 where
   pub flight-is : flight (n .steps) ≡ none
   pub same-after : (d : ℕ) (v : ℤ) → afterSteps d (n .steps) v ≡ afterSteps d (m .steps) v
   pub same-done : doneSteps (n .steps) ≡ doneSteps (m .steps)
-  pub more-answered : (d : ℕ) → answeredOn d (n .steps) ≡ (answeredOn d (m .steps) || eqb (c .device) d)
   pub left-is : leftSteps (m .steps) ≡ c ∷ leftSteps (n .steps)
   pub same-asked : wasAsked s ≡ false → (d : ℕ) → askedOn d (n .steps) ≡ askedOn d (m .steps)
   pub other-asked : (d : ℕ) → c .device ≢ d → askedOn d (n .steps) ≡ askedOn d (m .steps)
@@ -126,7 +124,6 @@ pub record AnsweredOne (c : Command) (m n : Member) : Type 0 where
   pub same-begun : (d : ℕ) → begun d n ≡ begun d m
   pub flies : (d : ℕ) → inFlightOn d n ≡ false
   pub flight-is : flight (n .steps) ≡ none
-  pub more-answered : (d : ℕ) → answeredOn d (n .steps) ≡ (answeredOn d (m .steps) || eqb (c .device) d)
   pub left-is : leftSteps (m .steps) ≡ c ∷ leftSteps (n .steps)
   pub same-asked : (d : ℕ) → askedOn d (n .steps) ≡ askedOn d (m .steps)
 
@@ -141,8 +138,6 @@ pub record LeftSkipped (d : ℕ) (m n : Member) : Type 0 where
   pub flight-stays : (x : Flight) → flight (m .steps) ≡ some x → x .command .device ≢ d → flight (n .steps) ≡ some x
   pub same-after : (e : ℕ) (v : ℤ) → afterSteps e (n .steps) v ≡ afterSteps e (m .steps) v
   pub same-done : doneSteps (n .steps) ≡ doneSteps (m .steps)
-  pub own-answered : begun d m ≡ true → answeredOn d (n .steps) ≡ true
-  pub other-answered : (e : ℕ) → d ≢ e → answeredOn e (n .steps) ≡ answeredOn e (m .steps)
   pub left-is : leftSteps (n .steps) ≡ notOn d (leftSteps (m .steps))
   pub same-asked : (e : ℕ) → askedOn e (n .steps) ≡ askedOn e (m .steps)
 
@@ -318,12 +313,6 @@ landed was-skipped e = (refl, refl, λ x. refl)
 landed was-held e = (refl, refl, λ x. refl)
 landed was-not-held e = (refl, refl, λ x. refl)
 
--- one test more of a list holds
-one-more : (x e y : Bool) → (x || ((e && true) || y)) ≡ ((x || ((e && false) || y)) || e)
-one-more true e y = refl
-one-more false true y = sym (or-true y)
-one-more false false y = sym (or-false y)
-
 -- what is said of the list where c has status s
 module _ (p : List Step) (a : AllAnswered p) (c : Command) (q : List Step) (w : AllBehind q) where
   turn-at : (s : Status) → InTurn (at p c q s)
@@ -385,7 +374,6 @@ module _ (p : List Step) (a : AllAnswered p) (c : Command) (q : List Step) (w : 
     flight-is = flight-at (in-flight u);
     same-after = λ d v. after-at d v (in-flight u) ∙ sym (after-at d v to-do);
     same-done = done-at (in-flight u) ∙ sym (done-at to-do);
-    same-answered = same-at isAnswered (in-flight u) to-do refl;
     same-left = left-at (in-flight u) ∙ sym (left-at to-do);
     same-asked = same-at wasAsked (in-flight u) to-do refl;
   }
@@ -399,12 +387,6 @@ module _ (p : List Step) (a : AllAnswered p) (c : Command) (q : List Step) (w : 
   ends-at r s e d h =
       ap not (any-less (on d isOpen) p (step c r) q (step c s) (unpassed d isOpen (step c s) (ap not e))
       (not-true (anyOf (on d isOpen) (at p c q r)) h))
-
-  gains-at : (r s : Status) → isAnswered r ≡ false → isAnswered s ≡ true → (d : ℕ) →
-      answeredOn d (at p c q s) ≡ (answeredOn d (at p c q r) || eqb (c .device) d)
-  gains-at r s f e d =
-      rw (anyOf-++ (on d isAnswered) p (step c s ∷ q), anyOf-++ (on d isAnswered) p (step c r ∷ q), e, f)
-      (one-more (anyOf (on d isAnswered) p) (eqb (c .device) d) (anyOf (on d isAnswered) q))
 
   leaves-at : (r s : Status) → isAnswered r ≡ false → isAnswered s ≡ true → leftSteps (at p c q r) ≡ c ∷ leftSteps (at p c q s)
   leaves-at r s f e = rw (left-at s, left-at r, e, f) refl
@@ -431,7 +413,6 @@ module _ (p : List Step) (a : AllAnswered p) (c : Command) (q : List Step) (w : 
     same-after = λ d v. after-at d v s ∙ ap (λ b. if b then c .setting else afterSteps d p v) (unpassed d isDone (step c s) (e .not-done))
         ∙ sym (after-at d v to-do ∙ ap (λ b. if b then c .setting else afterSteps d p v) (unpassed d isDone (step c to-do) refl));
     same-done = done-at s ∙ ap (λ b. doneSteps p ++ (if b then c ∷ [] else [])) (e .not-done) ∙ sym (done-at to-do);
-    more-answered = gains-at to-do s refl (e .answers-it);
     left-is = leaves-at to-do s refl (e .answers-it);
     same-asked = same-at wasAsked s to-do;
     other-asked = other-at wasAsked s to-do;
@@ -449,7 +430,6 @@ module _ (p : List Step) (a : AllAnswered p) (c : Command) (q : List Step) (w : 
     same-begun = same-at isBegun s (in-flight u) (ap not (landed s e .1));
     flies = lands-at s e;
     flight-is = flight-at s ∙ landed s e .2 (step c s);
-    more-answered = gains-at (in-flight u) s refl e;
     left-is = leaves-at (in-flight u) s refl e;
     same-asked = same-at wasAsked s (in-flight u) f;
   }
@@ -462,7 +442,7 @@ at-next P c s h _ (ends p a) e f =
 at-next P c s h _ (rests p a b q w) e f =
     let same : b ≡ c =
     Option·some-injective b c
-        (sym (over (λ p k. next k ≡ some b) (step b to-do ∷ q) refl (λ b p k n. n) (λ b p k n. n) (λ b p k n. n) (λ b p k n. n) p a)
+    (sym (over (λ p k. next k ≡ some b) (step b to-do ∷ q) refl (λ b p k n. n) (λ b p k n. n) (λ b p k n. n) (λ b p k n. n) p a)
     ∙ e) in
     subst (λ k. P (at p b q to-do) k)
     (sym (over (λ p k. advance s k ≡ p ++ (step b s ∷ q)) (step b to-do ∷ q) refl (λ b p k. ap (λ n. step b was-done ∷ n))
@@ -640,20 +620,6 @@ begun-is m d = go (m .steps)
     go (x ∷ l) =
         rw (one (isOn d x) (x .status), go l)
         (four (on d isAnswered x) (on d isInFlight x) (anyOf (on d isAnswered) l) (anyOf (on d isInFlight) l))
-
--- a command left on d is not answered yet
-pub left-on : (m : Member) (d : ℕ) → anyOf (isFor d) (leftSteps (m .steps)) ≡ not (finished d m)
-unfolding finished
-left-on m d =
-    by-status (λ l. anyOf (isFor d) (leftSteps l) ≡ anyOf (on d isOpen) l) refl
-    (λ c l h. ap₂ _||_ (sym (and-true (isFor d c))) h) (λ c u l h. ap₂ _||_ (sym (and-true (isFor d c))) h)
-    (λ c l h. rw (and-false (isFor d c)) h) (λ c l h. rw (and-false (isFor d c)) h) (λ c l h. rw (and-false (isFor d c)) h)
-    (λ c l h. rw (and-false (isFor d c)) h) (m .steps)
-    ∙ sym (twice (anyOf (on d isOpen) (m .steps)))
-  where
-    twice : (b : Bool) → not (not b) ≡ b
-    twice true = refl
-    twice false = refl
 
 -- ---- an event skips what is left on d
 
@@ -856,23 +822,12 @@ skip-steps d m t = record {
   flight-stays = λ x. skip-flight-stays d x l;
   same-after = λ e. skip-after d e l;
   same-done = skip-done d l;
-  own-answered = λ b. own b;
-  other-answered = λ e n. skip-other d isAnswered e n l;
   left-is = skip-left d l;
   same-asked = λ e. skip-asked d e l;
 }
   where
     l : List Step
     l = m .steps
-
-    n : Member
-    n = withSteps m (skipLeft d (m .steps))
-
-    own : anyOf (on d isBegun) l ≡ true → answeredOn d (skipLeft d l) ≡ true
-    own b =
-        let f : inFlightOn d n ≡ false = finished-grounded n d (ap not (skip-closes d l)) in
-        sym (or-false (answeredOn d (skipLeft d l))) ∙ ap (λ y. answeredOn d (skipLeft d l) || y) (sym f) ∙ sym (begun-is n d)
-        ∙ skip-own d isBegun refl l b
 
 -- ---- a newcomer
 
@@ -881,7 +836,6 @@ pub record Fresh (cs : List Command) (m : Member) : Type 0 where
   pub unbegun : (d : ℕ) → begun d m ≡ false
   pub flight-is : flight (m .steps) ≡ none
   pub done-is : doneSteps (m .steps) ≡ []
-  pub unanswered : (d : ℕ) → answeredOn d (m .steps) ≡ false
   pub left-is : leftSteps (m .steps) ≡ cs
 
 pub fresh-newcomer : (i : ℕ) (cs : List Command) → Fresh cs (newcomer i cs)
@@ -891,7 +845,6 @@ fresh-newcomer i cs = record {
   unbegun = unbegun-new cs;
   flight-is = behind-over flight (λ c l. refl) (λ c l. refl) (map stepOf cs) (new-behind cs);
   done-is = behind-over doneSteps (λ c l. refl) (λ c l. refl) (map stepOf cs) (new-behind cs);
-  unanswered = λ d. fewer-on d isBegun isAnswered (unbegun isAnswered refl) (map stepOf cs) (unbegun-new cs d);
   left-is = all-left cs;
 }
   where

@@ -40,7 +40,7 @@ unfolding inRange refusalOf commandCheck standsAlone commandsCheck routineCheck 
     joinSettled
     settle attachTo settleRestarts moveMarks leave isPutBack putBacks abort openCheck newHub openOf submitCheck blocks pass newcomer place
     submitOf holds hasSet holdsUp markBegun commit commitTurn sendTurn skipTurn isHeld heldTurn notHeldTurn turnOf doneReport backIfChanged
-        skippedState skipReport reportOf isHalfway
+    skippedState skipReport reportOf isHalfway
     mustLeft skipRest stopHalfway attach oneRestart failureResult restartResult failureOf restartOf cancelOf
     limitOf
 calc = tt
