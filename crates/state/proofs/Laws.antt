@@ -16,7 +16,8 @@ use Rattle.rules.proofs.Lists.{t≠f}
 use Rattle.sequence.specs.Links.{Stands}
 use Rattle.answers.specs.View.{oneOf, answerOf, backsIn, changesNothing}
 use Rattle.answers.specs.declared.Answer.{Answer}
-use Rattle.answers.specs.declared.Answer.the-variants.{Refused, Placed, Wait, Sent, Done, Skipped, Committed, Aborted, Down, Up, Limited, Held}
+use Rattle.answers.specs.declared.Answer.the-variants.{Refused, Placed, Wait, Sent, Done, Skipped, Committed, Aborted, Down, Up, Limited}
+use Rattle.answers.specs.declared.Answer.the-variants.{Held}
 use Rattle.answers.specs.declared.Answer.the-variants.{NotHeld}
 use Rattle.answers.specs.declared.First.the-variants.{NoAbort}
 use Rattle.answers.specs.declared.OneBack.{OneBack}

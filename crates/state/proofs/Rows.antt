@@ -15,7 +15,7 @@ use Rattle.routine.specs.Routine.{maxDevices, maxCommands, zeroCommand}
 use Rattle.routine.specs.declared.Command.{Command}
 use Rattle.routine.proofs.Laws.{byTest, any-default}
 use Rattle.rules.specs.State.{maxHeld, Status, to-do, in-flight, was-done, was-skipped, was-held, was-not-held, Step}
-use Rattle.rules.specs.Progress.{isInFlight, isDone, isAnswered, countsAsNotHeld, skipsNext, flight, withStatus}
+use Rattle.rules.specs.Progress.{isToDo, isInFlight, isDone, isAnswered, countsAsNotHeld, skipsNext, flight, withStatus}
 use Rattle.rules.specs.Submit.{stepOf}
 use Rattle.rules.proofs.Lists.{byIf, t≠f}
 use Rattle.state.specs.View.{noRestart, isRestart, restartOf, toDoCode, inFlightCode, doneCode, heldCode, notHeldCode, statusOf}
@@ -84,8 +84,13 @@ module _ (code : ℕ) (u : ℤ) where
   unfolding statusOf
   status-skipped h =
       let n : doneCode < code = h .0 in
-      rw (ne-eqb code toDoCode (λ z. omega arith), ne-eqb code inFlightCode (λ z. omega arith), ne-eqb code doneCode (λ z. omega arith),
-      ne-eqb code heldCode (h .1), ne-eqb code notHeldCode (h .2))
+      rw (
+        ne-eqb code toDoCode (λ z. omega arith),
+        ne-eqb code inFlightCode (λ z. omega arith),
+        ne-eqb code doneCode (λ z. omega arith),
+        ne-eqb code heldCode (h .1),
+        ne-eqb code notHeldCode (h .2),
+      )
 
   -- what a test of the code tells, by cases on it
   module _ (P : Status → Type 0) where
@@ -107,6 +112,10 @@ module _ (code : ℕ) (u : ℤ) where
         not-below : (code ≡ toDoCode → ⊥) → (code ≡ inFlightCode → ⊥) → (code ≡ doneCode → ⊥) → doneCode < code
         not-below i j k = omega arith
 
+  pub status-begun : (code ≡ toDoCode → ⊥) → isToDo (statusOf code u) ≡ false
+  status-begun n =
+      by-code (λ st. isToDo st ≡ false) (λ e. absurd (n e)) (λ e. refl) (λ e. refl) (λ e. refl) (λ e. refl) (λ e. refl)
+
   pub status-not-sent : (code ≡ inFlightCode → ⊥) → isInFlight (statusOf code u) ≡ false
   status-not-sent n =
       by-code (λ st. isInFlight st ≡ false) (λ e. refl) (λ e. absurd (n e)) (λ e. refl) (λ e. refl) (λ e. refl) (λ e. refl)
@@ -121,9 +130,6 @@ module _ (code : ℕ) (u : ℤ) where
   status-open h =
       by-code (λ st. isAnswered st ≡ false) (λ e. refl) (λ e. refl) (λ e. absurd (omega arith)) (λ e. absurd (omega arith))
       (λ e. absurd (omega arith)) (λ e. absurd (omega (arith, e .0)))
-
-  pub status-set : code ≡ doneCode → isDone (statusOf code u) ≡ true
-  status-set e = ap isDone (status-done e)
 
   pub status-not-done : (code ≡ doneCode → ⊥) → isDone (statusOf code u) ≡ false
   status-not-done n = by-code (λ st. isDone st ≡ false) (λ e. refl) (λ e. refl) (λ e. absurd (n e)) (λ e. refl) (λ e. refl) (λ e. refl)
