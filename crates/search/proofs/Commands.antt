@@ -21,7 +21,7 @@ use Rattle.sequence.proofs.Tables.{byEq, byLess}
 use Rattle.state.specs.View.{toDoCode, inFlightCode, doneCode, skippedCode, statusOf, Rows, stepAt, stepsFrom, rowsOf, stepsAt, memberAt}
 use Rattle.state.specs.declared.HubState.{HubState}
 use Rattle.state.proofs.Steps.{begins}
-use Rattle.state.proofs.Rows.{status-to-do, status-begun, status-done, status-not-done, status-answered, status-open}
+use Rattle.state.proofs.Rows.{status-to-do, status-begun, status-answered, status-open, done-code}
 use Rattle.search.specs.Contract.{anyOn, anyStaged, highestStage, countingTag, anyMust}
 
 -- Does one of n places, from k on, pass a test?
@@ -188,12 +188,6 @@ module _ (code : ℕ) (u : ℤ) where
       (λ h. rw (status-open code u h, lt-ltb code doneCode h))
       (λ h. rw (status-answered code u h, le-ltb code doneCode h))
 
-  code-done : isDone (statusOf code u) ≡ eqb code doneCode
-  code-done =
-      byEq code doneCode
-      (λ e. rw (status-done code u e, eq-eqb code doneCode e))
-      (λ n. rw (status-not-done code u n, ne-eqb code doneCode n))
-
   -- not answered, or done
   code-set : (ltb code doneCode || eqb code doneCode) ≡ ltb code skippedCode
   code-set =
@@ -238,7 +232,7 @@ module _ (rows : Rows) (u : ℤ) (d k n : ℕ) where
       (λ j.
       let code = getD (rows .stages) j 0 in
       sym (and-or-distrib-left (onAt (rows .devices) d j) (not (isAnswered (statusOf code u))) (isDone (statusOf code u)))
-      ∙ rw (code-answered code u, code-done code u, code-set code u))
+      ∙ rw (code-answered code u, done-code code u, code-set code u))
 
   steps-left : anyOf (isLeftOn d) (stepsFrom rows u k n) ≡ anyStaged (rows .devices) (rows .stages) d toDoCode inFlightCode k n
   unfolding stepAt stagedAt

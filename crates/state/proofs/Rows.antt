@@ -18,6 +18,7 @@ use Rattle.rules.specs.State.{maxHeld, Status, to-do, in-flight, was-done, was-
 use Rattle.rules.specs.Progress.{isToDo, isInFlight, isDone, isAnswered, countsAsNotHeld, skipsNext, flight, withStatus}
 use Rattle.rules.specs.Submit.{stepOf}
 use Rattle.rules.proofs.Lists.{byIf, t≠f}
+use Rattle.sequence.proofs.Tables.{byEq}
 use Rattle.state.specs.View.{noRestart, isRestart, restartOf, toDoCode, inFlightCode, doneCode, heldCode, notHeldCode, statusOf}
 use Rattle.state.specs.View.{Rows, stepAt, stepsFrom, restartsAt}
 use Rattle.state.specs.Valid.{isBehind, AnsweredUpTo}
@@ -131,8 +132,19 @@ module _ (code : ℕ) (u : ℤ) where
       by-code (λ st. isAnswered st ≡ false) (λ e. refl) (λ e. refl) (λ e. absurd (omega arith)) (λ e. absurd (omega arith))
       (λ e. absurd (omega arith)) (λ e. absurd (omega (arith, e .0)))
 
-  pub status-not-done : (code ≡ doneCode → ⊥) → isDone (statusOf code u) ≡ false
-  status-not-done n = by-code (λ st. isDone st ≡ false) (λ e. refl) (λ e. refl) (λ e. absurd (n e)) (λ e. refl) (λ e. refl) (λ e. refl)
+  -- one code each is in flight, and done
+  pub flight-code : isInFlight (statusOf code u) ≡ eqb code inFlightCode
+  flight-code =
+      byEq code inFlightCode
+      (λ e. rw (status-sent e, eq-eqb code inFlightCode e))
+      (λ n. rw (status-not-sent n, ne-eqb code inFlightCode n))
+
+  pub done-code : isDone (statusOf code u) ≡ eqb code doneCode
+  done-code =
+      byEq code doneCode
+      (λ e. rw (status-done e, eq-eqb code doneCode e))
+      (λ n. rw (ne-eqb code doneCode n)
+      (by-code (λ st. isDone st ≡ false) (λ e. refl) (λ e. refl) (λ e. absurd (n e)) (λ e. refl) (λ e. refl) (λ e. refl)))
 
   -- and back to the code
   pub answered-code : isAnswered (statusOf code u) ≡ true → doneCode ≤ code
