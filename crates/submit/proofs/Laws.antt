@@ -8,8 +8,8 @@ use borrow.Author.Tests.{lt-leb, le-leb, lt-ltb, le-ltb, leb-false, ltb-false}
 use lib.Dec.{leb, ltb, eqb}
 use lib.ListN.{length, getD, length-map}
 use Rattle.routine.specs.Choice.{if_then_else_}
-use Rattle.routine.specs.Refusals.{refusalOf, sequence-full, ids-used-up, command-count, device-not-below, refuse_when_}
-use Rattle.routine.specs.Routine.{maxDevices, maxCommands, commandCheck, commandsCheck, routineCheck}
+use Rattle.routine.specs.Refusals.{refusalOf, sequence-full, ids-used-up, command-count, device-not-below, condition-alone, refuse_when_, _andThen_}
+use Rattle.routine.specs.Routine.{maxDevices, maxCommands, commandCheck, standsAlone, commandsCheck, routineCheck}
 use Rattle.routine.specs.declared.Command.{Command}
 use Rattle.routine.specs.declared.Refusal.{Refusal}
 use Rattle.routine.specs.declared.Verdict.the-variants.{Accepted, Refused}
@@ -70,9 +70,10 @@ commands-below : (limit i : ℕ) (cs : List Command) → commandsCheck limit i c
 unfolding commandsCheck commandCheck
 commands-below limit i [] e = tt
 commands-below limit i (c ∷ cs) e =
-    let b = both-accept (commandCheck limit i c) (commandsCheck limit (suc i) cs) e in (
+    let alone = refuse (condition-alone i) when standsAlone c cs in
+    let b = both-accept (commandCheck limit i c) (alone andThen commandsCheck limit (suc i) cs) e in (
       leb-false limit (c .device) (not-refused (device-not-below i) (leb limit (c .device)) (both-accept _ _ (b .0) .0)),
-      commands-below limit (suc i) cs (b .1),
+      commands-below limit (suc i) cs (both-accept alone _ (b .1) .1),
     )
 
 -- and their count
