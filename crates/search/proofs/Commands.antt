@@ -154,7 +154,7 @@ module _ (device stage : List ℕ) (d j : ℕ) where
 
 -- ---- the tag that counts
 
-module _ (tag : List ℕ) (k end : ℕ) (h : k < end) where
+module _ (tag : List ℕ) (k end : ℕ) where
   -- a condition that is not the last
   pub counting-next : getD tag k 0 ≡ conditionTag → k + 1 < end → getD tag (k + 1) 0 ≡ countingTag tag k (end - k)
   counting-next e i =

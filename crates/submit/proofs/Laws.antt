@@ -8,7 +8,8 @@ use borrow.Author.Tests.{lt-leb, le-leb, lt-ltb, le-ltb, leb-false, ltb-false}
 use lib.Dec.{leb, ltb, eqb}
 use lib.ListN.{length, getD, length-map}
 use Rattle.routine.specs.Choice.{if_then_else_}
-use Rattle.routine.specs.Refusals.{refusalOf, sequence-full, ids-used-up, command-count, device-not-below, condition-alone, refuse_when_, _andThen_}
+use Rattle.routine.specs.Refusals.{refusalOf, sequence-full, ids-used-up, command-count, device-not-below, condition-alone, refuse_when_}
+use Rattle.routine.specs.Refusals.{_andThen_}
 use Rattle.routine.specs.Routine.{maxDevices, maxCommands, commandCheck, standsAlone, commandsCheck, routineCheck}
 use Rattle.routine.specs.declared.Command.{Command}
 use Rattle.routine.specs.declared.Refusal.{Refusal}

@@ -20,7 +20,7 @@ element-copy-out-result c = search needs
 returns : tie.Need-returns
 returns c = let i = c .before in
     let s = i .before .before .before in
-    counting-next (s .args .tag .now) _ _ (s .pre .0) (i .before .if1 .taken) (i .if2 .taken)
+    counting-next (s .args .tag .now) _ _ (i .before .if1 .taken) (i .if2 .taken)
 
 element-copy-out-result-2 : tie.Need-element-copy-out-result-2
 element-copy-out-result-2 c = search needs
@@ -28,7 +28,7 @@ element-copy-out-result-2 c = search needs
 returns-2 : tie.Need-returns-2
 returns-2 c = let s = c .before .before .before in
     let t = s .args .tag .now in
-    ⊎-elim (λ w. counting-last t _ _ (s .pre .0) (w .1 .left)) (λ w. counting-own t _ _ (s .pre .0) (w .left)) (c .before .if1 .came)
+    ⊎-elim (λ w. counting-last t _ _ (w .1 .left)) (λ w. counting-own t _ _ (w .left)) (c .before .if1 .came)
 
 pub counting-tag-spec : {M : Type 1} → statement M
 counting-tag-spec =

@@ -28,7 +28,8 @@ element-copy-out-if2 : tie.Need-element-copy-out-if2 Inv-loop μ-loop
 element-copy-out-if2 c = let l = c .before .before in omega (arith, l .loop-test .taken, l .before .before .pre .1)
 
 counting-tag-requires : tie.Need-counting-tag-requires Inv-loop μ-loop
-counting-tag-requires c κs = let l = c .before .before .before .before in (l .loop-test .taken, l .before .before .pre .1)
+counting-tag-requires c κs = let l = c .before .before .before .before in
+    let e = l .before .before .pre .1 in (omega (arith, l .loop-test .taken), e)
 
 returns : tie.Need-returns Inv-loop μ-loop
 returns c = let t = c .before .before in
