@@ -29,7 +29,7 @@ element-copy-out-if2 c = let l = c .before .before in omega (arith, l .loop-test
 
 counting-tag-requires : tie.Need-counting-tag-requires Inv-loop μ-loop
 counting-tag-requires c κs = let l = c .before .before .before .before in
-    let e = l .before .before .pre .1 in (omega (arith, l .loop-test .taken), e)
+    let e = l .before .before .pre .1 in (omega (arith, l .loop-test .taken), omega (arith, l .loop-test .taken))
 
 returns : tie.Need-returns Inv-loop μ-loop
 returns c = let t = c .before .before in
