@@ -16,7 +16,7 @@ use Rattle.routine.specs.Range.{lowestSetting, highestSetting, inRange}
 use Rattle.routine.specs.Routine.{commandsCheck}
 use Rattle.routine.specs.declared.Command.{Command}
 use Rattle.routine.specs.declared.Verdict.the-variants.{Accepted}
-use Rattle.routine.proofs.Laws.{byTest, both-accept, in-range-pos, in-range-negsuc, command-accepted}
+use Rattle.routine.proofs.Laws.{byTest, in-range-pos, in-range-negsuc, command-accepted, commands-accepted}
 use Rattle.layout.specs.Numbers.{twoBytes, fourBytes, byteAt, twoAt, fourAt, bitsOf, settingOf}
 use Rattle.layout.specs.Layout.{commandSize, commandBytes, commandsBytes, commandAt, commandsAt}
 use Rattle.layout.specs.Claims.{Bytes}
@@ -109,13 +109,12 @@ command-read b rest p c h e =
 -- accepted commands in a row are read as they were
 pub commands-read : (limit k : ℕ) (b rest : List ℕ) (p : ℕ) (cs : List Command) → commandsCheck limit k cs ≡ Accepted →
     drop p b ≡ commandsBytes cs ++ rest → commandsAt b p (length cs) ≡ cs
-unfolding commandsCheck
 commands-read limit k b rest p [] h e = refl
 commands-read limit k b rest p (c ∷ cs) h e =
-    let a = both-accept _ _ h in
+    let a = commands-accepted limit k c cs h in
     let f = e ∙ append-assoc (commandBytes c) (commandsBytes cs) rest in
     ap₂ _∷_ (command-read b _ p c (command-accepted limit k c (a .0) .1) f)
-    (commands-read limit (suc k) b rest (p + commandSize) cs (a .1) (behind b (commandBytes c) _ p commandSize f (length-commandBytes c)))
+    (commands-read limit (suc k) b rest (p + commandSize) cs (a .2) (behind b (commandBytes c) _ p commandSize f (length-commandBytes c)))
 
 -- ---- what was read at a place, written again, is what stands there
 

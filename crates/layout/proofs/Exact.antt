@@ -1,7 +1,7 @@
 -- Theorem (c): each refusal of a book is given exactly under its cause, and a book is accepted exactly if it breaks no test.
 -- Assumes nothing.
 use Prim.Native.Nat.{ℕ, zero, suc, _+_, _-_, _*_, _/_, _≤_, _<_}
-use mathlib.Core.Path.{_≡_, subst}
+use mathlib.Core.Path.{_≡_, sym, ap, subst, _∙_}
 use mathlib.Core.Bool.{Bool, not}
 use mathlib.Core.Logic.{inl, inr, _≢_}
 use mathlib.Core.List.{List, [], _∷_, _++_, append-assoc}
@@ -12,18 +12,19 @@ use lib.Signed.{mag}
 use lib.ListN.{length}
 use Rattle.routine.specs.Range.{lowestSetting, highestSetting, inRange}
 use Rattle.routine.specs.Refusals.{refuse_when_, _andThen_}
-use Rattle.routine.specs.Routine.{maxCommands, highestTag, commandCheck, commandsCheck}
+use Rattle.routine.specs.Routine.{maxCommands, conditionTag, highestTag, commandCheck, standsAlone, commandsCheck}
 use Rattle.routine.specs.declared.Verdict.{Verdict}
 use Rattle.routine.specs.declared.Verdict.the-variants.{Accepted}
 use Rattle.routine.proofs.Laws.{byTest, not-refused, in-range-pos, in-range-negsuc}
-use Rattle.routine.proofs.Exact.{Decides, less, at-most, same, otherwise, either, agree, Outcome, none, passed, one, join}
-use Rattle.routine.proofs.Exact.{accepted-passes, exactly}
+use Rattle.routine.proofs.Exact.{Decides, less, at-most, same, otherwise, either, both, second, agree, Outcome, none, passed, one}
+use Rattle.routine.proofs.Exact.{join, accepted-passes, exactly}
 use Rattle.layout.specs.Numbers.{byteAt, twoAt, bitsOf, settingOf}
 use Rattle.layout.specs.Layout.{countSize, commandSize, maxRoutines, bookDevices, pairsEnd, countOf, offsetAt, lengthAt, commandAt}
 use Rattle.layout.specs.Layout.{commandsAt}
 use Rattle.layout.specs.Reading.{headCheck, lengthFits, placedCheck, placedChecks, bookCheck}
 use Rattle.layout.specs.Claims.{Bytes, Breaks, ExactRefusals, commandTests, routineTests, tests, causeOf, place}
-use Rattle.layout.specs.Claims.{Test, head, routine-length, routine-place, command-device, command-setting, command-tag, left-over}
+use Rattle.layout.specs.Claims.{Test, head, routine-length, routine-place, command-device, command-setting, command-tag}
+use Rattle.layout.specs.Claims.{command-alone, left-over}
 use Rattle.layout.proofs.Laws.{fits-in-fours, in-fours-fits, setting-number, setting-low, setting-high, less-65536, bits-pos}
 use Rattle.layout.proofs.Laws.{bits-negsuc}
 
@@ -83,7 +84,8 @@ module _ (b : List ℕ) (bytes : Bytes b) where
       passed {t = command-device i j} (λ x. gone (x .0) (x .1))
       (passed {t = command-setting i j} (λ x. gone (x .0) (x .1))
       (passed {t = command-tag i j} (λ x. gone (x .0) (x .1))
-      (commands-past i k (suc j) (λ h. let p = past h in omega arith))))
+      (passed {t = command-alone i j} (λ x. gone (x .0) (x .1))
+      (commands-past i k (suc j) (λ h. let p = past h in omega arith)))))
 
   -- nor do routines that are not there
   routines-past : (n i : ℕ) → countOf b ≤ i → ComesTo (routineTests i n) Accepted
@@ -93,6 +95,22 @@ module _ (b : List ℕ) (bytes : Bytes b) where
       passed {t = routine-length i} (λ x. let y = x .0 in omega arith)
       (passed {t = routine-place i} (λ x. let y = x .0 in omega arith)
       (and-then (commands-past i maxCommands 0 (λ l. absurd (omega arith))) (λ _. routines-past n (suc i) (omega arith))))
+
+  -- whether the j-th command of routine i is a condition that stands alone, n commands being behind it
+  alone : (i n j : ℕ) → i < countOf b → lengthAt b i ≡ commandSize * (j + suc n) →
+      Decides
+      (standsAlone (commandAt b (place b i + commandSize * j)) (commandsAt b (place b i + commandSize * j + commandSize) n))
+      (Breaks b (command-alone i j))
+  unfolding standsAlone commandAt
+  alone i zero j hi e =
+      agree (same (byteAt b (place b i + commandSize * j + 1)) conditionTag) (λ t. (hi, omega arith, t, inl (omega arith)))
+      (λ y. y .2)
+  alone i (suc n) j hi e =
+      let at = place b i + commandSize * j in
+      let next : place b i + commandSize * suc j + 1 ≡ at + commandSize + 1 = omega arith in
+      agree (both _ _ (same (byteAt b (at + 1)) conditionTag) (same (byteAt b (at + commandSize + 1)) conditionTag))
+      (λ t. (hi, omega arith, t .0, inr (ap (byteAt b) next ∙ t .1)))
+      (λ y. (y .2, sym (ap (byteAt b) next) ∙ second (y .3) (λ l. omega arith)))
 
   -- the n commands from the j-th on, which end routine i
   commands-outcome : (i k n j : ℕ) → i < countOf b → lengthAt b i ≡ commandSize * (j + n) → n ≤ k →
@@ -111,7 +129,8 @@ module _ (b : List ℕ) (bytes : Bytes b) where
       let tag = made (command-tag i j) _ (agree (less highestTag (byteAt b (at + 1))) (λ x. (hi, there, x)) (λ y. y .2)) in
       let others = commands-outcome i k n (suc j) hi (omega arith) (omega arith) in
       and-then (and-then device (λ _. and-then setting (λ _. tag)))
-      (λ _. subst (λ (p : ℕ). ComesTo (commandTests i (suc j) k) (commandsCheck bookDevices (suc j) (commandsAt b p n))) next others)
+      (λ _. and-then (made (command-alone i j) _ (alone i n j hi e))
+      (λ _. subst (λ (p : ℕ). ComesTo (commandTests i (suc j) k) (commandsCheck bookDevices (suc j) (commandsAt b p n))) next others))
 
   -- routine i, at its place
   routine-outcome : (i : ℕ) → i < countOf b →

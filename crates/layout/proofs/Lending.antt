@@ -14,7 +14,7 @@ use Rattle.routine.specs.Range.{highestSetting, inRange}
 use Rattle.routine.specs.Routine.{commandCheck, commandsCheck, routineCheck}
 use Rattle.routine.specs.declared.Command.{Command}
 use Rattle.routine.specs.declared.Verdict.the-variants.{Accepted}
-use Rattle.routine.proofs.Laws.{both-accept, byTest, in-range-pos, command-accepted, check-accepted}
+use Rattle.routine.proofs.Laws.{both-accept, byTest, in-range-pos, command-accepted, commands-accepted, check-accepted}
 use Rattle.layout.specs.Layout.{bookDevices, bookBytes}
 use Rattle.layout.specs.Writing.{missingDevice, missingTag, missingSetting, commandLent, commandsLent, routinesFrom}
 use Rattle.layout.specs.Writing.{rowOf, countsOf, devicesOf, tagsOf, settingsOf, routinesCheck, writeCheck, writtenOf}
@@ -129,13 +129,12 @@ module _ (ds ts : List ℕ) (ss : List ℤ) where
 
   commands-whole : (j at n : ℕ) → commandsCheck bookDevices j (commandsLent ds ts ss at n) ≡ Accepted →
       LendsTo at (at + n) (commandsLent ds ts ss at n)
-  unfolding commandsCheck
   commands-whole j at zero e = let z : at ≡ at + 0 = omega arith in subst (λ (p : ℕ). LendsTo at p []) z (lends-none at)
   commands-whole j at (suc n) e =
-      let a = both-accept (commandCheck bookDevices j (commandLent ds ts ss at)) _ e in
+      let a = commands-accepted bookDevices j (commandLent ds ts ss at) _ e in
       let p : suc at + n ≡ at + suc n = omega arith in
       lends-one j at (at + suc n) (commandsLent ds ts ss (suc at) n) (a .0)
-      (subst (λ (q : ℕ). LendsTo (suc at) q (commandsLent ds ts ss (suc at) n)) p (commands-whole (suc j) (suc at) n (a .1)))
+      (subst (λ (q : ℕ). LendsTo (suc at) q (commandsLent ds ts ss (suc at) n)) p (commands-whole (suc j) (suc at) n (a .2)))
 
   -- So for a routine that passes, and for routines.
   pub routine-whole : (at n : ℕ) → routineCheck bookDevices (commandsLent ds ts ss at n) ≡ Accepted →

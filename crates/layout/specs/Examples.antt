@@ -22,9 +22,9 @@ use Rattle.layout.specs.declared.Written.the-variants.{Length, Refused a
 
 -- All that a computation opens.
 abbrev calc : Unit {0}
-unfolding inRange refusalOf commandCheck standsAlone commandsCheck routineCheck twoBytes fourBytes twoAt fourAt bitsOf settingOf commandBytes
-    bookBytes countOf offsetAt lengthAt commandAt headCheck lengthFits placedCheck placedChecks bookCheck pairNext nextOf routineOf
-    routinesCheck writeCheck writtenOf bufferAfter
+unfolding inRange refusalOf commandCheck standsAlone commandsCheck routineCheck twoBytes fourBytes twoAt fourAt bitsOf settingOf
+    commandBytes bookBytes countOf offsetAt lengthAt commandAt headCheck lengthFits placedCheck placedChecks bookCheck pairNext nextOf
+    routineOf routinesCheck writeCheck writtenOf bufferAfter
 calc = tt
 
 abbrev command : ℕ → ℕ → ℤ → Command

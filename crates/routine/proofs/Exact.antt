@@ -64,6 +64,11 @@ pub both : {P Q : Type 0} (s t : Bool) → Decides s P → Decides t Q → Decid
 both true t d f = record { met = λ e. (d .met refl, f .met e); unmet = λ e h. f .unmet e (h .1) }
 both false t d f = record { met = λ e. let z : _≡_ {A = ℕ} 0 1 = cc in absurd (omega arith); unmet = λ e h. d .unmet refl (h .0) }
 
+-- what is left where the first of two is not so
+pub second : {P Q : Type 0} → P ⊎ Q → ¬ P → Q
+second (inl p) n = absurd (n p)
+second (inr q) n = q
+
 -- the same said in other words
 pub agree : {P Q : Type 0} {t : Bool} → Decides t P → (P → Q) → (Q → P) → Decides t Q
 agree d to from = record { met = λ e. to (d .met e); unmet = λ e q. d .unmet e (from q) }
@@ -216,16 +221,11 @@ module _ (limit : ℕ) (cs : List Command) where
   tag-said (tag-is-out h k) = (h, k)
 
   alone-said : {i : ℕ} → RoutineCause limit cs (condition-alone i) →
-      (commandNo i cs .tag ≡ conditionTag)
-      × ((suc i ≡ length cs) ⊎ ((suc i < length cs) × (commandNo (suc i) cs .tag ≡ conditionTag)))
-  alone-said (condition-is-last h t) = (t, inl h)
-  alone-said (conditions-follow h t u) = (t, inr (h, u))
+      (i < length cs) × (commandNo i cs .tag ≡ conditionTag) × ((suc i ≡ length cs) ⊎ (commandNo (suc i) cs .tag ≡ conditionTag))
+  alone-said (condition-is-last h t) = (omega arith, t, inl h)
+  alone-said (conditions-follow h t u) = (omega arith, t, inr u)
 
   -- commands that are not there are no cause
-  past : (i : ℕ) → length cs ≤ i → ¬ ((suc i ≡ length cs) ⊎ ((suc i < length cs) × (commandNo (suc i) cs .tag ≡ conditionTag)))
-  past i h (inl e) = omega arith
-  past i h (inr x) = let y = x .0 in omega arith
-
   commands-past : (n i : ℕ) → length cs ≤ i → Outcome (RoutineCause limit cs) itself (commandCauses i n) Accepted
   unfolding commandCauses
   commands-past zero i h = none
@@ -233,7 +233,7 @@ module _ (limit : ℕ) (cs : List Command) where
       passed {t = device-not-below i} (λ x. let y = device-said x .0 in omega arith)
       (passed {t = setting-out-of-range i} (λ x. let y = setting-said x .0 in omega arith)
       (passed {t = tag-out-of-range i} (λ x. let y = tag-said x .0 in omega arith)
-      (passed {t = condition-alone i} (λ x. past i h (alone-said x .1))
+      (passed {t = condition-alone i} (λ x. let y = alone-said x .0 in omega arith)
       (commands-past n (suc i) (omega arith)))))
 
   -- the commands from index i on
@@ -258,19 +258,14 @@ module _ (limit : ℕ) (cs : List Command) where
   alone i c [] r =
       let last : suc i ≡ length cs = let e = r .counted in omega arith in
       let at = ap (λ (k : Command). k .tag) (first-rest r) in
-      agree (same (c .tag) conditionTag) (λ t. condition-is-last last (at ∙ t)) (λ y. sym at ∙ alone-said y .0)
+      agree (same (c .tag) conditionTag) (λ t. condition-is-last last (at ∙ t)) (λ y. sym at ∙ alone-said y .1)
   alone i c (d ∷ rest) r =
       let more : suc i < length cs = let e = r .counted in omega arith in
       let at = ap (λ (k : Command). k .tag) (first-rest r) in
       let next = ap (λ (k : Command). k .tag) (first-rest (next-rest r)) in
       agree (both _ _ (same (c .tag) conditionTag) (same (d .tag) conditionTag))
       (λ t. conditions-follow more (at ∙ t .0) (next ∙ t .1))
-      (λ y. let a = alone-said y in (sym at ∙ a .0, followed (a .1) next more))
-    where
-      followed : (suc i ≡ length cs) ⊎ ((suc i < length cs) × (commandNo (suc i) cs .tag ≡ conditionTag)) →
-          commandNo (suc i) cs .tag ≡ d .tag → suc i < length cs → d .tag ≡ conditionTag
-      followed (inl e) n m = absurd (omega arith)
-      followed (inr x) n m = sym n ∙ x .1
+      (λ y. let a = alone-said y in (sym at ∙ a .1, sym next ∙ second (a .2) (λ e. omega arith)))
 
   commands-outcome : (n i : ℕ) (rest : List Command) → Rest i rest → length rest ≤ n →
       Outcome (RoutineCause limit cs) itself (commandCauses i n) (commandsCheck limit i rest)

@@ -1,5 +1,5 @@
--- The table of document 01, "When a call is turned down", with the numbers of document 02. Every definition of the project that refuses does so through `refusalOf`.
--- Assumes nothing.
+-- The table of document 01, "When a call is turned down", with the numbers of document 02. Every definition of the project that refuses
+-- does so through `refusalOf`. Assumes nothing.
 use mathlib.Core.Bool.{Bool}
 use Prim.Native.Nat.{ℕ}
 use Rattle.routine.specs.Choice.{if_then_else_}

@@ -1,5 +1,5 @@
-// The numbers of document 01's table, "When a call is turned down", and of document 02. The definition beside them is `refusalOf` (`specs/Refusals.antt`), in
-// the same order.
+// The numbers of document 01's table, "When a call is turned down", and of document 02. The definition beside them is `refusalOf`
+// (`specs/Refusals.antt`), in the same order.
 
 // N not 1 to 32
 pub const DEVICES_OUT_OF_RANGE: u8 = 1;

@@ -7,43 +7,43 @@ use mathlib.Core.List.{List, [], _∷_, _++_, map, append-nil}
 use mathlib.Core.Option.{Option, none, some, Option·none-ne-some, Option·some-injective}
 use Prim.Native.Nat.{ℕ, _<_, _≤_}
 use native.Mathlib.Omega.{arith}
-use borrow.Author.Tests.{eqb-true, eqb-false, ne-eqb, not-false}
+use borrow.Author.Tests.{eqb-true, eqb-false, not-true, not-false}
 use lib.Dec.{eqb}
 use Rattle.routine.specs.Choice.{if_then_else_}
 use Rattle.routine.specs.Routine.{zeroCommand}
 use Rattle.routine.specs.declared.Command.{Command}
 use Rattle.rules.specs.Tables.{anyOf, put, Each}
-use Rattle.rules.specs.State.{Member, State}
+use Rattle.rules.specs.State.{Status, was-done, was-skipped, Member, State}
 use Rattle.rules.specs.Answers.{Call, failure, restart, Answer, down, up, Result}
-use Rattle.rules.specs.Progress.{begun, finished, inFlightOn, Flight, flight}
+use Rattle.rules.specs.Progress.{isLeftOn, begun, finished, inFlightOn, Flight, flight}
 use Rattle.rules.specs.Due.{due}
 use Rattle.rules.specs.Sequence.{isRunning, withUp}
 use Rattle.rules.specs.Abort.{leave, abort}
 use Rattle.rules.specs.Submit.{newcomer, place}
-use Rattle.rules.specs.Turn.{commit, commitTurn, sendTurn, skipTurn}
+use Rattle.rules.specs.Turn.{commit, commitTurn, sendTurn}
 use Rattle.rules.specs.Report.{doneReport, skippedState, skipReport}
 use Rattle.rules.specs.Events.{isHalfway}
-use Rattle.rules.specs.History.{Outcome, reported-done, reported-failed, not-sent, by-event, Answered, Account, placedAccount}
-use Rattle.rules.specs.History.{sentAccount, answeredBy, answeredAccount, endedAccount, isFor, hasBegun, onlyOn, notOn}
-use Rattle.rules.specs.History.{skippedAccount, eventAccount, noteAnswer, noteAnswers, workingAfterAll}
+use Rattle.rules.specs.History.{Outcome, reported-done, reported-failed, Noted, Account, placedAccount}
+use Rattle.rules.specs.History.{sentAccount, noteFirst, answeredAccount, endedAccount, isFor, hasBegun, noteLeft}
+use Rattle.rules.specs.History.{skippedAccount, eventAccount, noteAnswer, noteAnswers, workingAfter, workingAfterAll}
 use Rattle.rules.specs.Order.{Event, failure-of, restart-of, deviceOf}
-use Rattle.rules.specs.Demand3.{doneOnes}
-use Rattle.rules.specs.HubOrder.{doneSteps, leftSteps}
+use Rattle.rules.specs.HubOrder.{Agree, is-done, is-failed, is-not-sent, is-held, is-not-held, AllAgree}
 use Rattle.rules.specs.Attach.{attach, oneRestart}
 use Rattle.rules.proofs.Lists.{byIf, t≠f, or-left, or-right, and-left, and-right, this-or-other, put-same, put-other, put-keeps}
 use Rattle.rules.proofs.Lists.{fold-++, each-++, each-mid, each-drop, each-insert, anyOf-++, IsNot, NotIn, ids-fresh, ids-right}
 use Rattle.rules.proofs.Groups.{Group, ids, alone, with, leaving, attachEvent, ids-++, other-ids}
 use Rattle.rules.proofs.Same.{Pairwise, Same, same-refl, same-placed, same-leaving, same-attached, same-each}
 use Rattle.rules.proofs.Schedules.{hasFlight}
-use Rattle.rules.proofs.Steps.{InTurn, answeredOn, LeftSkipped, send-step, skip-step, done-step, done-gains, fail-step}
+use Rattle.rules.proofs.Agree.{leftFor, agree-answered, agree-left, agree-new, agree-next, agree-sent, agree-flight, agree-skip}
+use Rattle.rules.proofs.Steps.{leftSteps, InTurn, answeredOn, LeftSkipped, send-step, skip-step, done-step, done-gains, fail-step}
 use Rattle.rules.proofs.Steps.{fail-done, grounded, finished-grounded, begun-is, left-on, skip-steps, Fresh, fresh-newcomer}
-use Rattle.rules.proofs.Invariant.{CommandsInTurn, HubOk, NotHalfway, answeredFor, AccountTells}
-use Rattle.rules.proofs.View.{sentMember, skippedMember, doneMember, failedMember, skippedLeft, Gone, nobody, somebody, loses}
-use Rattle.rules.proofs.View.{Moves, places, commits, sends, skips, dones, misses, aborts, fails, restarts}
+use Rattle.rules.proofs.Invariant.{CommandsInTurn, HubOk, NotHalfway, AccountTells}
+use Rattle.rules.proofs.View.{Passes, is-down, is-off, does-hold, does-not, by-answer, passing, sentMember, passedMember, doneMember, failedMember, skippedLeft, Gone, nobody, somebody, loses}
+use Rattle.rules.proofs.View.{Moves, places, commits, sends, passes, dones, misses, aborts, fails, restarts}
 use Rattle.rules.proofs.Fields.{Fixed, gone-fixed, attach-fixed}
 use Rattle.rules.proofs.Marks.{in-turn, ids-at, Halfway, halfway-is}
 use Rattle.rules.proofs.Moved.{others-not-halfway, hub-gone, hub-up}
-use Rattle.rules.proofs.Running.{none-has, note-++, RunsTold, gone-runs}
+use Rattle.rules.proofs.Running.{none-has, note-++, passOutcome, pass-noted, RunsTold, gone-runs}
 
 -- ---- one routine
 
@@ -52,11 +52,9 @@ tells-same : (a b : ℕ → Account) (g h : Group) → Same g h → b (g .member
 tells-same a b g h q k t = record {
   runs = ap (λ (x : Account). x .running) e ∙ t .runs ∙ ap not (sym (q .same-committed));
   flies-is = ap (λ (x : Account). x .flying) e ∙ t .flies-is ∙ ap (λ l. hasFlight (flight l)) (sym (q .same-steps));
-  left-is = ap (λ (x : Account). x .left) e ∙ t .left-is ∙ ap leftSteps (sym (q .same-steps));
   sent-is = λ x f. ap (λ (y : Account). y .lastSent) e ∙ t .sent-is x (ap flight (sym (q .same-steps)) ∙ f);
-  answered-on = λ d. ap (λ (x : Account). anyOf (answeredFor d) (x .answered)) e ∙ t .answered-on d
-      ∙ ap (answeredOn d) (sym (q .same-steps));
-  done-is = ap (λ (x : Account). doneOnes (x .answered)) e ∙ t .done-is ∙ ap doneSteps (sym (q .same-steps));
+  agrees = subst (λ l. AllAgree l (h .member .steps)) (ap (λ (x : Account). x .commands) (sym e))
+      (subst (λ k. AllAgree (a (g .member .id) .commands) k) (sym (q .same-steps)) (t .agrees));
 }
   where
     e : b (h .member .id) ≡ a (g .member .id)
@@ -90,19 +88,15 @@ module _ (s : State) (a : ℕ → Account) (x : Account) (ga : List Group) (g : 
 record TellsOf (x : Account) (h : Group) : Type 0 where
   runs : x .running ≡ not (h .member .committed)
   flies : x .flying ≡ hasFlight (flight (h .member .steps))
-  left : x .left ≡ leftSteps (h .member .steps)
   sent : (y : Flight) → flight (h .member .steps) ≡ some y → x .lastSent ≡ y .command
-  answered : (d : ℕ) → anyOf (answeredFor d) (x .answered) ≡ answeredOn d (h .member .steps)
-  dones : doneOnes (x .answered) ≡ doneSteps (h .member .steps)
+  agree : AllAgree (x .commands) (h .member .steps)
 
 own-tells : (a : ℕ → Account) (i : ℕ) (x : Account) (h : Group) → h .member .id ≡ i → TellsOf x h → AccountTells (put a i x) h
 own-tells a i x h same t = record {
   runs = ap (λ (y : Account). y .running) is ∙ t .runs;
   flies-is = ap (λ (y : Account). y .flying) is ∙ t .flies;
-  left-is = ap (λ (y : Account). y .left) is ∙ t .left;
   sent-is = λ y q. ap (λ (z : Account). z .lastSent) is ∙ t .sent y q;
-  answered-on = λ d. ap (λ (y : Account). anyOf (answeredFor d) (y .answered)) is ∙ t .answered d;
-  done-is = ap (λ (y : Account). doneOnes (y .answered)) is ∙ t .dones;
+  agrees = subst (λ l. AllAgree l (h .member .steps)) (ap (λ (y : Account). y .commands) (sym is)) (t .agree);
 }
   where
     is : put a i x (h .member .id) ≡ x
@@ -110,46 +104,28 @@ own-tells a i x h same t = record {
 
 -- ---- answered commands
 
-done-++ : (l k : List Answered) → doneOnes (l ++ k) ≡ doneOnes l ++ doneOnes k
-done-++ [] k = refl
-done-++ (y ∷ l) k = go (y .outcome) (done-++ l k)
-  where
-    go : (o : Outcome) → doneOnes (l ++ k) ≡ doneOnes l ++ doneOnes k →
-        doneOnes (record { command = y .command; outcome = o } ∷ (l ++ k)) ≡ doneOnes (record { command = y .command; outcome = o } ∷ l)
-        ++ doneOnes k
-    go reported-done e = ap (λ m. y .command ∷ m) e
-    go reported-failed e = e
-    go not-sent e = e
-    go by-event e = e
-
 -- a command in flight that is none
 no-sent : (c : Command) (h : Group) → flight (h .member .steps) ≡ none → (y : Flight) → flight (h .member .steps) ≡ some y → c ≡ y .command
 no-sent c h e y q = absurd (Option·none-ne-some y (sym e ∙ q))
 
--- the first command that is left, c, is answered: g becomes h
-answered-tells : (a : ℕ → Account) (g h : Group) (c : Command) (o : Outcome) → h .member .id ≡ g .member .id →
-    h .member .committed ≡ g .member .committed →
-    leftSteps (g .member .steps) ≡ c ∷ leftSteps (h .member .steps) →
-    ((d : ℕ) → answeredOn d (h .member .steps) ≡ (answeredOn d (g .member .steps) || eqb (c .device) d)) →
-    flight (h .member .steps) ≡ none → doneSteps (h .member .steps) ≡ doneSteps (g .member .steps) ++ doneOnes (answeredBy o c ∷ []) →
-    AccountTells a g →
-    AccountTells (put a (g .member .id) (answeredAccount o (a (g .member .id) .left) (a (g .member .id)))) h
-answered-tells a g h c o same same-committed left more grounded done-more t =
-    subst (λ q. AccountTells (put a i (answeredAccount o q (a i))) h) (sym (t .left-is ∙ left))
-    (own-tells a i (answeredAccount o (c ∷ leftSteps (h .member .steps)) (a i)) h same (record {
+-- the first command that is left is answered: g becomes h
+answered-tells : (a : ℕ → Account) (g h : Group) (o : Outcome) → h .member .id ≡ g .member .id →
+    h .member .committed ≡ g .member .committed → flight (h .member .steps) ≡ none →
+    AllAgree (noteFirst o (a (g .member .id) .commands)) (h .member .steps) → AccountTells a g →
+    AccountTells (put a (g .member .id) (answeredAccount o (a (g .member .id)))) h
+answered-tells a g h o same same-committed grounded agree t =
+    own-tells a (g .member .id) (answeredAccount o (a (g .member .id))) h same (record {
       runs = t .runs ∙ ap not (sym same-committed);
       flies = sym (ap hasFlight grounded);
-      left = refl;
-      sent = no-sent (a i .lastSent) h grounded;
-      answered = λ d. anyOf-++ (answeredFor d) (a i .answered) (answeredBy o c ∷ []) ∙ ap₂ _||_ (t .answered-on d) (or-false (isFor d c))
-          ∙ sym (more d);
-      dones = done-++ (a i .answered) (answeredBy o c ∷ []) ∙ ap (λ l. l ++ doneOnes (answeredBy o c ∷ [])) (t .done-is) ∙ sym done-more;
-    }))
-  where
-    i : ℕ
-    i = g .member .id
+      sent = no-sent (a (g .member .id) .lastSent) h grounded;
+      agree = agree;
+    })
 
 -- ---- an event of d
+
+nothing-left : (d : ℕ) (m : Member) → finished d m ≡ true → anyOf (isLeftOn d) (m .steps) ≡ false
+unfolding finished
+nothing-left d m e = not-true (anyOf (isLeftOn d) (m .steps)) e
 
 -- begun, by the account, is begun
 flying-on : (a : ℕ → Account) (g : Group) (d : ℕ) → InTurn (g .member .steps) → AccountTells a g →
@@ -167,25 +143,22 @@ flying-on a g d w t = go (flight (g .member .steps)) refl
 
 begun-told : (a : ℕ → Account) (g : Group) (d : ℕ) → InTurn (g .member .steps) → AccountTells a g →
     hasBegun d (a (g .member .id)) ≡ begun d (g .member)
-begun-told a g d w t = ap₂ _||_ (t .answered-on d) (flying-on a g d w t) ∙ sym (begun-is (g .member) d)
+begun-told a g d w t = ap₂ _||_ (agree-answered d (t .agrees)) (flying-on a g d w t) ∙ sym (begun-is (g .member) d)
 
-none-on : (d : ℕ) (l : List Command) → anyOf (isFor d) l ≡ false → (onlyOn d l ≡ []) × (notOn d l ≡ l)
-none-on d [] e = (refl, refl)
-none-on d (c ∷ l) e =
-    let f = or-left (isFor d c) (anyOf (isFor d) l) e in
-    let h = none-on d l (or-right (isFor d c) (anyOf (isFor d) l) e) in
-    (rw f (h .0), rw f (ap (λ k. c ∷ k) (h .1)))
+none-on : (d : ℕ) (l : List Noted) → anyOf (leftFor d) l ≡ false → noteLeft d l ≡ l
+none-on d [] e = refl
+none-on d (x ∷ l) e =
+    rw (or-left (leftFor d x) (anyOf (leftFor d) l) e) (ap (λ k. x ∷ k) (none-on d l (or-right (leftFor d x) (anyOf (leftFor d) l) e)))
 
 -- nothing is left on d: nothing is skipped
-nothing-skipped : (d : ℕ) (x : Account) → anyOf (isFor d) (x .left) ≡ false → (x .flying && isFor d (x .lastSent)) ≡ false →
+nothing-skipped : (d : ℕ) (x : Account) → anyOf (leftFor d) (x .commands) ≡ false → (x .flying && isFor d (x .lastSent)) ≡ false →
     skippedAccount d x ≡ x
 nothing-skipped d x e f = λ i. record {
   running = x .running;
   flying = still (x .flying) (isFor d (x .lastSent)) f i;
-  left = none-on d (x .left) e .1 i;
+  commands = none-on d (x .commands) e i;
   lastSent = x .lastSent;
   sends = x .sends;
-  answered = (ap (λ l. x .answered ++ map (answeredBy by-event) l) (none-on d (x .left) e .0) ∙ append-nil (x .answered)) i;
 }
   where
     still : (b t : Bool) → (b && t) ≡ false → (b && not t) ≡ b
@@ -202,7 +175,7 @@ not-halfway-told d a g w n t =
     (λ e. let f : finished d (g .member) ≡ true =
     finishes (and-left (x .running) (hasBegun d x) e) (and-right (x .running) (hasBegun d x) e)
     in
-    nothing-skipped d x (ap (anyOf (isFor d)) (t .left-is) ∙ left-on (g .member) d ∙ ap not f)
+    nothing-skipped d x (agree-left d (t .agrees) ∙ nothing-left d (g .member) f)
     (flying-on a g d w t ∙ finished-grounded (g .member) d f))
     (λ _. refl)
   where
@@ -275,17 +248,12 @@ one-loses s d a ga g gb h t w y =
 
 -- the account of the routine that loses what is left on d
 loses-tells : (s : State) (d : ℕ) (a : ℕ → Account) (ga : List Group) (g : Group) (gb : List Group) → HubOk s (ga ++ (g ∷ gb)) →
-    AccountTells a g → isHalfway d (g .member) ≡ true →
-    TellsOf (skippedAccount d (a (g .member .id))) (with g (skippedLeft d g))
-loses-tells s d a ga g gb h t y = record {
+    AccountTells a g → TellsOf (skippedAccount d (a (g .member .id))) (with g (skippedLeft d g))
+loses-tells s d a ga g gb h t = record {
   runs = t .runs;
   flies = flies (flight (g .member .steps)) refl;
-  left = ap (notOn d) (t .left-is) ∙ sym (k .left-is);
   sent = λ z e. t .sent-is z (k .flight-was z e .0);
-  answered = λ e. anyOf-++ (answeredFor e) (x .answered) (map (answeredBy by-event) (onlyOn d (x .left)))
-      ∙ this-or-other (λ e. Answered e) d e own other;
-  dones = done-++ (x .answered) (map (answeredBy by-event) (onlyOn d (x .left))) ∙ ap₂ _++_ (t .done-is) (none-done (onlyOn d (x .left)))
-      ∙ append-nil (doneSteps (g .member .steps)) ∙ sym (k .same-done);
+  agree = agree-skip d (t .agrees);
 }
   where
     x : Account
@@ -296,45 +264,6 @@ loses-tells s d a ga g gb h t y = record {
 
     k : LeftSkipped d (g .member) n
     k = skip-steps d (g .member) (in-turn s ga g gb h)
-
-    half : Halfway d (g .member)
-    half = halfway-is d (g .member) y
-
-    Answered : ℕ → Type 0
-    Answered e = (anyOf (answeredFor e) (x .answered) || anyOf (answeredFor e) (map (answeredBy by-event) (onlyOn d (x .left))))
-        ≡ answeredOn e (n .steps)
-
-    -- one more on d, at least
-    some-more : (l : List Command) → anyOf (isFor d) l ≡ true → anyOf (answeredFor d) (map (answeredBy by-event) (onlyOn d l)) ≡ true
-    some-more [] e = e
-    some-more (c ∷ l) e = go (isFor d c) refl e (some-more l)
-      where
-        go : (b : Bool) → isFor d c ≡ b → (b || anyOf (isFor d) l) ≡ true →
-            (anyOf (isFor d) l ≡ true → anyOf (answeredFor d) (map (answeredBy by-event) (onlyOn d l)) ≡ true) →
-            anyOf (answeredFor d) (map (answeredBy by-event) (if b then c ∷ onlyOn d l else onlyOn d l)) ≡ true
-        go true f e ih = rw f refl
-        go false f e ih = ih e
-
-    none-more : (e : ℕ) → d ≢ e → (l : List Command) → anyOf (answeredFor e) (map (answeredBy by-event) (onlyOn d l)) ≡ false
-    none-more e m [] = refl
-    none-more e m (c ∷ l) =
-        byIf (λ l. anyOf (answeredFor e) (map (answeredBy by-event) l) ≡ false) (isFor d c)
-        (λ f. rw (ne-eqb (c .device) e (λ z. m (sym (eqb-true (c .device) d f) ∙ z))) (none-more e m l)) (λ _. none-more e m l)
-
-    own : Answered d
-    own =
-        ap (λ b. anyOf (answeredFor d) (x .answered) || b)
-        (some-more (x .left) (ap (anyOf (isFor d)) (t .left-is) ∙ left-on (g .member) d ∙ ap not (half .unfinished)))
-        ∙ or-true (anyOf (answeredFor d) (x .answered)) ∙ sym (k .own-answered (half .has-begun))
-
-    other : {e : ℕ} → d ≢ e → Answered e
-    other {e = e} m =
-        ap (λ b. anyOf (answeredFor e) (x .answered) || b) (none-more e m (x .left)) ∙ or-false (anyOf (answeredFor e) (x .answered))
-        ∙ t .answered-on e ∙ sym (k .other-answered e m)
-
-    none-done : (l : List Command) → doneOnes (map (answeredBy by-event) l) ≡ []
-    none-done [] = refl
-    none-done (c ∷ l) = none-done l
 
     no-flight : (o : Option Flight) → flight (n .steps) ≡ o → ((z : Flight) → flight (n .steps) ≡ some z → ⊥) → hasFlight o ≡ false
     no-flight none e f = refl
@@ -368,7 +297,7 @@ gone-tells s d a l h t (loses ga g gb e q m) =
     let w = subst (HubOk s) e h in
     let v = subst (Each (AccountTells a)) e t in
     around s a (skippedAccount d (a (g .member .id))) ga g gb w v (with g (skippedLeft d g))
-    (own-tells a (g .member .id) _ (with g (skippedLeft d g)) refl (loses-tells s d a ga g gb w (each-mid (AccountTells a) ga g gb v) q))
+    (own-tells a (g .member .id) _ (with g (skippedLeft d g)) refl (loses-tells s d a ga g gb w (each-mid (AccountTells a) ga g gb v)))
 
 -- an answer that tells an event of d
 abbrev pub TellsEvent : ℕ → Call → Answer → Type 0
@@ -397,19 +326,24 @@ event-tells s x j c y a l {k = k} n h t v w =
     subst (λ b. Each (AccountTells b) (attachEvent j x k)) (sym (event-accounts s (deviceOf x) c y a l n h t v w))
     (same-tells _ (same-attached j x k) (gone-tells s (deviceOf x) a l h v w))
 
+-- the outcome of a command that was not sent is that of its status
+pub pass-agrees : {s : State} {g : Group} {c : Command} {st : Status} → Passes s g c st → Agree st (passOutcome st)
+pass-agrees (is-down u) = is-not-sent
+pass-agrees (is-off u) = is-not-sent
+pass-agrees (does-hold u k h) = is-held
+pass-agrees (does-not u k h) = is-not-held
+
 pub accounts-moves : (s : State) (a : ℕ → Account) (l : List Group) {c : Call} {r : Result} {lead : List Event} {k : List Group} →
     HubOk s l → RunsTold a l → Each (AccountTells a) l → Moves s l c r lead k → Each (AccountTells (noteAnswers c (r .answers) a)) k
-unfolding newcomer commit commitTurn sendTurn skipTurn doneReport skipReport abort
+unfolding newcomer commit commitTurn sendTurn doneReport skipReport abort
 accounts-moves s a l h w t (places cs ga gb q e u p n) =
     same-tells (put a i x) (same-placed ga (alone new) gb)
     (each-insert (AccountTells (put a i x)) ga (alone new) gb (others a i x (ga ++ gb) fresh (subst (Each (AccountTells a)) e t))
     (own-tells a i x (alone new) refl (record {
       runs = refl;
       flies = sym (ap hasFlight (f .flight-is));
-      left = sym (f .left-is);
       sent = no-sent zeroCommand (alone new) (f .flight-is);
-      answered = λ d. sym (f .unanswered d);
-      dones = sym (f .done-is);
+      agree = agree-new cs;
     })))
   where
     i : ℕ
@@ -434,12 +368,10 @@ accounts-moves s a l h u t (commits i ga g gb e n r f q) =
     (own-tells a (g .member .id) _ (with g (commit (g .member))) refl (record {
       runs = refl;
       flies = sym (ap hasFlight f);
-      left = o .left-is;
       sent = o .sent-is;
-      answered = o .answered-on;
-      dones = o .done-is;
+      agree = o .agrees;
     }))
-accounts-moves s a l h z t (sends i ga g gb c e n r f q w u) =
+accounts-moves s a l h z t (sends i ga g gb c e n r f q w u plain) =
     let w = subst (HubOk s) e h in
     let v = subst (Each (AccountTells a)) e t in
     let o = each-mid (AccountTells a) ga g gb v in
@@ -448,33 +380,34 @@ accounts-moves s a l h z t (sends i ga g gb c e n r f q w u) =
     (own-tells a (g .member .id) _ (with g (sentMember s g c)) refl (record {
       runs = o .runs;
       flies = sym (ap hasFlight (k .flight-is));
-      left = o .left-is ∙ sym (k .same-left);
       sent = λ y z. let p = sym (k .flight-is) ∙ z in cc;
-      answered = λ d. o .answered-on d ∙ sym (k .same-answered d);
-      dones = o .done-is ∙ sym (k .same-done);
+      agree = agree-sent (due s (c .device)) (o .agrees);
     }))
-accounts-moves s a l h z t (skips i ga g gb c e n r f q w u) =
+accounts-moves s a l h z t (passes i ga g gb c e n r f q w st u) =
     let w = subst (HubOk s) e h in
     let v = subst (Each (AccountTells a)) e t in
-    let k = skip-step (g .member) (in-turn s ga g gb w) c q f in
-    around s a _ ga g gb w v (with g (skippedMember g))
-    (answered-tells a g (with g (skippedMember g)) c not-sent refl refl (k .left-is) (k .more-answered) (k .flight-is)
-    (k .same-done ∙ sym (append-nil (doneSteps (g .member .steps)))) (each-mid (AccountTells a) ga g gb v))
+    let o = each-mid (AccountTells a) ga g gb v in
+    let k = skip-step (g .member) (in-turn s ga g gb w) c st (passing u) q f in
+    subst (λ b. Each (AccountTells b) (ga ++ (with g (passedMember st g) ∷ gb))) (sym (pass-noted i st (g .member .id) a))
+    (around s a _ ga g gb w v (with g (passedMember st g))
+    (answered-tells a g (with g (passedMember st g)) (passOutcome st) refl refl (k .flight-is)
+    (agree-next (passOutcome st) st (pass-agrees u) (o .agrees) f) o))
 accounts-moves s a l h u t (dones i code ga g gb x e n r f q) =
     let w = subst (HubOk s) e h in
     let v = subst (Each (AccountTells a)) e t in
-    let k = done-step (g .member) (in-turn s ga g gb w) x f in
+    let o = each-mid (AccountTells a) ga g gb v in
+    let y = in-turn s ga g gb w in
     around s a _ ga g gb w v (with g (doneMember g))
-    (answered-tells a g (with g (doneMember g)) (x .command) reported-done refl refl (k .left-is) (k .more-answered) (k .flight-is)
-    (done-gains (g .member) (in-turn s ga g gb w) x f) (each-mid (AccountTells a) ga g gb v))
+    (answered-tells a g (with g (doneMember g)) reported-done refl refl (done-step (g .member) y x f .flight-is)
+    (agree-flight reported-done was-done is-done x (o .agrees) y f) o)
 accounts-moves s a l h u t (misses i code ga g gb x e n r f q) =
     let w = subst (HubOk s) e h in
     let v = subst (Each (AccountTells a)) e t in
-    let k = fail-step (g .member) (in-turn s ga g gb w) x f in
+    let o = each-mid (AccountTells a) ga g gb v in
+    let y = in-turn s ga g gb w in
     around s a _ ga g gb w v (with g (failedMember g))
-    (answered-tells a g (with g (failedMember g)) (x .command) reported-failed refl refl (k .left-is) (k .more-answered) (k .flight-is)
-    (fail-done (g .member) (in-turn s ga g gb w) x f ∙ sym (append-nil (doneSteps (g .member .steps))))
-    (each-mid (AccountTells a) ga g gb v))
+    (answered-tells a g (with g (failedMember g)) reported-failed refl refl (fail-step (g .member) y x f .flight-is)
+    (agree-flight reported-failed was-skipped is-failed x (o .agrees) y f) o)
 accounts-moves s a l h u t (aborts c ga g gb e r k) =
     leave-tells s a (endedAccount (a (g .member .id))) ga g gb (subst (HubOk s) e h) (subst (Each (AccountTells a)) e t)
 accounts-moves s a l h u t (fails d r lead k n p w) =
@@ -485,16 +418,12 @@ accounts-moves s a l h u t (restarts d v r lead k n p w) =
 
 -- ---- for an id that is not given yet nothing was sent
 
-pub answered-sends : (o : Outcome) (l : List Command) (x : Account) → answeredAccount o l x .sends ≡ x .sends
-answered-sends o [] x = refl
-answered-sends o (c ∷ l) x = refl
-
 -- an account that changes in another part
 put-sends : (a : ℕ → Account) (j : ℕ) (x : Account) → x .sends ≡ a j .sends → (i : ℕ) → put a j x i .sends ≡ a i .sends
 put-sends = put-keeps (λ (x : Account). x .sends)
 
-pub put-answered : (a : ℕ → Account) (j : ℕ) (o : Outcome) (i : ℕ) → put a j (answeredAccount o (a j .left) (a j)) i .sends ≡ a i .sends
-put-answered a j o = put-sends a j (answeredAccount o (a j .left) (a j)) (answered-sends o (a j .left) (a j))
+pub put-answered : (a : ℕ → Account) (j : ℕ) (o : Outcome) (i : ℕ) → put a j (answeredAccount o (a j)) i .sends ≡ a i .sends
+put-answered a j o = put-sends a j (answeredAccount o (a j)) refl
 
 gone-sends : (s : State) (c : Call) (d : ℕ) (a : ℕ → Account) (l : List Group) {r : Result} {lead : List Event} {k : List Group} →
     Gone s d l r lead k → (i : ℕ) →
@@ -521,11 +450,11 @@ Unsent s a = (i : ℕ) → s .nextId ≤ i → a i .sends ≡ 0
 pub unsent-moves : (s : State) (a : ℕ → Account) (l : List Group) {c : Call} {r : Result} {lead : List Event} {k : List Group} → HubOk s l →
     Unsent s a → Moves s l c r lead k →
     Unsent (r .state) (noteAnswers c (r .answers) a)
-unfolding place commitTurn sendTurn skipTurn doneReport skippedState skipReport abort leave attach
+unfolding place commitTurn sendTurn doneReport skippedState skipReport abort leave attach
 unsent-moves s a l h u (places cs ga gb q f v p n) i e =
     byIf (λ (x : Account). x .sends ≡ 0) (eqb i (s .nextId)) (λ _. refl) (λ _. u i (omega arith))
 unsent-moves s a l h u (commits j ga g gb f n r k q) i e = put-sends a (g .member .id) _ refl i ∙ u i e
-unsent-moves s a l h u (sends j ga g gb c f n r k q x v) i e =
+unsent-moves s a l h u (sends j ga g gb c f n r k q x v plain) i e =
     ap (λ (y : Account). y .sends) (put-other a (g .member .id) _ i (λ z. given z)) ∙ u i e
   where
     below : g .member .id < s .nextId
@@ -533,7 +462,8 @@ unsent-moves s a l h u (sends j ga g gb c f n r k q x v) i e =
 
     given : i ≡ g .member .id → ⊥
     given z = let b = below in omega arith
-unsent-moves s a l h u (skips j ga g gb c f n r k q x v) i e = put-answered a (g .member .id) not-sent i ∙ u i e
+unsent-moves s a l h u (passes j ga g gb c f n r k q x st v) i e =
+    ap (λ b. b i .sends) (pass-noted j st (g .member .id) a) ∙ put-answered a (g .member .id) (passOutcome st) i ∙ u i e
 unsent-moves s a l h u (dones j code ga g gb x f n r k q) i e = put-answered a (g .member .id) reported-done i ∙ u i e
 unsent-moves s a l h u (misses j code ga g gb x f n r k q) i e = put-answered a (g .member .id) reported-failed i ∙ u i e
 unsent-moves s a l h u (aborts c ga g gb f r k) i e = put-sends a (g .member .id) _ refl i ∙ u i e
@@ -562,11 +492,12 @@ put-agree f g d b e p = ap (λ x. if eqb e d then b else x) p
 
 pub working-moves : (s : State) (w : ℕ → Bool) (l : List Group) {c : Call} {r : Result} {lead : List Event} {k : List Group} →
     ((d : ℕ) → w d ≡ s .up d) → Moves s l c r lead k → (d : ℕ) → workingAfterAll (r .answers) w d ≡ r .state .up d
-unfolding place commitTurn sendTurn skipTurn doneReport skippedState skipReport abort leave attach
+unfolding place commitTurn sendTurn doneReport skippedState skipReport abort leave attach
 working-moves s w l e (places cs ga gb q f u p n) d = e d
 working-moves s w l e (commits i ga g gb f n r k q) d = e d
-working-moves s w l e (sends i ga g gb c f n r k q x u) d = e d
-working-moves s w l e (skips i ga g gb c f n r k q x u) d = e d
+working-moves s w l e (sends i ga g gb c f n r k q x u plain) d = e d
+working-moves s w l e (passes i ga g gb c f n r k q x st u) d = 
+    by-answer (λ x. workingAfter x w d ≡ s .up d) (g .member .id) (e d) (e d) (e d) st
 working-moves s w l e (dones i code ga g gb x f n r k q) d = e d
 working-moves s w l e (misses i code ga g gb x f n r k q) d = e d
 working-moves s w l e (aborts c ga g gb f r k) d = e d

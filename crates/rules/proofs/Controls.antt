@@ -2,6 +2,7 @@
 -- as the edit of the same name in `must-fail/` does. (`failed_never_puts_back` shows in `failedAfterChange` of `Worlds.antt`.) Assumes
 -- nothing.
 use mathlib.Core.Path.{refl, sym}
+use mathlib.Core.Logic.{inr}
 use mathlib.Core.List.{List, [], _∷_, _++_}
 use lib.IntN.{pos}
 use Rattle.rules.specs.Answers.{submit, turn, report, failure, restart, cancel}
@@ -219,7 +220,7 @@ restart-aborts = tt
 -- skip_sets_no_mark: 1 has skipped 0 as down: the restart stands behind it. Ahead of it, the skipped command would find 0 up.
 pub skip-begins : Stands (call (failure 0) ∷ call (submit (best 0 (pos 5) ∷ [])) ∷ call (turn 1) ∷ call (restart 0 (pos 0)) ∷ [])
 unfolding calcWorld
-skip-begins = (refl, (refl, tt), tt)
+skip-begins = (refl, (inr refl, tt), tt)
 
 -- marks_stay_settled: 1 has settled and the mark of 0 is 0, so the failure of 0 comes last in the settled part. Attached to 1, it would get
 -- in ahead of 2, which has settled too.
@@ -253,21 +254,21 @@ pub flight-ends :
     Stands (call (submit (best 0 (pos 5) ∷ must 1 (pos 6) ∷ [])) ∷ call (turn 1) ∷ takes-one 0 0 ∷ call (failure 0) ∷ call
     (report 1 0) ∷ [])
 unfolding calcWorld
-flight-ends = (refl, ((refl, refl), tt), tt)
+flight-ends = (refl, ((refl, refl), (tt, tt)), tt)
 
 -- event_ahead: the lamp was done: its failure stands behind the routine. Ahead of it, the done command would find the lamp down.
 pub event-behind :
     Stands (call (submit (best 0 (pos 5) ∷ must 1 (pos 6) ∷ best 0 (pos 7) ∷ [])) ∷ call (turn 1) ∷ takes-one 0 0 ∷ call
     (report 1 0) ∷ call (failure 0) ∷ [])
 unfolding calcWorld
-event-behind = (refl, (refl, ((refl, refl), tt)), tt)
+event-behind = (refl, (refl, (tt, ((refl, refl), tt))), tt)
 
 -- unbegun_skipped: the routine has not begun the lamp, and loses nothing. Else the account would have another command done than the order.
 pub unbegun-keeps :
     Stands (call (submit (must 1 (pos 5) ∷ best 0 (pos 6) ∷ must 1 (pos 7) ∷ [])) ∷ call (turn 1) ∷ takes-one 1 0 ∷ call
     (report 1 0) ∷ call (failure 0) ∷ call (turn 1) ∷ call (turn 1) ∷ takes-one 1 0 ∷ call (report 1 0) ∷ [])
 unfolding calcWorld
-unbegun-keeps = (refl, (refl, (refl, (refl, tt))), tt)
+unbegun-keeps = (refl, (refl, (inr refl, (refl, tt))), tt)
 
 -- late_report_counts: the lamp has failed, and the routine has sent the shelter's second command, which is not taken. A late done report
 -- on the lamp's, which was, would be accepted for the shelter's, and breaks the premise: the server must drop it. So would a late failed

@@ -17,10 +17,10 @@ use Rattle.rules.specs.Tables.{Each}
 use Rattle.rules.proofs.Lists.{each-mid}
 use Rattle.rules.proofs.Groups.{Group, with, foundAt}
 use Rattle.rules.proofs.Invariant.{HubOk, InFlightIsUp, EventsOk, AccountTells, DeviceOk, PremiseOnCall}
-use Rattle.rules.proofs.View.{failedMember, Moves, places, commits, sends, skips, dones, misses, aborts, fails, restarts}
+use Rattle.rules.proofs.View.{passing, failedMember, Moves, places, commits, sends, passes, dones, misses, aborts, fails, restarts}
 use Rattle.rules.proofs.Marks.{in-turn}
 use Rattle.rules.proofs.Messages.{tookLast, flies-there, AfterCall}
-use Rattle.rules.proofs.Devices.{device-commits, device-skips, device-sends, device-dones, device-misses, device-places}
+use Rattle.rules.proofs.Devices.{device-commits, device-passes, device-sends, device-dones, device-misses, device-places}
 use Rattle.rules.proofs.DeviceAborts.{device-aborts, device-fails, device-restarts}
 
 -- what the premise says of the command in flight
@@ -41,10 +41,10 @@ device-moves d s a l ds v n h e t w z f p (places cs x y _ q u b _) =
     device-places d s cs x y (subst (HubOk s) q h) a ds v z u b (subst (λ m. DeviceOk d s a m (ds d)) q w)
 device-moves d s a l ds v n h e t w z f p (commits i x g y q _ _ u _) =
     device-commits s a x g y ds v (subst (HubOk s) q h) d i u (subst (λ m. DeviceOk d s a m (ds d)) q w)
-device-moves d s a l ds v n h e t w z f p (sends i x g y c q _ _ u b j k) =
+device-moves d s a l ds v n h e t w z f p (sends i x g y c q _ _ u b j k plain) =
     device-sends s a x g y ds v (subst (HubOk s) q h) d i c b u j k (subst (λ m. DeviceOk d s a m (ds d)) q w)
-device-moves d s a l ds v n h e t w z f p (skips i x g y c q _ _ u b _ _) =
-    device-skips s a x g y ds v (subst (HubOk s) q h) d i c b u (subst (λ m. DeviceOk d s a m (ds d)) q w)
+device-moves d s a l ds v n h e t w z f p (passes i x g y c q _ _ u b _ st pass) =
+    device-passes s a x g y ds v (subst (HubOk s) q h) d i c st (passing pass) b u (subst (λ m. DeviceOk d s a m (ds d)) q w)
 device-moves d s a l ds v n h e t w z f p (dones i code x g y m q j _ u b) =
     device-dones s a x g y ds v (subst (HubOk s) q h) m u d i code (subst (Each EventsOk) q e)
     (reported-took a ds i code g m (each-mid (AccountTells a) x g y (subst (Each (AccountTells a)) q t)) p j u ∙ b)

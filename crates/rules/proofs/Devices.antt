@@ -9,29 +9,31 @@ use native.Mathlib.Omega.{arith}
 use borrow.Author.Tests.{eq-eqb, ne-eqb}
 use lib.IntN.{ℤ}
 use Rattle.routine.specs.Choice.{if_then_else_}
+use Rattle.routine.specs.Routine.{isCondition}
 use Rattle.routine.specs.declared.Command.{Command}
 use Rattle.rules.specs.Tables.{put, sameSetting, Each}
-use Rattle.rules.specs.State.{Step, Member, State}
+use Rattle.rules.specs.State.{Status, Step, Member, State}
 use Rattle.rules.specs.Answers.{Call, submit, turn, report, placed, Result}
 use Rattle.rules.specs.Progress.{inFlightOn, next, Flight, flight, withSteps}
 use Rattle.rules.specs.Due.{afterSteps, afterRestart, afterMember, afterMembers, due}
 use Rattle.rules.specs.Sequence.{lastIdOr, change}
-use Rattle.rules.specs.Turn.{firstHolding, commit, commitTurn, sendTurn, skipTurn}
+use Rattle.rules.specs.Turn.{firstHolding, commit, commitTurn, sendTurn}
 use Rattle.rules.specs.Report.{doneReport, backIfChanged, skippedState, skipReport}
 use Rattle.rules.specs.Submit.{blocks, upToLast, pastLast, pass, newcomer, place}
-use Rattle.rules.specs.History.{reported-done, reported-failed, not-sent, Account, placedAccount, sentAccount, answeredAccount}
-use Rattle.rules.specs.World.{Origin, sent-for, Message, Device, receives, putAllBack, without, drops}
+use Rattle.rules.specs.History.{reported-done, reported-failed, Account, placedAccount, sentAccount, answeredAccount, noteAnswers}
+use Rattle.rules.specs.World.{Origin, sent-for, Message, Device, receives, putAllBack, without, drops, devicesAfter}
 use Rattle.rules.proofs.Lists.{byIf, t≠f, this-or-other, same-setting, put-same, put-other, each-++, each-right, each-mid, each-map}
 use Rattle.rules.proofs.Lists.{ids-fresh}
 use Rattle.rules.proofs.Groups.{Group, members, ids, alone, with, passAll, foundAt, members-++, other-ids}
 use Rattle.rules.proofs.Same.{same-placed}
-use Rattle.rules.proofs.Steps.{InTurn, send-step, skip-step, done-step, done-after, fail-step, fail-after, grounded, unbegun-after}
+use Rattle.rules.proofs.Steps.{InTurn, Passing, send-step, skip-step, done-step, done-after, fail-step, fail-after, grounded, unbegun-after}
 use Rattle.rules.proofs.Steps.{fresh-newcomer}
 use Rattle.rules.proofs.Invariant.{NotBegun, HasFinished, HubOk, EventsOk, CountedSend, CountedMessage, backTo, ReachesSetting, has}
 use Rattle.rules.proofs.Invariant.{goes-back, flightOrigin, NotOrigin, OnItsWay, arrived, going, NoFlightOn, first-has-it, DeviceAt}
 use Rattle.rules.proofs.Invariant.{is-down, none-on-it, one-on-it, DeviceOk}
-use Rattle.rules.proofs.View.{sentMember, skippedMember, doneMember, failedMember}
+use Rattle.rules.proofs.View.{passAnswer, by-answer, passTurn, sentMember, passedMember, doneMember, failedMember}
 use Rattle.rules.proofs.Runs.{members-after-++, lastRestart-not-begun, not-begun-members}
+use Rattle.rules.proofs.Running.{passOutcome, pass-noted}
 use Rattle.rules.proofs.Accounts.{put-answered}
 use Rattle.rules.proofs.Marks.{ClearOfDevice, in-turn, turn-clear, flight-clear}
 use Rattle.rules.proofs.Messages.{origin-self, fresh-origin, none-took, tookLast, ok-state, ok-same, flies-there}
@@ -88,14 +90,19 @@ module _ (s : State) (a : ℕ → Account) (p : List Group) (g : Group) (q : Lis
       (record { no-flight-on = n .no-flight-on }) refl
       (due-swap s d p g q (commit (g .member)) (h .sequence-is) (λ u. refl)) (alike-ended (g .member .id) a (ds d)) k
 
-  pub device-skips : (d j : ℕ) (c : Command) → next (g .member .steps) ≡ some c → flight (g .member .steps) ≡ none →
-      Keeps d (turn j) (skipTurn s (foundAt p g q) c) (skippedMember g)
-  unfolding skipTurn due
-  device-skips d j c e f k =
-      let r = skip-step (g .member) steps-ok c e f in
-      swaps d (skippedMember g) (skipTurn s (foundAt p g q) c .state) _ (ds d) (idle-no-flight-on d f)
+  pub device-passes : (d j : ℕ) (c : Command) (st : Status) → Passing st → next (g .member .steps) ≡ some c →
+      flight (g .member .steps) ≡ none → Keeps d (turn j) (passTurn s (foundAt p g q) c st) (passedMember st g)
+  unfolding due
+  device-passes d j c st w e f k =
+      let r = skip-step (g .member) steps-ok c st w e f in
+      let t = passTurn s (foundAt p g q) c st .state in
+      let l = p ++ (with g (passedMember st g) ∷ q) in
+      let b = noteAnswers (turn j) (passAnswer st (g .member .id) ∷ []) a in
+      subst (λ u. DeviceOk d t b l (u d)) (sym (by-answer (λ x. devicesAfter (turn j) b v x ds ≡ ds) (g .member .id) refl refl refl st))
+      (subst (λ b. DeviceOk d t b l (ds d)) (sym (pass-noted j st (g .member .id) a))
+      (swaps d (passedMember st g) t _ (ds d) (idle-no-flight-on d f)
       (record { no-flight-on = r .flies d }) refl
-      (due-steps d _ (r .same-after d)) (alike-answered not-sent (g .member .id) a (ds d)) k
+      (due-steps d _ (r .same-after d)) (alike-answered (passOutcome st) (g .member .id) a (ds d)) k))
 
   sends-other : (d j : ℕ) (c : Command) → next (g .member .steps) ≡ some c → flight (g .member .steps) ≡ none → c .device ≢ d →
       Keeps d (turn j) (sendTurn s (foundAt p g q) c) (sentMember s g c)
@@ -111,7 +118,7 @@ module _ (s : State) (a : ℕ → Account) (p : List Group) (g : Group) (q : Lis
       (due-steps d _ (r .same-after d)) (alike-put (g .member .id) a y (omega arith) (ds d)) k)
 
   sends-here : (j : ℕ) (c : Command) → next (g .member .steps) ≡ some c → flight (g .member .steps) ≡ none →
-      firstHolding (c .device) (members p) ≡ none → s .up (c .device) ≡ true →
+      firstHolding (c .device) (isCondition c) (members p) ≡ none → s .up (c .device) ≡ true →
       Keeps (c .device) (turn j) (sendTurn s (foundAt p g q) c) (sentMember s g c)
   unfolding sendTurn
   sends-here j c e f n y k =
@@ -169,7 +176,7 @@ module _ (s : State) (a : ℕ → Account) (p : List Group) (g : Group) (q : Lis
           ∙ no-flights-on-any d (p ++ (g ∷ q)) (each-++ (NoFlightOn d) p (g ∷ q) ahead (idle-no-flight-on d f, behind)))
 
   pub device-sends : (d j : ℕ) (c : Command) → next (g .member .steps) ≡ some c → flight (g .member .steps) ≡ none →
-      firstHolding (c .device) (members p) ≡ none → s .up (c .device) ≡ true →
+      firstHolding (c .device) (isCondition c) (members p) ≡ none → s .up (c .device) ≡ true →
       Keeps d (turn j) (sendTurn s (foundAt p g q) c) (sentMember s g c)
   device-sends d j c e f n y =
       this-or-other (λ d. Keeps d (turn j) (sendTurn s (foundAt p g q) c) (sentMember s g c)) (c .device) d
@@ -261,7 +268,7 @@ module _ (s : State) (a : ℕ → Account) (p : List Group) (g : Group) (q : Lis
     missedState = skippedState s (foundAt p g q)
 
     abbrev missedAccounts : ℕ → Account
-    missedAccounts = put a (g .member .id) (answeredAccount reported-failed (a (g .member .id) .left) (a (g .member .id)))
+    missedAccounts = put a (g .member .id) (answeredAccount reported-failed (a (g .member .id)))
 
     abbrev dropped : ℕ → Device
     dropped d = drops (flightOrigin missedAccounts (g .member .id)) (ds d)

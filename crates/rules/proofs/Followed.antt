@@ -1,7 +1,7 @@
 -- The third ground of part 3 of demand 3 is kept by every call: behind a routine whose commands an event skipped stands an event of their
 -- device, before the next routine. Assumes nothing.
 use mathlib.Core.Path.{_≡_, refl, sym, ap, _∙_, subst, fun-ext}
-use mathlib.Core.Bool.{Bool, true, false, _||_, or-true}
+use mathlib.Core.Bool.{Bool, true, false, _&&_, _||_, or-true}
 use mathlib.Core.List.{List, [], _∷_, _++_, map, append-assoc}
 use mathlib.Core.Option.{Option}
 use Prim.Native.Nat.{ℕ}
@@ -11,64 +11,69 @@ use lib.IntN.{ℤ}
 use Rattle.routine.specs.Choice.{if_then_else_}
 use Rattle.routine.specs.declared.Command.{Command}
 use Rattle.rules.specs.Tables.{anyOf, put, Each}
-use Rattle.rules.specs.State.{State}
+use Rattle.rules.specs.State.{Status, State}
 use Rattle.rules.specs.Answers.{Call, failure, restart, Answer, down, up, Result}
-use Rattle.rules.specs.Progress.{isMust}
 use Rattle.rules.specs.Sequence.{withUp}
 use Rattle.rules.specs.Abort.{abort}
 use Rattle.rules.specs.Submit.{pass, newcomer}
-use Rattle.rules.specs.Turn.{commit, commitTurn, sendTurn, skipTurn}
+use Rattle.rules.specs.Turn.{commit, commitTurn, sendTurn}
 use Rattle.rules.specs.Report.{doneReport, skipReport}
 use Rattle.rules.specs.Events.{skipRest}
-use Rattle.rules.specs.History.{Outcome, reported-done, reported-failed, not-sent, by-event, Answered, Account, placedAccount}
-use Rattle.rules.specs.History.{sentAccount, answeredBy, answeredAccount, endedAccount, isFor, onlyOn, skippedAccount, noteAnswers}
+use Rattle.rules.specs.History.{Outcome, not-yet, reported-done, reported-failed, not-sent, by-event, found-held, found-not-held}
+use Rattle.rules.specs.History.{isLeft, Noted, notedAs, Account, placedAccount, sentAccount, noteFirst, answeredAccount, endedAccount}
+use Rattle.rules.specs.History.{isFor, noteLeft, skippedAccount, noteAnswers}
 use Rattle.rules.specs.Order.{Event, failure-of, restart-of, deviceOf, isOf, Entry, routine, event}
 use Rattle.rules.specs.Demand3.{eventsNext}
 use Rattle.rules.specs.Attach.{attachTo}
-use Rattle.rules.proofs.Lists.{put-same, put-other, put-keeps, each-++, each-left, each-right, each-mid, each-drop, each-insert}
+use Rattle.rules.proofs.Lists.{byIf, and-left, put-same, put-other, put-keeps, each-++, each-left, each-right, each-mid, each-drop, each-insert}
 use Rattle.rules.proofs.Lists.{each-map, anyOf-++, IsNot, NotIn, IdsOk, ids-fresh, ids-other}
 use Rattle.rules.proofs.Groups.{Group, ids, flat, entryIds, lastRestart, alone, with, passAll, addEvents, leaving, addEvent}
 use Rattle.rules.proofs.Groups.{attachEvent, ids-++, added-is, attach-hit}
 use Rattle.rules.proofs.Same.{Pairwise, pairs-each, pairs-placed, pairs-last, pairs-attached}
-use Rattle.rules.proofs.Steps.{skip-steps}
 use Rattle.rules.proofs.Invariant.{HubOk, AccountTells}
-use Rattle.rules.proofs.View.{skippedLeft, Gone, nobody, somebody, loses, Moves, places, commits, sends, skips, dones, misses}
+use Rattle.rules.proofs.View.{Passes, is-down, is-off, does-hold, does-not, passedMember, skippedLeft, Gone, nobody, somebody, loses, Moves, places, commits, sends, passes, dones, misses}
 use Rattle.rules.proofs.View.{aborts}
 use Rattle.rules.proofs.View.{fails, restarts}
 use Rattle.rules.proofs.Marks.{in-turn, halfway-marked}
 use Rattle.rules.proofs.Moved.{hub-up}
-use Rattle.rules.proofs.Running.{RunsTold}
+use Rattle.rules.proofs.Running.{passOutcome, pass-noted, RunsTold}
 use Rattle.rules.proofs.Accounts.{eventTold, TellsEvent, event-accounts}
 
 -- ---- the ground
 
 -- `behind`: the events behind the routine
 abbrev pub Ground : List Event → Command → Outcome → Type 0
+Ground behind c not-yet = Unit {0}
 Ground behind c reported-done = Unit {0}
 Ground behind c reported-failed = Unit {0}
 Ground behind c not-sent = Unit {0}
-Ground behind c by-event = (isMust c ≡ false) × (anyOf (isOf (c .device)) behind ≡ true)
+Ground behind c by-event = anyOf (isOf (c .device)) behind ≡ true
+Ground behind c found-held = Unit {0}
+Ground behind c found-not-held = Unit {0}
 
-abbrev pub FollowedBy : List Event → Answered → Type 0
+abbrev pub FollowedBy : List Event → Noted → Type 0
 FollowedBy behind x = Ground behind (x .command) (x .outcome)
 
--- `q`: the answered commands of each id
-abbrev pub Followed : (ℕ → List Answered) → List Entry → Type 0
+-- `q`: the commands of each id, as they were noted
+abbrev pub Followed : (ℕ → List Noted) → List Entry → Type 0
 Followed q [] = Unit {0}
 Followed q (routine i cs b ∷ l) = Each (FollowedBy (eventsNext l)) (q i) × Followed q l
 Followed q (event e ∷ l) = Followed q l
 
 -- further events take nothing away
-more-behind : (f h : List Event) (x : Answered) → FollowedBy f x → FollowedBy (f ++ h) x
+more-behind : (f h : List Event) (x : Noted) → FollowedBy f x → FollowedBy (f ++ h) x
 more-behind f h x = go (x .outcome)
   where
     go : (o : Outcome) → Ground f (x .command) o → Ground (f ++ h) (x .command) o
+    go not-yet g = g
     go reported-done g = g
     go reported-failed g = g
     go not-sent g = g
-    go by-event g = (g .0, anyOf-++ (isOf (x .command .device)) f h ∙ ap (λ b. b || anyOf (isOf (x .command .device)) h) (g .1))
+    go by-event g = anyOf-++ (isOf (x .command .device)) f h ∙ ap (λ b. b || anyOf (isOf (x .command .device)) h) g
+    go found-held g = g
+    go found-not-held g = g
 
-all-more : (f h : List Event) (l : List Answered) → Each (FollowedBy f) l → Each (FollowedBy (f ++ h)) l
+all-more : (f h : List Event) (l : List Noted) → Each (FollowedBy f) l → Each (FollowedBy (f ++ h)) l
 all-more f h = each-map (FollowedBy f) (FollowedBy (f ++ h)) (more-behind f h)
 
 -- ---- parts of orders
@@ -83,7 +88,7 @@ next-same [] r e = e
 next-same (routine i cs b ∷ l) r e = refl
 next-same (event x ∷ l) r e = ap (λ m. x ∷ m) (next-same l r e)
 
-module _ (q : ℕ → List Answered) where
+module _ (q : ℕ → List Noted) where
   pub followed-join : (p r : List Entry) → Followed q p → Followed q r → Followed q (p ++ r)
   followed-join [] r h k = k
   followed-join (routine i cs b ∷ p) r h k =
@@ -117,10 +122,10 @@ events-next : (f : List Event) (l : List Group) → eventsNext (map event f ++ f
 events-next [] l = flat-next l
 events-next (e ∷ f) l = ap (λ m. e ∷ m) (events-next f l)
 
-pub record GroupFollowed (q : ℕ → List Answered) (g : Group) : Type 0 where
+pub record GroupFollowed (q : ℕ → List Noted) (g : Group) : Type 0 where
   pub followed : Each (FollowedBy (g .events)) (q (g .member .id))
 
-module _ (q : ℕ → List Answered) where
+module _ (q : ℕ → List Noted) where
   pub followed-flat : (l : List Group) → Each (GroupFollowed q) l → Followed q (flat l)
   followed-flat [] h = tt
   followed-flat (g ∷ l) h = (
@@ -136,24 +141,24 @@ module _ (q : ℕ → List Answered) where
   )
 
 -- what has settled, p, and the groups behind it
-pub record PartsFollowed (q : ℕ → List Answered) (p : List Entry) (l : List Group) : Type 0 where
+pub record PartsFollowed (q : ℕ → List Noted) (p : List Entry) (l : List Group) : Type 0 where
   pub settled : Followed q p
   pub held : Each (GroupFollowed q) l
 
-pub parts-of : (q : ℕ → List Answered) (p : List Entry) (l : List Group) → Followed q (p ++ flat l) → PartsFollowed q p l
+pub parts-of : (q : ℕ → List Noted) (p : List Entry) (l : List Group) → Followed q (p ++ flat l) → PartsFollowed q p l
 parts-of q p l h = let k = followed-split q p (flat l) (flat-next l) h in record { settled = k .0; held = flat-followed q l (k .1) }
 
 -- f: the events attached to 0
-pub of-parts : (q : ℕ → List Answered) (p : List Entry) (f : List Event) (l : List Group) → PartsFollowed q p l →
+pub of-parts : (q : ℕ → List Noted) (p : List Entry) (f : List Event) (l : List Group) → PartsFollowed q p l →
     Followed q (p ++ (map event f ++ flat l))
 of-parts q p f l h = followed-join q p (map event f ++ flat l) (h .settled) (followed-events q f (flat l) (followed-flat q l (h .held)))
 
 -- ---- groups whose events are more
 
-abbrev Grows : (ℕ → List Answered) → Group → Group → Type 0
+abbrev Grows : (ℕ → List Noted) → Group → Group → Type 0
 Grows q g h = GroupFollowed q g → GroupFollowed q h
 
-module _ (q : ℕ → List Answered) where
+module _ (q : ℕ → List Noted) where
   grows : {l k : List Group} → Pairwise (Grows q) l k → Each (GroupFollowed q) l → Each (GroupFollowed q) k
   grows = pairs-each (Grows q) (GroupFollowed q) (λ g h f. f)
 
@@ -175,23 +180,23 @@ module _ (q : ℕ → List Answered) where
       grows (pairs-attached (Grows q) (λ g h. h) j x
       (λ g h. subst (GroupFollowed q) (sym (added-is x g)) (more-events (x ∷ []) (λ d. lastRestart d (x ∷ [])) g h)) l)
 
--- ---- the answered commands of one id change
+-- ---- the commands of one id change
 
-abbrev pub answeredIn : (ℕ → Account) → ℕ → List Answered
-answeredIn a i = a i .answered
+abbrev pub notedIn : (ℕ → Account) → ℕ → List Noted
+notedIn a i = a i .commands
 
-pub put-answered : (a : ℕ → Account) (i : ℕ) (z : Account) → answeredIn (put a i z) ≡ put (answeredIn a) i (z .answered)
-put-answered a i z = fun-ext (λ j. go j (eqb j i))
+pub put-noted : (a : ℕ → Account) (i : ℕ) (z : Account) → notedIn (put a i z) ≡ put (notedIn a) i (z .commands)
+put-noted a i z = fun-ext (λ j. go j (eqb j i))
   where
-    go : (j : ℕ) (t : Bool) → (if t then z else a j) .answered ≡ (if t then z .answered else a j .answered)
+    go : (j : ℕ) (t : Bool) → (if t then z else a j) .commands ≡ (if t then z .commands else a j .commands)
     go j true = refl
     go j false = refl
 
 -- a routine that ends keeps them
-pub ended-answered : (a : ℕ → Account) (i : ℕ) → answeredIn (put a i (endedAccount (a i))) ≡ answeredIn a
-ended-answered a i = fun-ext (put-keeps (λ (z : Account). z .answered) a i (endedAccount (a i)) refl)
+pub ended-noted : (a : ℕ → Account) (i : ℕ) → notedIn (put a i (endedAccount (a i))) ≡ notedIn a
+ended-noted a i = fun-ext (put-keeps (λ (z : Account). z .commands) a i (endedAccount (a i)) refl)
 
-module _ (q : ℕ → List Answered) (i : ℕ) (v : List Answered) where
+module _ (q : ℕ → List Noted) (i : ℕ) (v : List Noted) where
   other-settled : (p : List Entry) → NotIn i (entryIds p) → Followed q p → Followed (put q i v) p
   other-settled [] n h = tt
   other-settled (routine j cs b ∷ p) n h =
@@ -208,10 +213,17 @@ module _ (q : ℕ → List Answered) (i : ℕ) (v : List Answered) where
   own-held : (g : Group) → g .member .id ≡ i → Each (FollowedBy (g .events)) v → GroupFollowed (put q i v) g
   own-held g e h = record { followed = subst (Each (FollowedBy (g .events))) (sym (ap (put q i v) e ∙ put-same q i v)) h }
 
+-- the first command that is left is answered
+first-followed : (f : List Event) (o : Outcome) → ((c : Command) → Ground f c o) → (l : List Noted) → Each (FollowedBy f) l →
+    Each (FollowedBy f) (noteFirst o l)
+first-followed f o k [] h = tt
+first-followed f o k (x ∷ l) h =
+    byIf (Each (FollowedBy f)) (isLeft (x .outcome)) (λ _. (k (x .command), h .1)) (λ _. (h .0, first-followed f o k l (h .1)))
+
 -- what holds before a call
 record Before (s : State) (a : ℕ → Account) (p : List Entry) (l : List Group) : Type 0 where
   ids-ok : IdsOk (s .nextId) (entryIds p ++ ids l)
-  parts : PartsFollowed (answeredIn a) p l
+  parts : PartsFollowed (notedIn a) p l
 
 ids-apart : (n : ℕ) (p : List Entry) (x : List Group) (g : Group) (y : List Group) → IdsOk n (entryIds p ++ ids (x ++ (g ∷ y))) →
     NotIn (g .member .id) (entryIds p) × NotIn (g .member .id) (ids (x ++ y))
@@ -230,89 +242,71 @@ ids-apart n p x g y h =
 module _ (s : State) (a : ℕ → Account) (p : List Entry) (x : List Group) (g : Group) (y : List Group)
     (f : Before s a p (x ++ (g ∷ y))) where
   -- g becomes h, and its account z
-  becomes : (h : Group) (z : Account) → h .member .id ≡ g .member .id → Each (FollowedBy (h .events)) (z .answered) →
-      PartsFollowed (answeredIn (put a (g .member .id) z)) p (x ++ (h ∷ y))
+  becomes : (h : Group) (z : Account) → h .member .id ≡ g .member .id → Each (FollowedBy (h .events)) (z .commands) →
+      PartsFollowed (notedIn (put a (g .member .id) z)) p (x ++ (h ∷ y))
   becomes h z e w =
       let i = g .member .id in
       let n = ids-apart (s .nextId) p x g y (f .ids-ok) in
-      let q = answeredIn a in
-      subst (λ b. PartsFollowed b p (x ++ (h ∷ y))) (sym (put-answered a i z)) (record {
-        settled = other-settled q i (z .answered) p (n .0) (f .parts .settled);
-        held = each-insert (GroupFollowed (put q i (z .answered))) x h y
-            (other-held q i (z .answered) (x ++ y) (n .1) (each-drop (GroupFollowed q) x g y (f .parts .held)))
-            (own-held q i (z .answered) h e w);
+      let q = notedIn a in
+      subst (λ b. PartsFollowed b p (x ++ (h ∷ y))) (sym (put-noted a i z)) (record {
+        settled = other-settled q i (z .commands) p (n .0) (f .parts .settled);
+        held = each-insert (GroupFollowed (put q i (z .commands))) x h y
+            (other-held q i (z .commands) (x ++ y) (n .1) (each-drop (GroupFollowed q) x g y (f .parts .held)))
+            (own-held q i (z .commands) h e w);
       })
 
-  own-followed : Each (FollowedBy (g .events)) (a (g .member .id) .answered)
-  own-followed = each-mid (GroupFollowed (answeredIn a)) x g y (f .parts .held) .followed
+  own-followed : Each (FollowedBy (g .events)) (a (g .member .id) .commands)
+  own-followed = each-mid (GroupFollowed (notedIn a)) x g y (f .parts .held) .followed
 
   -- a command is answered, by no event
   answers : (h : Group) (o : Outcome) → ((c : Command) → Ground (g .events) c o) → h .member .id ≡ g .member .id → h .events ≡ g .events →
-      let z = answeredAccount o (a (g .member .id) .left) (a (g .member .id)) in
-      PartsFollowed (answeredIn (put a (g .member .id) z)) p (x ++ (h ∷ y))
+      PartsFollowed (notedIn (put a (g .member .id) (answeredAccount o (a (g .member .id))))) p (x ++ (h ∷ y))
   answers h o k e r =
-      becomes h (answeredAccount o (a (g .member .id) .left) (a (g .member .id))) e
-      (subst (λ (b : List Event). Each (FollowedBy b) (answeredAccount o (a (g .member .id) .left) (a (g .member .id)) .answered)) (sym r)
-      (go (a (g .member .id) .left)))
-    where
-      go : (l : List Command) → Each (FollowedBy (g .events)) (answeredAccount o l (a (g .member .id)) .answered)
-      go [] = own-followed
-      go (c ∷ l) = each-++ (FollowedBy (g .events)) (a (g .member .id) .answered) (answeredBy o c ∷ []) own-followed (k c, tt)
+      becomes h (answeredAccount o (a (g .member .id))) e
+      (subst (λ (b : List Event). Each (FollowedBy b) (noteFirst o (a (g .member .id) .commands))) (sym r)
+      (first-followed (g .events) o k (a (g .member .id) .commands) own-followed))
 
   -- g leaves
-  leaves : PartsFollowed (answeredIn (put a (g .member .id) (endedAccount (a (g .member .id))))) p (leaving x g y)
+  leaves : PartsFollowed (notedIn (put a (g .member .id) (endedAccount (a (g .member .id))))) p (leaving x g y)
   leaves =
-      subst (λ b. PartsFollowed b p (leaving x g y)) (sym (ended-answered a (g .member .id))) (record {
+      subst (λ b. PartsFollowed b p (leaving x g y)) (sym (ended-noted a (g .member .id))) (record {
         settled = f .parts .settled;
-        held = grows-leaving (answeredIn a) x g y (each-drop (GroupFollowed (answeredIn a)) x g y (f .parts .held));
+        held = grows-leaving (notedIn a) x g y (each-drop (GroupFollowed (notedIn a)) x g y (f .parts .held));
       })
 
 -- ---- an event
 
 -- those that it skips are followed by it
-new-followed : (x : Event) (f : List Event) (l : List Command) → Each (λ c. isMust c ≡ false) (onlyOn (deviceOf x) l) →
-    Each (FollowedBy (f ++ (x ∷ []))) (map (answeredBy by-event) (onlyOn (deviceOf x) l))
+new-followed : (x : Event) (f : List Event) (l : List Noted) → Each (FollowedBy (f ++ (x ∷ []))) l →
+    Each (FollowedBy (f ++ (x ∷ []))) (noteLeft (deviceOf x) l)
 new-followed x f [] h = tt
-new-followed x f (c ∷ l) h = go (isFor (deviceOf x) c) refl h (new-followed x f l)
-  where
-    go : (b : Bool) → isFor (deviceOf x) c ≡ b →
-        Each (λ c. isMust c ≡ false) (if b then c ∷ onlyOn (deviceOf x) l else onlyOn (deviceOf x) l) →
-        (Each (λ c. isMust c ≡ false) (onlyOn (deviceOf x) l) →
-        Each (FollowedBy (f ++ (x ∷ []))) (map (answeredBy by-event) (onlyOn (deviceOf x) l))) →
-        Each (FollowedBy (f ++ (x ∷ []))) (map (answeredBy by-event) (if b then c ∷ onlyOn (deviceOf x) l else onlyOn (deviceOf x) l))
-    go true e h ih = (
-      (
-        h .0,
-        anyOf-++ (isOf (c .device)) f (x ∷ [])
-            ∙ ap (λ b. anyOf (isOf (c .device)) f || (b || false))
-            (eq-eqb (deviceOf x) (c .device) (sym (eqb-true (c .device) (deviceOf x) e)))
-            ∙ or-true (anyOf (isOf (c .device)) f),
-      ),
-      ih (h .1),
-    )
-    go false e h ih = ih h
+new-followed x f (y ∷ l) h = (
+  byIf (FollowedBy (f ++ (x ∷ []))) (isFor (deviceOf x) (y .command) && isLeft (y .outcome))
+      (λ e. anyOf-++ (isOf (y .command .device)) f (x ∷ [])
+      ∙ ap (λ b. anyOf (isOf (y .command .device)) f || (b || false))
+      (eq-eqb (deviceOf x) (y .command .device)
+      (sym (eqb-true (y .command .device) (deviceOf x) (and-left (isFor (deviceOf x) (y .command)) (isLeft (y .outcome)) e))))
+      ∙ or-true (anyOf (isOf (y .command .device)) f))
+      (λ _. h .0),
+  new-followed x f l (h .1),
+)
 
 event-followed : (s : State) (x : Event) (a : ℕ → Account) (p : List Entry) (l : List Group)
-    {r : Result} {lead : List Event} {k : List Group} → HubOk s l → Each (AccountTells a) l → Before s a p l →
+    {r : Result} {lead : List Event} {k : List Group} → HubOk s l → Before s a p l →
     (w : Gone s (deviceOf x) l r lead k) →
-    PartsFollowed (answeredIn (eventTold w a)) p (attachEvent (r .state .mark (deviceOf x)) x k)
+    PartsFollowed (notedIn (eventTold w a)) p (attachEvent (r .state .mark (deviceOf x)) x k)
 unfolding skipRest attachTo
-event-followed s x a p l {r = r} h t f (nobody q) =
-    record { settled = f .parts .settled; held = grows-attached (answeredIn a) (r .state .mark (deviceOf x)) x l (f .parts .held) }
-event-followed s x a p l {r = r} {k = k} h t f (somebody y g z e q) =
+event-followed s x a p l {r = r} h f (nobody q) =
+    record { settled = f .parts .settled; held = grows-attached (notedIn a) (r .state .mark (deviceOf x)) x l (f .parts .held) }
+event-followed s x a p l {r = r} {k = k} h f (somebody y g z e q) =
     let b = put a (g .member .id) (endedAccount (a (g .member .id))) in
     let n = leaves s a p y g z (subst (Before s a p) e f) in
-    record { settled = n .settled; held = grows-attached (answeredIn b) (r .state .mark (deviceOf x)) x k (n .held) }
-event-followed s x a p l h t f (loses y g z e q m) =
-    subst (PartsFollowed (answeredIn (put a i new)) p) (sym hit)
+    record { settled = n .settled; held = grows-attached (notedIn b) (r .state .mark (deviceOf x)) x k (n .held) }
+event-followed s x a p l h f (loses y g z e q m) =
+    subst (PartsFollowed (notedIn (put a i new)) p) (sym hit)
     (becomes s a p y g z w (addEvent x n) new (ap (λ (g : Group). g .member .id) added)
-    (subst (λ (b : List Event). Each (FollowedBy b) (new .answered)) (sym (ap (λ (g : Group). g .events) added))
-    (each-++ (FollowedBy (g .events ++ (x ∷ []))) (a i .answered) (map (answeredBy by-event) (onlyOn d (a i .left)))
-    (all-more (g .events) (x ∷ []) (a i .answered) (own-followed s a p y g z w))
-    (new-followed x (g .events) (a i .left)
-    (subst (λ l. Each (λ c. isMust c ≡ false) (onlyOn d l))
-    (sym (each-mid (AccountTells a) y g z (subst (Each (AccountTells a)) e t) .left-is))
-    (skip-steps d (g .member) (in-turn s y g z hub) .left-best m))))))
+    (subst (λ (b : List Event). Each (FollowedBy b) (new .commands)) (sym (ap (λ (g : Group). g .events) added))
+    (new-followed x (g .events) (a i .commands) (all-more (g .events) (x ∷ []) (a i .commands) (own-followed s a p y g z w)))))
   where
     d : ℕ
     d = deviceOf x
@@ -345,40 +339,52 @@ event-followed s x a p l h t f (loses y g z e q m) =
 event-moves : (s : State) (x : Event) (c : Call) (v : Answer) (a : ℕ → Account) (p : List Entry) (l : List Group)
     {r : Result} {lead : List Event} {k : List Group} →
     TellsEvent (deviceOf x) c v → HubOk s l → RunsTold a l → Each (AccountTells a) l → Before s a p l → Gone s (deviceOf x) l r lead k →
-    PartsFollowed (answeredIn (noteAnswers c (r .answers ++ (v ∷ [])) a)) p (attachEvent (r .state .mark (deviceOf x)) x k)
+    PartsFollowed (notedIn (noteAnswers c (r .answers ++ (v ∷ [])) a)) p (attachEvent (r .state .mark (deviceOf x)) x k)
 event-moves s x c v a p l {r = r} {k = k} n h u t f w =
-    subst (λ b. PartsFollowed (answeredIn b) p (attachEvent (r .state .mark (deviceOf x)) x k))
-    (sym (event-accounts s (deviceOf x) c v a l n h u t w)) (event-followed s x a p l h t f w)
+    subst (λ b. PartsFollowed (notedIn b) p (attachEvent (r .state .mark (deviceOf x)) x k))
+    (sym (event-accounts s (deviceOf x) c v a l n h u t w)) (event-followed s x a p l h f w)
 
 -- ---- every call
 
 -- p: what has settled
 pub followed-moves : (s : State) (a : ℕ → Account) (p : List Entry) (l : List Group)
     {c : Call} {r : Result} {lead : List Event} {k : List Group} →
-    HubOk s l → RunsTold a l → Each (AccountTells a) l → IdsOk (s .nextId) (entryIds p ++ ids l) → PartsFollowed (answeredIn a) p l →
-    Moves s l c r lead k → PartsFollowed (answeredIn (noteAnswers c (r .answers) a)) p k
-unfolding abort commit commitTurn sendTurn skipTurn doneReport skipReport newcomer
+    HubOk s l → RunsTold a l → Each (AccountTells a) l → IdsOk (s .nextId) (entryIds p ++ ids l) → PartsFollowed (notedIn a) p l →
+    Moves s l c r lead k → PartsFollowed (notedIn (noteAnswers c (r .answers) a)) p k
+unfolding abort commit commitTurn sendTurn doneReport skipReport newcomer
 followed-moves s a p l h u t o f (places cs x y v e m n b) =
     let i = s .nextId in
-    let q = answeredIn a in
+    let q = notedIn a in
     let new = alone (newcomer i cs) in
+    let v = map (notedAs not-yet) cs in
     let k = ids-fresh i (entryIds p ++ ids l) o in
-    subst (λ b. PartsFollowed b p (x ++ (new ∷ passAll y))) (sym (put-answered a i (placedAccount cs))) (record {
-      settled = other-settled q i [] p (each-left (IsNot i) (entryIds p) (ids l) k) (f .settled);
-      held = grows-placed (put q i []) x new y
-          (each-insert (GroupFollowed (put q i [])) x new y
-          (other-held q i [] (x ++ y) (subst (λ l. NotIn i (ids l)) e (each-right (IsNot i) (entryIds p) (ids l) k))
+    subst (λ b. PartsFollowed b p (x ++ (new ∷ passAll y))) (sym (put-noted a i (placedAccount cs))) (record {
+      settled = other-settled q i v p (each-left (IsNot i) (entryIds p) (ids l) k) (f .settled);
+      held = grows-placed (put q i v) x new y
+          (each-insert (GroupFollowed (put q i v)) x new y
+          (other-held q i v (x ++ y) (subst (λ l. NotIn i (ids l)) e (each-right (IsNot i) (entryIds p) (ids l) k))
           (subst (Each (GroupFollowed q)) e (f .held)))
-          (own-held q i [] new refl tt));
+          (own-held q i v new refl (new-noted cs)));
     })
+  where
+    new-noted : (cs : List Command) → Each (FollowedBy []) (map (notedAs not-yet) cs)
+    new-noted [] = tt
+    new-noted (c ∷ cs) = (tt, new-noted cs)
 followed-moves s a p l h u t o f (commits i x g y e j r n b) =
     let w = subst (Before s a p) e (record { ids-ok = o; parts = f }) in
     becomes s a p x g y w (with g (commit (g .member))) (endedAccount (a (g .member .id))) refl (own-followed s a p x g y w)
-followed-moves s a p l h u t o f (sends i x g y c e j r n b m v) =
+followed-moves s a p l h u t o f (sends i x g y c e j r n b m v plain) =
     let w = subst (Before s a p) e (record { ids-ok = o; parts = f }) in
     becomes s a p x g y w _ (sentAccount c (a (g .member .id))) refl (own-followed s a p x g y w)
-followed-moves s a p l h u t o f (skips i x g y c e j r n b m v) =
-    answers s a p x g y (subst (Before s a p) e (record { ids-ok = o; parts = f })) _ not-sent (λ c. tt) refl refl
+followed-moves s a p l h u t o f (passes i x g y c e j r n b m st v) =
+    subst (λ b. PartsFollowed (notedIn b) p (x ++ (with g (passedMember st g) ∷ y))) (sym (pass-noted i st (g .member .id) a))
+    (answers s a p x g y (subst (Before s a p) e (record { ids-ok = o; parts = f })) _ (passOutcome st) (ground v) refl refl)
+  where
+    ground : {st : Status} → Passes s g c st → (c : Command) → Ground (g .events) c (passOutcome st)
+    ground (is-down k) c = tt
+    ground (is-off k) c = tt
+    ground (does-hold k w z) c = tt
+    ground (does-not k w z) c = tt
 followed-moves s a p l h u t o f (dones i code x g y v e j r n b) =
     answers s a p x g y (subst (Before s a p) e (record { ids-ok = o; parts = f })) _ reported-done (λ c. tt) refl refl
 followed-moves s a p l h u t o f (misses i code x g y v e j r n b) =

@@ -15,16 +15,15 @@ use Rattle.rules.specs.Progress.{begun, finished, inFlightOn, Flight, fl
 use Rattle.rules.specs.Due.{due}
 use Rattle.rules.specs.Report.{codeDone}
 use Rattle.rules.specs.Events.{isHalfway}
-use Rattle.rules.specs.History.{Answered, Account, isFor}
+use Rattle.rules.specs.History.{Account}
 use Rattle.rules.specs.Order.{isOf}
 use Rattle.rules.specs.Order.{Event, failure-of, restart-of, Entry, routine, event, Order, beforeBar, entries}
 use Rattle.rules.specs.World.{Origin, put-back, sent-for, sameOrigin, Message, Device}
-use Rattle.rules.specs.Demand3.{doneOnes}
-use Rattle.rules.specs.HubOrder.{doneSteps, leftSteps}
+use Rattle.rules.specs.HubOrder.{AllAgree}
 use Rattle.rules.proofs.Lists.{IdsOk}
 use Rattle.rules.proofs.Groups.{Group, members, ids, flat, entryIds, lastRestart}
 use Rattle.rules.proofs.Schedules.{hasFlight}
-use Rattle.rules.proofs.Steps.{InTurn, answeredOn}
+use Rattle.rules.proofs.Steps.{InTurn, leftSteps}
 
 -- ---- marks
 
@@ -123,17 +122,11 @@ pub record OrderOk (s : State) (o : Order) (lead : List Event) (l : List Group) 
 
 -- ---- accounts and hub
 
--- is an answered command on d?
-abbrev pub answeredFor : ℕ → Answered → Bool
-answeredFor d x = isFor d (x .command)
-
 pub record AccountTells (a : ℕ → Account) (g : Group) : Type 0 where
   pub runs : a (g .member .id) .running ≡ not (g .member .committed)
   pub flies-is : a (g .member .id) .flying ≡ hasFlight (flight (g .member .steps))
-  pub left-is : a (g .member .id) .left ≡ leftSteps (g .member .steps)
   pub sent-is : (x : Flight) → flight (g .member .steps) ≡ some x → a (g .member .id) .lastSent ≡ x .command
-  pub answered-on : (d : ℕ) → anyOf (answeredFor d) (a (g .member .id) .answered) ≡ answeredOn d (g .member .steps)
-  pub done-is : doneOnes (a (g .member .id) .answered) ≡ doneSteps (g .member .steps)
+  pub agrees : AllAgree (a (g .member .id) .commands) (g .member .steps)
 
 -- ---- devices
 

@@ -15,7 +15,7 @@ use Rattle.rules.specs.Sequence.{isRunning, withUp}
 use Rattle.rules.specs.Settle.{settle}
 use Rattle.rules.specs.Abort.{leave, abort}
 use Rattle.rules.specs.Submit.{newcomer, place}
-use Rattle.rules.specs.Turn.{commit, commitTurn, sendTurn, skipTurn}
+use Rattle.rules.specs.Turn.{commit, commitTurn, sendTurn}
 use Rattle.rules.specs.Report.{doneReport, skippedState, skipReport}
 use Rattle.rules.specs.Events.{isHalfway}
 use Rattle.rules.specs.Order.{Event, failure-of, restart-of}
@@ -26,11 +26,11 @@ use Rattle.rules.proofs.Same.{Same, same-placed, same-leaving, same-att
 use Rattle.rules.proofs.Steps.{send-step, skip-step, done-step, fail-step, flight-on, grounded, finished-grounded, skip-steps}
 use Rattle.rules.proofs.Steps.{fresh-newcomer}
 use Rattle.rules.proofs.Invariant.{CommittedHasNothingLeft, CommandsInTurn, HubOk, InFlightIsUp, NotHalfway, NoFlightOn}
-use Rattle.rules.proofs.View.{sentMember, skippedMember, doneMember, failedMember, skippedLeft, Gone, nobody, somebody, loses}
+use Rattle.rules.proofs.View.{passing, passTurn, sentMember, passedMember, doneMember, failedMember, skippedLeft, Gone, nobody, somebody, loses}
 use Rattle.rules.proofs.View.{Moves, places}
-use Rattle.rules.proofs.View.{commits, sends, skips, dones, misses, aborts, fails, restarts}
+use Rattle.rules.proofs.View.{commits, sends, passes, dones, misses, aborts, fails, restarts}
 use Rattle.rules.proofs.Fields.{Fixed, gone-fixed, attach-fixed, settle-fixed}
-use Rattle.rules.proofs.Marks.{flight-runs, in-turn, hub-commits, hub-sends, hub-skips, hub-dones, hub-misses}
+use Rattle.rules.proofs.Marks.{flight-runs, in-turn, hub-commits, hub-sends, hub-passes, hub-dones, hub-misses}
 use Rattle.rules.proofs.Moved.{hub-places, hub-leaves, hub-gone, hub-fails, hub-restarts, hub-up}
 
 -- a routine that is not halfway with d has no command in flight on it
@@ -61,8 +61,8 @@ pub hub-moves : (s : State) (l : List Group) {c : Call} {r : Result} {lead : Lis
     Moves s l c r lead k → HubOk (r .state) k
 hub-moves s l h (places cs a b _ e u p n) = hub-places s cs a b (subst (HubOk s) e h) u p n
 hub-moves s l h (commits i a g b e _ _ f x) = hub-commits s a g b (subst (HubOk s) e h) f x
-hub-moves s l h (sends i a g b c e _ r f x n _) = hub-sends s a g b c (subst (HubOk s) e h) r f x n
-hub-moves s l h (skips i a g b c e _ r f x n _) = hub-skips s a g b c (subst (HubOk s) e h) r f x n
+hub-moves s l h (sends i a g b c e _ r f x n _ plain) = hub-sends s a g b c (subst (HubOk s) e h) r f x n
+hub-moves s l h (passes i a g b c e _ r f x n st pass) = hub-passes s a g b c st (passing pass) (subst (HubOk s) e h) r f x n
 hub-moves s l h (dones i code a g b x e _ r f _) = hub-dones s a g b x (subst (HubOk s) e h) r f
 hub-moves s l h (misses i code a g b x e _ r f _) = hub-misses s a g b x (subst (HubOk s) e h) r f
 hub-moves s l h (aborts c a g b e _ _) = hub-leaves s a g b (subst (HubOk s) e h)
@@ -130,7 +130,7 @@ module _ (s : State) (a : List Group) (g : Group) (b : List Group) (f : Each (In
 pub flies-moves : (s : State) (l : List Group) {c : Call} {r : Result} {lead : List Event} {k : List Group} → HubOk s l →
     Each (InFlightIsUp s) l → Moves s l c r lead k →
     Each (InFlightIsUp (r .state)) k
-unfolding place commitTurn commit sendTurn skipTurn doneReport skipReport skippedState abort leave attach inFlightOn
+unfolding place commitTurn commit sendTurn doneReport skipReport skippedState abort leave attach inFlightOn
 flies-moves s l h f (places cs a b _ e _ _ _) =
     let w = subst (Each (InFlightIsUp s)) e f in
     let n = newcomer (s .nextId) cs in
@@ -140,13 +140,13 @@ flies-moves s l h f (places cs a b _ e _ _ _) =
 flies-moves s l h f (commits i a g b e _ _ _ _) =
     let w = subst (Each (InFlightIsUp s)) e f in
     flies-changes s a g b w (commitTurn s (foundAt a g b) .state) refl (commit (g .member)) (each-mid (InFlightIsUp s) a g b w .flies-up)
-flies-moves s l h f (sends i a g b c e _ _ n x _ u) =
+flies-moves s l h f (sends i a g b c e _ _ n x _ u plain) =
     let y = send-step (g .member) (in-turn s a g b (subst (HubOk s) e h)) c (due s (c .device)) x n in
     flies-changes s a g b (subst (Each (InFlightIsUp s)) e f) (sendTurn s (foundAt a g b) c .state) refl (sentMember s g c)
     (λ d q. ap (s .up) (sym (eqb-true (c .device) d (sym (y .flies d) ∙ q))) ∙ u)
-flies-moves s l h f (skips i a g b c e _ _ n x _ _) =
-    lands s a g b (subst (Each (InFlightIsUp s)) e f) (skipTurn s (foundAt a g b) c .state) refl (skippedMember g)
-    (skip-step (g .member) (in-turn s a g b (subst (HubOk s) e h)) c x n .flies)
+flies-moves s l h f (passes i a g b c e _ _ n x _ st pass) =
+    lands s a g b (subst (Each (InFlightIsUp s)) e f) (passTurn s (foundAt a g b) c st .state) refl (passedMember st g)
+    (skip-step (g .member) (in-turn s a g b (subst (HubOk s) e h)) c st (passing pass) x n .flies)
 flies-moves s l h f (dones i code a g b x e _ _ q _) =
     lands s a g b (subst (Each (InFlightIsUp s)) e f) (doneReport s (foundAt a g b) .state) refl (doneMember g)
     (done-step (g .member) (in-turn s a g b (subst (HubOk s) e h)) x q .flies)

@@ -3,11 +3,12 @@
 -- `Theorem`.
 
 -- Ground: laws of lists and tables; a routine with its events (a list that only the proofs keep); groups that differ in little; the
--- commands of one routine.
+-- commands of one routine; what is told of them.
 pub mod Lists
 pub mod Groups
 pub mod Same
 pub mod Steps
+pub mod Agree
 -- What holds between calls, and every call seen once.
 pub mod Invariant
 pub mod View
@@ -25,6 +26,7 @@ pub mod Ordered
 pub mod Running
 pub mod Accounts
 pub mod Followed
+pub mod Fits
 pub mod Stands
 -- Each device comes to its due setting: what was sent; placings, turns and reports; aborts and events; all calls.
 pub mod Messages

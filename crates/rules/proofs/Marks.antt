@@ -9,24 +9,25 @@ use Prim.Native.Nat.{ℕ}
 use native.Mathlib.Omega.{arith}
 use borrow.Author.Tests.{not-true, not-false}
 use Rattle.routine.specs.Choice.{if_then_else_}
+use Rattle.routine.specs.Routine.{isCondition}
 use Rattle.routine.specs.declared.Command.{Command}
 use Rattle.rules.specs.Tables.{anyOf, Each}
-use Rattle.rules.specs.State.{Member, State}
+use Rattle.rules.specs.State.{Status, was-skipped, Member, State}
 use Rattle.rules.specs.Progress.{begun, finished, next, Flight, flight}
 use Rattle.rules.specs.Due.{due}
 use Rattle.rules.specs.Sequence.{isRunning, withMark, change}
-use Rattle.rules.specs.Turn.{holds, firstHolding, markBegun, commit, commitTurn, sendTurn, skipTurn}
+use Rattle.rules.specs.Turn.{holds, hasSet, holdsUp, firstHolding, markBegun, commit, commitTurn, sendTurn}
 use Rattle.rules.specs.Report.{doneReport, skippedState, skipReport}
 use Rattle.rules.specs.Events.{isHalfway, skipRest}
 use Rattle.rules.specs.Order.{isOf}
-use Rattle.rules.proofs.Lists.{byIf, t≠f, and-left, and-right, this-or-other, put-same, put-other, each-++, each-left, each-right}
+use Rattle.rules.proofs.Lists.{byIf, t≠f, or-left, and-left, and-right, this-or-other, put-same, put-other, each-++, each-left, each-right}
 use Rattle.rules.proofs.Lists.{each-mid, each-swap, IsNot, NotIn, In, IdsOk, ids-other, ids-not-zero}
 use Rattle.rules.proofs.Groups.{Group, members, ids, with, foundAt, members-++, ids-++, ids-swap}
-use Rattle.rules.proofs.Steps.{InTurn, AnsweredOne, send-step, skip-step, done-step, fail-step, none-left, left-finished}
+use Rattle.rules.proofs.Steps.{InTurn, AnsweredOne, Passing, skipping, send-step, skip-step, done-step, fail-step, none-left, left-finished}
 use Rattle.rules.proofs.Steps.{left-grounded, skip-steps}
 use Rattle.rules.proofs.Invariant.{NotBegun, HasFinished, AtMark, whole, part, MarkedAt, here, there, MarkOk, unmarked, marked}
 use Rattle.rules.proofs.Invariant.{CommittedHasNothingLeft, CommandsInTurn, HubOk}
-use Rattle.rules.proofs.View.{sentMember, skippedMember, doneMember, failedMember, skippedLeft}
+use Rattle.rules.proofs.View.{passTurn, sentMember, passedMember, doneMember, failedMember, skippedLeft}
 
 -- ---- the mark, seen from a routine of the sequence
 
@@ -133,14 +134,23 @@ unfolding holds isRunning finished
 unheld d g s h = nothing-left-finished-it d g s (λ e. not-false (finished d (g .member)) (rw e at h))
 
 -- the wait search finds nobody
-none-holds : (d : ℕ) (a : List Group) → Each CommittedHasNothingLeft a → firstHolding d (members a) ≡ none → Each (HasFinished d) a
-none-holds d [] s e = tt
-none-holds d (g ∷ a) s e = go (none-holds d a (s .1)) (holds d (g .member)) refl e
+pub none-held-up : (d : ℕ) (asks : Bool) (a : List Group) → firstHolding d asks (members a) ≡ none →
+    Each (λ g. holdsUp d asks (g .member) ≡ false) a
+none-held-up d asks [] e = tt
+none-held-up d asks (g ∷ a) e = go (none-held-up d asks a) (holdsUp d asks (g .member)) refl e
   where
-    go : (firstHolding d (members a) ≡ none → Each (HasFinished d) a) → (t : Bool) → holds d (g .member) ≡ t →
-        (if t then some (g .member .id) else firstHolding d (members a)) ≡ none → HasFinished d g × Each (HasFinished d) a
+    go : (firstHolding d asks (members a) ≡ none → Each (λ g. holdsUp d asks (g .member) ≡ false) a) → (t : Bool) →
+        holdsUp d asks (g .member) ≡ t → (if t then some (g .member .id) else firstHolding d asks (members a)) ≡ none →
+        (holdsUp d asks (g .member) ≡ false) × Each (λ g. holdsUp d asks (g .member) ≡ false) a
     go ih true q e = let z : _≡_ {A = ℕ} 0 1 = cc in absurd (omega arith)
-    go ih false q e = (unheld d g (s .0) q, ih e)
+    go ih false q e = (q, ih e)
+
+none-holds : (d : ℕ) (asks : Bool) (a : List Group) → Each CommittedHasNothingLeft a → Each (λ g. holdsUp d asks (g .member) ≡ false) a →
+    Each (HasFinished d) a
+unfolding holdsUp
+none-holds d asks [] s e = tt
+none-holds d asks (g ∷ a) s e =
+    (unheld d g (s .0) (or-left (holds d (g .member)) (asks && hasSet d (g .member)) (e .0)), none-holds d asks a (s .1) (e .1))
 
 pub in-turn : (s : State) (a : List Group) (g : Group) (b : List Group) → HubOk s (a ++ (g ∷ b)) → InTurn (g .member .steps)
 in-turn s a g b h = each-mid CommandsInTurn a g b (h .turns) .turns
@@ -151,12 +161,13 @@ ids-at s a g b h = subst (IdsOk (s .nextId)) (ids-++ a (g ∷ b)) (h .ids-ok)
 
 -- the device of the next command, when nobody ahead holds it
 pub turn-clear : (s : State) (a : List Group) (g : Group) (b : List Group) (c : Command) → HubOk s (a ++ (g ∷ b)) →
-    next (g .member .steps) ≡ some c → flight (g .member .steps) ≡ none → firstHolding (c .device) (members a) ≡ none →
+    next (g .member .steps) ≡ some c → flight (g .member .steps) ≡ none → firstHolding (c .device) (isCondition c) (members a) ≡ none →
     ClearOfDevice (c .device) a g b
 turn-clear s a g b c h e f n =
     not-behind (c .device) (s .mark (c .device)) a g b
-    (none-holds (c .device) a (each-left CommittedHasNothingLeft a (g ∷ b) (h .nothing-left-all)) n)
-    (skip-step (g .member) (in-turn s a g b h) c e f .unfinished) (h .marks (c .device))
+    (none-holds (c .device) (isCondition c) a (each-left CommittedHasNothingLeft a (g ∷ b) (h .nothing-left-all))
+    (none-held-up (c .device) (isCondition c) a n))
+    (skip-step (g .member) (in-turn s a g b h) c was-skipped skipping e f .unfinished) (h .marks (c .device))
 
 -- the device of the command in flight
 pub flight-clear : (s : State) (a : List Group) (g : Group) (b : List Group) (x : Flight) → HubOk s (a ++ (g ∷ b)) →
@@ -288,7 +299,7 @@ hub-commits s a g b h f e =
 
 pub hub-sends : (s : State) (a : List Group) (g : Group) (b : List Group) (c : Command) → HubOk s (a ++ (g ∷ b)) →
     g .member .committed ≡ false →
-    flight (g .member .steps) ≡ none → next (g .member .steps) ≡ some c → firstHolding (c .device) (members a) ≡ none →
+    flight (g .member .steps) ≡ none → next (g .member .steps) ≡ some c → firstHolding (c .device) (isCondition c) (members a) ≡ none →
     HubOk (sendTurn s (foundAt a g b) c .state) (a ++ (with g (sentMember s g c) ∷ b))
 unfolding sendTurn
 hub-sends s a g b c h r f e n =
@@ -298,15 +309,14 @@ hub-sends s a g b c h r f e n =
     (begin-marks s a g b h (c .device) (sentMember s g c) refl (turn-clear s a g b c h e f n) (x .unfinished) (x .begins) (x .other-begun)
     (λ d q. x .finishes d ∙ q))
 
-pub hub-skips : (s : State) (a : List Group) (g : Group) (b : List Group) (c : Command) → HubOk s (a ++ (g ∷ b)) →
-    g .member .committed ≡ false →
-    flight (g .member .steps) ≡ none → next (g .member .steps) ≡ some c → firstHolding (c .device) (members a) ≡ none →
-    HubOk (skipTurn s (foundAt a g b) c .state) (a ++ (with g (skippedMember g) ∷ b))
-unfolding skipTurn
-hub-skips s a g b c h r f e n =
-    let x = skip-step (g .member) (in-turn s a g b h) c e f in
-    hub-changes s a g b h (skippedMember g) (markBegun (g .member) (c .device) (s .mark)) refl (running g (skippedMember g) r) (x .in-turn)
-    (begin-marks s a g b h (c .device) (skippedMember g) refl (turn-clear s a g b c h e f n) (x .unfinished) (x .begins) (x .other-begun)
+pub hub-passes : (s : State) (a : List Group) (g : Group) (b : List Group) (c : Command) (st : Status) → Passing st →
+    HubOk s (a ++ (g ∷ b)) → g .member .committed ≡ false →
+    flight (g .member .steps) ≡ none → next (g .member .steps) ≡ some c → firstHolding (c .device) (isCondition c) (members a) ≡ none →
+    HubOk (passTurn s (foundAt a g b) c st .state) (a ++ (with g (passedMember st g) ∷ b))
+hub-passes s a g b c st p h r f e n =
+    let x = skip-step (g .member) (in-turn s a g b h) c st p e f in
+    hub-changes s a g b h (passedMember st g) (markBegun (g .member) (c .device) (s .mark)) refl (running g (passedMember st g) r) (x .in-turn)
+    (begin-marks s a g b h (c .device) (passedMember st g) refl (turn-clear s a g b c h e f n) (x .unfinished) (x .begins) (x .other-begun)
     (x .finishes))
 
 -- the command in flight, c, is answered

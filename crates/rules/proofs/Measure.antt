@@ -16,7 +16,7 @@ use Rattle.rules.specs.Tables.{anyOf, Each}
 use Rattle.rules.specs.State.{Member, State}
 use Rattle.rules.specs.Sequence.{isRunning}
 use Rattle.rules.specs.Submit.{blocks, pass}
-use Rattle.rules.specs.HubOrder.{leftSteps}
+use Rattle.rules.proofs.Steps.{leftSteps}
 use Rattle.rules.proofs.Lists.{byIf, t≠f, or-left, or-right, NotIn, IdsOk}
 use Rattle.rules.proofs.Groups.{Group, members, ids, with, passAll, leaving, stillHeld}
 use Rattle.rules.proofs.Same.{Pairwise, no-pair, pair, pairs-last}

@@ -20,14 +20,13 @@ use Rattle.rules.specs.Turn.{commit}
 use Rattle.rules.specs.History.{Told}
 use Rattle.rules.specs.Order.{Event}
 use Rattle.rules.specs.Attach.{attachTo}
-use Rattle.rules.specs.HubOrder.{leftSteps}
 use Rattle.rules.proofs.Lists.{byIf, t≠f, anyOf-++, NotIn, IdsOk}
 use Rattle.rules.proofs.Groups.{Group, ids, alone, with, passAll, addEvents, addToLast, leaving, stillHeld, other-ids}
 use Rattle.rules.proofs.Same.{same-placed, same-leaving}
-use Rattle.rules.proofs.Steps.{send-step, skip-step, done-step, fail-step}
+use Rattle.rules.proofs.Steps.{leftSteps, send-step, skip-step, done-step, fail-step}
 use Rattle.rules.proofs.Invariant.{HubOk}
-use Rattle.rules.proofs.View.{sentMember, skippedMember, doneMember, failedMember, by-turn, by-report, by-cancel}
-use Rattle.rules.proofs.View.{Moves, places, commits, sends, skips, dones, misses, aborts, fails, restarts}
+use Rattle.rules.proofs.View.{passing, sentMember, passedMember, doneMember, failedMember, by-turn, by-report, by-cancel}
+use Rattle.rules.proofs.View.{Moves, places, commits, sends, passes, dones, misses, aborts, fails, restarts}
 use Rattle.rules.proofs.Marks.{in-turn}
 use Rattle.rules.proofs.Running.{has, none-has, other-has, idle-has, any-swap, any-drop, any-same, same-runs}
 use Rattle.rules.proofs.Measure.{weight, measure, Runs, most-weight, swap-at-most, swap-falls, leave-at-most}
@@ -115,15 +114,15 @@ module _ (k i : ℕ) (s : State) (in-force : s .passLimit ≡ k) (h : List Told)
         swap-at-most k i a g (with g (commit (g .member))) b refl refl
             (omega arith),
       ))
-  moves-at-most (sends j a g b c e n r f q w u) of =
+  moves-at-most (sends j a g b c e n r f q w u plain) of =
       let x = send-step (g .member) (in-turn s a g b (subst (HubOk s) e (y .hub))) c (due s (c .device)) q f in
       subst (λ z. NotRaised k i z (a ++ (with g (sentMember s g c) ∷ b))) (sym e)
       (swapped k i a g (with g (sentMember s g c)) b refl refl refl (rw (x .same-left) (omega arith)))
-  moves-at-most (skips j a g b c e n r f q w u) of =
-      let x = skip-step (g .member) (in-turn s a g b (subst (HubOk s) e (y .hub))) c q f in
-      let less = less-weight g (with g (skippedMember g)) c r r (x .left-is) in
-      subst (λ z. NotRaised k i z (a ++ (with g (skippedMember g) ∷ b))) (sym e)
-      (swapped k i a g (with g (skippedMember g)) b refl refl refl (omega arith))
+  moves-at-most (passes j a g b c e n r f q w st u) of =
+      let x = skip-step (g .member) (in-turn s a g b (subst (HubOk s) e (y .hub))) c st (passing u) q f in
+      let less = less-weight g (with g (passedMember st g)) c r r (x .left-is) in
+      subst (λ z. NotRaised k i z (a ++ (with g (passedMember st g) ∷ b))) (sym e)
+      (swapped k i a g (with g (passedMember st g)) b refl refl refl (omega arith))
   moves-at-most (dones j code a g b x e n r f q) of =
       let z = done-step (g .member) (in-turn s a g b (subst (HubOk s) e (y .hub))) x f in
       let less = less-weight g (with g (doneMember g)) (x .command) r r (z .left-is) in
@@ -217,10 +216,10 @@ module _ (k : ℕ) (s : State) (h : List Told) (l : List Group) (y : Ready s h l
     others-move i (places cs a b q e u p n) o w = absurd o
     others-move i (commits _ a g b e n r f q) o w =
         head-kept j steps a g (with g (commit (g .member))) b (λ z. w (sym (n ∙ o) ∙ z)) (subst (HeadIs j steps) e hd)
-    others-move i (sends _ a g b c e n r f q z u) o w =
+    others-move i (sends _ a g b c e n r f q z u plain) o w =
         head-kept j steps a g (with g (sentMember s g c)) b (λ z. w (sym (n ∙ o) ∙ z)) (subst (HeadIs j steps) e hd)
-    others-move i (skips _ a g b c e n r f q z u) o w =
-        head-kept j steps a g (with g (skippedMember g)) b (λ z. w (sym (n ∙ o) ∙ z)) (subst (HeadIs j steps) e hd)
+    others-move i (passes _ a g b c e n r f q z st u) o w =
+        head-kept j steps a g (with g (passedMember st g)) b (λ z. w (sym (n ∙ o) ∙ z)) (subst (HeadIs j steps) e hd)
     others-move i (dones _ code a g b x e n r f q) o w =
         head-kept j steps a g (with g (doneMember g)) b (λ z. w (sym (n ∙ o) ∙ z)) (subst (HeadIs j steps) e hd)
     others-move i (misses _ code a g b x e n r f q) o w =
@@ -256,14 +255,14 @@ module _ (k : ℕ) (s : State) (h : List Told) (l : List Group) (y : Ready s h l
     own-moves (commits i a g b e n r f q) o =
         own-less a g b e (n ∙ o) (turn i) (with g (commit (g .member))) refl refl
         (let w : weight (g .member) ≡ suc (length (leftSteps (g .member .steps))) = rw r refl in omega arith)
-    own-moves (sends i a g b c e n r f q z u) o =
+    own-moves (sends i a g b c e n r f q z u plain) o =
         let x = send-step (g .member) (in-turn s a g b (subst (HubOk s) e (y .hub))) c (due s (c .device)) q f in
         flies tt (sentMember s g c .steps)
         (subst (λ p. HeadIs j (sentMember s g c .steps) (p ++ (with g (sentMember s g c) ∷ b))) (sym (none-ahead a g b e (n ∙ o)))
         (head-is (with g (sentMember s g c)) b (n ∙ o) refl r)) (_, x .flight-is)
-    own-moves (skips i a g b c e n r f q z u) o =
-        let x = skip-step (g .member) (in-turn s a g b (subst (HubOk s) e (y .hub))) c q f in
-        own-less a g b e (n ∙ o) (turn i) (with g (skippedMember g)) refl refl (less-weight g (with g (skippedMember g)) c r r (x .left-is))
+    own-moves (passes i a g b c e n r f q z st u) o =
+        let x = skip-step (g .member) (in-turn s a g b (subst (HubOk s) e (y .hub))) c st (passing u) q f in
+        own-less a g b e (n ∙ o) (turn i) (with g (passedMember st g)) refl refl (less-weight g (with g (passedMember st g)) c r r (x .left-is))
     own-moves (dones i code a g b x e n r f q) o =
         let z = done-step (g .member) (in-turn s a g b (subst (HubOk s) e (y .hub))) x f in
         own-less a g b e (n ∙ o) (report i code) (with g (doneMember g)) refl refl

@@ -29,7 +29,6 @@ use Rattle.rules.proofs.Invariant.{arrived, going, NoFlightOn, OneFligh
 use Rattle.rules.proofs.Invariant.{none-on-it, one-on-it, DeviceOk}
 use Rattle.rules.proofs.Fields.{Fixed, settle-fixed, settle-due}
 use Rattle.rules.proofs.Marks.{flight-runs}
-use Rattle.rules.proofs.Accounts.{answered-sends}
 
 -- ---- origins
 
@@ -290,8 +289,8 @@ pub alike-ended : (i : ℕ) (a : ℕ → Account) (w : Device) → SameForOthers
 alike-ended i a w = alike-put i a (endedAccount (a i)) (omega arith) w
 
 pub alike-answered : (o : Outcome) (i : ℕ) (a : ℕ → Account) (w : Device) →
-    SameForOthers i a (put a i (answeredAccount o (a i .left) (a i))) w w
-alike-answered o i a w = alike-put i a (answeredAccount o (a i .left) (a i)) (let e = answered-sends o (a i .left) (a i) in omega arith) w
+    SameForOthers i a (put a i (answeredAccount o (a i))) w w
+alike-answered o i a w = alike-put i a (answeredAccount o (a i)) (omega arith) w
 
 -- ---- what was sent is dropped
 

@@ -25,7 +25,6 @@ use Rattle.rules.specs.Events.{isHalfway}
 use Rattle.rules.specs.Order.{deviceOf, isOf}
 use Rattle.rules.specs.Order.{Event, failure-of, restart-of}
 use Rattle.rules.specs.Attach.{attachTo, attachAt, attach, oneRestart}
-use Rattle.rules.specs.HubOrder.{leftSteps}
 use Rattle.rules.proofs.Lists.{byIf, t≠f, or-left, or-right, this-or-other, each-++, each-left, each-right, each-mid, each-drop}
 use Rattle.rules.proofs.Lists.{each-insert, each-map, anyOf-++, IsNot, NotIn, IdsOk, ids-drop, ids-insert, ids-left, ids-other}
 use Rattle.rules.proofs.Lists.{ids-not-zero, in-other}
@@ -34,7 +33,7 @@ use Rattle.rules.proofs.Groups.{addEvent, attachEvent, stillHeld, membe
 use Rattle.rules.proofs.Groups.{last-not-zero}
 use Rattle.rules.proofs.Same.{Pairwise, pair, pairs-each, pairs-placed, pairs-last, pairs-attached, Same, same-refl, same-pass}
 use Rattle.rules.proofs.Same.{same-moved, same-added, same-placed, same-leaving, same-attached, same-each, same-ids}
-use Rattle.rules.proofs.Steps.{InTurn, skip-steps, fresh-newcomer}
+use Rattle.rules.proofs.Steps.{leftSteps, InTurn, skip-steps, fresh-newcomer}
 use Rattle.rules.proofs.Invariant.{NotBegun, HasFinished, AtMark, whole, part, MarkedAt, here, there, MarkOk, unmarked, marked}
 use Rattle.rules.proofs.Invariant.{CommittedHasNothingLeft, CommandsInTurn, HubOk, NotHalfway}
 use Rattle.rules.proofs.View.{skippedLeft, Gone, nobody, somebody, loses}

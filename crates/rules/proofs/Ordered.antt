@@ -11,18 +11,18 @@ use Rattle.routine.specs.Choice.{if_then_else_}
 use Rattle.routine.specs.declared.Command.{Command}
 use Rattle.rules.specs.Tables.{put, Each}
 use Rattle.rules.specs.State.{Step, Member, State}
-use Rattle.rules.specs.Answers.{Call, failure, restart, Answer, down, up, Result}
+use Rattle.rules.specs.Answers.{Call, turn, failure, restart, Answer, down, up, Result}
 use Rattle.rules.specs.Sequence.{lastIdOr, withSequence, withUp, withMark}
 use Rattle.rules.specs.Due.{afterRestart}
 use Rattle.rules.specs.Abort.{leave, abort}
 use Rattle.rules.specs.Submit.{newcomer, place}
-use Rattle.rules.specs.Turn.{commit, commitTurn, sendTurn, skipTurn}
+use Rattle.rules.specs.Turn.{commit, commitTurn, sendTurn}
 use Rattle.rules.specs.Report.{doneReport, skippedState, skipReport}
 use Rattle.rules.specs.Events.{skipRest}
 use Rattle.rules.specs.History.{Account}
 use Rattle.rules.specs.Order.{deviceOf}
 use Rattle.rules.specs.Order.{Event, failure-of, restart-of, Entry, routine, event, Order, beforeNext, behindRoutine, hasRoutine}
-use Rattle.rules.specs.Order.{putAfter, edit, editOrder, goes, gains, noted, orderAfter, orderAfterAll, entries}
+use Rattle.rules.specs.Order.{putAfter, edit, editOrder, goes, gains, noted, orderAfter, orderAfter, orderAfterAll, entries}
 use Rattle.rules.specs.HubOrder.{doneSteps, entryOf}
 use Rattle.rules.specs.Attach.{settleRestarts, attach, oneRestart}
 use Rattle.rules.proofs.Lists.{eqb-sym, fold-++, each-left, each-right, each-mid, each-insert, each-swap, IsNot, NotIn, IdsOk}
@@ -33,7 +33,7 @@ use Rattle.rules.proofs.Groups.{flat-leaving, flat-cut, flat-added, att
 use Rattle.rules.proofs.Same.{same-placed, same-leaving, same-attached, same-ids}
 use Rattle.rules.proofs.Steps.{send-step, skip-step, done-gains, fail-done, skip-steps, fresh-newcomer}
 use Rattle.rules.proofs.Invariant.{NotBegun, HubOk, setAfter, upAfter, EventsOk, OrderOk, AccountTells}
-use Rattle.rules.proofs.View.{Gone, nobody, somebody, loses, Moves, places, commits, sends, skips, dones, misses, aborts, fails}
+use Rattle.rules.proofs.View.{by-answer, passing, passTurn, passedMember, Gone, nobody, somebody, loses, Moves, places, commits, sends, passes, dones, misses, aborts, fails}
 use Rattle.rules.proofs.View.{restarts}
 use Rattle.rules.proofs.Runs.{set-++, up-++, set-events, bringsUp, up-event, up-flat-not-begun, settled-alone, events-placed}
 use Rattle.rules.proofs.Runs.{events-leaving, events-attached}
@@ -462,18 +462,20 @@ attached-restart d j v s u e = record { next-is = refl; settled-is = go (eqb j 0
 pub order-moves : (s : State) (o : Order) (a : ℕ → Account) (l : List Group) {c : Call} {r : Result} {lead : List Event} {k : List Group} →
     HubOk s l → OrderOk s o [] l → Each (AccountTells a) l → Moves s l c r lead k →
     OrderOk (r .state) (orderAfterAll c a (r .answers) o) lead k × (orderAfterAll c a (r .answers) o .settled ≡ o .settled)
-unfolding commitTurn sendTurn skipTurn doneReport skippedState skipReport abort
+unfolding commitTurn sendTurn doneReport skippedState skipReport abort
 order-moves s o n l h k t (places cs a b _ e u _ _) =
     subst (λ m. Kept (place s cs) o (putAfter (routine (s .nextId) [] false) (lastIdOr 0 m) o) []
     (a ++ (alone (newcomer (s .nextId) cs) ∷ passAll b))) (sym u)
     (order-places s o cs a b (subst (λ m. HubOk s m) e h) (subst (λ m. OrderOk s o [] m) e k))
 order-moves s o n l h k t (commits i a g b e _ _ _ _) = order-commits s o a g b (subst (λ m. OrderOk s o [] m) e k) _
-order-moves s o n l h k t (sends i a g b c e _ _ f x _ _) =
+order-moves s o n l h k t (sends i a g b c e _ _ f x _ _ plain) =
     order-untouched s o a g b (subst (λ m. OrderOk s o [] m) e k) _ _ _
     (send-step (g .member) (in-turn s a g b (subst (HubOk s) e h)) c _ x f .same-done)
-order-moves s o n l h k t (skips i a g b c e _ _ f x _ _) =
-    order-untouched s o a g b (subst (λ m. OrderOk s o [] m) e k) _ _ _
-    (skip-step (g .member) (in-turn s a g b (subst (HubOk s) e h)) c x f .same-done)
+order-moves s o n l h k t (passes i a g b c e _ _ f x _ st pass) =
+    subst (λ p. Kept (passTurn s (foundAt a g b) c st .state) o p [] (a ++ (with g (passedMember st g) ∷ b)))
+    (sym (by-answer (λ y. orderAfter (turn i) n y o ≡ o) (g .member .id) refl refl refl st))
+    (order-untouched s o a g b (subst (λ m. OrderOk s o [] m) e k) _ _ _
+    (skip-step (g .member) (in-turn s a g b (subst (HubOk s) e h)) c st (passing pass) x f .same-done))
 order-moves s o n l h k t (dones i code a g b x e _ _ f _) =
     order-dones s o a g b (subst (λ m. OrderOk s o [] m) e k) (n (g .member .id) .lastSent) _ _
     (done-gains (g .member) (in-turn s a g b (subst (HubOk s) e h)) x f

@@ -25,8 +25,8 @@ use Rattle.rules.proofs.Lists.{or-left, or-right, each-++, each-left, e
 use Rattle.rules.proofs.Groups.{Group, members, alone, with, passAll, leaving, attachEvent, addEvent, stillHeld, each-held, added-is}
 use Rattle.rules.proofs.Same.{pairs-last, pairs-attached, pairs-each}
 use Rattle.rules.proofs.Invariant.{HubOk}
-use Rattle.rules.proofs.View.{sentMember, skippedMember, doneMember, failedMember, skippedLeft, Gone, nobody, somebody, loses}
-use Rattle.rules.proofs.View.{Moves, places, commits, sends, skips, dones, misses, aborts, fails, restarts, Seen, is-refused, waits}
+use Rattle.rules.proofs.View.{sentMember, passedMember, doneMember, failedMember, skippedLeft, Gone, nobody, somebody, loses}
+use Rattle.rules.proofs.View.{Moves, places, commits, sends, passes, dones, misses, aborts, fails, restarts, Seen, is-refused, waits}
 use Rattle.rules.proofs.View.{limits, moves, see}
 use Rattle.rules.proofs.Fields.{Fixed, settle-fixed}
 use Rattle.rules.proofs.Moved.{hub-limit, hub-settles}
@@ -96,8 +96,8 @@ low-moves s l h w (places cs a b q e u p n) =
     each-++ LowCount a (alone (newcomer (s .nextId) cs) ∷ passAll b) (each-left LowCount a b z)
     (record { low = omega arith }, low-passed s cs h b (each-right LowCount a b z) n)
 low-moves s l h w (commits i a g b e n r f q) = swap a g (with g (commit (g .member))) b (subst (Each LowCount) e w) refl
-low-moves s l h w (sends i a g b c e n r f q x u) = swap a g (with g (sentMember s g c)) b (subst (Each LowCount) e w) refl
-low-moves s l h w (skips i a g b c e n r f q x u) = swap a g (with g (skippedMember g)) b (subst (Each LowCount) e w) refl
+low-moves s l h w (sends i a g b c e n r f q x u plain) = swap a g (with g (sentMember s g c)) b (subst (Each LowCount) e w) refl
+low-moves s l h w (passes i a g b c e n r f q x st u) = swap a g (with g (passedMember st g)) b (subst (Each LowCount) e w) refl
 low-moves s l h w (dones i code a g b x e n r f q) = swap a g (with g (doneMember g)) b (subst (Each LowCount) e w) refl
 low-moves s l h w (misses i code a g b x e n r f q) = swap a g (with g (failedMember g)) b (subst (Each LowCount) e w) refl
 low-moves s l h w (aborts c a g b e r q) = low-leaving a g b (subst (Each LowCount) e w)
@@ -119,7 +119,7 @@ record Low (s : State) (l : List Group) : Type 0 where
 
 low-seen : (s : State) (l : List Group) → Low s l → {c : Call} {r : Result} → Seen s l c r → (k : List Group) × Low (r .state) k
 low-seen s l y (is-refused r) = (l, y)
-low-seen s l y (waits i a g b d j e n f) = (l, y)
+low-seen s l y (waits i a g b d asks j e n f) = (l, y)
 low-seen s l y (limits k e) = (
   l,
   record {

@@ -20,21 +20,20 @@ use Rattle.rules.specs.Settle.{settle}
 use Rattle.rules.specs.Abort.{leave, abort}
 use Rattle.rules.specs.Open.{opened, newHub, openOf}
 use Rattle.rules.specs.Submit.{submitCheck, newcomer, place}
-use Rattle.rules.specs.Turn.{commit, commitTurn, sendTurn, skipTurn}
+use Rattle.rules.specs.Turn.{commit, commitTurn, sendTurn}
 use Rattle.rules.specs.Report.{doneReport, skippedState, skipReport}
 use Rattle.rules.specs.Calls.{resultOf, stateAfter}
-use Rattle.rules.specs.History.{Told, isFor, notOn, noteAnswers, accountsOf}
+use Rattle.rules.specs.History.{Told, isFor, noteAnswers, accountsOf}
 use Rattle.rules.specs.Order.{Event, failure-of, restart-of}
 use Rattle.rules.specs.Attach.{attach, oneRestart}
 use Rattle.rules.specs.Rounds.{callsTold, toldThen, limitAfter, limitAfterAll, limitTold, KeepsLimit}
-use Rattle.rules.specs.HubOrder.{leftSteps}
 use Rattle.rules.proofs.Lists.{byIf, each-mid, each-drop, each-insert, each-swap}
 use Rattle.rules.proofs.Groups.{Group, members, alone, with, leaving, attachEvent, stillHeld, each-held}
 use Rattle.rules.proofs.Same.{Pairwise, no-pair, pair, Same, same-placed, same-leaving, same-attached, same-each}
-use Rattle.rules.proofs.Steps.{skip-left, send-step, skip-step, done-step, fail-step, fresh-newcomer}
+use Rattle.rules.proofs.Steps.{leftSteps, notOn, skip-left, send-step, skip-step, done-step, fail-step, fresh-newcomer}
 use Rattle.rules.proofs.Invariant.{unmarked, HubOk, FirstRuns, AccountTells}
-use Rattle.rules.proofs.View.{sentMember, skippedMember, doneMember, failedMember, skippedLeft, Gone}
-use Rattle.rules.proofs.View.{nobody, somebody, loses, Moves, places, commits, sends, skips, dones, misses, aborts, fails, restarts}
+use Rattle.rules.proofs.View.{by-answer, passing, sentMember, passedMember, doneMember, failedMember, skippedLeft, Gone}
+use Rattle.rules.proofs.View.{nobody, somebody, loses, Moves, places, commits, sends, passes, dones, misses, aborts, fails, restarts}
 use Rattle.rules.proofs.View.{Seen, is-refused, waits, limits, moves, see}
 use Rattle.rules.proofs.Fields.{Fixed, gone-fixed, attach-fixed, settle-fixed}
 use Rattle.rules.proofs.Marks.{in-turn}
@@ -92,15 +91,15 @@ few-left-moves s l h t (places cs a b q e u p n) =
 few-left-moves s l h t (commits i a g b e n r f q) =
     let w = subst (Each FewLeft) e t in
     each-swap FewLeft a g (with g (commit (g .member))) b w (record { few-left = each-mid FewLeft a g b w .few-left })
-few-left-moves s l h t (sends i a g b c e n r f q w u) =
+few-left-moves s l h t (sends i a g b c e n r f q w u plain) =
     let z = subst (Each FewLeft) e t in
     let y = send-step (g .member) (in-turn s a g b (subst (HubOk s) e h)) c (due s (c .device)) q f in
     each-swap FewLeft a g (with g (sentMember s g c)) b z
     (record { few-left = subst (λ l. length l ≤ maxCommands) (sym (y .same-left)) (each-mid FewLeft a g b z .few-left) })
-few-left-moves s l h t (skips i a g b c e n r f q w u) =
+few-left-moves s l h t (passes i a g b c e n r f q w st u) =
     let z = subst (Each FewLeft) e t in
-    let y = skip-step (g .member) (in-turn s a g b (subst (HubOk s) e h)) c q f in
-    each-swap FewLeft a g (with g (skippedMember g)) b z (less-few-left g _ c (y .left-is) (each-mid FewLeft a g b z))
+    let y = skip-step (g .member) (in-turn s a g b (subst (HubOk s) e h)) c st (passing u) q f in
+    each-swap FewLeft a g (with g (passedMember st g)) b z (less-few-left g _ c (y .left-is) (each-mid FewLeft a g b z))
 few-left-moves s l h t (dones i code a g b x e n r f q) =
     let z = subst (Each FewLeft) e t in
     let y = done-step (g .member) (in-turn s a g b (subst (HubOk s) e h)) x f in
@@ -119,11 +118,11 @@ few-left-moves s l h t (restarts d v r lead k n u w) =
 -- the pass limit stays, and ids are given in turn
 pub fixed-moves : (s : State) (l : List Group) {c : Call} {r : Result} {lead : List Event} {k : List Group} → Moves s l c r lead k →
     (r .state .passLimit ≡ s .passLimit) × (s .nextId ≤ r .state .nextId)
-unfolding place commitTurn sendTurn skipTurn doneReport skippedState skipReport abort leave attach
+unfolding place commitTurn sendTurn doneReport skippedState skipReport abort leave attach
 fixed-moves s l (places cs a b q e u p n) = (refl, omega arith)
 fixed-moves s l (commits i a g b e n r f q) = (refl, omega arith)
-fixed-moves s l (sends i a g b c e n r f q w u) = (refl, omega arith)
-fixed-moves s l (skips i a g b c e n r f q w u) = (refl, omega arith)
+fixed-moves s l (sends i a g b c e n r f q w u plain) = (refl, omega arith)
+fixed-moves s l (passes i a g b c e n r f q w st u) = (refl, omega arith)
 fixed-moves s l (dones i code a g b x e n r f q) = (refl, omega arith)
 fixed-moves s l (misses i code a g b x e n r f q) = (refl, omega arith)
 fixed-moves s l (aborts c a g b e r q) = (refl, omega arith)
@@ -202,8 +201,8 @@ room-moves s l h t (places cs a b q e u p n) =
     let z = ap length e in
     omega arith
 room-moves s l h t (commits i a g b e n r f q) = swapped-room a g (with g (commit (g .member))) b e t
-room-moves s l h t (sends i a g b c e n r f q w u) = swapped-room a g (with g (sentMember s g c)) b e t
-room-moves s l h t (skips i a g b c e n r f q w u) = swapped-room a g (with g (skippedMember g)) b e t
+room-moves s l h t (sends i a g b c e n r f q w u plain) = swapped-room a g (with g (sentMember s g c)) b e t
+room-moves s l h t (passes i a g b c e n r f q w st u) = swapped-room a g (with g (passedMember st g)) b e t
 room-moves s l h t (dones i code a g b x e n r f q) = swapped-room a g (with g (doneMember g)) b e t
 room-moves s l h t (misses i code a g b x e n r f q) = swapped-room a g (with g (failedMember g)) b e t
 room-moves s l h t (aborts c a g b e r k) = left-room a g b e t
@@ -269,7 +268,7 @@ ready-limit s h l y k = record {
 pub ready-seen : (s : State) (h : List Told) (l : List Group) → Ready s h l → {c : Call} {r : Result} → Seen s l c r →
     (m : List Group) × Ready (r .state) (saying c (r .answers) ∷ h) m
 ready-seen s h l y {c = c} (is-refused r) = (l, untold s h l (saying c (refused r ∷ [])) refl y)
-ready-seen s h l y (waits i a g b d j e n f) = (l, untold s h l (saying (turn i) (wait (g .member .id) j ∷ [])) refl y)
+ready-seen s h l y (waits i a g b d asks j e n f) = (l, untold s h l (saying (turn i) (wait (g .member .id) j ∷ [])) refl y)
 ready-seen s h l y (limits k e) = (l, ready-limit s h l y k)
 ready-seen s h l y (moves {k = m} v) = (stillHeld m, ready-moves s h l y v)
 
@@ -309,11 +308,12 @@ gone-limit s d l x n (loses a g b q f m) = refl
 
 limit-moves : (s : State) (l : List Group) {c : Call} {r : Result} {lead : List Event} {k : List Group} → Moves s l c r lead k → (n : ℕ) →
     limitAfterAll (r .answers) n ≡ n
-unfolding commitTurn sendTurn skipTurn doneReport skipReport abort
+unfolding commitTurn sendTurn doneReport skipReport abort
 limit-moves s l (places cs a b q e u p m) n = refl
 limit-moves s l (commits i a g b e m r f q) n = refl
-limit-moves s l (sends i a g b c e m r f q w u) n = refl
-limit-moves s l (skips i a g b c e m r f q w u) n = refl
+limit-moves s l (sends i a g b c e m r f q w u plain) n = refl
+limit-moves s l (passes i a g b c e m r f q w st u) n =
+    by-answer (λ x. limitAfter x n ≡ n) (g .member .id) refl refl refl st
 limit-moves s l (dones i code a g b x e m r f q) n = refl
 limit-moves s l (misses i code a g b x e m r f q) n = refl
 limit-moves s l (aborts c a g b e r q) n = refl
@@ -324,7 +324,7 @@ limit-moves s l (restarts d v r lead k m u g) n = gone-limit s d l _ n g
 limit-seen : (s : State) (l : List Group) {c : Call} {r : Result} → Seen s l c r →
     (limitAfterAll (r .answers) (s .passLimit) ≡ r .state .passLimit) × (KeepsLimit c → (n : ℕ) → limitAfterAll (r .answers) n ≡ n)
 limit-seen s l (is-refused r) = (refl, λ _ n. refl)
-limit-seen s l (waits i a g b d j e n f) = (refl, λ _ n. refl)
+limit-seen s l (waits i a g b d asks j e n f) = (refl, λ _ n. refl)
 limit-seen s l (limits k e) = (refl, λ no n. absurd no)
 limit-seen s l (moves {r = r} v) = (
   limit-moves s l v (s .passLimit) ∙ sym (ap (λ (x : Fixed). x .passLimit) (settle-fixed (r .state)) ∙ fixed-moves s l v .0),

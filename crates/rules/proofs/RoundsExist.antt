@@ -10,17 +10,18 @@ use native.Mathlib.Omega.{arith}
 use borrow.Author.Tests.{eqb-true, eqb-false, eq-eqb, ne-eqb, le-ltb, not-true}
 use lib.Dec.{eqb}
 use Rattle.routine.specs.Choice.{if_then_else_}
+use Rattle.routine.specs.Routine.{isCondition}
 use Rattle.routine.specs.declared.Command.{Command}
 use Rattle.routine.specs.declared.Verdict.the-variants.{Accepted}
 use Rattle.routine.proofs.Laws.{byTest}
 use Rattle.rules.specs.Tables.{anyOf, put, Each}
-use Rattle.rules.specs.State.{Status, to-do, in-flight, was-done, was-skipped, Step, Member, State}
+use Rattle.rules.specs.State.{Status, to-do, in-flight, was-done, was-skipped, was-held, was-not-held, Step, Member, State}
 use Rattle.rules.specs.Answers.{Call, submit, turn, report, limit, placed, limited, Result}
-use Rattle.rules.specs.Progress.{isMust, isInFlight, next, Flight, flightOr, flight}
+use Rattle.rules.specs.Progress.{isMust, nextCountsAsMust, nextIsSkipped, isInFlight, next, Flight, flightOr, flight}
 use Rattle.rules.specs.Sequence.{Found, find, isRunning, runs}
 use Rattle.rules.specs.Abort.{abort}
 use Rattle.rules.specs.Open.{opened, limitCheck, openOf}
-use Rattle.rules.specs.Turn.{firstHolding, commitTurn, sendTurn, skipTurn, turnNext, waitOr, turnFound, turnOf}
+use Rattle.rules.specs.Turn.{firstHolding, commitTurn, sendTurn, skipTurn, isHeld, heldTurn, notHeldTurn, turnNext, waitOr, turnFound, turnOf}
 use Rattle.rules.specs.Report.{codeDone, codeFailed, doneReport, skipReport, reported, reportFound, reportOf}
 use Rattle.rules.specs.Calls.{resultOf, stateAfter}
 use Rattle.rules.specs.History.{Told, Account, accountsOf}
@@ -31,14 +32,14 @@ use Rattle.rules.specs.Rounds.{AnyOrder, RoundsExist}
 use Rattle.rules.proofs.Lists.{byIf, t≠f, and-left, and-right, put-other, each-++, each-left, IsNot, NotIn, IdsOk}
 use Rattle.rules.proofs.Groups.{Group, members, ids, foundAt, ids-++, other-ids}
 use Rattle.rules.proofs.Invariant.{HubOk}
-use Rattle.rules.proofs.View.{by-turn, by-report, by-cancel, places, commits, sends, skips, dones, misses, aborts}
+use Rattle.rules.proofs.View.{by-turn, by-report, by-cancel, places, commits, sends, passes, dones, misses, aborts}
 use Rattle.rules.proofs.View.{fails, restarts, Seen, is-refused, waits, limits, moves, see}
 use Rattle.rules.proofs.Schedules.{hasFlight, isFlying, isIdle, idsWith, turnsAt, reportsAt, allDone, busy, busyState, Sitting}
 use Rattle.rules.proofs.Schedules.{opensAt}
 use Rattle.rules.proofs.Schedules.{placing, placedState, roundsOf, changed, toldAfter}
 use Rattle.rules.proofs.Schedules.{lowered, loweredTo, afterLowering, lowered-placed}
 use Rattle.rules.proofs.Schedules.{overtaken, overtaken-placed, calcRounds}
-use Rattle.rules.proofs.Running.{has, Tells, none-has}
+use Rattle.rules.proofs.Running.{pass-noted, has, Tells, none-has}
 use Rattle.rules.proofs.Ready.{Ready, saying, ready-seen, ready-opened, ready-calls, limit-kept, opened-limit}
 use Rattle.rules.proofs.Waiting.{told-by-calls, state-calls, limit-is}
 use Rattle.rules.proofs.LimitLaws.{limit-passes}
@@ -102,6 +103,8 @@ flight-any (x ∷ l) = go (x .status) (flight-any l)
     go (in-flight u) h = refl
     go was-done h = h
     go was-skipped h = h
+    go was-held h = h
+    go was-not-held h = h
 
 -- a table that tells of the groups tells of the sequence
 any-members : (q p : Member → Bool) (i : ℕ) → ((m : Member) → (eqb (m .id) i && q m) ≡ p m) → (l : List Group) →
@@ -159,18 +162,23 @@ flight-is (some x) e = (x, refl)
 
 -- a turn of a running routine with nothing in flight
 turn-taken : (s : State) (f : Found) → flight (f .it .steps) ≡ none → isAccepted (turnFound s (some f) .answers) ≡ true
-unfolding commitTurn sendTurn skipTurn abort
+unfolding commitTurn sendTurn skipTurn heldTurn notHeldTurn abort
 turn-taken s f e = rw e (command (next (f .it .steps)))
   where
+    Taken : Result → Type 0
+    Taken r = isAccepted (r .answers) ≡ true
+
     search : (c : Command) (o : Option ℕ) → isAccepted (waitOr s f c o .answers) ≡ true
     search c (some j) = refl
     search c none =
-        byIf (λ (r : Result). isAccepted (r .answers) ≡ true) (s .up (c .device)) (λ _. refl)
-        (λ _. byIf (λ (r : Result). isAccepted (r .answers) ≡ true) (isMust c) (λ _. refl) (λ _. refl))
+        byIf Taken (nextIsSkipped false (f .it .steps)) (λ _. refl)
+        (λ _. byIf Taken (s .up (c .device))
+        (λ _. byIf Taken (isCondition c) (λ _. byIf Taken (isHeld s c) (λ _. refl) (λ _. refl)) (λ _. refl))
+        (λ _. byIf Taken (nextCountsAsMust (f .it .steps)) (λ _. refl) (λ _. refl)))
 
     command : (o : Option Command) → isAccepted (turnNext s f o .answers) ≡ true
     command none = refl
-    command (some c) = search c (firstHolding (c .device) (f .ahead))
+    command (some c) = search c (firstHolding (c .device) (isCondition c) (f .ahead))
 
 -- a report on a command in flight
 report-taken : (s : State) (f : Found) (code : ℕ) (x : Flight) → flight (f .it .steps) ≡ some x → code ≤ codeFailed →
@@ -225,14 +233,15 @@ module _ (s : State) (h : List Told) (l : List Group) (i j : ℕ) (other : i ≢
   elsewhere f g v e = put-other f (g .member .id) v i (λ z. other (z ∙ e))
 
   others-told : {c : Call} {r : Result} → Asks j c → Seen s l c r → accountsOf (saying c (r .answers) ∷ h) i ≡ accountsOf h i
-  unfolding commitTurn sendTurn skipTurn doneReport skipReport abort
+  unfolding commitTurn sendTurn doneReport skipReport abort
   others-told o (is-refused r) = refl
-  others-told o (waits w a g b d x e n f) = refl
+  others-told o (waits w a g b d asks x e n f) = refl
   others-told o (limits w e) = absurd o
   others-told o (moves (places cs a b q e u p n)) = absurd o
   others-told o (moves (commits w a g b e n r f q)) = elsewhere (accountsOf h) g _ (n ∙ o)
-  others-told o (moves (sends w a g b c e n r f q x u)) = elsewhere (accountsOf h) g _ (n ∙ o)
-  others-told o (moves (skips w a g b c e n r f q x u)) = elsewhere (accountsOf h) g _ (n ∙ o)
+  others-told o (moves (sends w a g b c e n r f q x u plain)) = elsewhere (accountsOf h) g _ (n ∙ o)
+  others-told o (moves (passes w a g b c e n r f q x st u)) =
+      ap (λ k. k i) (pass-noted w st (g .member .id) (accountsOf h)) ∙ elsewhere (accountsOf h) g _ (n ∙ o)
   others-told o (moves (dones w code a g b x e n r f q)) = elsewhere (accountsOf h) g _ (n ∙ o)
   others-told o (moves (misses w code a g b x e n r f q)) = elsewhere (accountsOf h) g _ (n ∙ o)
   others-told o (moves (aborts _ a g b e r (by-turn w n f))) = elsewhere (accountsOf h) g _ (n ∙ o)

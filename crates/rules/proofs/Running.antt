@@ -9,22 +9,22 @@ use lib.Dec.{eqb}
 use Rattle.routine.specs.Choice.{if_then_else_}
 use Rattle.routine.specs.declared.Command.{Command}
 use Rattle.rules.specs.Tables.{anyOf, put}
-use Rattle.rules.specs.State.{Member, State}
-use Rattle.rules.specs.Answers.{Call, failure, restart, Answer, down, up, Result}
+use Rattle.rules.specs.State.{Status, to-do, in-flight, was-done, was-skipped, was-held, was-not-held, Member, State}
+use Rattle.rules.specs.Answers.{Call, turn, failure, restart, Answer, down, up, Result}
 use Rattle.rules.specs.Sequence.{isRunning}
 use Rattle.rules.specs.Abort.{abort}
 use Rattle.rules.specs.Submit.{newcomer}
-use Rattle.rules.specs.Turn.{commit, commitTurn, sendTurn, skipTurn}
+use Rattle.rules.specs.Turn.{commit, commitTurn, sendTurn}
 use Rattle.rules.specs.Report.{doneReport, skipReport}
-use Rattle.rules.specs.History.{Outcome, reported-done, reported-failed, not-sent, Account, placedAccount, sentAccount}
+use Rattle.rules.specs.History.{Outcome, reported-done, reported-failed, not-sent, found-held, found-not-held, Account, placedAccount, sentAccount}
 use Rattle.rules.specs.History.{answeredAccount, endedAccount, hasBegun, eventAccount, noteAnswers}
 use Rattle.rules.specs.Order.{Event, failure-of, restart-of}
 use Rattle.rules.proofs.Lists.{byIf, t≠f, fold-++, put-keeps, NotIn, ids-fresh}
 use Rattle.rules.proofs.Groups.{Group, ids, alone, with, leaving, attachEvent, stillHeld, other-ids}
 use Rattle.rules.proofs.Same.{Pairwise, no-pair, pair, Same, same-placed, same-leaving, same-attached}
 use Rattle.rules.proofs.Invariant.{HubOk}
-use Rattle.rules.proofs.View.{sentMember, skippedMember, doneMember, failedMember, skippedLeft, Gone, nobody, somebody, loses}
-use Rattle.rules.proofs.View.{Moves, places, commits, sends, skips, dones, misses, aborts, fails, restarts}
+use Rattle.rules.proofs.View.{passAnswer, sentMember, passedMember, doneMember, failedMember, skippedLeft, Gone, nobody, somebody, loses}
+use Rattle.rules.proofs.View.{Moves, places, commits, sends, passes, dones, misses, aborts, fails, restarts}
 
 -- ---- a table over ids that says whether the routine with an id passes a test
 
@@ -143,6 +143,26 @@ put-part part f j v i = go (eqb i j)
     go true = refl
     go false = refl
 
+-- ---- a command that is answered without being sent
+
+-- how, by its status
+abbrev pub passOutcome : Status → Outcome
+passOutcome to-do = not-sent
+passOutcome (in-flight u) = not-sent
+passOutcome was-done = not-sent
+passOutcome was-skipped = not-sent
+passOutcome was-held = found-held
+passOutcome was-not-held = found-not-held
+
+pub pass-noted : (i : ℕ) (st : Status) (j : ℕ) (a : ℕ → Account) →
+    noteAnswers (turn i) (passAnswer st j ∷ []) a ≡ put a j (answeredAccount (passOutcome st) (a j))
+pass-noted i to-do j a = refl
+pass-noted i (in-flight u) j a = refl
+pass-noted i was-done j a = refl
+pass-noted i was-skipped j a = refl
+pass-noted i was-held j a = refl
+pass-noted i was-not-held j a = refl
+
 -- ---- which routines run
 
 abbrev runningIn : (ℕ → Account) → ℕ → Bool
@@ -150,10 +170,6 @@ runningIn a i = a i .running
 
 abbrev pub RunsTold : (ℕ → Account) → List Group → Type 0
 RunsTold a l = Tells isRunning (runningIn a) l
-
-answered-runs : (o : Outcome) (l : List Command) (x : Account) → answeredAccount o l x .running ≡ x .running
-answered-runs o [] x = refl
-answered-runs o (c ∷ l) x = refl
 
 pub same-runs : (g h : Group) → Same g h → isRunning (h .member) ≡ isRunning (g .member)
 unfolding isRunning
@@ -172,10 +188,8 @@ module _ (s : State) (a : ℕ → Account) (ga : List Group) (g : Group) (gb : L
       keeps-running a (g .member .id) x e i ∙ tells-stay isRunning (runningIn a) ga g h gb same is t i
 
   answers-running : (o : Outcome) (h : Group) → h .member .id ≡ g .member .id → isRunning (h .member) ≡ isRunning (g .member) →
-      RunsTold (put a (g .member .id) (answeredAccount o (a (g .member .id) .left) (a (g .member .id)))) (ga ++ (h ∷ gb))
-  answers-running o h =
-      let y = a (g .member .id) in
-      stays-running (answeredAccount o (y .left) y) h (answered-runs o (y .left) y)
+      RunsTold (put a (g .member .id) (answeredAccount o (a (g .member .id)))) (ga ++ (h ∷ gb))
+  answers-running o h = stays-running (answeredAccount o (a (g .member .id))) h refl
 
   stops-running : RunsTold (put a (g .member .id) (endedAccount (a (g .member .id)))) (leaving ga g gb)
   stops-running =
@@ -202,7 +216,7 @@ gone-runs s u c d a l h t (loses ga g gb e q m) =
 pub runs-moves : (s : State) (a : ℕ → Account) (l : List Group) {c : Call} {r : Result} {lead : List Event} {k : List Group} → HubOk s l →
     RunsTold a l → Moves s l c r lead k →
     RunsTold (noteAnswers c (r .answers) a) k
-unfolding newcomer commit commitTurn sendTurn skipTurn doneReport skipReport abort isRunning
+unfolding newcomer commit commitTurn sendTurn doneReport skipReport abort isRunning
 runs-moves s a l h t (places cs ga gb q e u p n) =
     let new = newcomer (s .nextId) cs in
     tells-same isRunning same-runs _ (same-placed ga (alone new) gb)
@@ -214,11 +228,12 @@ runs-moves s a l h t (commits i ga g gb e n r f q) =
     λ i. put-part (λ (y : Account). y .running) a (g .member .id) (endedAccount (a (g .member .id))) i
     ∙ tells-put isRunning (runningIn a) false ga g (with g (commit (g .member))) gb (other-ids (s .nextId) ga g gb (w .ids-ok)) refl refl
     (subst (RunsTold a) e t) i
-runs-moves s a l h t (sends i ga g gb c e n r f q w u) =
+runs-moves s a l h t (sends i ga g gb c e n r f q w u plain) =
     stays-running s a ga g gb (subst (HubOk s) e h) (subst (RunsTold a) e t) (sentAccount c (a (g .member .id)))
     (with g (sentMember s g c)) refl refl refl
-runs-moves s a l h t (skips i ga g gb c e n r f q w u) =
-    answers-running s a ga g gb (subst (HubOk s) e h) (subst (RunsTold a) e t) not-sent (with g (skippedMember g)) refl refl
+runs-moves s a l h t (passes i ga g gb c e n r f q w st u) =
+    subst (λ b. RunsTold b (ga ++ (with g (passedMember st g) ∷ gb))) (sym (pass-noted i st (g .member .id) a))
+    (answers-running s a ga g gb (subst (HubOk s) e h) (subst (RunsTold a) e t) (passOutcome st) (with g (passedMember st g)) refl refl)
 runs-moves s a l h t (dones i code ga g gb x e n r f q) =
     answers-running s a ga g gb (subst (HubOk s) e h) (subst (RunsTold a) e t) reported-done (with g (doneMember g)) refl refl
 runs-moves s a l h t (misses i code ga g gb x e n r f q) =

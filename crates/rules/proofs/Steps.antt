@@ -12,22 +12,24 @@ use lib.IntN.{ℤ}
 use Rattle.routine.specs.Choice.{if_then_else_}
 use Rattle.routine.specs.declared.Command.{Command}
 use Rattle.rules.specs.Tables.{anyOf, Each}
-use Rattle.rules.specs.State.{Status, to-do, in-flight, was-done, was-skipped, Step, Member}
+use Rattle.rules.specs.State.{Status, to-do, in-flight, was-done, was-skipped, was-held, was-not-held, Step, Member}
 use Rattle.rules.specs.Progress.{isMust, isOn, isToDo, isInFlight, isDone, isAnswered, begun, isLeftOn, finished, inFlightOn, next}
 use Rattle.rules.specs.Progress.{Flight, flightOr, flight, advance, answerFlight, withSteps}
 use Rattle.rules.specs.Due.{afterSteps}
 use Rattle.rules.specs.Submit.{stepOf, newcomer}
 use Rattle.rules.specs.Events.{mustLeft, skipLeft}
-use Rattle.rules.specs.History.{isFor, onlyOn, notOn}
-use Rattle.rules.specs.HubOrder.{doneSteps, leftSteps}
+use Rattle.rules.specs.History.{isFor}
+use Rattle.rules.specs.HubOrder.{doneSteps}
 use Rattle.rules.proofs.Lists.{byIf, t≠f, this-or-other, or-left, or-right, and-left, and-right, fold-++, anyOf-++}
 
--- neither in flight nor done
+-- to do, or skipped by an event
 abbrev pub isBehind : Status → Bool
 isBehind to-do = true
 isBehind (in-flight u) = false
 isBehind was-done = false
 isBehind was-skipped = true
+isBehind was-held = false
+isBehind was-not-held = false
 
 abbrev pub AllBehind : List Step → Type 0
 AllBehind [] = Unit {0}
@@ -38,11 +40,23 @@ InTurnAt to-do l rest = AllBehind l
 InTurnAt (in-flight u) l rest = AllBehind l
 InTurnAt was-done l rest = rest
 InTurnAt was-skipped l rest = rest
+InTurnAt was-held l rest = rest
+InTurnAt was-not-held l rest = rest
 
 -- answered ones; then perhaps one in flight or to do, and behind it some that are to do or skipped
 abbrev pub InTurn : List Step → Type 0
 InTurn [] = Unit {0}
 InTurn (x ∷ l) = InTurnAt (x .status) l (InTurn l)
+
+-- the commands that are not answered, in turn
+abbrev pub leftSteps : List Step → List Command
+leftSteps [] = []
+leftSteps (x ∷ l) = if isAnswered (x .status) then leftSteps l else x .command ∷ leftSteps l
+
+-- those of these commands that are not on d
+abbrev pub notOn : ℕ → List Command → List Command
+notOn d [] = []
+notOn d (c ∷ l) = if isFor d c then notOn d l else c ∷ notOn d l
 
 -- is one on d answered?
 abbrev pub answeredOn : ℕ → List Step → Bool
@@ -64,7 +78,15 @@ pub record Sent (c : Command) (u : ℤ) (m n : Member) : Type 0 where
   pub same-answered : (d : ℕ) → answeredOn d (n .steps) ≡ answeredOn d (m .steps)
   pub same-left : leftSteps (n .steps) ≡ leftSteps (m .steps)
 
--- the next command, c, is skipped
+-- a status that answers a command which was not sent: skipped, held, not held
+pub record Passing (s : Status) : Type 0 where
+  pub answers-it : isAnswered s ≡ true
+  pub not-done : isDone s ≡ false
+
+pub skipping : Passing was-skipped
+skipping = record { answers-it = refl; not-done = refl }
+
+-- the next command, c, is answered so
 pub record Skipped (c : Command) (m n : Member) : Type 0 where
   pub in-turn : InTurn (n .steps)
   pub unfinished : finished (c .device) m ≡ false
@@ -105,7 +127,6 @@ pub record LeftSkipped (d : ℕ) (m n : Member) : Type 0 where
   pub own-answered : begun d m ≡ true → answeredOn d (n .steps) ≡ true
   pub other-answered : (e : ℕ) → d ≢ e → answeredOn e (n .steps) ≡ answeredOn e (m .steps)
   pub left-is : leftSteps (n .steps) ≡ notOn d (leftSteps (m .steps))
-  pub left-best : mustLeft d m ≡ false → Each (λ c. isMust c ≡ false) (onlyOn d (leftSteps (m .steps)))
 
 -- ---- the commands taken apart: answered ones, then one in flight or to do, and those behind it
 
@@ -117,20 +138,25 @@ by-status : (P : List Step → Type 0) → P [] →
     ((c : Command) (l : List Step) → P l → P (step c to-do ∷ l)) →
     ((c : Command) (u : ℤ) (l : List Step) → P l → P (step c (in-flight u) ∷ l)) →
     ((c : Command) (l : List Step) → P l → P (step c was-done ∷ l)) → ((c : Command) (l : List Step) → P l → P (step c was-skipped ∷ l)) →
+    ((c : Command) (l : List Step) → P l → P (step c was-held ∷ l)) → ((c : Command) (l : List Step) → P l → P (step c was-not-held ∷ l)) →
     (l : List Step) → P l
-by-status P nil td fl dn sk [] = nil
-by-status P nil td fl dn sk (x ∷ l) = go (x .status) (by-status P nil td fl dn sk l)
+by-status P nil td fl dn sk hd nh [] = nil
+by-status P nil td fl dn sk hd nh (x ∷ l) = go (x .status) (by-status P nil td fl dn sk hd nh l)
   where
     go : (s : Status) → P l → P (step (x .command) s ∷ l)
     go to-do h = td (x .command) l h
     go (in-flight u) h = fl (x .command) u l h
     go was-done h = dn (x .command) l h
     go was-skipped h = sk (x .command) l h
+    go was-held h = hd (x .command) l h
+    go was-not-held h = nh (x .command) l h
 
 data AllAnswered : List Step → Type 0 where
   none-yet : AllAnswered []
   then-done : (c : Command) (l : List Step) → AllAnswered l → AllAnswered (step c was-done ∷ l)
   then-skipped : (c : Command) (l : List Step) → AllAnswered l → AllAnswered (step c was-skipped ∷ l)
+  then-held : (c : Command) (l : List Step) → AllAnswered l → AllAnswered (step c was-held ∷ l)
+  then-not-held : (c : Command) (l : List Step) → AllAnswered l → AllAnswered (step c was-not-held ∷ l)
 
 -- p is answered, c has status s, q is behind it
 abbrev at : List Step → Command → List Step → Status → List Step
@@ -150,6 +176,7 @@ apart =
     by-status (λ l. InTurn l → Parts l) (λ t. ends [] none-yet) (λ c l h t. rests [] none-yet c l t)
     (λ c u l h t. flies [] none-yet c u l t)
     (λ c l h t. longer was-done c l (then-done c) (h t)) (λ c l h t. longer was-skipped c l (then-skipped c) (h t))
+    (λ c l h t. longer was-held c l (then-held c) (h t)) (λ c l h t. longer was-not-held c l (then-not-held c) (h t))
   where
     longer : (s : Status) (c : Command) (l : List Step) → ((p : List Step) → AllAnswered p → AllAnswered (step c s ∷ p)) → Parts l →
         Parts (step c s ∷ l)
@@ -160,19 +187,26 @@ apart =
 -- what holds of l holds behind answered commands, if each of them keeps it
 over : (R : List Step → List Step → Type 0) (l : List Step) → R [] l →
     ((c : Command) (p k : List Step) → R p k → R (step c was-done ∷ p) (step c was-done ∷ k)) →
-    ((c : Command) (p k : List Step) → R p k → R (step c was-skipped ∷ p) (step c was-skipped ∷ k)) → (p : List Step) → AllAnswered p →
-    R p (p ++ l)
-over R l h dn sk _ none-yet = h
-over R l h dn sk _ (then-done c p a) = dn c p (p ++ l) (over R l h dn sk p a)
-over R l h dn sk _ (then-skipped c p a) = sk c p (p ++ l) (over R l h dn sk p a)
+    ((c : Command) (p k : List Step) → R p k → R (step c was-skipped ∷ p) (step c was-skipped ∷ k)) →
+    ((c : Command) (p k : List Step) → R p k → R (step c was-held ∷ p) (step c was-held ∷ k)) →
+    ((c : Command) (p k : List Step) → R p k → R (step c was-not-held ∷ p) (step c was-not-held ∷ k)) →
+    (p : List Step) → AllAnswered p → R p (p ++ l)
+over R l h dn sk hd nh _ none-yet = h
+over R l h dn sk hd nh _ (then-done c p a) = dn c p (p ++ l) (over R l h dn sk hd nh p a)
+over R l h dn sk hd nh _ (then-skipped c p a) = sk c p (p ++ l) (over R l h dn sk hd nh p a)
+over R l h dn sk hd nh _ (then-held c p a) = hd c p (p ++ l) (over R l h dn sk hd nh p a)
+over R l h dn sk hd nh _ (then-not-held c p a) = nh c p (p ++ l) (over R l h dn sk hd nh p a)
 
 -- what holds of answered commands alone
 all-over : (R : List Step → Type 0) → R [] → ((c : Command) (k : List Step) → R k → R (step c was-done ∷ k)) →
-    ((c : Command) (k : List Step) → R k → R (step c was-skipped ∷ k)) → (p : List Step) → AllAnswered p →
+    ((c : Command) (k : List Step) → R k → R (step c was-skipped ∷ k)) → ((c : Command) (k : List Step) → R k → R (step c was-held ∷ k)) →
+    ((c : Command) (k : List Step) → R k → R (step c was-not-held ∷ k)) → (p : List Step) → AllAnswered p →
     R p
-all-over R h dn sk _ none-yet = h
-all-over R h dn sk _ (then-done c p a) = dn c p (all-over R h dn sk p a)
-all-over R h dn sk _ (then-skipped c p a) = sk c p (all-over R h dn sk p a)
+all-over R h dn sk hd nh _ none-yet = h
+all-over R h dn sk hd nh _ (then-done c p a) = dn c p (all-over R h dn sk hd nh p a)
+all-over R h dn sk hd nh _ (then-skipped c p a) = sk c p (all-over R h dn sk hd nh p a)
+all-over R h dn sk hd nh _ (then-held c p a) = hd c p (all-over R h dn sk hd nh p a)
+all-over R h dn sk hd nh _ (then-not-held c p a) = nh c p (all-over R h dn sk hd nh p a)
 
 -- what counts neither a command to do nor a skipped one
 behind-over : {A : Type 0} (f : List Step → A) → ((c : Command) (l : List Step) → f (step c to-do ∷ l) ≡ f l) →
@@ -180,12 +214,15 @@ behind-over : {A : Type 0} (f : List Step → A) → ((c : Command) (l : List St
     (q : List Step) → AllBehind q → f q ≡ f []
 behind-over f h k =
     by-status (λ q. AllBehind q → f q ≡ f []) (λ w. refl) (λ c l e w. h c l ∙ e (w .1)) (λ c u l e w. t≠f (sym (w .0)))
-    (λ c l e w. t≠f (sym (w .0))) (λ c l e w. k c l ∙ e (w .1))
+    (λ c l e w. t≠f (sym (w .0))) (λ c l e w. k c l ∙ e (w .1)) (λ c l e w. t≠f (sym (w .0))) (λ c l e w. t≠f (sym (w .0)))
 
 behind-turn : (q : List Step) → AllBehind q → InTurn q
 behind-turn =
     by-status (λ q. AllBehind q → InTurn q) (λ w. tt) (λ c l h w. w .1) (λ c u l h w. t≠f (sym (w .0))) (λ c l h w. t≠f (sym (w .0)))
-    (λ c l h w. h (w .1))
+    (λ c l h w. h (w .1)) (λ c l h w. t≠f (sym (w .0))) (λ c l h w. t≠f (sym (w .0)))
+
+pub behind-grounded : (q : List Step) → AllBehind q → flight q ≡ none
+behind-grounded = behind-over flight (λ b l. refl) (λ b l. refl)
 
 new-behind : (cs : List Command) → AllBehind (map stepOf cs)
 new-behind [] = tt
@@ -215,6 +252,7 @@ past-flies : (d : ℕ) (l p : List Step) → AllAnswered p → anyOf (on d isInF
 past-flies d l =
     over (λ p k. anyOf (on d isInFlight) k ≡ anyOf (on d isInFlight) l) l refl
     (λ c p k h. rw (unpassed d isInFlight (step c was-done) refl) h) (λ c p k h. rw (unpassed d isInFlight (step c was-skipped) refl) h)
+    (λ c p k h. rw (unpassed d isInFlight (step c was-held) refl) h) (λ c p k h. rw (unpassed d isInFlight (step c was-not-held) refl) h)
 
 -- what fails j fails k
 fewer : (j k : Step → Bool) → ((x : Step) → j x ≡ false → k x ≡ false) → (l : List Step) → anyOf j l ≡ false → anyOf k l ≡ false
@@ -259,6 +297,8 @@ landed to-do e = t≠f (sym e)
 landed (in-flight u) e = t≠f (sym e)
 landed was-done e = (refl, refl, λ x. refl)
 landed was-skipped e = (refl, refl, λ x. refl)
+landed was-held e = (refl, refl, λ x. refl)
+landed was-not-held e = (refl, refl, λ x. refl)
 
 -- one test more of a list holds
 one-more : (x e y : Bool) → (x || ((e && true) || y)) ≡ ((x || ((e && false) || y)) || e)
@@ -269,32 +309,34 @@ one-more false false y = sym (or-false y)
 -- what is said of the list where c has status s
 module _ (p : List Step) (a : AllAnswered p) (c : Command) (q : List Step) (w : AllBehind q) where
   turn-at : (s : Status) → InTurn (at p c q s)
-  turn-at s = over (λ p k. InTurn k) (step c s ∷ q) (go s) (λ b p k h. h) (λ b p k h. h) p a
+  turn-at s = over (λ p k. InTurn k) (step c s ∷ q) (go s) (λ b p k h. h) (λ b p k h. h) (λ b p k h. h) (λ b p k h. h) p a
     where
       go : (s : Status) → InTurnAt s q (InTurn q)
       go to-do = w
       go (in-flight u) = w
       go was-done = behind-turn q w
       go was-skipped = behind-turn q w
+      go was-held = behind-turn q w
+      go was-not-held = behind-turn q w
 
   flight-at : (s : Status) → flight (at p c q s) ≡ flightOr (step c s) s none
   flight-at s =
       over (λ p k. flight k ≡ flightOr (step c s) s none) (step c s ∷ q)
       (ap (λ o. flightOr (step c s) s o) (behind-over flight (λ b l. refl) (λ b l. refl) q w))
-      (λ b p k e. e) (λ b p k e. e) p a
+      (λ b p k e. e) (λ b p k e. e) (λ b p k e. e) (λ b p k e. e) p a
 
   flies-at : (d : ℕ) (s : Status) → anyOf (on d isInFlight) (at p c q s) ≡ on d isInFlight (step c s)
   flies-at d s = rw (past-flies d (step c s ∷ q) p a, behind-pass d isInFlight refl refl q w) (or-false (on d isInFlight (step c s)))
 
   left-at : (s : Status) → leftSteps (at p c q s) ≡ (let l = leftSteps q in if isAnswered s then l else c ∷ l)
   left-at s = over (λ p k. leftSteps k ≡ leftSteps (step c s ∷ q)) (step c s ∷ q) refl (λ b p k e. e)
-      (λ b p k e. e) p a
+      (λ b p k e. e) (λ b p k e. e) (λ b p k e. e) p a
 
   done-at : (s : Status) → doneSteps (at p c q s) ≡ doneSteps p ++ (if isDone s then c ∷ [] else [])
   done-at s =
       over (λ p k. doneSteps k ≡ doneSteps p ++ (if isDone s then c ∷ [] else [])) (step c s ∷ q)
       (ap (λ l. if isDone s then c ∷ l else l) (behind-over doneSteps (λ b l. refl) (λ b l. refl) q w)) (λ b p k e. ap (λ l. b ∷ l) e)
-      (λ b p k e. e) p a
+      (λ b p k e. e) (λ b p k e. e) (λ b p k e. e) p a
 
   after-at : (d : ℕ) (v : ℤ) (s : Status) → afterSteps d (at p c q s) v ≡ (if on d isDone (step c s) then c .setting else afterSteps d p v)
   after-at d v s =
@@ -357,20 +399,21 @@ module _ (p : List Step) (a : AllAnswered p) (c : Command) (q : List Step) (w : 
   done-after-at u d v =
       rw (after-at d v was-done, after-at d v (in-flight u), and-true (eqb (c .device) d), and-false (eqb (c .device) d)) refl
 
-  skipped-at : (m : Member) → Skipped c (withSteps m (at p c q to-do)) (withSteps m (at p c q was-skipped))
+  skipped-at : (m : Member) (s : Status) → Passing s → Skipped c (withSteps m (at p c q to-do)) (withSteps m (at p c q s))
   unfolding begun finished inFlightOn
-  skipped-at m = record {
-    in-turn = turn-at was-skipped;
+  skipped-at m s e = record {
+    in-turn = turn-at s;
     unfinished = ap not (own-at isOpen to-do refl);
-    finishes = ends-at to-do was-skipped refl;
-    begins = own-at isBegun was-skipped refl;
-    other-begun = other-at isBegun was-skipped to-do;
-    flies = lands-at was-skipped refl;
-    flight-is = flight-at was-skipped;
-    same-after = λ d v. after-at d v was-skipped ∙ sym (after-at d v to-do);
-    same-done = done-at was-skipped ∙ sym (done-at to-do);
-    more-answered = gains-at to-do was-skipped refl refl;
-    left-is = leaves-at to-do was-skipped refl refl;
+    finishes = ends-at to-do s (e .answers-it);
+    begins = own-at isBegun s (ap not (landed s (e .answers-it) .1));
+    other-begun = other-at isBegun s to-do;
+    flies = lands-at s (e .answers-it);
+    flight-is = flight-at s ∙ landed s (e .answers-it) .2 (step c s);
+    same-after = λ d v. after-at d v s ∙ ap (λ b. if b then c .setting else afterSteps d p v) (unpassed d isDone (step c s) (e .not-done))
+        ∙ sym (after-at d v to-do ∙ ap (λ b. if b then c .setting else afterSteps d p v) (unpassed d isDone (step c to-do) refl));
+    same-done = done-at s ∙ ap (λ b. doneSteps p ++ (if b then c ∷ [] else [])) (e .not-done) ∙ sym (done-at to-do);
+    more-answered = gains-at to-do s refl (e .answers-it);
+    left-is = leaves-at to-do s refl (e .answers-it);
   }
 
   answer-at : (m : Member) (u : ℤ) (s : Status) → isAnswered s ≡ true →
@@ -393,14 +436,14 @@ module _ (p : List Step) (a : AllAnswered p) (c : Command) (q : List Step) (w : 
 at-next : (P : List Step → List Step → Type 0) (c : Command) (s : Status) → Goes c to-do s P →
     (l : List Step) → Parts l → next l ≡ some c → flight l ≡ none → P l (advance s l)
 at-next P c s h _ (ends p a) e f =
-    absurd (Option·none-ne-some c (sym (all-over (λ k. next k ≡ none) refl (λ b k n. n) (λ b k n. n) p a) ∙ e))
+    absurd (Option·none-ne-some c (sym (all-over (λ k. next k ≡ none) refl (λ b k n. n) (λ b k n. n) (λ b k n. n) (λ b k n. n) p a) ∙ e))
 at-next P c s h _ (rests p a b q w) e f =
     let same : b ≡ c =
-    Option·some-injective b c (sym (over (λ p k. next k ≡ some b) (step b to-do ∷ q) refl (λ b p k n. n) (λ b p k n. n) p a)
+    Option·some-injective b c (sym (over (λ p k. next k ≡ some b) (step b to-do ∷ q) refl (λ b p k n. n) (λ b p k n. n) (λ b p k n. n) (λ b p k n. n) p a)
     ∙ e) in
     subst (λ k. P (at p b q to-do) k)
     (sym (over (λ p k. advance s k ≡ p ++ (step b s ∷ q)) (step b to-do ∷ q) refl (λ b p k. ap (λ n. step b was-done ∷ n))
-    (λ b p k. ap (λ n. step b was-skipped ∷ n)) p a))
+    (λ b p k. ap (λ n. step b was-skipped ∷ n)) (λ b p k. ap (λ n. step b was-held ∷ n)) (λ b p k. ap (λ n. step b was-not-held ∷ n)) p a))
     (subst (λ b. P (at p b q to-do) (at p b q s)) (sym same) (h p a q w))
 at-next P c s h _ (flies p a b u q w) e f =
     absurd (Option·some-ne-none (record { command = b; dueThen = u }) (sym (flight-at p a b q w (in-flight u)) ∙ f))
@@ -409,14 +452,14 @@ at-next P c s h _ (flies p a b u q w) e f =
 at-flight : (P : List Step → List Step → Type 0) (x : Flight) (s : Status) → Goes (x .command) (in-flight (x .dueThen)) s P →
     (l : List Step) → Parts l → flight l ≡ some x → P l (answerFlight s l)
 at-flight P x s h _ (ends p a) e =
-    absurd (Option·none-ne-some x (sym (all-over (λ k. flight k ≡ none) refl (λ b k n. n) (λ b k n. n) p a) ∙ e))
+    absurd (Option·none-ne-some x (sym (all-over (λ k. flight k ≡ none) refl (λ b k n. n) (λ b k n. n) (λ b k n. n) (λ b k n. n) p a) ∙ e))
 at-flight P x s h _ (rests p a c q w) e = absurd (Option·none-ne-some x (sym (flight-at p a c q w to-do) ∙ e))
 at-flight P x s h _ (flies p a c u q w) e =
     let same : record { command = c; dueThen = u } ≡ x =
     Option·some-injective (record { command = c; dueThen = u }) x (sym (flight-at p a c q w (in-flight u)) ∙ e) in
     subst (λ k. P (at p c q (in-flight u)) k)
     (sym (over (λ p k. answerFlight s k ≡ p ++ (step c s ∷ q)) (step c (in-flight u) ∷ q) refl (λ b p k. ap (λ n. step b was-done ∷ n))
-    (λ b p k. ap (λ n. step b was-skipped ∷ n)) p a))
+    (λ b p k. ap (λ n. step b was-skipped ∷ n)) (λ b p k. ap (λ n. step b was-held ∷ n)) (λ b p k. ap (λ n. step b was-not-held ∷ n)) p a))
     (subst (λ y. P (at p (y .command) q (in-flight (y .dueThen))) (at p (y .command) q s)) (sym same) (h p a q w))
 
 module _ (m : Member) (t : InTurn (m .steps)) where
@@ -426,10 +469,10 @@ module _ (m : Member) (t : InTurn (m .steps)) where
       at-next (λ k l. Sent c u (withSteps m k) (withSteps m l)) c (in-flight u) (λ p a q w. sent-at p a c q w m u) (m .steps)
       (apart (m .steps) t) e f
 
-  pub skip-step : (c : Command) → next (m .steps) ≡ some c → flight (m .steps) ≡ none →
-      Skipped c m (withSteps m (advance was-skipped (m .steps)))
-  skip-step c e f =
-      at-next (λ k l. Skipped c (withSteps m k) (withSteps m l)) c was-skipped (λ p a q w. skipped-at p a c q w m) (m .steps)
+  pub skip-step : (c : Command) (s : Status) → Passing s → next (m .steps) ≡ some c → flight (m .steps) ≡ none →
+      Skipped c m (withSteps m (advance s (m .steps)))
+  skip-step c s h e f =
+      at-next (λ k l. Skipped c (withSteps m k) (withSteps m l)) c s (λ p a q w. skipped-at p a c q w m s h) (m .steps)
       (apart (m .steps) t) e f
 
   answers : (P : List Step → List Step → Type 0) (x : Flight) (s : Status) → Goes (x .command) (in-flight (x .dueThen)) s P →
@@ -493,17 +536,18 @@ pub none-left : (m : Member) → next (m .steps) ≡ none → flight (m .steps) 
 none-left m e f =
     by-status (λ l. next l ≡ none → flight l ≡ none → leftSteps l ≡ []) (λ e f. refl)
     (λ c l h e f. absurd (Option·some-ne-none c e)) (λ c u l h e f. absurd (Option·some-ne-none (record { command = c; dueThen = u }) f))
-    (λ c l h. h) (λ c l h. h) (m .steps) e f
+    (λ c l h. h) (λ c l h. h) (λ c l h. h) (λ c l h. h) (m .steps) e f
 
 no-flight : (l : List Step) → flight l ≡ none → anyOf (λ x. isInFlight (x .status)) l ≡ false
 no-flight =
     by-status (λ l. flight l ≡ none → anyOf (λ x. isInFlight (x .status)) l ≡ false) (λ e. refl)
     (λ c l h. h) (λ c u l h e. absurd (Option·some-ne-none (record { command = c; dueThen = u }) e)) (λ c l h. h) (λ c l h. h)
+    (λ c l h. h) (λ c l h. h)
 
 left-answered : (l : List Step) → leftSteps l ≡ [] → anyOf (λ x. isOpen (x .status)) l ≡ false
 left-answered =
     by-status (λ l. leftSteps l ≡ [] → anyOf (λ x. isOpen (x .status)) l ≡ false) (λ e. refl)
-    (λ c l h e. absurd (cons≢nil e)) (λ c u l h e. absurd (cons≢nil e)) (λ c l h. h) (λ c l h. h)
+    (λ c l h e. absurd (cons≢nil e)) (λ c u l h e. absurd (cons≢nil e)) (λ c l h. h) (λ c l h. h) (λ c l h. h) (λ c l h. h)
 
 pub left-finished : (m : Member) (d : ℕ) → leftSteps (m .steps) ≡ [] → finished d m ≡ true
 unfolding finished
@@ -512,7 +556,7 @@ left-finished m d e = ap not (fewer (λ x. isOpen (x .status)) (on d isOpen) (un
 pub left-grounded : (m : Member) → leftSteps (m .steps) ≡ [] → flight (m .steps) ≡ none
 left-grounded m e =
     by-status (λ l. leftSteps l ≡ [] → flight l ≡ none) (λ e. refl) (λ c l h e. absurd (cons≢nil e)) (λ c u l h e. absurd (cons≢nil e))
-    (λ c l h. h) (λ c l h. h) (m .steps) e
+    (λ c l h. h) (λ c l h. h) (λ c l h. h) (λ c l h. h) (m .steps) e
 
 pub grounded : (m : Member) (d : ℕ) → flight (m .steps) ≡ none → inFlightOn d m ≡ false
 unfolding inFlightOn
@@ -528,6 +572,8 @@ unbegun k f to-do e = f
 unbegun k f (in-flight u) e = t≠f e
 unbegun k f was-done e = t≠f e
 unbegun k f was-skipped e = t≠f e
+unbegun k f was-held e = t≠f e
+unbegun k f was-not-held e = t≠f e
 
 -- what has not begun d has not flown there, and changes nothing of it
 pub unbegun-grounded : (m : Member) (d : ℕ) → begun d m ≡ false → inFlightOn d m ≡ false
@@ -558,6 +604,8 @@ begun-is m d = go (m .steps)
     one true (in-flight u) = refl
     one true was-done = refl
     one true was-skipped = refl
+    one true was-held = refl
+    one true was-not-held = refl
     one false s = refl
 
     go : (l : List Step) → anyOf (on d isBegun) l ≡ (anyOf (on d isAnswered) l || anyOf (on d isInFlight) l)
@@ -572,7 +620,8 @@ unfolding finished
 left-on m d =
     by-status (λ l. anyOf (isFor d) (leftSteps l) ≡ anyOf (on d isOpen) l) refl
     (λ c l h. ap₂ _||_ (sym (and-true (isFor d c))) h) (λ c u l h. ap₂ _||_ (sym (and-true (isFor d c))) h)
-    (λ c l h. rw (and-false (isFor d c)) h) (λ c l h. rw (and-false (isFor d c)) h) (m .steps)
+    (λ c l h. rw (and-false (isFor d c)) h) (λ c l h. rw (and-false (isFor d c)) h) (λ c l h. rw (and-false (isFor d c)) h)
+    (λ c l h. rw (and-false (isFor d c)) h) (m .steps)
     ∙ sym (twice (anyOf (on d isOpen) (m .steps)))
   where
     twice : (b : Bool) → not (not b) ≡ b
@@ -638,6 +687,8 @@ module _ (d : ℕ) where
       stays c (in-flight u) l t h w = skip-behind l w
       stays c was-done l t h w = h w
       stays c was-skipped l t h w = h w
+      stays c was-held l t h w = h w
+      stays c was-not-held l t h w = h w
 
       goes : (c : Command) (s : Status) (l : List Step) → c .device ≡ d → isAnswered s ≡ false → (InTurn l → InTurn (skipLeft d l)) →
           InTurnAt s l (InTurn l) → InTurn (skipLeft d l)
@@ -645,6 +696,8 @@ module _ (d : ℕ) where
       goes c (in-flight v) l t u h w = behind-turn (skipLeft d l) (skip-behind l w)
       goes c was-done l t u h w = t≠f u
       goes c was-skipped l t u h w = t≠f u
+      goes c was-held l t u h w = t≠f u
+      goes c was-not-held l t u h w = t≠f u
 
   skip-after : (e : ℕ) (l : List Step) (v : ℤ) → afterSteps e (skipLeft d l) v ≡ afterSteps e l v
   skip-after e =
@@ -657,6 +710,8 @@ module _ (d : ℕ) where
       undone (in-flight u) e = refl
       undone was-done e = t≠f e
       undone was-skipped e = t≠f e
+      undone was-held e = t≠f e
+      undone was-not-held e = t≠f e
 
   skip-done : (l : List Step) → doneSteps (skipLeft d l) ≡ doneSteps l
   skip-done =
@@ -668,6 +723,8 @@ module _ (d : ℕ) where
       goes c (in-flight v) l t u h = h
       goes c was-done l t u h = t≠f u
       goes c was-skipped l t u h = t≠f u
+      goes c was-held l t u h = t≠f u
+      goes c was-not-held l t u h = t≠f u
 
   pub skip-left : (l : List Step) → leftSteps (skipLeft d l) ≡ notOn d (leftSteps l)
   skip-left =
@@ -681,6 +738,8 @@ module _ (d : ℕ) where
       stays c (in-flight u) l t h = rw (sym (and-true (eqb (c .device) d)) ∙ t) (ap (λ m. c ∷ m) h)
       stays c was-done l t h = h
       stays c was-skipped l t h = h
+      stays c was-held l t h = h
+      stays c was-not-held l t h = h
 
   -- the command in flight, if it is on another device, stays in flight
   skip-flight-was : (x : Flight) (l : List Step) → InTurn l → flight (skipLeft d l) ≡ some x →
@@ -705,6 +764,8 @@ module _ (d : ℕ) where
           )
       stays c was-done l t h w e = h w e
       stays c was-skipped l t h w e = h w e
+      stays c was-held l t h w e = h w e
+      stays c was-not-held l t h w e = h w e
 
       goes : (c : Command) (s : Status) (l : List Step) → c .device ≡ d → isAnswered s ≡ false →
           (InTurn l → flight (skipLeft d l) ≡ some x → (flight l ≡ some x) × (x .command .device ≢ d)) →
@@ -714,6 +775,8 @@ module _ (d : ℕ) where
       goes c (in-flight v) l t u h w e = absurd (Option·none-ne-some x (sym (none-behind l w) ∙ e))
       goes c was-done l t u h w e = t≠f u
       goes c was-skipped l t u h w e = t≠f u
+      goes c was-held l t u h w e = t≠f u
+      goes c was-not-held l t u h w e = t≠f u
 
   skip-flight-stays : (x : Flight) (l : List Step) → flight l ≡ some x → x .command .device ≢ d → flight (skipLeft d l) ≡ some x
   skip-flight-stays x =
@@ -726,6 +789,8 @@ module _ (d : ℕ) where
       stays c (in-flight u) l t h e n = e
       stays c was-done l t h e n = h e n
       stays c was-skipped l t h e n = h e n
+      stays c was-held l t h e n = h e n
+      stays c was-not-held l t h e n = h e n
 
       goes : (c : Command) (s : Status) (l : List Step) → c .device ≡ d → isAnswered s ≡ false →
           (flight l ≡ some x → x .command .device ≢ d → flight (skipLeft d l) ≡ some x) →
@@ -735,20 +800,11 @@ module _ (d : ℕ) where
           absurd (n (ap (λ (f : Flight). f .command .device) (sym (Option·some-injective (record { command = c; dueThen = v }) x e)) ∙ t))
       goes c was-done l t u h e n = t≠f u
       goes c was-skipped l t u h e n = t≠f u
-
-  -- none of them is a must
-  left-bests : (l : List Step) → anyOf (λ x. isLeftOn d x && isMust (x .command)) l ≡ false →
-      Each (λ c. isMust c ≡ false) (onlyOn d (leftSteps l))
-  left-bests [] e = tt
-  left-bests (x ∷ l) e =
-      let here = or-left (isLeftOn d x && isMust (x .command)) (anyOf (λ x. isLeftOn d x && isMust (x .command)) l) e in
-      let rest = left-bests l (or-right (isLeftOn d x && isMust (x .command)) (anyOf (λ x. isLeftOn d x && isMust (x .command)) l) e) in
-      byIf (λ m. Each (λ c. isMust c ≡ false) (onlyOn d m)) (isAnswered (x .status)) (λ _. rest)
-      (λ t. byIf (Each (λ c. isMust c ≡ false)) (isOn d x) (λ u. (sym (ap₂ (λ a b. a && not b && isMust (x .command)) u t) ∙ here, rest))
-      (λ _. rest))
+      goes c was-held l t u h e n = t≠f u
+      goes c was-not-held l t u h e n = t≠f u
 
 pub skip-steps : (d : ℕ) (m : Member) → InTurn (m .steps) → LeftSkipped d m (withSteps m (skipLeft d (m .steps)))
-unfolding begun finished inFlightOn mustLeft
+unfolding begun finished inFlightOn
 skip-steps d m t = record {
   in-turn = skip-turn d l t;
   finishes-it = ap not (skip-closes d l);
@@ -763,7 +819,6 @@ skip-steps d m t = record {
   own-answered = λ b. own b;
   other-answered = λ e n. skip-other d isAnswered e n l;
   left-is = skip-left d l;
-  left-best = left-bests d l;
 }
   where
     l : List Step

@@ -24,7 +24,7 @@ use Rattle.rules.specs.Settle.{settleFrom, settle, settling}
 use Rattle.rules.specs.Abort.{leave, abort}
 use Rattle.rules.specs.Open.{opened, limitCheck, openCheck, newHub, openIf, openOf}
 use Rattle.rules.specs.Submit.{place}
-use Rattle.rules.specs.Turn.{commitTurn, sendTurn, skipTurn}
+use Rattle.rules.specs.Turn.{commitTurn, sendTurn}
 use Rattle.rules.specs.Report.{doneReport, skippedState, skipReport}
 use Rattle.rules.specs.Calls.{resultOf}
 use Rattle.rules.specs.History.{Account, noteAnswer, noteAnswers, workingAfter, workingOf}
@@ -33,13 +33,13 @@ use Rattle.rules.specs.Serial.{allUp, serialRun}
 use Rattle.rules.specs.World.{Message, Device, takes, World, Act, calls, takes-one, accounts, afterCall, worldAfter, worldAfterAll}
 use Rattle.rules.specs.World.{taken, isAccepted, Truthful, Premised, Premise, PremiseAll, newWorld}
 use Rattle.rules.specs.Demand3.{orderIn, NoneRuns, isBack, committedPart, EndState, Begins, CommandsStand, Statement}
-use Rattle.rules.specs.HubOrder.{LeftTold, entryOf, routinesIn, OrderIsHubs}
+use Rattle.rules.specs.HubOrder.{CommandsTold, entryOf, routinesIn, OrderIsHubs}
 use Rattle.rules.specs.Attach.{oneRestart, attach}
 use Rattle.rules.proofs.Lists.{byIf, t≠f, fold-++, anyOf-++}
 use Rattle.rules.proofs.Groups.{Group, members, alone, flat, stillHeld, each-held}
 use Rattle.rules.proofs.Invariant.{unmarked, HubOk, InFlightIsUp, FirstRuns, OrderOk, AccountTells, backTo, ReachesSetting, has}
 use Rattle.rules.proofs.Invariant.{goes-back, OneFlightOn, DeviceAt, is-down, none-on-it, one-on-it, DeviceOk, PremiseOnCall}
-use Rattle.rules.proofs.View.{Gone, nobody, somebody, loses, Moves, places, commits, sends, skips, dones, misses, aborts, fails}
+use Rattle.rules.proofs.View.{by-answer, Gone, nobody, somebody, loses, Moves, places, commits, sends, passes, dones, misses, aborts, fails}
 use Rattle.rules.proofs.View.{restarts, Seen, is-refused, waits, limits, moves, see}
 use Rattle.rules.proofs.Fields.{Fixed, gone-fixed, attach-fixed, settle-fixed}
 use Rattle.rules.proofs.Moved.{hub-limit, hub-settles}
@@ -109,11 +109,12 @@ gone-accepted s d l x e (loses a g b q f m) = e
 -- it is accepted, and the devices are as many as before
 pub moves-same : (s : State) (l : List Group) {c : Call} {r : Result} {lead : List Event} {k : List Group} → Moves s l c r lead k →
     (isAccepted (r .answers) ≡ true) × (r .state .devices ≡ s .devices)
-unfolding place commitTurn sendTurn skipTurn doneReport skippedState skipReport abort leave attach
+unfolding place commitTurn sendTurn doneReport skippedState skipReport abort leave attach
 moves-same s l (places cs a b q e u p n) = (refl, refl)
 moves-same s l (commits i a g b e n r f q) = (refl, refl)
-moves-same s l (sends i a g b c e n r f q w u) = (refl, refl)
-moves-same s l (skips i a g b c e n r f q w u) = (refl, refl)
+moves-same s l (sends i a g b c e n r f q w u plain) = (refl, refl)
+moves-same s l (passes i a g b c e n r f q w st u) =
+    (by-answer (λ x. isAccepted (x ∷ []) ≡ true) (g .member .id) refl refl refl st, refl)
 moves-same s l (dones i code a g b x e n r f q) = (refl, refl)
 moves-same s l (misses i code a g b x e n r f q) = (refl, refl)
 moves-same s l (aborts c a g b e r q) = (refl, refl)
@@ -138,7 +139,7 @@ devices-kept s c = go (see-any s c)
   where
     go : {c : Call} {r : Result} → Seen s (map alone (s .sequence)) c r → r .state .devices ≡ s .devices
     go (is-refused r) = refl
-    go (waits i a g b d j w n f) = refl
+    go (waits i a g b d asks j w n f) = refl
     go (limits k e) = refl
     go (moves {r = r} m) = ap (λ (q : Fixed). q .devices) (settle-fixed (r .state)) ∙ moves-same s (map alone (s .sequence)) m .1
 
@@ -258,7 +259,7 @@ told P w c v h {r = r} {lead = lead} {k = k} m = record {
 seen : (P : Type 0) (w : World) (c : Call) (v : ℤ) (h : Holds P w) {r : Result} → Seen (w .state) (h .groups) c r →
     Next (P × Premised w c (r .answers)) w (afterCall w c v r)
 seen P w c v h (is-refused r) = untold P _ w c (refused r) h refl refl refl
-seen P w _ v h (waits i a g b d j e n f) = untold P _ w (turn i) (wait (g .member .id) j) h refl refl refl
+seen P w _ v h (waits i a g b d asks j e n f) = untold P _ w (turn i) (wait (g .member .id) j) h refl refl refl
 seen P w _ v h (limits k e) =
     let n = untold P _ (withLimit w k) (limit k) (limited k) (holds-limit P w k h) refl refl refl in
     record { next = n .next; grows = n .grows; same-devices = n .same-devices }
@@ -450,13 +451,13 @@ hub-order n k first s e acts =
       routines-are = ap routinesIn (h .known .order .unsettled-is) ∙ routines-flat (h .groups)
           ∙ ap (map entryOf) (sym (h .known .hub .sequence-is));
       devices-are = serial-is (Unit {0} × PremiseAll (newWorld s) acts) (worldAfterAll (newWorld s) acts) h;
-      left-are = subst (Each (LeftTold (accounts (worldAfterAll (newWorld s) acts)))) (sym (h .known .hub .sequence-is))
-          (all-left (accounts (worldAfterAll (newWorld s) acts)) (h .groups) (h .known .tells));
+      commands-are = subst (Each (CommandsTold (accounts (worldAfterAll (newWorld s) acts)))) (sym (h .known .hub .sequence-is))
+          (all-told (accounts (worldAfterAll (newWorld s) acts)) (h .groups) (h .known .tells));
     }
   where
-    all-left : (a : ℕ → Account) (l : List Group) → Each (AccountTells a) l → Each (LeftTold a) (members l)
-    all-left a [] t = tt
-    all-left a (g ∷ l) t = (t .0 .left-is, all-left a l (t .1))
+    all-told : (a : ℕ → Account) (l : List Group) → Each (AccountTells a) l → Each (CommandsTold a) (members l)
+    all-told a [] t = tt
+    all-told a (g ∷ l) t = (t .0 .agrees, all-told a l (t .1))
 
 -- if no routine runs after the list, what demand 3 has of the committed routines is the whole order
 pub order-committed : (n k first : ℕ) (s : State) → openOf n k first ≡ opened s → (acts : List Act) →

@@ -13,23 +13,22 @@ use Rattle.rules.specs.Due.{due}
 use Rattle.rules.specs.Sequence.{isRunning, withUp}
 use Rattle.rules.specs.Abort.{abort}
 use Rattle.rules.specs.Submit.{newcomer}
-use Rattle.rules.specs.Turn.{commit, commitTurn, sendTurn, skipTurn}
+use Rattle.rules.specs.Turn.{commit, commitTurn, sendTurn}
 use Rattle.rules.specs.Report.{doneReport, skipReport}
 use Rattle.rules.specs.History.{Outcome, reported-done, reported-failed, not-sent, Account, placedAccount, sentAccount}
 use Rattle.rules.specs.History.{answeredAccount, endedAccount, skippedAccount, noteAnswers}
 use Rattle.rules.specs.Order.{Event, failure-of, restart-of, deviceOf}
-use Rattle.rules.specs.HubOrder.{leftSteps}
 use Rattle.rules.proofs.Schedules.{isFlying}
 use Rattle.rules.proofs.Lists.{each-mid, ids-fresh, put-same}
 use Rattle.rules.proofs.Groups.{Group, ids, alone, with, leaving, attachEvent, stillHeld, other-ids}
 use Rattle.rules.proofs.Same.{Same, same-placed, same-leaving, same-attached}
-use Rattle.rules.proofs.Steps.{send-step, skip-step, done-step, fail-step, fresh-newcomer}
+use Rattle.rules.proofs.Steps.{leftSteps, send-step, skip-step, done-step, fail-step, fresh-newcomer}
 use Rattle.rules.proofs.Invariant.{HubOk, AccountTells}
-use Rattle.rules.proofs.View.{sentMember, skippedMember, doneMember, failedMember, skippedLeft, Gone, nobody, somebody, loses}
-use Rattle.rules.proofs.View.{Moves, places, commits, sends, skips, dones, misses, aborts, fails, restarts}
+use Rattle.rules.proofs.View.{passing, sentMember, passedMember, doneMember, failedMember, skippedLeft, Gone, nobody, somebody, loses}
+use Rattle.rules.proofs.View.{Moves, places, commits, sends, passes, dones, misses, aborts, fails, restarts}
 use Rattle.rules.proofs.Marks.{in-turn, halfway-is}
 use Rattle.rules.proofs.Moved.{hub-up}
-use Rattle.rules.proofs.Running.{Tells, tells-put, tells-drop, tells-new, tells-held, tells-same, put-part, RunsTold}
+use Rattle.rules.proofs.Running.{passOutcome, pass-noted, Tells, tells-put, tells-drop, tells-new, tells-held, tells-same, put-part, RunsTold}
 use Rattle.rules.proofs.Accounts.{eventTold, gone-tells, TellsEvent, event-accounts}
 
 abbrev pub flyingIn : (ℕ → Account) → ℕ → Bool
@@ -56,12 +55,9 @@ module _ (s : State) (a : ℕ → Account) (ga : List Group) (g : Group) (gb : L
       ∙ tells-put isFlying (flyingIn a) (x .flying) ga g h gb (other-ids (s .nextId) ga g gb (w .ids-ok)) same is t i
 
   -- the first command that is left is answered
-  lands : (o : Outcome) (h : Group) (c : Command) → AccountTells a g → h .member .id ≡ g .member .id →
-      leftSteps (g .member .steps) ≡ c ∷ leftSteps (h .member .steps) → flight (h .member .steps) ≡ none →
-      FliesTold (put a (g .member .id) (answeredAccount o (a (g .member .id) .left) (a (g .member .id)))) (ga ++ (h ∷ gb))
-  lands o h c k same left e =
-      now-flies (answeredAccount o (a (g .member .id) .left) (a (g .member .id))) h same
-      (grounded-flying (h .member) e ∙ sym (ap (λ l. answeredAccount o l (a (g .member .id)) .flying) (k .left-is ∙ left)))
+  lands : (o : Outcome) (h : Group) → h .member .id ≡ g .member .id → flight (h .member .steps) ≡ none →
+      FliesTold (put a (g .member .id) (answeredAccount o (a (g .member .id)))) (ga ++ (h ∷ gb))
+  lands o h same e = now-flies (answeredAccount o (a (g .member .id))) h same (grounded-flying (h .member) e)
 
   gone-down : FliesTold (put a (g .member .id) (endedAccount (a (g .member .id)))) (leaving ga g gb)
   gone-down =
@@ -94,7 +90,7 @@ event-flies s x j c y a l {k = k} n h u v t w =
 pub flies-told : (s : State) (a : ℕ → Account) (l : List Group) {c : Call} {r : Result} {lead : List Event} {k : List Group} → HubOk s l →
     RunsTold a l → Each (AccountTells a) l → FliesTold a l → Moves s l c r lead k →
     FliesTold (noteAnswers c (r .answers) a) k
-unfolding commitTurn commit sendTurn skipTurn doneReport skipReport abort isFlying isRunning newcomer
+unfolding commitTurn commit sendTurn doneReport skipReport abort isFlying isRunning newcomer
 flies-told s a l h u v t (places cs ga gb q e z p n) =
     let new = newcomer (s .nextId) cs in
     let f = grounded-flying new (fresh-newcomer (s .nextId) cs .flight-is) in
@@ -106,26 +102,24 @@ flies-told s a l h u v t (places cs ga gb q e z p n) =
 flies-told s a l h u v t (commits i ga g gb e n r x q) =
     now-flies s a ga g gb (subst (HubOk s) e h) (subst (FliesTold a) e t) (endedAccount (a (g .member .id))) (with g (commit (g .member)))
     refl refl
-flies-told s a l h u v t (sends i ga g gb c e n r x q w z) =
+flies-told s a l h u v t (sends i ga g gb c e n r x q w z plain) =
     let y = subst (HubOk s) e h in
     let k = send-step (g .member) (in-turn s ga g gb y) c (due s (c .device)) q x in
     now-flies s a ga g gb y (subst (FliesTold a) e t) (sentAccount c (a (g .member .id))) (with g (sentMember s g c)) refl
     (rw (r, k .flight-is) refl)
-flies-told s a l h u v t (skips i ga g gb c e n r x q w z) =
+flies-told s a l h u v t (passes i ga g gb c e n r x q w st z) =
     let y = subst (HubOk s) e h in
-    let k = skip-step (g .member) (in-turn s ga g gb y) c q x in
-    lands s a ga g gb y (subst (FliesTold a) e t) not-sent (with g (skippedMember g)) c
-    (each-mid (AccountTells a) ga g gb (subst (Each (AccountTells a)) e v)) refl (k .left-is) (k .flight-is)
+    subst (λ b. FliesTold b (ga ++ (with g (passedMember st g) ∷ gb))) (sym (pass-noted i st (g .member .id) a))
+    (lands s a ga g gb y (subst (FliesTold a) e t) (passOutcome st) (with g (passedMember st g)) refl
+    (skip-step (g .member) (in-turn s ga g gb y) c st (passing z) q x .flight-is))
 flies-told s a l h u v t (dones i code ga g gb x e n r z q) =
     let y = subst (HubOk s) e h in
-    let k = done-step (g .member) (in-turn s ga g gb y) x z in
-    lands s a ga g gb y (subst (FliesTold a) e t) reported-done (with g (doneMember g)) (x .command)
-    (each-mid (AccountTells a) ga g gb (subst (Each (AccountTells a)) e v)) refl (k .left-is) (k .flight-is)
+    lands s a ga g gb y (subst (FliesTold a) e t) reported-done (with g (doneMember g)) refl
+    (done-step (g .member) (in-turn s ga g gb y) x z .flight-is)
 flies-told s a l h u v t (misses i code ga g gb x e n r z q) =
     let y = subst (HubOk s) e h in
-    let k = fail-step (g .member) (in-turn s ga g gb y) x z in
-    lands s a ga g gb y (subst (FliesTold a) e t) reported-failed (with g (failedMember g)) (x .command)
-    (each-mid (AccountTells a) ga g gb (subst (Each (AccountTells a)) e v)) refl (k .left-is) (k .flight-is)
+    lands s a ga g gb y (subst (FliesTold a) e t) reported-failed (with g (failedMember g)) refl
+    (fail-step (g .member) (in-turn s ga g gb y) x z .flight-is)
 flies-told s a l h u v t (aborts c ga g gb e r k) = gone-down s a ga g gb (subst (HubOk s) e h) (subst (FliesTold a) e t)
 flies-told s a l h u v t (fails d r lead k n z w) =
     event-flies (withUp s (put (s .up) d false)) (failure-of d) (r .state .mark d) (failure d) (down d (r .state .mark d)) a l (λ b. refl)

@@ -10,23 +10,24 @@ use lib.Dec.{leb, ltb, eqb}
 use lib.IntN.{ℤ}
 use Rattle.routine.specs.Range.{inRange}
 use Rattle.routine.specs.Refusals.{report-code-out-of-range, failure-of-down, restart-of-up, restart-setting, refuse_when_, _andThen_}
+use Rattle.routine.specs.Routine.{isCondition}
 use Rattle.routine.specs.declared.Command.{Command}
 use Rattle.routine.specs.declared.Refusal.{Refusal}
 use Rattle.routine.specs.declared.Verdict.{Verdict}
 use Rattle.routine.specs.declared.Verdict.the-variants.{Accepted, Refused}
 use Rattle.rules.specs.Tables.{anyOf, put, Each}
-use Rattle.rules.specs.State.{in-flight, was-done, was-skipped, Member, State}
-use Rattle.rules.specs.Answers.{Call, submit, turn, report, failure, restart, cancel, limit, refused, placed, wait, down, up}
-use Rattle.rules.specs.Answers.{limited, Result}
-use Rattle.rules.specs.Answers.{unlessRefused}
-use Rattle.rules.specs.Progress.{isMust, next, Flight, flight, advance, answerFlight, withSteps}
+use Rattle.rules.specs.State.{Status, to-do, in-flight, was-done, was-skipped, was-held, was-not-held, Member, State}
+use Rattle.rules.specs.Answers.{Call, submit, turn, report, failure, restart, cancel, limit, Answer, refused, placed, wait, skipped}
+use Rattle.rules.specs.Answers.{held, not-held, down, up, limited, Result, unlessRefused}
+use Rattle.rules.specs.Progress.{isMust, next, nextCountsAsMust, nextIsSkipped, Flight, flight, advance, answerFlight, withSteps}
 use Rattle.rules.specs.Due.{due}
 use Rattle.rules.specs.Sequence.{Found, onto, find, isRunning, runs, lastIdOr, withUp}
 use Rattle.rules.specs.Settle.{settling}
 use Rattle.rules.specs.Abort.{abort}
 use Rattle.rules.specs.Open.{limitCheck}
 use Rattle.rules.specs.Submit.{submitCheck, blocks, upToLast, pastLast, newcomer, place, submitOf}
-use Rattle.rules.specs.Turn.{firstHolding, commit, commitTurn, sendTurn, skipTurn, waitOr, turnNext, turnFlight, turnFound, turnOf}
+use Rattle.rules.specs.Turn.{firstHolding, commit, commitTurn, nextBecomes, sendTurn, skipTurn, isHeld, heldTurn, notHeldTurn, waitOr, turnNext}
+use Rattle.rules.specs.Turn.{turnFlight, turnFound, turnOf}
 use Rattle.rules.specs.Report.{codeDone, codeFailed, doneReport, skipReport, reportFlight, reportFound, reportOf}
 use Rattle.rules.specs.Events.{isHalfway, mustLeft, skipLeft, skipRest, stopIfAny, stopHalfway, failureResult, restartResult}
 use Rattle.rules.specs.Events.{failureOf, restartOf}
@@ -37,14 +38,15 @@ use Rattle.rules.specs.Order.{Event, failure-of, restart-of}
 use Rattle.rules.specs.Attach.{attach, oneRestart}
 use Rattle.rules.proofs.Lists.{byIf, and-left, and-right, each-map}
 use Rattle.rules.proofs.Groups.{Group, members, alone, with, passAll, foundAt, leaving, leadOf, attachEvent, leadWith}
+use Rattle.rules.proofs.Steps.{Passing}
 use Rattle.rules.proofs.Invariant.{NotHalfway}
 
 -- the changed routine of a turn or a report, from the result's text
 abbrev pub sentMember : State → Group → Command → Member
 sentMember s g c = withSteps (g .member) (advance (in-flight (due s (c .device))) (g .member .steps))
 
-abbrev pub skippedMember : Group → Member
-skippedMember g = withSteps (g .member) (advance was-skipped (g .member .steps))
+abbrev pub passedMember : Status → Group → Member
+passedMember st g = withSteps (g .member) (advance st (g .member .steps))
 
 abbrev pub doneMember : Group → Member
 doneMember g = withSteps (g .member) (answerFlight was-done (g .member .steps))
@@ -55,6 +57,40 @@ failedMember g = withSteps (g .member) (answerFlight was-skipped (g .member .ste
 -- the routine that an event of d leaves without the commands left on d
 abbrev pub skippedLeft : ℕ → Group → Member
 skippedLeft d g = withSteps (g .member) (skipLeft d (g .member .steps))
+
+-- why the next command, c, is answered without being sent, and how
+pub data Passes (s : State) (g : Group) (c : Command) : Status → Type 0 where
+  is-down : s .up (c .device) ≡ false → Passes s g c was-skipped
+  is-off : nextIsSkipped false (g .member .steps) ≡ true → Passes s g c was-skipped
+  does-hold : s .up (c .device) ≡ true → isCondition c ≡ true → isHeld s c ≡ true → Passes s g c was-held
+  does-not : s .up (c .device) ≡ true → isCondition c ≡ true → isHeld s c ≡ false → Passes s g c was-not-held
+
+-- the answer to that, and the result
+abbrev pub passAnswer : Status → ℕ → Answer
+passAnswer to-do i = skipped i []
+passAnswer (in-flight u) i = skipped i []
+passAnswer was-done i = skipped i []
+passAnswer was-skipped i = skipped i []
+passAnswer was-held i = held i
+passAnswer was-not-held i = not-held i
+
+-- what holds of each of these answers
+pub by-answer : (P : Answer → Type 0) (i : ℕ) → P (skipped i []) → P (held i) → P (not-held i) → (st : Status) → P (passAnswer st i)
+by-answer P i s h n to-do = s
+by-answer P i s h n (in-flight u) = s
+by-answer P i s h n was-done = s
+by-answer P i s h n was-skipped = s
+by-answer P i s h n was-held = h
+by-answer P i s h n was-not-held = n
+
+abbrev pub passTurn : State → Found → Command → Status → Result
+passTurn s f c st = record { state = nextBecomes s f c st; answers = passAnswer st (f .it .id) ∷ [] }
+
+pub passing : {s : State} {g : Group} {c : Command} {st : Status} → Passes s g c st → Passing st
+passing (is-down u) = record { answers-it = refl; not-done = refl }
+passing (is-off u) = record { answers-it = refl; not-done = refl }
+passing (does-hold u k h) = record { answers-it = refl; not-done = refl }
+passing (does-not u k h) = record { answers-it = refl; not-done = refl }
 
 -- why a routine aborts at a call of its own
 pub data Aborts (g : Group) : Call → Type 0 where
@@ -85,14 +121,14 @@ pub data Moves (s : State) (l : List Group) : Call → Result → List Event →
       Moves s l (turn i) (commitTurn s (foundAt a g b)) [] (a ++ (with g (commit (g .member)) ∷ b))
   sends : (i : ℕ) (a : List Group) (g : Group) (b : List Group) (c : Command) → l ≡ a ++ (g ∷ b) → g .member .id ≡ i →
       g .member .committed ≡ false →
-      flight (g .member .steps) ≡ none → next (g .member .steps) ≡ some c → firstHolding (c .device) (members a) ≡ none →
-      s .up (c .device) ≡ true →
+      flight (g .member .steps) ≡ none → next (g .member .steps) ≡ some c → firstHolding (c .device) (isCondition c) (members a) ≡ none →
+      s .up (c .device) ≡ true → isCondition c ≡ false →
       Moves s l (turn i) (sendTurn s (foundAt a g b) c) [] (a ++ (with g (sentMember s g c) ∷ b))
-  skips : (i : ℕ) (a : List Group) (g : Group) (b : List Group) (c : Command) → l ≡ a ++ (g ∷ b) → g .member .id ≡ i →
+  passes : (i : ℕ) (a : List Group) (g : Group) (b : List Group) (c : Command) → l ≡ a ++ (g ∷ b) → g .member .id ≡ i →
       g .member .committed ≡ false →
-      flight (g .member .steps) ≡ none → next (g .member .steps) ≡ some c → firstHolding (c .device) (members a) ≡ none →
-      s .up (c .device) ≡ false →
-      Moves s l (turn i) (skipTurn s (foundAt a g b) c) [] (a ++ (with g (skippedMember g) ∷ b))
+      flight (g .member .steps) ≡ none → next (g .member .steps) ≡ some c → firstHolding (c .device) (isCondition c) (members a) ≡ none →
+      (st : Status) → Passes s g c st →
+      Moves s l (turn i) (passTurn s (foundAt a g b) c st) [] (a ++ (with g (passedMember st g) ∷ b))
   dones : (i code : ℕ) (a : List Group) (g : Group) (b : List Group) (x : Flight) → l ≡ a ++ (g ∷ b) → g .member .id ≡ i →
       g .member .committed ≡ false →
       flight (g .member .steps) ≡ some x → eqb code codeDone ≡ true →
@@ -117,8 +153,8 @@ pub data Moves (s : State) (l : List Group) : Call → Result → List Event →
 -- a turn waits for a routine ahead of its own; a new pass limit is in force
 pub data Seen (s : State) (l : List Group) : Call → Result → Type 0 where
   is-refused : {c : Call} (r : Refusal) → Seen s l c (record { state = s; answers = refused r ∷ [] })
-  waits : (i : ℕ) (a : List Group) (g : Group) (b : List Group) (d j : ℕ) → l ≡ a ++ (g ∷ b) → g .member .id ≡ i →
-      firstHolding d (members a) ≡ some j →
+  waits : (i : ℕ) (a : List Group) (g : Group) (b : List Group) (d : ℕ) (asks : Bool) (j : ℕ) → l ≡ a ++ (g ∷ b) →
+      g .member .id ≡ i → firstHolding d asks (members a) ≡ some j →
       Seen s l (turn i) (record { state = s; answers = wait (g .member .id) j ∷ [] })
   limits : (k : ℕ) → limitCheck k ≡ Accepted → Seen s l (limit k) (record { state = withPassLimit s k; answers = limited k ∷ [] })
   moves : {c : Call} {r : Result} {lead : List Event} {k : List Group} → Moves s l c r lead k → Seen s l c (settling r)
@@ -207,15 +243,24 @@ module _ (s : State) {l : List Group} (i : ℕ) (a : List Group) (g : Group) (b 
     (u : g .member .committed ≡ false) where
   idle : flight (g .member .steps) ≡ none → (o : Option Command) → next (g .member .steps) ≡ o →
       Seen s l (turn i) (turnNext s (foundAt a g b) o)
+  unfolding skipTurn heldTurn notHeldTurn
   idle f none e = moves (commits i a g b w n u f e)
-  idle f (some c) e = unheld (firstHolding (c .device) (members a)) refl
+  idle f (some c) e = unheld (firstHolding (c .device) (isCondition c) (members a)) refl
     where
-      unheld : (o : Option ℕ) → firstHolding (c .device) (members a) ≡ o → Seen s l (turn i) (waitOr s (foundAt a g b) c o)
-      unheld (some j) h = waits i a g b (c .device) j w n h
+      Turned : Result → Type 0
+      Turned = Seen s l (turn i)
+
+      unheld : (o : Option ℕ) → firstHolding (c .device) (isCondition c) (members a) ≡ o → Turned (waitOr s (foundAt a g b) c o)
+      unheld (some j) h = waits i a g b (c .device) (isCondition c) j w n h
       unheld none h =
-          byIf (Seen s l (turn i)) (s .up (c .device)) (λ t. moves (sends i a g b c w n u f e h t))
-          (λ t. byIf (Seen s l (turn i)) (isMust c) (λ _. moves (aborts (turn i) a g b w u (by-turn i n f)))
-          (λ _. moves (skips i a g b c w n u f e h t)))
+          byIf Turned (nextIsSkipped false (g .member .steps)) (λ t. moves (passes i a g b c w n u f e h was-skipped (is-off t)))
+          (λ _. byIf Turned (s .up (c .device))
+          (λ t. byIf Turned (isCondition c)
+          (λ k. byIf Turned (isHeld s c) (λ y. moves (passes i a g b c w n u f e h was-held (does-hold t k y)))
+          (λ y. moves (passes i a g b c w n u f e h was-not-held (does-not t k y))))
+          (λ k. moves (sends i a g b c w n u f e h t k)))
+          (λ t. byIf Turned (nextCountsAsMust (g .member .steps)) (λ _. moves (aborts (turn i) a g b w u (by-turn i n f)))
+          (λ _. moves (passes i a g b c w n u f e h was-skipped (is-down t)))))
 
   turned : (o : Option Flight) → flight (g .member .steps) ≡ o → Seen s l (turn i) (turnFlight s (foundAt a g b) o)
   turned (some x) f = is-refused _

@@ -98,7 +98,7 @@ module _ (k i : ℕ) (s : State) (h : List Told) (now : Now k i s h) where
       (next : Now k i (r .state) (saying c (r .answers) ∷ h)) × NotRaised k i (now .groups) (next .groups)
   of-schedule {c = c} of (is-refused r) =
       (same-now k i s h now (saying c (refused r ∷ [])) refl, not-raised-same k i (now .groups))
-  of-schedule of (waits j a g b d w e n f) =
+  of-schedule of (waits j a g b d asks w e n f) =
       (same-now k i s h now (saying (turn j) (wait (g .member .id) w ∷ [])) refl, not-raised-same k i (now .groups))
   of-schedule of (limits j e) = absurd of
   of-schedule of (moves {r = r} {k = m} v) = (
@@ -126,14 +126,14 @@ asked : (k i : ℕ) (s : State) (h : List Told) (now : Now k i s h) (j : ℕ) {c
     (next : Now k i (r .state) (saying c (r .answers) ∷ h)) × Asked k i j c (now .groups) (next .groups)
 unfolding of-schedule
 asked k i s h now j o (is-refused r) e = t≠f (sym e)
-asked k i s h now j o (waits w a g b d x e n f) _ =
-    let v = of-schedule k i s h now {c = turn w} tt (waits w a g b d x e n f) in (
+asked k i s h now j o (waits w a g b d asks x e n f) _ =
+    let v = of-schedule k i s h now {c = turn w} tt (waits w a g b d asks x e n f) in (
       v .0,
       record {
         not-raised = v .1;
         others = λ f steps n hd. hd;
         own = λ steps hd. absurd (Option·none-ne-some x
-            (sym (ap (λ p. firstHolding d (members p)) (none-ahead k s h (now .groups) (now .ready) j steps hd a g b e (n ∙ o))) ∙ f));
+            (sym (ap (λ p. firstHolding d asks (members p)) (none-ahead k s h (now .groups) (now .ready) j steps hd a g b e (n ∙ o))) ∙ f));
       },
     )
 asked k i s h now j o (limits w e) _ = absurd o
@@ -195,7 +195,7 @@ as-told k i s u h t P e = subst (λ a. Reached k i u (saying (t .call) a ∷ h) 
 refused-same : (k i : ℕ) (s : State) (h : List Told) (now : Now k i s h) {c : Call} {r : Result} → Seen s (now .groups) c r →
     isAccepted (r .answers) ≡ false → (P : List Group → Type 0) → P (now .groups) → Reached k i (r .state) (saying c (r .answers) ∷ h) P
 refused-same k i s h now {c = c} (is-refused r) e P p = (same-now k i s h now (saying c (refused r ∷ [])) refl, p)
-refused-same k i s h now (waits j a g b d w x n f) e P p = t≠f e
+refused-same k i s h now (waits j a g b d asks w x n f) e P p = t≠f e
 refused-same k i s h now (limits j x) e P p = t≠f e
 refused-same k i s h now (moves v) e P p = t≠f (sym (moves-same s (now .groups) v .0) ∙ e)
 

@@ -1,6 +1,7 @@
 -- The theorem is not empty: worlds that meet the premise, end with no routine running and nothing left to put back, and pass through what
 -- is hard. Each is computed; the theorem is not used. Assumes nothing.
 use mathlib.Core.Path.{_≡_, refl, sym}
+use mathlib.Core.Logic.{inr}
 use mathlib.Core.Bool.{Bool, true, false, not, _&&_}
 use mathlib.Core.List.{List, [], _∷_}
 use Prim.Native.Nat.{ℕ, zero, suc}
@@ -268,7 +269,7 @@ lamp-fails = record {
   ready = refl;
   settings-are = refl;
   serial-is = refl;
-  stands = (refl, ((refl, refl), ((refl, refl), (refl, tt))), tt);
+  stands = (refl, ((refl, refl), (refl, ((refl, refl), tt))), tt);
 }
 
 -- A lamp that is down is skipped, and restarts: what is left on it is skipped, too. The first command finds it down, the other one has the
@@ -292,7 +293,7 @@ lamp-restarts = record {
   ready = refl;
   settings-are = refl;
   serial-is = refl;
-  stands = (refl, (refl, ((refl, refl), (refl, tt))), tt);
+  stands = (refl, (inr refl, (refl, ((refl, refl), tt))), tt);
 }
 
 -- the world after the first n acts

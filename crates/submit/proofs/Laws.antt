@@ -8,12 +8,12 @@ use borrow.Author.Tests.{lt-leb, le-leb, lt-ltb, le-ltb, leb-false, ltb-false}
 use lib.Dec.{leb, ltb, eqb}
 use lib.ListN.{length, getD, length-map}
 use Rattle.routine.specs.Choice.{if_then_else_}
-use Rattle.routine.specs.Refusals.{refusalOf, sequence-full, ids-used-up, command-count, device-not-below, refuse_when_}
-use Rattle.routine.specs.Routine.{maxDevices, maxCommands, commandCheck, commandsCheck, routineCheck}
+use Rattle.routine.specs.Refusals.{refusalOf, sequence-full, ids-used-up, command-count, refuse_when_}
+use Rattle.routine.specs.Routine.{maxDevices, maxCommands, commandsCheck, routineCheck}
 use Rattle.routine.specs.declared.Command.{Command}
 use Rattle.routine.specs.declared.Refusal.{Refusal}
 use Rattle.routine.specs.declared.Verdict.the-variants.{Accepted, Refused}
-use Rattle.routine.proofs.Laws.{both-accept, not-refused, byTest}
+use Rattle.routine.proofs.Laws.{both-accept, not-refused, byTest, command-accepted, commands-accepted}
 use Rattle.rules.specs.Tables.{anyOf, Each}
 use Rattle.rules.specs.State.{maxHeld, highestId, Member, State}
 use Rattle.rules.specs.Answers.{placed, turnedDown}
@@ -67,13 +67,9 @@ held-is h v = held-length (h .links) (v .links-ok) ∙ sym (length-map (slotsOf 
 
 -- the commands' devices
 commands-below : (limit i : ℕ) (cs : List Command) → commandsCheck limit i cs ≡ Accepted → Each (λ (c : Command). c .device < limit) cs
-unfolding commandsCheck commandCheck
 commands-below limit i [] e = tt
 commands-below limit i (c ∷ cs) e =
-    let b = both-accept (commandCheck limit i c) (commandsCheck limit (suc i) cs) e in (
-      leb-false limit (c .device) (not-refused (device-not-below i) (leb limit (c .device)) (both-accept _ _ (b .0) .0)),
-      commands-below limit (suc i) cs (b .1),
-    )
+    let a = commands-accepted limit i c cs e in (command-accepted limit i c (a .0) .0, commands-below limit (suc i) cs (a .2))
 
 -- and their count
 routine-below : (limit : ℕ) (cs : List Command) → routineCheck limit cs ≡ Accepted →
