@@ -2,8 +2,8 @@
 -- nothing.
 use mathlib.Core.Path.{_≡_, refl, sym, ap, ap₂, _∙_, subst, fun-ext}
 use mathlib.Core.Logic.{_≢_}
-use mathlib.Core.Bool.{Bool, true, false, not, _&&_, _||_, or-true, or-false}
-use mathlib.Core.List.{List, [], _∷_, _++_, map, append-nil}
+use mathlib.Core.Bool.{Bool, true, false, not, _&&_, _||_}
+use mathlib.Core.List.{List, [], _∷_, _++_}
 use mathlib.Core.Option.{Option, none, some, Option·none-ne-some, Option·some-injective}
 use Prim.Native.Nat.{ℕ, _<_, _≤_}
 use native.Mathlib.Omega.{arith}
@@ -30,15 +30,16 @@ use Rattle.rules.specs.Order.{Event, failure-of, restart-of, deviceOf}
 use Rattle.rules.specs.HubOrder.{Agree, is-done, is-failed, is-not-sent, is-held, is-not-held, AllAgree}
 use Rattle.rules.specs.Attach.{attach, oneRestart}
 use Rattle.rules.proofs.Lists.{byIf, t≠f, or-left, or-right, and-left, and-right, this-or-other, put-same, put-other, put-keeps}
-use Rattle.rules.proofs.Lists.{fold-++, each-++, each-mid, each-drop, each-insert, anyOf-++, IsNot, NotIn, ids-fresh, ids-right}
+use Rattle.rules.proofs.Lists.{fold-++, each-++, each-mid, each-drop, each-insert, IsNot, NotIn, ids-fresh, ids-right}
 use Rattle.rules.proofs.Groups.{Group, ids, alone, with, leaving, attachEvent, ids-++, other-ids}
 use Rattle.rules.proofs.Same.{Pairwise, Same, same-refl, same-placed, same-leaving, same-attached, same-each}
 use Rattle.rules.proofs.Schedules.{hasFlight}
 use Rattle.rules.proofs.Agree.{leftFor, agree-answered, agree-left, agree-new, agree-next, agree-sent, agree-flight, agree-skip}
-use Rattle.rules.proofs.Steps.{leftSteps, InTurn, answeredOn, LeftSkipped, send-step, skip-step, done-step, done-gains, fail-step}
-use Rattle.rules.proofs.Steps.{fail-done, grounded, finished-grounded, begun-is, left-on, skip-steps, Fresh, fresh-newcomer}
+use Rattle.rules.proofs.Steps.{InTurn, LeftSkipped, send-step, skip-step, done-step, fail-step}
+use Rattle.rules.proofs.Steps.{grounded, finished-grounded, begun-is, skip-steps, Fresh, fresh-newcomer}
 use Rattle.rules.proofs.Invariant.{CommandsInTurn, HubOk, NotHalfway, AccountTells}
-use Rattle.rules.proofs.View.{Passes, is-down, is-off, does-hold, does-not, by-answer, passing, sentMember, passedMember, doneMember, failedMember, skippedLeft, Gone, nobody, somebody, loses}
+use Rattle.rules.proofs.View.{Passes, is-down, is-off, does-hold, does-not, by-answer, passing, sentMember, passedMember}
+use Rattle.rules.proofs.View.{doneMember, failedMember, skippedLeft, Gone, nobody, somebody, loses}
 use Rattle.rules.proofs.View.{Moves, places, commits, sends, passes, dones, misses, aborts, fails, restarts}
 use Rattle.rules.proofs.Fields.{Fixed, gone-fixed, attach-fixed}
 use Rattle.rules.proofs.Marks.{in-turn, ids-at, Halfway, halfway-is}
@@ -496,7 +497,7 @@ unfolding place commitTurn sendTurn doneReport skippedState skipReport abort lea
 working-moves s w l e (places cs ga gb q f u p n) d = e d
 working-moves s w l e (commits i ga g gb f n r k q) d = e d
 working-moves s w l e (sends i ga g gb c f n r k q x u plain) d = e d
-working-moves s w l e (passes i ga g gb c f n r k q x st u) d = 
+working-moves s w l e (passes i ga g gb c f n r k q x st u) d =
     by-answer (λ x. workingAfter x w d ≡ s .up d) (g .member .id) (e d) (e d) (e d) st
 working-moves s w l e (dones i code ga g gb x f n r k q) d = e d
 working-moves s w l e (misses i code ga g gb x f n r k q) d = e d

@@ -1,25 +1,23 @@
 -- What is told of a routine's commands is what the hub has of them: laws of that, and that every change of the commands keeps it. Assumes
 -- nothing.
-use mathlib.Core.Path.{_≡_, refl, sym, ap, ap₂, _∙_}
-use mathlib.Core.Bool.{Bool, true, false, not, _&&_, _||_, and-true, and-false}
+use mathlib.Core.Path.{_≡_, refl, sym, ap, _∙_}
+use mathlib.Core.Bool.{Bool, true, false, not, _&&_, _||_}
 use mathlib.Core.List.{List, [], _∷_, map}
-use mathlib.Core.Option.{Option, none, some, Option·none-ne-some, Option·some-ne-none}
+use mathlib.Core.Option.{none, some, Option·none-ne-some, Option·some-ne-none}
 use Prim.Native.Nat.{ℕ}
-use lib.Dec.{eqb}
 use lib.IntN.{ℤ}
 use Rattle.routine.specs.Choice.{if_then_else_}
 use Rattle.routine.specs.declared.Command.{Command}
 use Rattle.rules.specs.Tables.{anyOf}
-use Rattle.rules.specs.State.{Status, to-do, in-flight, was-skipped, Step}
-use Rattle.rules.specs.Progress.{isLeftOn, commandsIn, countsAsNotHeld, Flight, flight, advance, answerFlight}
+use Rattle.rules.specs.State.{Status, in-flight, was-skipped, Step}
+use Rattle.rules.specs.Progress.{isLeftOn, commandsIn, Flight, flight, advance, answerFlight}
 use Rattle.rules.specs.Submit.{stepOf}
 use Rattle.rules.specs.Events.{skipLeft}
 use Rattle.rules.specs.History.{Outcome, not-yet, by-event, isLeft, Noted, notedAs, noteFirst, isFor, noteLeft}
-use Rattle.rules.specs.Demand3.{notHeldBy, doneOnes}
+use Rattle.rules.specs.Demand3.{doneOnes}
 use Rattle.rules.specs.HubOrder.{doneSteps, Agree, is-to-do, is-in-flight, is-done, is-failed, is-not-sent, is-by-event, is-held}
 use Rattle.rules.specs.HubOrder.{is-not-held, AllAgree, no-command, one-more}
-use Rattle.rules.proofs.Lists.{byIf}
-use Rattle.rules.proofs.Steps.{InTurn, InTurnAt, AllBehind, answeredOn, behind-grounded}
+use Rattle.rules.proofs.Steps.{InTurn, answeredOn, behind-grounded}
 
 -- ---- of one command
 
@@ -30,16 +28,6 @@ answeredFor d x = isFor d (x .command) && not (isLeft (x .outcome))
 -- left on d, by the account
 abbrev pub leftFor : ℕ → Noted → Bool
 leftFor d x = isFor d (x .command) && isLeft (x .outcome)
-
-pub agree-not-held : {s : Status} {o : Outcome} → Agree s o → countsAsNotHeld s ≡ notHeldBy o
-agree-not-held is-to-do = refl
-agree-not-held is-in-flight = refl
-agree-not-held is-done = refl
-agree-not-held is-failed = refl
-agree-not-held is-not-sent = refl
-agree-not-held is-by-event = refl
-agree-not-held is-held = refl
-agree-not-held is-not-held = refl
 
 -- ---- of all commands
 

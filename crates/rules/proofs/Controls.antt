@@ -2,7 +2,7 @@
 -- as the edit of the same name in `must-fail/` does. (`failed_never_puts_back` shows in `failedAfterChange` of `Worlds.antt`.) Assumes
 -- nothing.
 use mathlib.Core.Path.{refl, sym}
-use mathlib.Core.Logic.{inr}
+use mathlib.Core.Logic.{inl, inr}
 use mathlib.Core.List.{List, [], _∷_, _++_}
 use lib.IntN.{pos}
 use Rattle.rules.specs.Answers.{submit, turn, report, failure, restart, cancel}
@@ -11,7 +11,8 @@ use Rattle.rules.specs.Order.{failure-of, event, entries}
 use Rattle.rules.specs.Serial.{allUp}
 use Rattle.rules.specs.World.{World, Act, calls, takes-one, accounts, worldAfterAll, Truthful, newWorld}
 use Rattle.rules.specs.Demand3.{orderIn, Begins, CommandsStand}
-use Rattle.rules.specs.Examples.{must, best}
+use Rattle.rules.specs.Replay.{Replays}
+use Rattle.rules.specs.Examples.{must, best, condition}
 use Rattle.rules.proofs.Lists.{t≠f}
 use Rattle.rules.proofs.Worlds.{calcWorld, Passage, endOf, Passes, call, elsewhere}
 
@@ -282,3 +283,31 @@ pub late-reports :
     × (Truthful (at (lampLate [] ++ (takes-one 1 0 ∷ []))) (report 1 1) → ⊥)
 unfolding calcWorld
 late-reports = ((λ e. t≠f (sym e)), (λ e. t≠f e))
+
+-- ---- water only if dry (document 02, item 4): device 0 is the soil's
+
+abbrev pub ReplaysAt : List Act → Type 0
+ReplaysAt acts = Replays (accounts (at acts)) (entries (orderIn (at acts))) allUp
+
+-- second_cause_dropped: 1 runs and has done device 0: the condition of 2 waits, and 1 is cancelled. Else it would hold by the 30 that goes
+-- with 1, and along the order not.
+pub set-waited-for :
+    ReplaysAt (call (submit (must 0 (pos 30) ∷ must 1 (pos 1) ∷ [])) ∷ call (turn 1) ∷ takes-one 0 0 ∷ call (report 1 0) ∷ call
+    (submit (condition 0 (pos 20) ∷ must 1 (pos 5) ∷ [])) ∷ call (turn 2) ∷ call (cancel 1) ∷ [])
+unfolding calcWorld
+set-waited-for = ((tt, (tt, tt)), tt)
+
+-- equal_does_not_hold: 20 is not below 20. Answered `not held`, it would be held along the order.
+pub equal-holds :
+    ReplaysAt (call (submit (must 0 (pos 20) ∷ [])) ∷ call (turn 1) ∷ takes-one 0 0 ∷ call (report 1 0) ∷ call (turn 1) ∷ call
+    (submit (condition 0 (pos 20) ∷ must 1 (pos 5) ∷ [])) ∷ call (turn 2) ∷ [])
+unfolding calcWorld
+equal-holds = ((refl, tt), (((refl, refl, refl), (tt, tt)), tt))
+
+-- skipped_at_once: the command after the condition that does not hold is skipped at its own turn. Skipped with the condition, where no
+-- answer tells it, the account would have it done, and not the one that was.
+pub skipped-in-turn :
+    Stands (call (submit (condition 0 (pos 5) ∷ must 1 (pos 6) ∷ must 1 (pos 7) ∷ [])) ∷ call (turn 1) ∷ call (turn 1) ∷ takes-one 1 0 ∷ call
+    (report 1 0) ∷ call (turn 1) ∷ takes-one 1 0 ∷ call (report 1 0) ∷ [])
+unfolding calcWorld
+skipped-in-turn = (refl, (refl, (inl refl, (refl, tt))), tt)

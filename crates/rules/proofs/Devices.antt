@@ -26,7 +26,8 @@ use Rattle.rules.proofs.Lists.{byIf, t≠f, this-or-other, same-setting
 use Rattle.rules.proofs.Lists.{ids-fresh}
 use Rattle.rules.proofs.Groups.{Group, members, ids, alone, with, passAll, foundAt, members-++, other-ids}
 use Rattle.rules.proofs.Same.{same-placed}
-use Rattle.rules.proofs.Steps.{InTurn, Passing, send-step, skip-step, done-step, done-after, fail-step, fail-after, grounded, unbegun-after}
+use Rattle.rules.proofs.Steps.{InTurn, Passing, send-step, skip-step, done-step, done-after, fail-step, fail-after, grounded}
+use Rattle.rules.proofs.Steps.{unbegun-after}
 use Rattle.rules.proofs.Steps.{fresh-newcomer}
 use Rattle.rules.proofs.Invariant.{NotBegun, HasFinished, HubOk, EventsOk, CountedSend, CountedMessage, backTo, ReachesSetting, has}
 use Rattle.rules.proofs.Invariant.{goes-back, flightOrigin, NotOrigin, OnItsWay, arrived, going, NoFlightOn, first-has-it, DeviceAt}

@@ -12,7 +12,8 @@ use lib.ListN.{length}
 use Rattle.routine.specs.Range.{inRange}
 use Rattle.routine.specs.Refusals.{devices-out-of-range, pass-limit-out-of-range, first-id-0, command-count, device-not-below}
 use Rattle.routine.specs.Refusals.{setting-out-of-range}
-use Rattle.routine.specs.Refusals.{tag-out-of-range, condition-alone, sequence-full, ids-used-up, not-running, turn-in-flight, none-in-flight}
+use Rattle.routine.specs.Refusals.{tag-out-of-range, condition-alone, sequence-full, ids-used-up, not-running, turn-in-flight}
+use Rattle.routine.specs.Refusals.{none-in-flight}
 use Rattle.routine.specs.Refusals.{report-code-out-of-range}
 use Rattle.routine.specs.Refusals.{event-device, failure-of-down, restart-of-up, restart-setting, refusalOf, refuse_when_, _andThen_}
 use Rattle.routine.specs.Routine.{maxCommands, maxDevices, isCondition}
@@ -26,7 +27,8 @@ use Rattle.routine.proofs.Exact.{join, exactly}
 use Rattle.routine.proofs.Exact.{Covers, widened, routine-outcome}
 use Rattle.routine.proofs.Exact as Made
 use Rattle.rules.specs.Tables.{put}
-use Rattle.rules.specs.State.{highestPassLimit, maxHeld, highestId, Status, to-do, in-flight, was-done, was-skipped, was-held, was-not-held}
+use Rattle.rules.specs.State.{highestPassLimit, maxHeld, highestId, Status, to-do, in-flight, was-done, was-skipped, was-held}
+use Rattle.rules.specs.State.{was-not-held}
 use Rattle.rules.specs.State.{Step, Member}
 use Rattle.rules.specs.State.{State}
 use Rattle.rules.specs.Answers.{Call, submit, turn, report, failure, restart, cancel, limit, Answer, refused, placed, wait, send}
@@ -39,7 +41,8 @@ use Rattle.rules.specs.Settle.{settling}
 use Rattle.rules.specs.Abort.{abort}
 use Rattle.rules.specs.Open.{opened, not-opened, limitCheck, openCheck, newHub, openIf, openOf}
 use Rattle.rules.specs.Submit.{submitCheck, submitOf}
-use Rattle.rules.specs.Turn.{firstHolding, commitTurn, sendTurn, skipTurn, isHeld, heldTurn, notHeldTurn, proceedUp, proceed, waitOr, turnNext, turnFlight, turnFound, turnOf}
+use Rattle.rules.specs.Turn.{firstHolding, commitTurn, sendTurn, skipTurn, isHeld, heldTurn, notHeldTurn, proceedUp, proceed, waitOr}
+use Rattle.rules.specs.Turn.{turnNext, turnFlight, turnFound, turnOf}
 use Rattle.rules.specs.Report.{codeDone, codeFailed, doneReport, skipReport, reported, reportFlight, reportFound, reportOf}
 use Rattle.rules.specs.Events.{isHalfway, mustLeft, stopIfAny, stopHalfway, failureResult, restartResult, failureOf, restartOf}
 use Rattle.rules.specs.Cancel.{cancelFound, cancelOf}

@@ -1,29 +1,27 @@
--- The grounds of a routine's commands that no event behind it gives: whether its device is up, the condition before it, the tag that counts.
--- Every change of its commands keeps them. Assumes nothing.
+-- The grounds of a routine's commands that no event behind it gives: whether its device is up, the condition before it, the tag that
+-- counts. Every change of its commands keeps them. Assumes nothing.
 use mathlib.Core.Path.{_≡_, refl, sym, ap, ap₂, _∙_, subst}
 use mathlib.Core.Logic.{_≢_, _⊎_, inl, inr}
 use mathlib.Core.Bool.{Bool, true, false, not, _&&_, _||_, and-true, and-false}
 use mathlib.Core.List.{List, [], _∷_, map}
-use mathlib.Core.Option.{Option, none, some, Option·none-ne-some, Option·some-ne-none, Option·some-injective}
+use mathlib.Core.Option.{none, some, Option·none-ne-some, Option·some-ne-none, Option·some-injective}
 use Prim.Native.Nat.{ℕ}
-use borrow.Author.Tests.{eqb-true, eqb-false}
-use lib.Dec.{eqb}
-use lib.IntN.{ℤ}
+use borrow.Author.Tests.{eqb-false}
 use Rattle.routine.specs.Choice.{if_then_else_}
 use Rattle.routine.specs.Routine.{isCondition}
 use Rattle.routine.specs.declared.Command.{Command}
 use Rattle.rules.specs.Tables.{anyOf}
 use Rattle.rules.specs.State.{Step}
-use Rattle.rules.specs.Progress.{next, commandsIn, countsAsMust, nextCountsAsMust, skipsNext, nextIsSkipped, Flight, flight}
+use Rattle.rules.specs.Progress.{next, countsAsMust, nextCountsAsMust, nextIsSkipped, Flight, flight}
 use Rattle.rules.specs.Events.{mustAmong}
 use Rattle.rules.specs.History.{Outcome, not-yet, reported-done, reported-failed, not-sent, by-event, found-held, found-not-held}
 use Rattle.rules.specs.History.{isLeft, Noted, notedAs, noteFirst, isFor, noteLeft}
 use Rattle.rules.specs.Demand3.{skipsFollowing}
-use Rattle.rules.specs.HubOrder.{Agree, is-to-do, is-in-flight, is-done, is-failed, is-not-sent, is-by-event, is-held, is-not-held}
+use Rattle.rules.specs.HubOrder.{is-to-do, is-in-flight, is-done, is-failed, is-not-sent, is-by-event, is-held, is-not-held}
 use Rattle.rules.specs.HubOrder.{AllAgree, no-command, one-more}
-use Rattle.rules.proofs.Lists.{byIf, t≠f, or-left, or-right, and-left, and-right}
+use Rattle.rules.proofs.Lists.{byIf, t≠f, or-left, or-right, and-right}
 use Rattle.rules.proofs.Steps.{InTurn, behind-grounded}
-use Rattle.rules.proofs.Agree.{answeredFor, leftFor, agree-not-held, agree-commands}
+use Rattle.rules.proofs.Agree.{answeredFor, leftFor, agree-commands}
 
 -- is the device up; does the condition before it skip it; is the tag that counts must
 abbrev pub FindsUp : Bool → Bool → Bool → Outcome → Type 0
@@ -107,7 +105,7 @@ left-skips-none x = go (x .outcome)
 -- ---- the first command that is left is answered
 
 -- what is said of it, of whether the condition before it skips it, and of the tag that counts
-abbrev AtFirst : (Command → Bool → Bool → Type 0) → Bool → List Noted → Type 0
+abbrev pub AtFirst : (Command → Bool → Bool → Type 0) → Bool → List Noted → Type 0
 AtFirst P skipping [] = Unit {0}
 AtFirst P skipping (x ∷ l) =
     if isLeft (x .outcome) then P (x .command) skipping (countsAsMust (x .command) (namesOf l)) else AtFirst P (skipsFollowing x) l
@@ -137,7 +135,7 @@ fit-first u o skipping (x ∷ l) h k = go (fit-first u o (skipsFollowing x) l (h
 
 -- it is the next, or the one in flight
 module _ (P : Command → Bool → Bool → Type 0) where
-  at-next : (skipping : Bool) (c : Command) {l : List Noted} {k : List Step} → AllAgree l k → flight k ≡ none → next k ≡ some c →
+  pub at-next : (skipping : Bool) (c : Command) {l : List Noted} {k : List Step} → AllAgree l k → flight k ≡ none → next k ≡ some c →
       P c (nextIsSkipped skipping k) (nextCountsAsMust k) → AtFirst P skipping l
   at-next skipping c no-command f e p = tt
   at-next skipping c (one-more b {l = l} is-to-do h) f e p =
@@ -151,7 +149,7 @@ module _ (P : Command → Bool → Bool → Type 0) where
   at-next skipping c (one-more b is-held h) f e p = at-next (isCondition b && false) c h f e p
   at-next skipping c (one-more b is-not-held h) f e p = at-next (isCondition b && true) c h f e p
 
-  at-flight : (skipping : Bool) (x : Flight) {l : List Noted} {k : List Step} → AllAgree l k → InTurn k → flight k ≡ some x →
+  pub at-flight : (skipping : Bool) (x : Flight) {l : List Noted} {k : List Step} → AllAgree l k → InTurn k → flight k ≡ some x →
       ((skipping must : Bool) → P (x .command) skipping must) → AtFirst P skipping l
   at-flight skipping x no-command t f p = tt
   at-flight skipping x (one-more b {k = k} is-to-do h) t f p = absurd (Option·none-ne-some x (sym (behind-grounded k t) ∙ f))

@@ -25,16 +25,18 @@ use Rattle.rules.specs.History.{isFor, noteLeft, skippedAccount, noteAns
 use Rattle.rules.specs.Order.{Event, failure-of, restart-of, deviceOf, isOf, Entry, routine, event}
 use Rattle.rules.specs.Demand3.{eventsNext}
 use Rattle.rules.specs.Attach.{attachTo}
-use Rattle.rules.proofs.Lists.{byIf, and-left, put-same, put-other, put-keeps, each-++, each-left, each-right, each-mid, each-drop, each-insert}
+use Rattle.rules.proofs.Lists.{byIf, and-left, put-same, put-other, put-keeps, each-++, each-left, each-right, each-mid, each-drop}
+use Rattle.rules.proofs.Lists.{each-insert}
 use Rattle.rules.proofs.Lists.{each-map, anyOf-++, IsNot, NotIn, IdsOk, ids-fresh, ids-other}
 use Rattle.rules.proofs.Groups.{Group, ids, flat, entryIds, lastRestart, alone, with, passAll, addEvents, leaving, addEvent}
 use Rattle.rules.proofs.Groups.{attachEvent, ids-++, added-is, attach-hit}
 use Rattle.rules.proofs.Same.{Pairwise, pairs-each, pairs-placed, pairs-last, pairs-attached}
 use Rattle.rules.proofs.Invariant.{HubOk, AccountTells}
-use Rattle.rules.proofs.View.{Passes, is-down, is-off, does-hold, does-not, passedMember, skippedLeft, Gone, nobody, somebody, loses, Moves, places, commits, sends, passes, dones, misses}
+use Rattle.rules.proofs.View.{Passes, is-down, is-off, does-hold, does-not, passedMember, skippedLeft, Gone, nobody, somebody}
+use Rattle.rules.proofs.View.{loses, Moves, places, commits, sends, passes, dones, misses}
 use Rattle.rules.proofs.View.{aborts}
 use Rattle.rules.proofs.View.{fails, restarts}
-use Rattle.rules.proofs.Marks.{in-turn, halfway-marked}
+use Rattle.rules.proofs.Marks.{halfway-marked}
 use Rattle.rules.proofs.Moved.{hub-up}
 use Rattle.rules.proofs.Running.{passOutcome, pass-noted, RunsTold}
 use Rattle.rules.proofs.Accounts.{eventTold, TellsEvent, event-accounts}

@@ -26,7 +26,8 @@ use Rattle.rules.proofs.Same.{Same, same-placed, same-leaving, same-att
 use Rattle.rules.proofs.Steps.{send-step, skip-step, done-step, fail-step, flight-on, grounded, finished-grounded, skip-steps}
 use Rattle.rules.proofs.Steps.{fresh-newcomer}
 use Rattle.rules.proofs.Invariant.{CommittedHasNothingLeft, CommandsInTurn, HubOk, InFlightIsUp, NotHalfway, NoFlightOn}
-use Rattle.rules.proofs.View.{passing, passTurn, sentMember, passedMember, doneMember, failedMember, skippedLeft, Gone, nobody, somebody, loses}
+use Rattle.rules.proofs.View.{passing, passTurn, sentMember, passedMember, doneMember, failedMember, skippedLeft, Gone, nobody}
+use Rattle.rules.proofs.View.{somebody, loses}
 use Rattle.rules.proofs.View.{Moves, places}
 use Rattle.rules.proofs.View.{commits, sends, passes, dones, misses, aborts, fails, restarts}
 use Rattle.rules.proofs.Fields.{Fixed, gone-fixed, attach-fixed, settle-fixed}

@@ -28,6 +28,9 @@ pub mod Accounts
 pub mod Followed
 pub mod Fits
 pub mod Stands
+pub mod Asked
+pub mod Conditions
+pub mod Replay
 -- Each device comes to its due setting: what was sent; placings, turns and reports; aborts and events; all calls.
 pub mod Messages
 pub mod Devices

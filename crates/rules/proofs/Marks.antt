@@ -20,10 +20,12 @@ use Rattle.rules.specs.Turn.{holds, hasSet, holdsUp, firstHolding, markB
 use Rattle.rules.specs.Report.{doneReport, skippedState, skipReport}
 use Rattle.rules.specs.Events.{isHalfway, skipRest}
 use Rattle.rules.specs.Order.{isOf}
-use Rattle.rules.proofs.Lists.{byIf, t≠f, or-left, and-left, and-right, this-or-other, put-same, put-other, each-++, each-left, each-right}
+use Rattle.rules.proofs.Lists.{byIf, t≠f, or-left, and-left, and-right, this-or-other, put-same, put-other, each-++, each-left}
+use Rattle.rules.proofs.Lists.{each-right}
 use Rattle.rules.proofs.Lists.{each-mid, each-swap, IsNot, NotIn, In, IdsOk, ids-other, ids-not-zero}
 use Rattle.rules.proofs.Groups.{Group, members, ids, with, foundAt, members-++, ids-++, ids-swap}
-use Rattle.rules.proofs.Steps.{InTurn, AnsweredOne, Passing, skipping, send-step, skip-step, done-step, fail-step, none-left, left-finished}
+use Rattle.rules.proofs.Steps.{InTurn, AnsweredOne, Passing, skipping, send-step, skip-step, done-step, fail-step, none-left}
+use Rattle.rules.proofs.Steps.{left-finished}
 use Rattle.rules.proofs.Steps.{left-grounded, skip-steps}
 use Rattle.rules.proofs.Invariant.{NotBegun, HasFinished, AtMark, whole, part, MarkedAt, here, there, MarkOk, unmarked, marked}
 use Rattle.rules.proofs.Invariant.{CommittedHasNothingLeft, CommandsInTurn, HubOk}
@@ -315,7 +317,8 @@ pub hub-passes : (s : State) (a : List Group) (g : Group) (b : List Group) (c : 
     HubOk (passTurn s (foundAt a g b) c st .state) (a ++ (with g (passedMember st g) ∷ b))
 hub-passes s a g b c st p h r f e n =
     let x = skip-step (g .member) (in-turn s a g b h) c st p e f in
-    hub-changes s a g b h (passedMember st g) (markBegun (g .member) (c .device) (s .mark)) refl (running g (passedMember st g) r) (x .in-turn)
+    hub-changes s a g b h (passedMember st g) (markBegun (g .member) (c .device) (s .mark)) refl (running g (passedMember st g) r)
+    (x .in-turn)
     (begin-marks s a g b h (c .device) (passedMember st g) refl (turn-clear s a g b c h e f n) (x .unfinished) (x .begins) (x .other-begun)
     (x .finishes))
 

@@ -262,7 +262,8 @@ module _ (k : ℕ) (s : State) (h : List Told) (l : List Group) (y : Ready s h l
         (head-is (with g (sentMember s g c)) b (n ∙ o) refl r)) (_, x .flight-is)
     own-moves (passes i a g b c e n r f q z st u) o =
         let x = skip-step (g .member) (in-turn s a g b (subst (HubOk s) e (y .hub))) c st (passing u) q f in
-        own-less a g b e (n ∙ o) (turn i) (with g (passedMember st g)) refl refl (less-weight g (with g (passedMember st g)) c r r (x .left-is))
+        own-less a g b e (n ∙ o) (turn i) (with g (passedMember st g)) refl refl
+        (less-weight g (with g (passedMember st g)) c r r (x .left-is))
     own-moves (dones i code a g b x e n r f q) o =
         let z = done-step (g .member) (in-turn s a g b (subst (HubOk s) e (y .hub))) x f in
         own-less a g b e (n ∙ o) (report i code) (with g (doneMember g)) refl refl

@@ -33,7 +33,8 @@ use Rattle.rules.proofs.Groups.{flat-leaving, flat-cut, flat-added, att
 use Rattle.rules.proofs.Same.{same-placed, same-leaving, same-attached, same-ids}
 use Rattle.rules.proofs.Steps.{send-step, skip-step, done-gains, fail-done, skip-steps, fresh-newcomer}
 use Rattle.rules.proofs.Invariant.{NotBegun, HubOk, setAfter, upAfter, EventsOk, OrderOk, AccountTells}
-use Rattle.rules.proofs.View.{by-answer, passing, passTurn, passedMember, Gone, nobody, somebody, loses, Moves, places, commits, sends, passes, dones, misses, aborts, fails}
+use Rattle.rules.proofs.View.{by-answer, passing, passTurn, passedMember, Gone, nobody, somebody, loses, Moves, places, commits}
+use Rattle.rules.proofs.View.{sends, passes, dones, misses, aborts, fails}
 use Rattle.rules.proofs.View.{restarts}
 use Rattle.rules.proofs.Runs.{set-++, up-++, set-events, bringsUp, up-event, up-flat-not-begun, settled-alone, events-placed}
 use Rattle.rules.proofs.Runs.{events-leaving, events-attached}

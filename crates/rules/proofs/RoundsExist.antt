@@ -21,7 +21,8 @@ use Rattle.rules.specs.Progress.{isMust, nextCountsAsMust, nextIsSkipped
 use Rattle.rules.specs.Sequence.{Found, find, isRunning, runs}
 use Rattle.rules.specs.Abort.{abort}
 use Rattle.rules.specs.Open.{opened, limitCheck, openOf}
-use Rattle.rules.specs.Turn.{firstHolding, commitTurn, sendTurn, skipTurn, isHeld, heldTurn, notHeldTurn, turnNext, waitOr, turnFound, turnOf}
+use Rattle.rules.specs.Turn.{firstHolding, commitTurn, sendTurn, skipTurn, isHeld, heldTurn, notHeldTurn, turnNext, waitOr}
+use Rattle.rules.specs.Turn.{turnFound, turnOf}
 use Rattle.rules.specs.Report.{codeDone, codeFailed, doneReport, skipReport, reported, reportFound, reportOf}
 use Rattle.rules.specs.Calls.{resultOf, stateAfter}
 use Rattle.rules.specs.History.{Told, Account, accountsOf}

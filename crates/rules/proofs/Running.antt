@@ -7,7 +7,6 @@ use Prim.Native.Nat.{ℕ}
 use borrow.Author.Tests.{eqb-true, eq-eqb, ne-eqb}
 use lib.Dec.{eqb}
 use Rattle.routine.specs.Choice.{if_then_else_}
-use Rattle.routine.specs.declared.Command.{Command}
 use Rattle.rules.specs.Tables.{anyOf, put}
 use Rattle.rules.specs.State.{Status, to-do, in-flight, was-done, was-skipped, was-held, was-not-held, Member, State}
 use Rattle.rules.specs.Answers.{Call, turn, failure, restart, Answer, down, up, Result}
@@ -16,14 +15,16 @@ use Rattle.rules.specs.Abort.{abort}
 use Rattle.rules.specs.Submit.{newcomer}
 use Rattle.rules.specs.Turn.{commit, commitTurn, sendTurn}
 use Rattle.rules.specs.Report.{doneReport, skipReport}
-use Rattle.rules.specs.History.{Outcome, reported-done, reported-failed, not-sent, found-held, found-not-held, Account, placedAccount, sentAccount}
+use Rattle.rules.specs.History.{Outcome, reported-done, reported-failed, not-sent, found-held, found-not-held, Account}
+use Rattle.rules.specs.History.{placedAccount, sentAccount}
 use Rattle.rules.specs.History.{answeredAccount, endedAccount, hasBegun, eventAccount, noteAnswers}
 use Rattle.rules.specs.Order.{Event, failure-of, restart-of}
 use Rattle.rules.proofs.Lists.{byIf, t≠f, fold-++, put-keeps, NotIn, ids-fresh}
 use Rattle.rules.proofs.Groups.{Group, ids, alone, with, leaving, attachEvent, stillHeld, other-ids}
 use Rattle.rules.proofs.Same.{Pairwise, no-pair, pair, Same, same-placed, same-leaving, same-attached}
 use Rattle.rules.proofs.Invariant.{HubOk}
-use Rattle.rules.proofs.View.{passAnswer, sentMember, passedMember, doneMember, failedMember, skippedLeft, Gone, nobody, somebody, loses}
+use Rattle.rules.proofs.View.{passAnswer, sentMember, passedMember, doneMember, failedMember, skippedLeft, Gone, nobody, somebody}
+use Rattle.rules.proofs.View.{loses}
 use Rattle.rules.proofs.View.{Moves, places, commits, sends, passes, dones, misses, aborts, fails, restarts}
 
 -- ---- a table over ids that says whether the routine with an id passes a test

@@ -113,7 +113,7 @@ up-flat-not-begun d [] u q = refl
 up-flat-not-begun d (g ∷ l) u q = up-++ d (map event (g .events)) (flat l) u
     ∙ ap (λ x. upAfter d (flat l) x) (up-not-begun d (g .events) u (q .0 .bare)) ∙ up-flat-not-begun d l u (q .1)
 
-set-done : (d : ℕ) (l : List Step) (v : ℤ) → setCommands d (doneSteps l) v ≡ afterSteps d l v
+pub set-done : (d : ℕ) (l : List Step) (v : ℤ) → setCommands d (doneSteps l) v ≡ afterSteps d l v
 set-done d [] v = refl
 set-done d (x ∷ l) v = go (λ w. set-done d l w) (isDone (x .status))
   where

@@ -4,7 +4,7 @@ use mathlib.Core.Logic.{_≢_, inl, inr}
 use mathlib.Core.Bool.{Bool, true, false}
 use mathlib.Core.List.{List, [], _∷_, _++_, map, append-assoc}
 use Prim.Native.Nat.{ℕ}
-use borrow.Author.Tests.{eqb-false, eq-eqb, ne-eqb}
+use borrow.Author.Tests.{eq-eqb, ne-eqb}
 use Rattle.routine.specs.Choice.{if_then_else_}
 use Rattle.routine.specs.declared.Command.{Command}
 use Rattle.rules.specs.Tables.{anyOf, put, Each}
@@ -18,19 +18,21 @@ use Rattle.rules.specs.Turn.{commit, commitTurn, sendTurn}
 use Rattle.rules.specs.Report.{doneReport, skipReport}
 use Rattle.rules.specs.Events.{mustLeft}
 use Rattle.rules.specs.History.{Outcome, not-yet, reported-done, reported-failed, not-sent, by-event, found-held, found-not-held}
-use Rattle.rules.specs.History.{Noted, Account, placedAccount, sentAccount, answeredAccount, endedAccount, skippedAccount, noteAnswers}
+use Rattle.rules.specs.History.{Noted, Account, placedAccount, sentAccount, answeredAccount, endedAccount, skippedAccount}
+use Rattle.rules.specs.History.{noteAnswers}
 use Rattle.rules.specs.Order.{Event, failure-of, restart-of, deviceOf, Entry, routine, event, Order, orderAfterAll, entries}
 use Rattle.rules.specs.Serial.{DeviceState, allUp, runEntry}
 use Rattle.rules.specs.Demand3.{eventsNext, skipsFollowing, Finds, afterNoted, AllFind, doneOnes, CommandsStand}
 use Rattle.rules.specs.HubOrder.{doneSteps, AllAgree}
-use Rattle.rules.proofs.Lists.{or-left, or-right, put-same, put-other, each-++, each-left, each-right, each-mid, IsNot}
+use Rattle.rules.proofs.Lists.{put-same, put-other, each-left, each-right, each-mid, IsNot}
 use Rattle.rules.proofs.Lists.{NotIn, IdsOk, ids-fresh, ids-other}
 use Rattle.rules.proofs.Groups.{Group, ids, flat, entryIds, alone, with, changed, passAll, leaving, leadOf, attachEvent}
 use Rattle.rules.proofs.Groups.{leadWith, flat-++, entryIds-++, entryIds-flat, flat-pass, flat-leaving}
 use Rattle.rules.proofs.Steps.{done-step, unbegun-answered}
 use Rattle.rules.proofs.Agree.{answeredFor, agree-done, agree-answered}
 use Rattle.rules.proofs.Invariant.{NotBegun, HubOk, InFlightIsUp, upEvent, upAfter, OrderOk, AccountTells}
-use Rattle.rules.proofs.View.{Passes, is-down, is-off, does-hold, does-not, sentMember, passedMember, doneMember, failedMember, skippedLeft, Gone, nobody, somebody, loses}
+use Rattle.rules.proofs.View.{Passes, is-down, is-off, does-hold, does-not, sentMember, passedMember, doneMember, failedMember}
+use Rattle.rules.proofs.View.{skippedLeft, Gone, nobody, somebody, loses}
 use Rattle.rules.proofs.View.{Moves, places, commits, sends, passes, dones, misses, aborts, fails, restarts}
 use Rattle.rules.proofs.Runs.{up-++, bringsUp, up-event, up-not-begun, up-flat-not-begun}
 use Rattle.rules.proofs.Marks.{ClearOfDevice, in-turn, turn-clear, flight-clear, mark-place}
@@ -77,7 +79,7 @@ finds-both f c b k m by-event h g = (h, g)
 finds-both f c b k m found-held h g = h
 finds-both f c b k m found-not-held h g = h
 
-noted-up : (o : Outcome) (c : Command) (t : ℕ → DeviceState) → _≡_ {A = ℕ → Bool} (λ d. afterNoted o c t d .up) (λ d. t d .up)
+pub noted-up : (o : Outcome) (c : Command) (t : ℕ → DeviceState) → _≡_ {A = ℕ → Bool} (λ d. afterNoted o c t d .up) (λ d. t d .up)
 noted-up not-yet c t = refl
 noted-up reported-done c t = fun-ext (λ d. serial-up d (routine 0 (c ∷ []) true ∷ []) t)
 noted-up reported-failed c t = refl
@@ -103,7 +105,7 @@ all-both f b (x ∷ l) t h k = (
       (subst (λ u. Fit u (skipsFollowing x) l) (sym (noted-up (x .outcome) (x .command) t)) (h .1)) (k .1),
 )
 
-entry-up : (e : Entry) (t : ℕ → DeviceState) → _≡_ {A = ℕ → Bool} (λ d. runEntry e t d .up) (λ d. upAfter d (e ∷ []) (t d .up))
+pub entry-up : (e : Entry) (t : ℕ → DeviceState) → _≡_ {A = ℕ → Bool} (λ d. runEntry e t d .up) (λ d. upAfter d (e ∷ []) (t d .up))
 entry-up e t = fun-ext (λ d. serial-up d (e ∷ []) t)
 
 stand-parts : (a : ℕ → Account) (l : List Entry) (t : ℕ → DeviceState) → CommandsStand a l t →
@@ -180,7 +182,8 @@ Spared d q i = anyOf (answeredFor d) (q i) ≡ false
 stand-spared : (d : ℕ) (q : ℕ → List Noted) (l : List Entry) (u w : ℕ → Bool) → SameBut d u w → Each (Spared d q) (entryIds l) →
     Stand q l u → Stand q l w
 stand-spared d q [] u w e n h = tt
-stand-spared d q (routine i cs b ∷ l) u w e n h = (h .0, fit-spared d u w e false (q i) (n .0) (h .1), stand-spared d q l u w e (n .1) (h .2))
+stand-spared d q (routine i cs b ∷ l) u w e n h =
+    (h .0, fit-spared d u w e false (q i) (n .0) (h .1), stand-spared d q l u w e (n .1) (h .2))
 stand-spared d q (event x ∷ l) u w e n h =
     stand-spared d q l (λ y. upEvent y x (u y)) (λ y. upEvent y x (w y)) (λ y m. ap (upEvent y x) (e y m)) n h
 
@@ -203,7 +206,7 @@ stand-event e a l q k u h =
 -- ---- the entries of groups
 
 -- f: the events attached to 0
-abbrev openPart : List Event → List Group → List Entry
+abbrev pub openPart : List Event → List Group → List Entry
 openPart f l = map event f ++ flat l
 
 -- ---- a routine is placed, or changes in its place
@@ -216,10 +219,21 @@ record Before (s : State) (o : Order) (a : ℕ → Account) (l : List Group) : T
   tells : Each (AccountTells a) l
   stand : Standing a (o .settled ++ flat l)
 
-flat-at : (p : List Entry) (a b : List Group) → p ++ flat (a ++ b) ≡ (p ++ flat a) ++ flat b
+pub flat-at : (p : List Entry) (a b : List Group) → p ++ flat (a ++ b) ≡ (p ++ flat a) ++ flat b
 flat-at p a b = ap (λ k. p ++ k) (flat-++ a b) ∙ sym (append-assoc p (flat a) (flat b))
 
-entry-ids : (s : State) (o : Order) (a b : List Group) → OrderOk s o [] (a ++ b) →
+-- a device that nothing behind g touches is up before g as it is now
+pub up-clear : (s : State) (o : Order) (x : List Group) (g : Group) (y : List Group) → OrderOk s o [] (x ++ (g ∷ y)) → (d : ℕ) →
+    ClearOfDevice d x g y → upAfter d (o .settled ++ flat x) true ≡ s .up d
+up-clear s o x g y k d c =
+    let p = o .settled ++ flat x in
+    let u = upAfter d p true in
+    let whole : entries o ≡ p ++ flat (g ∷ y) = ap (λ l. o .settled ++ l) (k .unsettled-is) ∙ flat-at (o .settled) x (g ∷ y) in
+    let same : upAfter d (flat (g ∷ y)) u ≡ u = up-++ d (map event (g .events)) (flat y) u ∙ up-flat-not-begun d y _ (c .behind-not-begun)
+    ∙ up-not-begun d (g .events) u (c .no-event) in
+    sym (ap (λ l. upAfter d l true) whole ∙ up-++ d p (flat (g ∷ y)) true ∙ same) ∙ k .up-is d
+
+pub entry-ids : (s : State) (o : Order) (a b : List Group) → OrderOk s o [] (a ++ b) →
     IdsOk (s .nextId) (entryIds (o .settled ++ flat a) ++ entryIds (flat b))
 entry-ids s o a b k = rw (entryIds-++ (o .settled) (flat a), entryIds-flat a, entryIds-flat b) (order-ids s o [] a b k)
 
@@ -276,16 +290,6 @@ module _ (s : State) (o : Order) (a : ℕ → Account) (x : List Group) (g : Gro
 
   agrees : AllAgree (a (g .member .id) .commands) (g .member .steps)
   agrees = each-mid (AccountTells a) x g y (f .tells) .agrees
-
-  -- a device that nothing behind g touches is up before g as it is now
-  up-before : (d : ℕ) → ClearOfDevice d x g y → upPast (o .settled) x d ≡ s .up d
-  up-before d c =
-      let p = o .settled ++ flat x in
-      let u = upPast (o .settled) x d in
-      let whole : entries o ≡ p ++ flat (g ∷ y) = ap (λ l. o .settled ++ l) (f .order .unsettled-is) ∙ flat-at (o .settled) x (g ∷ y) in
-      let same : upAfter d (flat (g ∷ y)) u ≡ u = up-++ d (map event (g .events)) (flat y) u ∙ up-flat-not-begun d y _ (c .behind-not-begun)
-      ∙ up-not-begun d (g .events) u (c .no-event) in
-      sym (ap (λ l. upAfter d l true) whole ∙ up-++ d p (flat (g ∷ y)) true ∙ same) ∙ f .order .up-is d
 
 -- ---- a routine leaves
 
@@ -356,7 +360,7 @@ stand-moves s o a l f t (passes i x g y c e j r n b m st u) =
     Standing n (o .settled ++ flat (x ++ (with g (passedMember st g) ∷ y)))) (sym (pass-noted i st (g .member .id) a))
     (stand-changes s o a x g y w (passedMember st g .steps) (g .member .committed) (answeredAccount (passOutcome st) (a (g .member .id)))
     (fit-next (upPast (o .settled) x) (passOutcome st) c (agrees s o a x g y w) n b
-    (ground (up-before s o a x g y w (c .device) (turn-clear s x g y c (w .hub) b n m)) u)))
+    (ground (up-clear s o x g y (w .order) (c .device) (turn-clear s x g y c (w .hub) b n m)) u)))
   where
     ground : {isUp : Bool} → isUp ≡ s .up (c .device) → {st : Status} → Passes s g c st →
         FindsUp isUp (nextIsSkipped false (g .member .steps)) (nextCountsAsMust (g .member .steps)) (passOutcome st)
@@ -370,7 +374,7 @@ stand-moves s o a l f t (dones i code x g y v e j r n b) =
     let k = in-turn s x g y (w .hub) in
     stand-changes s o a x g y w (doneMember g .steps) (g .member .committed) (answeredAccount reported-done (a (g .member .id)))
     (fit-flight (upPast (o .settled) x) reported-done v (agrees s o a x g y w) k n
-    (λ _ _. up-before s o a x g y w d (flight-clear s x g y v (w .hub) n)
+    (λ _ _. up-clear s o x g y (w .order) d (flight-clear s x g y v (w .hub) n)
     ∙ each-mid (InFlightIsUp s) x g y (w .flies) .flies-up d (done-step (g .member) k v n .flew d ∙ eq-eqb d d refl)))
 stand-moves s o a l f t (misses i code x g y v e j r n b) =
     let w = subst (λ l. Before s o a l) e f in

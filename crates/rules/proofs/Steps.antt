@@ -1,6 +1,6 @@
 -- The commands of a routine: they are answered in turn, but for those that an event skips; at most one is in flight, and those behind it
 -- are to do or were skipped so. Assumes nothing.
-use mathlib.Core.Path.{_≡_, refl, sym, ap, _∙_, subst, ap₂}
+use mathlib.Core.Path.{_≡_, refl, sym, ap, _∙_, subst}
 use mathlib.Core.Logic.{_≢_}
 use mathlib.Core.Bool.{Bool, true, false, not, _&&_, _||_, and-true, and-false, or-true, or-false}
 use mathlib.Core.List.{List, [], _∷_, _++_, map, append-nil, cons≢nil}
@@ -11,13 +11,13 @@ use lib.Dec.{eqb}
 use lib.IntN.{ℤ}
 use Rattle.routine.specs.Choice.{if_then_else_}
 use Rattle.routine.specs.declared.Command.{Command}
-use Rattle.rules.specs.Tables.{anyOf, Each}
+use Rattle.rules.specs.Tables.{anyOf}
 use Rattle.rules.specs.State.{Status, to-do, in-flight, was-done, was-skipped, was-held, was-not-held, Step, Member}
-use Rattle.rules.specs.Progress.{isMust, isOn, isToDo, isInFlight, isDone, isAnswered, begun, isLeftOn, finished, inFlightOn, next}
+use Rattle.rules.specs.Progress.{isOn, isToDo, isInFlight, isDone, isAnswered, begun, finished, inFlightOn, next}
 use Rattle.rules.specs.Progress.{Flight, flightOr, flight, advance, answerFlight, withSteps}
 use Rattle.rules.specs.Due.{afterSteps}
 use Rattle.rules.specs.Submit.{stepOf, newcomer}
-use Rattle.rules.specs.Events.{mustLeft, skipLeft}
+use Rattle.rules.specs.Events.{skipLeft}
 use Rattle.rules.specs.History.{isFor}
 use Rattle.rules.specs.HubOrder.{doneSteps}
 use Rattle.rules.proofs.Lists.{byIf, t≠f, this-or-other, or-left, or-right, and-left, and-right, fold-++, anyOf-++}
@@ -62,6 +62,19 @@ notOn d (c ∷ l) = if isFor d c then notOn d l else c ∷ notOn d l
 abbrev pub answeredOn : ℕ → List Step → Bool
 answeredOn d l = anyOf (λ x. isOn d x && isAnswered (x .status)) l
 
+-- a condition that was found to hold or not
+abbrev pub wasAsked : Status → Bool
+wasAsked to-do = false
+wasAsked (in-flight u) = false
+wasAsked was-done = false
+wasAsked was-skipped = false
+wasAsked was-held = true
+wasAsked was-not-held = true
+
+-- is there one on d?
+abbrev pub askedOn : ℕ → List Step → Bool
+askedOn d l = anyOf (λ x. isOn d x && wasAsked (x .status)) l
+
 -- ---- what a change of the commands does
 
 -- the next command, c, is sent, its device being due u
@@ -75,8 +88,8 @@ pub record Sent (c : Command) (u : ℤ) (m n : Member) : Type 0 where
   pub flight-is : flight (n .steps) ≡ some (record { command = c; dueThen = u })
   pub same-after : (d : ℕ) (v : ℤ) → afterSteps d (n .steps) v ≡ afterSteps d (m .steps) v
   pub same-done : doneSteps (n .steps) ≡ doneSteps (m .steps)
-  pub same-answered : (d : ℕ) → answeredOn d (n .steps) ≡ answeredOn d (m .steps)
   pub same-left : leftSteps (n .steps) ≡ leftSteps (m .steps)
+  pub same-asked : (d : ℕ) → askedOn d (n .steps) ≡ askedOn d (m .steps)
 
 -- a status that answers a command which was not sent: skipped, held, not held
 pub record Passing (s : Status) : Type 0 where
@@ -87,7 +100,7 @@ pub skipping : Passing was-skipped
 skipping = record { answers-it = refl; not-done = refl }
 
 -- the next command, c, is answered so
-pub record Skipped (c : Command) (m n : Member) : Type 0 where
+pub record Skipped (c : Command) (s : Status) (m n : Member) : Type 0 where
   pub in-turn : InTurn (n .steps)
   pub unfinished : finished (c .device) m ≡ false
   pub finishes : (d : ℕ) → finished d m ≡ true → finished d n ≡ true
@@ -97,8 +110,9 @@ pub record Skipped (c : Command) (m n : Member) : Type 0 where
   pub flight-is : flight (n .steps) ≡ none
   pub same-after : (d : ℕ) (v : ℤ) → afterSteps d (n .steps) v ≡ afterSteps d (m .steps) v
   pub same-done : doneSteps (n .steps) ≡ doneSteps (m .steps)
-  pub more-answered : (d : ℕ) → answeredOn d (n .steps) ≡ (answeredOn d (m .steps) || eqb (c .device) d)
   pub left-is : leftSteps (m .steps) ≡ c ∷ leftSteps (n .steps)
+  pub same-asked : wasAsked s ≡ false → (d : ℕ) → askedOn d (n .steps) ≡ askedOn d (m .steps)
+  pub other-asked : (d : ℕ) → c .device ≢ d → askedOn d (n .steps) ≡ askedOn d (m .steps)
 
 -- the command in flight, c, is answered
 pub record AnsweredOne (c : Command) (m n : Member) : Type 0 where
@@ -110,8 +124,8 @@ pub record AnsweredOne (c : Command) (m n : Member) : Type 0 where
   pub same-begun : (d : ℕ) → begun d n ≡ begun d m
   pub flies : (d : ℕ) → inFlightOn d n ≡ false
   pub flight-is : flight (n .steps) ≡ none
-  pub more-answered : (d : ℕ) → answeredOn d (n .steps) ≡ (answeredOn d (m .steps) || eqb (c .device) d)
   pub left-is : leftSteps (m .steps) ≡ c ∷ leftSteps (n .steps)
+  pub same-asked : (d : ℕ) → askedOn d (n .steps) ≡ askedOn d (m .steps)
 
 -- an event of d: the commands left on d are skipped
 pub record LeftSkipped (d : ℕ) (m n : Member) : Type 0 where
@@ -124,9 +138,8 @@ pub record LeftSkipped (d : ℕ) (m n : Member) : Type 0 where
   pub flight-stays : (x : Flight) → flight (m .steps) ≡ some x → x .command .device ≢ d → flight (n .steps) ≡ some x
   pub same-after : (e : ℕ) (v : ℤ) → afterSteps e (n .steps) v ≡ afterSteps e (m .steps) v
   pub same-done : doneSteps (n .steps) ≡ doneSteps (m .steps)
-  pub own-answered : begun d m ≡ true → answeredOn d (n .steps) ≡ true
-  pub other-answered : (e : ℕ) → d ≢ e → answeredOn e (n .steps) ≡ answeredOn e (m .steps)
   pub left-is : leftSteps (n .steps) ≡ notOn d (leftSteps (m .steps))
+  pub same-asked : (e : ℕ) → askedOn e (n .steps) ≡ askedOn e (m .steps)
 
 -- ---- the commands taken apart: answered ones, then one in flight or to do, and those behind it
 
@@ -209,7 +222,7 @@ all-over R h dn sk hd nh _ (then-held c p a) = hd c p (all-over R h dn sk hd nh 
 all-over R h dn sk hd nh _ (then-not-held c p a) = nh c p (all-over R h dn sk hd nh p a)
 
 -- what counts neither a command to do nor a skipped one
-behind-over : {A : Type 0} (f : List Step → A) → ((c : Command) (l : List Step) → f (step c to-do ∷ l) ≡ f l) →
+pub behind-over : {A : Type 0} (f : List Step → A) → ((c : Command) (l : List Step) → f (step c to-do ∷ l) ≡ f l) →
     ((c : Command) (l : List Step) → f (step c was-skipped ∷ l) ≡ f l) →
     (q : List Step) → AllBehind q → f q ≡ f []
 behind-over f h k =
@@ -300,12 +313,6 @@ landed was-skipped e = (refl, refl, λ x. refl)
 landed was-held e = (refl, refl, λ x. refl)
 landed was-not-held e = (refl, refl, λ x. refl)
 
--- one test more of a list holds
-one-more : (x e y : Bool) → (x || ((e && true) || y)) ≡ ((x || ((e && false) || y)) || e)
-one-more true e y = refl
-one-more false true y = sym (or-true y)
-one-more false false y = sym (or-false y)
-
 -- what is said of the list where c has status s
 module _ (p : List Step) (a : AllAnswered p) (c : Command) (q : List Step) (w : AllBehind q) where
   turn-at : (s : Status) → InTurn (at p c q s)
@@ -367,8 +374,8 @@ module _ (p : List Step) (a : AllAnswered p) (c : Command) (q : List Step) (w : 
     flight-is = flight-at (in-flight u);
     same-after = λ d v. after-at d v (in-flight u) ∙ sym (after-at d v to-do);
     same-done = done-at (in-flight u) ∙ sym (done-at to-do);
-    same-answered = same-at isAnswered (in-flight u) to-do refl;
     same-left = left-at (in-flight u) ∙ sym (left-at to-do);
+    same-asked = same-at wasAsked (in-flight u) to-do refl;
   }
 
   -- it had status r, and s answers it
@@ -380,12 +387,6 @@ module _ (p : List Step) (a : AllAnswered p) (c : Command) (q : List Step) (w : 
   ends-at r s e d h =
       ap not (any-less (on d isOpen) p (step c r) q (step c s) (unpassed d isOpen (step c s) (ap not e))
       (not-true (anyOf (on d isOpen) (at p c q r)) h))
-
-  gains-at : (r s : Status) → isAnswered r ≡ false → isAnswered s ≡ true → (d : ℕ) →
-      answeredOn d (at p c q s) ≡ (answeredOn d (at p c q r) || eqb (c .device) d)
-  gains-at r s f e d =
-      rw (anyOf-++ (on d isAnswered) p (step c s ∷ q), anyOf-++ (on d isAnswered) p (step c r ∷ q), e, f)
-      (one-more (anyOf (on d isAnswered) p) (eqb (c .device) d) (anyOf (on d isAnswered) q))
 
   leaves-at : (r s : Status) → isAnswered r ≡ false → isAnswered s ≡ true → leftSteps (at p c q r) ≡ c ∷ leftSteps (at p c q s)
   leaves-at r s f e = rw (left-at s, left-at r, e, f) refl
@@ -399,7 +400,7 @@ module _ (p : List Step) (a : AllAnswered p) (c : Command) (q : List Step) (w : 
   done-after-at u d v =
       rw (after-at d v was-done, after-at d v (in-flight u), and-true (eqb (c .device) d), and-false (eqb (c .device) d)) refl
 
-  skipped-at : (m : Member) (s : Status) → Passing s → Skipped c (withSteps m (at p c q to-do)) (withSteps m (at p c q s))
+  skipped-at : (m : Member) (s : Status) → Passing s → Skipped c s (withSteps m (at p c q to-do)) (withSteps m (at p c q s))
   unfolding begun finished inFlightOn
   skipped-at m s e = record {
     in-turn = turn-at s;
@@ -412,14 +413,15 @@ module _ (p : List Step) (a : AllAnswered p) (c : Command) (q : List Step) (w : 
     same-after = λ d v. after-at d v s ∙ ap (λ b. if b then c .setting else afterSteps d p v) (unpassed d isDone (step c s) (e .not-done))
         ∙ sym (after-at d v to-do ∙ ap (λ b. if b then c .setting else afterSteps d p v) (unpassed d isDone (step c to-do) refl));
     same-done = done-at s ∙ ap (λ b. doneSteps p ++ (if b then c ∷ [] else [])) (e .not-done) ∙ sym (done-at to-do);
-    more-answered = gains-at to-do s refl (e .answers-it);
     left-is = leaves-at to-do s refl (e .answers-it);
+    same-asked = same-at wasAsked s to-do;
+    other-asked = other-at wasAsked s to-do;
   }
 
-  answer-at : (m : Member) (u : ℤ) (s : Status) → isAnswered s ≡ true →
+  answer-at : (m : Member) (u : ℤ) (s : Status) → isAnswered s ≡ true → wasAsked s ≡ false →
       AnsweredOne c (withSteps m (at p c q (in-flight u))) (withSteps m (at p c q s))
   unfolding begun finished inFlightOn
-  answer-at m u s e = record {
+  answer-at m u s e f = record {
     in-turn = turn-at s;
     unfinished = ap not (own-at isOpen (in-flight u) refl);
     had-begun = own-at isBegun (in-flight u) refl;
@@ -428,8 +430,8 @@ module _ (p : List Step) (a : AllAnswered p) (c : Command) (q : List Step) (w : 
     same-begun = same-at isBegun s (in-flight u) (ap not (landed s e .1));
     flies = lands-at s e;
     flight-is = flight-at s ∙ landed s e .2 (step c s);
-    more-answered = gains-at (in-flight u) s refl e;
     left-is = leaves-at (in-flight u) s refl e;
+    same-asked = same-at wasAsked s (in-flight u) f;
   }
 
 -- the next command is sent or skipped
@@ -439,7 +441,8 @@ at-next P c s h _ (ends p a) e f =
     absurd (Option·none-ne-some c (sym (all-over (λ k. next k ≡ none) refl (λ b k n. n) (λ b k n. n) (λ b k n. n) (λ b k n. n) p a) ∙ e))
 at-next P c s h _ (rests p a b q w) e f =
     let same : b ≡ c =
-    Option·some-injective b c (sym (over (λ p k. next k ≡ some b) (step b to-do ∷ q) refl (λ b p k n. n) (λ b p k n. n) (λ b p k n. n) (λ b p k n. n) p a)
+    Option·some-injective b c
+    (sym (over (λ p k. next k ≡ some b) (step b to-do ∷ q) refl (λ b p k n. n) (λ b p k n. n) (λ b p k n. n) (λ b p k n. n) p a)
     ∙ e) in
     subst (λ k. P (at p b q to-do) k)
     (sym (over (λ p k. advance s k ≡ p ++ (step b s ∷ q)) (step b to-do ∷ q) refl (λ b p k. ap (λ n. step b was-done ∷ n))
@@ -470,9 +473,9 @@ module _ (m : Member) (t : InTurn (m .steps)) where
       (apart (m .steps) t) e f
 
   pub skip-step : (c : Command) (s : Status) → Passing s → next (m .steps) ≡ some c → flight (m .steps) ≡ none →
-      Skipped c m (withSteps m (advance s (m .steps)))
+      Skipped c s m (withSteps m (advance s (m .steps)))
   skip-step c s h e f =
-      at-next (λ k l. Skipped c (withSteps m k) (withSteps m l)) c s (λ p a q w. skipped-at p a c q w m s h) (m .steps)
+      at-next (λ k l. Skipped c s (withSteps m k) (withSteps m l)) c s (λ p a q w. skipped-at p a c q w m s h) (m .steps)
       (apart (m .steps) t) e f
 
   answers : (P : List Step → List Step → Type 0) (x : Flight) (s : Status) → Goes (x .command) (in-flight (x .dueThen)) s P →
@@ -482,7 +485,7 @@ module _ (m : Member) (t : InTurn (m .steps)) where
   pub done-step : (x : Flight) → flight (m .steps) ≡ some x → AnsweredOne (x .command) m (withSteps m (answerFlight was-done (m .steps)))
   done-step x e =
       answers (λ k l. AnsweredOne (x .command) (withSteps m k) (withSteps m l)) x was-done
-      (λ p a q w. answer-at p a (x .command) q w m (x .dueThen) was-done refl) e
+      (λ p a q w. answer-at p a (x .command) q w m (x .dueThen) was-done refl refl) e
 
   pub done-after : (x : Flight) → flight (m .steps) ≡ some x → (d : ℕ) (v : ℤ) →
       afterSteps d (answerFlight was-done (m .steps)) v ≡
@@ -500,7 +503,7 @@ module _ (m : Member) (t : InTurn (m .steps)) where
   pub fail-step : (x : Flight) → flight (m .steps) ≡ some x → AnsweredOne (x .command) m (withSteps m (answerFlight was-skipped (m .steps)))
   fail-step x e =
       answers (λ k l. AnsweredOne (x .command) (withSteps m k) (withSteps m l)) x was-skipped
-      (λ p a q w. answer-at p a (x .command) q w m (x .dueThen) was-skipped refl) e
+      (λ p a q w. answer-at p a (x .command) q w m (x .dueThen) was-skipped refl refl) e
 
   pub fail-after : (x : Flight) → flight (m .steps) ≡ some x → (d : ℕ) (v : ℤ) →
       afterSteps d (answerFlight was-skipped (m .steps)) v ≡ afterSteps d (m .steps) v
@@ -588,6 +591,10 @@ pub unbegun-answered : (m : Member) (d : ℕ) → begun d m ≡ false → answer
 unfolding begun
 unbegun-answered m d e = fewer-on d isBegun isAnswered (unbegun isAnswered refl) (m .steps) e
 
+pub unbegun-asked : (m : Member) (d : ℕ) → begun d m ≡ false → askedOn d (m .steps) ≡ false
+unfolding begun
+unbegun-asked m d e = fewer-on d isBegun wasAsked (unbegun wasAsked refl) (m .steps) e
+
 -- begun: one on d is answered, or in flight
 pub begun-is : (m : Member) (d : ℕ) → begun d m ≡ (answeredOn d (m .steps) || inFlightOn d m)
 unfolding begun inFlightOn
@@ -613,20 +620,6 @@ begun-is m d = go (m .steps)
     go (x ∷ l) =
         rw (one (isOn d x) (x .status), go l)
         (four (on d isAnswered x) (on d isInFlight x) (anyOf (on d isAnswered) l) (anyOf (on d isInFlight) l))
-
--- a command left on d is not answered yet
-pub left-on : (m : Member) (d : ℕ) → anyOf (isFor d) (leftSteps (m .steps)) ≡ not (finished d m)
-unfolding finished
-left-on m d =
-    by-status (λ l. anyOf (isFor d) (leftSteps l) ≡ anyOf (on d isOpen) l) refl
-    (λ c l h. ap₂ _||_ (sym (and-true (isFor d c))) h) (λ c u l h. ap₂ _||_ (sym (and-true (isFor d c))) h)
-    (λ c l h. rw (and-false (isFor d c)) h) (λ c l h. rw (and-false (isFor d c)) h) (λ c l h. rw (and-false (isFor d c)) h)
-    (λ c l h. rw (and-false (isFor d c)) h) (m .steps)
-    ∙ sym (twice (anyOf (on d isOpen) (m .steps)))
-  where
-    twice : (b : Bool) → not (not b) ≡ b
-    twice true = refl
-    twice false = refl
 
 -- ---- an event skips what is left on d
 
@@ -712,6 +705,19 @@ module _ (d : ℕ) where
       undone was-skipped e = t≠f e
       undone was-held e = t≠f e
       undone was-not-held e = t≠f e
+
+  skip-asked : (e : ℕ) (l : List Step) → askedOn e (skipLeft d l) ≡ askedOn e l
+  skip-asked e =
+      by-skip d (λ l m. askedOn e m ≡ askedOn e l) refl (λ c s l t h. ap (λ b. on e wasAsked (step c s) || b) h)
+      (λ c s l t u h. rw (unpassed e wasAsked (step c was-skipped) refl, unpassed e wasAsked (step c s) (unasked s u)) h)
+    where
+      unasked : (s : Status) → isAnswered s ≡ false → wasAsked s ≡ false
+      unasked to-do e = refl
+      unasked (in-flight u) e = refl
+      unasked was-done e = t≠f e
+      unasked was-skipped e = t≠f e
+      unasked was-held e = t≠f e
+      unasked was-not-held e = t≠f e
 
   skip-done : (l : List Step) → doneSteps (skipLeft d l) ≡ doneSteps l
   skip-done =
@@ -816,22 +822,12 @@ skip-steps d m t = record {
   flight-stays = λ x. skip-flight-stays d x l;
   same-after = λ e. skip-after d e l;
   same-done = skip-done d l;
-  own-answered = λ b. own b;
-  other-answered = λ e n. skip-other d isAnswered e n l;
   left-is = skip-left d l;
+  same-asked = λ e. skip-asked d e l;
 }
   where
     l : List Step
     l = m .steps
-
-    n : Member
-    n = withSteps m (skipLeft d (m .steps))
-
-    own : anyOf (on d isBegun) l ≡ true → answeredOn d (skipLeft d l) ≡ true
-    own b =
-        let f : inFlightOn d n ≡ false = finished-grounded n d (ap not (skip-closes d l)) in
-        sym (or-false (answeredOn d (skipLeft d l))) ∙ ap (λ y. answeredOn d (skipLeft d l) || y) (sym f) ∙ sym (begun-is n d)
-        ∙ skip-own d isBegun refl l b
 
 -- ---- a newcomer
 
@@ -840,7 +836,6 @@ pub record Fresh (cs : List Command) (m : Member) : Type 0 where
   pub unbegun : (d : ℕ) → begun d m ≡ false
   pub flight-is : flight (m .steps) ≡ none
   pub done-is : doneSteps (m .steps) ≡ []
-  pub unanswered : (d : ℕ) → answeredOn d (m .steps) ≡ false
   pub left-is : leftSteps (m .steps) ≡ cs
 
 pub fresh-newcomer : (i : ℕ) (cs : List Command) → Fresh cs (newcomer i cs)
@@ -850,7 +845,6 @@ fresh-newcomer i cs = record {
   unbegun = unbegun-new cs;
   flight-is = behind-over flight (λ c l. refl) (λ c l. refl) (map stepOf cs) (new-behind cs);
   done-is = behind-over doneSteps (λ c l. refl) (λ c l. refl) (map stepOf cs) (new-behind cs);
-  unanswered = λ d. fewer-on d isBegun isAnswered (unbegun isAnswered refl) (map stepOf cs) (unbegun-new cs d);
   left-is = all-left cs;
 }
   where

@@ -8,7 +8,7 @@ use Prim.Native.Nat.{ℕ, _<_, _≤_}
 use native.Mathlib.Omega.{arith}
 use borrow.Author.Tests.{ltb-false, eqb-true, eqb-false}
 use lib.Dec.{ltb, eqb}
-use lib.IntN.{ℤ}
+use lib.IntN.{ℤ, pos}
 use Rattle.routine.specs.Routine.{maxDevices}
 use Rattle.routine.specs.Refusals.{devices-out-of-range, pass-limit-out-of-range, first-id-0, refuse_when_}
 use Rattle.routine.specs.declared.Verdict.{Verdict}
@@ -33,13 +33,15 @@ use Rattle.rules.specs.Serial.{allUp, serialRun}
 use Rattle.rules.specs.World.{Message, Device, takes, World, Act, calls, takes-one, accounts, afterCall, worldAfter, worldAfterAll}
 use Rattle.rules.specs.World.{taken, isAccepted, Truthful, Premised, Premise, PremiseAll, newWorld}
 use Rattle.rules.specs.Demand3.{orderIn, NoneRuns, isBack, committedPart, EndState, Begins, CommandsStand, Statement}
+use Rattle.rules.specs.Replay.{ReplayStatement}
 use Rattle.rules.specs.HubOrder.{CommandsTold, entryOf, routinesIn, OrderIsHubs}
 use Rattle.rules.specs.Attach.{oneRestart, attach}
 use Rattle.rules.proofs.Lists.{byIf, t≠f, fold-++, anyOf-++}
 use Rattle.rules.proofs.Groups.{Group, members, alone, flat, stillHeld, each-held}
 use Rattle.rules.proofs.Invariant.{unmarked, HubOk, InFlightIsUp, FirstRuns, OrderOk, AccountTells, backTo, ReachesSetting, has}
 use Rattle.rules.proofs.Invariant.{goes-back, OneFlightOn, DeviceAt, is-down, none-on-it, one-on-it, DeviceOk, PremiseOnCall}
-use Rattle.rules.proofs.View.{by-answer, Gone, nobody, somebody, loses, Moves, places, commits, sends, passes, dones, misses, aborts, fails}
+use Rattle.rules.proofs.View.{by-answer, Gone, nobody, somebody, loses, Moves, places, commits, sends, passes, dones, misses}
+use Rattle.rules.proofs.View.{aborts, fails}
 use Rattle.rules.proofs.View.{restarts, Seen, is-refused, waits, limits, moves, see}
 use Rattle.rules.proofs.Fields.{Fixed, gone-fixed, attach-fixed, settle-fixed}
 use Rattle.rules.proofs.Moved.{hub-limit, hub-settles}
@@ -49,6 +51,10 @@ use Rattle.rules.proofs.Ordered.{order-moves}
 use Rattle.rules.proofs.Running.{RunsTold, runs-moves, runs-held}
 use Rattle.rules.proofs.Accounts.{accounts-moves, Unsent, unsent-moves, working-moves}
 use Rattle.rules.proofs.Stands.{stands-moves}
+use Rattle.rules.proofs.Followed.{notedIn}
+use Rattle.rules.proofs.Asked.{AllPairs, pairs-held, Spares, spares-moves, FlightIsPlain, plain-moves}
+use Rattle.rules.proofs.Conditions.{TaggedAll, tagged-moves, OnDevice, ReplaysOn, replays-moves}
+use Rattle.rules.proofs.Replay.{replays-is, shows-settled}
 use Rattle.rules.proofs.Messages.{ok-state, device-takes, device-settles}
 use Rattle.rules.proofs.DeviceKept.{device-moves}
 use mathlib.Core.List.{map-append}
@@ -71,6 +77,10 @@ record Known (s : State) (o : Order) (a : ℕ → Account) (k : ℕ → Bool) (l
   unsent : Unsent s a
   works : (d : ℕ) → k d ≡ s .up d
   stands : CommandsStand a (entries o) allUp
+  plain : Each FlightIsPlain l
+  tagged : TaggedAll a
+  spared : AllPairs Spares l
+  replays : ReplaysOn a (entries o)
 
 -- and of the devices, if the premise so far, P, holds
 record Holds (P : Type 0) (w : World) : Type 0 where
@@ -197,6 +207,10 @@ holds-limit P w k h =
         unsent = j .unsent;
         works = j .works;
         stands = j .stands;
+        plain = j .plain;
+        tagged = j .tagged;
+        spared = j .spared;
+        replays = j .replays;
       };
       devices = λ p d n. ok-state d s (withPassLimit s k) (accounts w) (h .groups) (w .devices d) refl refl (h .devices p d n);
     }
@@ -220,6 +234,11 @@ told P w c v h {r = r} {lead = lead} {k = k} m = record {
       stands = subst (λ q. CommandsStand (noteAnswers c (r .answers) a) q allUp)
           (sym (bar-entries (orderAfterAll c a (r .answers) (orderIn w))))
           (stands-moves s (orderIn w) a l (j .hub) (j .flies) (j .order) (j .runs) (j .tells) (j .stands) m);
+      plain = each-held FlightIsPlain k (plain-moves s l (j .hub) (j .plain) m);
+      tagged = tagged-moves s a l (j .hub) (j .tells) (j .plain) (j .tagged) m;
+      spared = pairs-held Spares k (spares-moves s l (j .hub) (j .spared) m);
+      replays = subst (ReplaysOn (noteAnswers c (r .answers) a)) (sym (bar-entries (orderAfterAll c a (r .answers) (orderIn w))))
+          (replays-moves s (orderIn w) a l (j .hub) (j .order) (j .runs) (j .tells) (j .spared) (j .replays) m);
     };
     devices = λ p d n. device-settles d (r .state) _ k _ hub
         (device-moves d s a l (w .devices) v (subst (λ q. d < q) same n) (j .hub) (j .order .events-ok) (j .tells)
@@ -339,6 +358,10 @@ new-holds n k first p = record {
     unsent = λ i e. refl;
     works = λ d. refl;
     stands = tt;
+    plain = tt;
+    tagged = λ i. tt;
+    spared = tt;
+    replays = λ d. tt;
   };
   devices = λ q d m. record { old-sent = tt; old-took = tt; device-at = none-on-it refl tt (has refl refl) };
 }
@@ -458,6 +481,31 @@ hub-order n k first s e acts =
     all-told : (a : ℕ → Account) (l : List Group) → Each (AccountTells a) l → Each (CommandsTold a) (members l)
     all-told a [] t = tt
     all-told a (g ∷ l) t = (t .0 .agrees, all-told a l (t .1))
+
+-- the replay of conditions
+pub replay : ReplayStatement
+replay n k first s e acts = record {
+  all-routines = replays-is (accounts w) (entries (orderIn w)) allUp (h .tagged) (h .replays);
+  committed-routines = replays-is (accounts w) (committedPart (entries (orderIn w))) allUp (h .tagged)
+      (λ d. subst (λ l. OnDevice d (notedIn (accounts w)) (committedPart l) true (pos 0)) (sym whole)
+      (shows-settled d (accounts w) (orderIn w .settled) l (h .order .barred) (h .tells) (h .spared) true (pos 0)
+      (subst (λ l. OnDevice d (notedIn (accounts w)) l true (pos 0)) whole (h .replays d))));
+}
+  where
+    w : World
+    w = worldAfterAll (newWorld s) acts
+
+    all : Holds (Unit {0} × PremiseAll (newWorld s) acts) w
+    all = acts-hold (Unit {0}) (newWorld s) acts (started n k first s e) .next
+
+    l : List Group
+    l = all .groups
+
+    h : Known (w .state) (orderIn w) (accounts w) (workingOf (w .history)) l
+    h = all .known
+
+    whole : entries (orderIn w) ≡ orderIn w .settled ++ flat l
+    whole = ap (λ r. orderIn w .settled ++ r) (h .order .unsettled-is)
 
 -- if no routine runs after the list, what demand 3 has of the committed routines is the whole order
 pub order-committed : (n k first : ℕ) (s : State) → openOf n k first ≡ opened s → (acts : List Act) →

@@ -4,7 +4,6 @@ use mathlib.Core.Bool.{Bool, false, and-false}
 use mathlib.Core.List.{List, [], _∷_, _++_}
 use mathlib.Core.Option.{none}
 use Prim.Native.Nat.{ℕ}
-use Rattle.routine.specs.declared.Command.{Command}
 use Rattle.rules.specs.Tables.{put, Each}
 use Rattle.rules.specs.State.{Member, State}
 use Rattle.rules.specs.Answers.{Call, failure, restart, Answer, down, up, Result}
@@ -15,20 +14,22 @@ use Rattle.rules.specs.Abort.{abort}
 use Rattle.rules.specs.Submit.{newcomer}
 use Rattle.rules.specs.Turn.{commit, commitTurn, sendTurn}
 use Rattle.rules.specs.Report.{doneReport, skipReport}
-use Rattle.rules.specs.History.{Outcome, reported-done, reported-failed, not-sent, Account, placedAccount, sentAccount}
+use Rattle.rules.specs.History.{Outcome, reported-done, reported-failed, Account, placedAccount, sentAccount}
 use Rattle.rules.specs.History.{answeredAccount, endedAccount, skippedAccount, noteAnswers}
 use Rattle.rules.specs.Order.{Event, failure-of, restart-of, deviceOf}
 use Rattle.rules.proofs.Schedules.{isFlying}
 use Rattle.rules.proofs.Lists.{each-mid, ids-fresh, put-same}
 use Rattle.rules.proofs.Groups.{Group, ids, alone, with, leaving, attachEvent, stillHeld, other-ids}
 use Rattle.rules.proofs.Same.{Same, same-placed, same-leaving, same-attached}
-use Rattle.rules.proofs.Steps.{leftSteps, send-step, skip-step, done-step, fail-step, fresh-newcomer}
+use Rattle.rules.proofs.Steps.{send-step, skip-step, done-step, fail-step, fresh-newcomer}
 use Rattle.rules.proofs.Invariant.{HubOk, AccountTells}
-use Rattle.rules.proofs.View.{passing, sentMember, passedMember, doneMember, failedMember, skippedLeft, Gone, nobody, somebody, loses}
+use Rattle.rules.proofs.View.{passing, sentMember, passedMember, doneMember, failedMember, skippedLeft, Gone, nobody, somebody}
+use Rattle.rules.proofs.View.{loses}
 use Rattle.rules.proofs.View.{Moves, places, commits, sends, passes, dones, misses, aborts, fails, restarts}
 use Rattle.rules.proofs.Marks.{in-turn, halfway-is}
 use Rattle.rules.proofs.Moved.{hub-up}
-use Rattle.rules.proofs.Running.{passOutcome, pass-noted, Tells, tells-put, tells-drop, tells-new, tells-held, tells-same, put-part, RunsTold}
+use Rattle.rules.proofs.Running.{passOutcome, pass-noted, Tells, tells-put, tells-drop, tells-new, tells-held, tells-same, put-part}
+use Rattle.rules.proofs.Running.{RunsTold}
 use Rattle.rules.proofs.Accounts.{eventTold, gone-tells, TellsEvent, event-accounts}
 
 abbrev pub flyingIn : (ℕ → Account) → ℕ → Bool

@@ -26,7 +26,8 @@ use Rattle.rules.specs.Settle.{settling}
 use Rattle.rules.specs.Abort.{abort}
 use Rattle.rules.specs.Open.{limitCheck}
 use Rattle.rules.specs.Submit.{submitCheck, blocks, upToLast, pastLast, newcomer, place, submitOf}
-use Rattle.rules.specs.Turn.{firstHolding, commit, commitTurn, nextBecomes, sendTurn, skipTurn, isHeld, heldTurn, notHeldTurn, waitOr, turnNext}
+use Rattle.rules.specs.Turn.{firstHolding, commit, commitTurn, nextBecomes, sendTurn, skipTurn, isHeld, heldTurn, notHeldTurn}
+use Rattle.rules.specs.Turn.{waitOr, turnNext}
 use Rattle.rules.specs.Turn.{turnFlight, turnFound, turnOf}
 use Rattle.rules.specs.Report.{codeDone, codeFailed, doneReport, skipReport, reportFlight, reportFound, reportOf}
 use Rattle.rules.specs.Events.{isHalfway, mustLeft, skipLeft, skipRest, stopIfAny, stopHalfway, failureResult, restartResult}

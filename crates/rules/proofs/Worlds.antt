@@ -1,7 +1,7 @@
 -- The theorem is not empty: worlds that meet the premise, end with no routine running and nothing left to put back, and pass through what
 -- is hard. Each is computed; the theorem is not used. Assumes nothing.
 use mathlib.Core.Path.{_≡_, refl, sym}
-use mathlib.Core.Logic.{inr}
+use mathlib.Core.Logic.{inl, inr}
 use mathlib.Core.Bool.{Bool, true, false, not, _&&_}
 use mathlib.Core.List.{List, [], _∷_}
 use Prim.Native.Nat.{ℕ, zero, suc}
@@ -10,8 +10,8 @@ use lib.Dec.{eqb}
 use lib.IntN.{ℤ, pos, negsuc}
 use lib.ListN.{take}
 use Rattle.rules.specs.Tables.{anyOf}
-use Rattle.rules.specs.Answers.{Call, submit, turn, report, failure, restart, cancel, limit, Answer, refused, placed, done, skipped}
-use Rattle.rules.specs.Answers.{aborted, down, up}
+use Rattle.rules.specs.Answers.{Call, submit, turn, report, failure, restart, cancel, limit, Answer, refused, placed, wait, done}
+use Rattle.rules.specs.Answers.{skipped, held, aborted, down, up}
 use Rattle.rules.specs.Answers.{limited}
 use Rattle.routine.specs.declared.Refusal.the-variants.{Number}
 use Rattle.rules.specs.Open.{opened, newHub, openOf}
@@ -20,7 +20,8 @@ use Rattle.rules.specs.Order.{putAfter, entries, moveBar}
 use Rattle.rules.specs.Serial.{DeviceState, allUp, serialRun}
 use Rattle.rules.specs.World.{put-back, sent-for, World, Act, calls, takes-one, accounts, worldAfterAll, taken, PremiseAll, newWorld}
 use Rattle.rules.specs.Demand3.{orderIn, NoneRuns, isBack, committedPart, CommandsStand}
-use Rattle.rules.specs.Examples.{calc, must, best, back}
+use Rattle.rules.specs.Replay.{Replays}
+use Rattle.rules.specs.Examples.{calc, must, best, condition, back}
 use Rattle.rules.proofs.Lists.{t≠f, this-or-other}
 
 -- all that a computation with worlds opens
@@ -296,6 +297,105 @@ lamp-restarts = record {
   stands = (refl, (inr refl, (refl, ((refl, refl), tt))), tt);
 }
 
+-- ---- water only if dry (document 02, item 4)
+
+-- along the order every condition that was not skipped finds its device up, and has the outcome that it had live
+abbrev pub ReplaysIn : Passage → Type 0
+ReplaysIn p = Replays (accounts (endOf p)) (entries (orderIn (endOf p))) allUp
+
+-- Routine 1 has done device 0 and finished it: the condition of 2 waits for it, by the second cause alone, and then holds.
+abbrev pub waitsForSet : Passage
+waitsForSet = record {
+  devices = 2;
+  passLimit = 0;
+  acts = call (submit (must 0 (pos 30) ∷ must 1 (pos 1) ∷ [])) ∷ call (turn 1) ∷ takes-one 0 0 ∷ call (report 1 0) ∷ call
+      (submit (condition 0 (pos 20) ∷ must 1 (pos 5) ∷ [])) ∷ call (turn 2) ∷ call (turn 1) ∷ takes-one 1 0 ∷ call (report 1 0) ∷ call
+      (turn 2) ∷ call (turn 1) ∷ call (turn 2) ∷ call (turn 2) ∷ takes-one 1 0 ∷ call (report 2 0) ∷ call (turn 2) ∷ [];
+  settings = pos 30 ∷ pos 5 ∷ [];
+}
+
+pub waits-for-set : Passes waitsForSet × ReplaysIn waitsForSet
+unfolding calcWorld
+waits-for-set = (record {
+  accepted = refl;
+  premise = ((λ _. tt), ((λ _. tt), (tt, ((λ _. refl), ((λ _. tt), ((λ _. tt), ((λ _. tt), (tt, ((λ _. refl), ((λ _. tt), ((λ _. tt), ((λ _. tt), ((λ _. tt), (tt, ((λ _. refl), ((λ _. tt), tt))))))))))))))));
+  none-runs = λ i. elsewhere (accounts (endOf waitsForSet)) 1 refl i (λ n. elsewhere (accounts (endOf waitsForSet)) 2 refl i (λ m. rw (n, m) refl));
+  ready = refl;
+  settings-are = refl;
+  serial-is = refl;
+  stands = (refl, (refl, (refl, tt)), (refl, (refl, (refl, tt)), tt));
+}, ((refl, (refl, tt)), (((refl, refl, refl), (refl, tt)), tt)))
+
+-- Device 0 is down for routine 1, and restarts at 25 behind it: the condition of 2 holds because of that, while 1 runs.
+abbrev pub holdsByRestart : Passage
+holdsByRestart = record {
+  devices = 2;
+  passLimit = 0;
+  acts = calls (failure 0) (pos 25) ∷ call (submit (best 0 (pos 3) ∷ must 1 (pos 1) ∷ [])) ∷ call (turn 1) ∷ call (restart 0 (pos 25)) ∷ call
+      (submit (condition 0 (pos 20) ∷ must 1 (pos 7) ∷ [])) ∷ call (turn 2) ∷ call (turn 1) ∷ takes-one 1 0 ∷ call (report 1 0) ∷ call
+      (turn 1) ∷ call (turn 2) ∷ takes-one 1 0 ∷ call (report 2 0) ∷ call (turn 2) ∷ [];
+  settings = pos 25 ∷ pos 7 ∷ [];
+}
+
+pub holds-by-restart : Passes holdsByRestart × ReplaysIn holdsByRestart
+unfolding calcWorld
+holds-by-restart = (record {
+  accepted = refl;
+  premise = ((λ _. tt), ((λ _. tt), ((λ _. tt), ((λ _. refl), ((λ _. tt), ((λ _. tt), ((λ _. tt), (tt, ((λ _. refl), ((λ _. tt), ((λ _. tt), (tt, ((λ _. refl), ((λ _. tt), tt))))))))))))));
+  none-runs = λ i. elsewhere (accounts (endOf holdsByRestart)) 1 refl i (λ n. elsewhere (accounts (endOf holdsByRestart)) 2 refl i (λ m. rw (n, m) refl));
+  ready = refl;
+  settings-are = refl;
+  serial-is = refl;
+  stands = (refl, (inr refl, (refl, tt)), (refl, (refl, (refl, tt)), tt));
+}, ((tt, (refl, tt)), (((refl, refl, refl), (refl, tt)), tt)))
+
+-- The same, but routine 1 is cancelled once the condition held: the restart behind it stays, and the condition holds still.
+abbrev pub aheadAborts : Passage
+aheadAborts = record {
+  devices = 2;
+  passLimit = 0;
+  acts = calls (failure 0) (pos 25) ∷ call (submit (best 0 (pos 3) ∷ must 1 (pos 1) ∷ [])) ∷ call (turn 1) ∷ call (restart 0 (pos 25)) ∷ call
+      (submit (condition 0 (pos 20) ∷ must 0 (pos 7) ∷ [])) ∷ call (turn 2) ∷ call (cancel 1) ∷ call (turn 2) ∷ takes-one 0 0 ∷ call
+      (report 2 0) ∷ call (turn 2) ∷ [];
+  settings = pos 7 ∷ pos 0 ∷ [];
+}
+
+pub ahead-aborts : Passes aheadAborts × ReplaysIn aheadAborts
+unfolding calcWorld
+ahead-aborts = (record {
+  accepted = refl;
+  premise = ((λ _. tt), ((λ _. tt), ((λ _. tt), ((λ _. refl), ((λ _. tt), ((λ _. tt), ((λ _. tt), ((λ _. tt), (tt, ((λ _. refl), ((λ _. tt), tt)))))))))));
+  none-runs = λ i. elsewhere (accounts (endOf aheadAborts)) 1 refl i (λ n. elsewhere (accounts (endOf aheadAborts)) 2 refl i (λ m. rw (n, m) refl));
+  ready = refl;
+  settings-are = refl;
+  serial-is = refl;
+  stands = (refl, (refl, (refl, tt)), tt);
+}, (((refl, refl, refl), (refl, tt)), tt))
+
+-- Device 0 fails when the condition on it is left, with a best-effort command after it: the condition is skipped by that, and its command
+-- at its turn, though its device, 1, is up.
+abbrev pub skippedByEvent : Passage
+skippedByEvent = record {
+  devices = 2;
+  passLimit = 0;
+  acts = call (submit (must 0 (pos 9) ∷ condition 0 (pos 5) ∷ best 1 (pos 5) ∷ must 1 (pos 6) ∷ [])) ∷ call (turn 1) ∷ takes-one 0 0 ∷ call
+      (report 1 0) ∷ calls (failure 0) (pos 33) ∷ call (turn 1) ∷ call (turn 1) ∷ takes-one 1 0 ∷ call (report 1 0) ∷ call (turn 1) ∷ call
+      (restart 0 (pos 33)) ∷ [];
+  settings = pos 33 ∷ pos 6 ∷ [];
+}
+
+pub skipped-by-event : Passes skippedByEvent × ReplaysIn skippedByEvent
+unfolding calcWorld
+skipped-by-event = (record {
+  accepted = refl;
+  premise = ((λ _. tt), ((λ _. tt), (tt, ((λ _. refl), ((λ _. tt), ((λ _. tt), ((λ _. tt), (tt, ((λ _. refl), ((λ _. tt), ((λ _. refl), tt)))))))))));
+  none-runs = λ i. elsewhere (accounts (endOf skippedByEvent)) 1 refl i (λ n. rw n refl);
+  ready = refl;
+  settings-are = refl;
+  serial-is = refl;
+  stands = (refl, (refl, ((refl, refl), (inl refl, (refl, tt)))), tt);
+}, ((refl, (tt, (tt, (refl, tt)))), tt))
+
 -- the world after the first n acts
 abbrev pub after : ℕ → Passage → World
 after n p = worldAfterAll (newWorld (newHub (p .devices) (p .passLimit) 1)) (take n (p .acts))
@@ -306,7 +406,8 @@ lastAnswers (t ∷ l) = t .answers
 
 -- What is claimed of them on their way: 50 is taken after `aborted`, with the put-back behind it; 70 is taken past a put-back; 50 is on
 -- its way when the failure leaves 33; the restart reports −7; the report finds the due setting changed; 2 passes 1, by a K of 1, and 9 is
--- refused; the lamp has taken 50 when it fails, the answer names the failure alone, and late reports are 12 and 10.
+-- refused; the lamp has taken 50 when it fails, the answer names the failure alone, and late reports are 12 and 10; the
+-- condition waits when 1 has only done device 0, holds by the restart, and is skipped by the failure, its command at its turn.
 pub midways :
     (lastAnswers (after 3 takenLate .history) ≡ aborted 1 (back 0 (pos 0) ∷ []) ∷ []) × (after 4 takenLate .devices 0 .setting ≡ pos 50)
     × (after 4 takenLate .devices 0 .sent ≡ record { setting = pos 0; origin = put-back } ∷ [])
@@ -323,8 +424,20 @@ pub midways :
     × (lastAnswers (after 5 lampFails .history) ≡ refused (Number 12) ∷ [])
     × (lastAnswers (after 10 lampFails .history) ≡ refused (Number 10) ∷ [])
     × (lastAnswers (after 4 lampRestarts .history) ≡ up 0 1 ∷ [])
+    × (lastAnswers (after 6 waitsForSet .history) ≡ wait 2 1 ∷ []) × (lastAnswers (after 10 waitsForSet .history) ≡ wait 2 1 ∷ [])
+    × (lastAnswers (after 12 waitsForSet .history) ≡ held 2 ∷ []) × (lastAnswers (after 6 holdsByRestart .history) ≡ held 2 ∷ [])
+    × (lastAnswers (after 7 aheadAborts .history) ≡ aborted 1 [] ∷ []) × (lastAnswers (after 5 skippedByEvent .history) ≡ down 0 1 ∷ [])
+    × (lastAnswers (after 6 skippedByEvent .history) ≡ skipped 1 [] ∷ []) × (after 6 skippedByEvent .state .up 1 ≡ true)
 unfolding calcWorld
 midways = (
+  refl,
+  refl,
+  refl,
+  refl,
+  refl,
+  refl,
+  refl,
+  refl,
   refl,
   refl,
   refl,

@@ -1,5 +1,6 @@
 -- The calls of the hub, with any numbers and lists, and their answers as data: every value that document 01 prints, under the word that it
--- prints, `held` and `not held` of document 02, item 4, among them; and the new pass limit of item 13, which no line makes. Assumes nothing.
+-- prints, `held` and `not held` of document 02, item 4, among them; and the new pass limit of item 13, which no line makes. Assumes
+-- nothing.
 use mathlib.Core.List.{List, [], _∷_}
 use Prim.Native.Nat.{ℕ}
 use lib.IntN.{ℤ}

@@ -1,6 +1,6 @@
 -- Document 01, "When a call is turned down": the causes of the opening and of the hub's calls, each said by itself in the table's words
--- over the state and the call; the order in which they are tested; and what `exact-opening` .. `exact-limit` (proofs/Exact.antt) say:
--- each number under its cause alone. The same of the reading of all due settings (`exact-list`). Causes 4 to 7 and 22, and what "each under its
+-- over the state and the call; the order in which they are tested; and what `exact-opening` .. `exact-limit` (proofs/Exact.antt) say: each
+-- number under its cause alone. The same of the reading of all due settings (`exact-list`). Causes 4 to 7 and 22, and what "each under its
 -- cause alone" means, stand in `specs/Causes.antt` of crate `routine`. Assumes nothing.
 use mathlib.Core.Path.{_≡_}
 use mathlib.Core.Bool.{true, false}
@@ -97,8 +97,8 @@ pub data CallCause (s : State) : Call → Cause → Type 0 where
 abbrev pub openingCauses : List Cause
 openingCauses = devices-out-of-range ∷ pass-limit-out-of-range ∷ first-id-0 ∷ []
 
--- "Submission: 4; then the commands in turn, each 5, 6, 7", and 22 (document 02, item 4); "then 8, 9. Turn: 10, 11. Cancel: 10. Report: 10, 12, 13. Failure: 14, 15.
--- Restart: 14, 16, 17." A new pass limit (document 02, item 13): 2.
+-- "Submission: 4; then the commands in turn, each 5, 6, 7", and 22 (document 02, item 4); "then 8, 9. Turn: 10, 11. Cancel: 10. Report: 10,
+-- 12, 13. Failure: 14, 15. Restart: 14, 16, 17." A new pass limit (document 02, item 13): 2.
 abbrev pub callCauses : Call → List Cause
 callCauses (submit cs) = routineCauses ++ (sequence-full ∷ ids-used-up ∷ [])
 callCauses (turn i) = not-running ∷ turn-in-flight ∷ []

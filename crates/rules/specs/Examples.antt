@@ -36,9 +36,11 @@ use Rattle.rules.specs.Calls.{resultOf, stateAfter}
 
 -- All that a computation with the rules opens.
 unfoldable pub calc : Unit {0}
-unfolding inRange refusalOf commandCheck standsAlone commandsCheck routineCheck begun finished inFlightOn afterMember due isRunning runs joinSettled
+unfolding inRange refusalOf commandCheck standsAlone commandsCheck routineCheck begun finished inFlightOn afterMember due isRunning runs
+    joinSettled
     settle attachTo settleRestarts moveMarks leave isPutBack putBacks abort openCheck newHub openOf submitCheck blocks pass newcomer place
-    submitOf holds hasSet holdsUp markBegun commit commitTurn sendTurn skipTurn isHeld heldTurn notHeldTurn turnOf doneReport backIfChanged skippedState skipReport reportOf isHalfway
+    submitOf holds hasSet holdsUp markBegun commit commitTurn sendTurn skipTurn isHeld heldTurn notHeldTurn turnOf doneReport backIfChanged
+    skippedState skipReport reportOf isHalfway
     mustLeft skipRest stopHalfway attach oneRestart failureResult restartResult failureOf restartOf cancelOf
     limitOf
 calc = tt

@@ -1,6 +1,6 @@
 -- Document 01, "The steps": how far a routine is with its commands and with a device; conditions: document 02, item 4. A condition "uses
 -- its device like a command". Assumes nothing.
-use mathlib.Core.Bool.{Bool, true, false, not, _&&_, _||_}
+use mathlib.Core.Bool.{Bool, true, false, not, _&&_}
 use mathlib.Core.List.{List, [], _∷_, map}
 use mathlib.Core.Option.{Option, none, some}
 use Prim.Native.Nat.{ℕ}
