@@ -16,6 +16,7 @@ use Rattle.rules.proofs.Exact.{exact-opening, exact-calls, refused-opening, acc
 use Rattle.answers.specs.View.{backsOf, answerOf, firstOf, changesNothing}
 use Rattle.answers.specs.declared.Answer.{Answer}
 use Rattle.answers.specs.declared.Answer.the-variants.{Refused, Placed, Wait, Sent, Done, Skipped, Committed, Aborted, Down, Up, Limited}
+use Rattle.answers.specs.declared.Answer.the-variants.{Held, NotHeld}
 use Rattle.answers.specs.declared.First.{First}
 use Rattle.answers.specs.declared.First.the-variants.{NoAbort, Abort}
 use Rattle.hub.specs.View.{view, answersIn}
@@ -51,6 +52,8 @@ refusal-read (Aborted i) l r e = let z : _≡_ {A = ℕ} 0 1 = cc in absurd (ome
 refusal-read (Down d i) l r e = let z : _≡_ {A = ℕ} 0 1 = cc in absurd (omega arith)
 refusal-read (Up d i) l r e = let z : _≡_ {A = ℕ} 0 1 = cc in absurd (omega arith)
 refusal-read (Limited k) l r e = let z : _≡_ {A = ℕ} 0 1 = cc in absurd (omega arith)
+refusal-read (Held i) l r e = let z : _≡_ {A = ℕ} 0 1 = cc in absurd (omega arith)
+refusal-read (NotHeld i) l r e = let z : _≡_ {A = ℕ} 0 1 = cc in absurd (omega arith)
 
 -- so if a refusal is all that the rules read, it is the answer
 alone-read : (first : First) (a : Answer) (l : List Back) (r : Refusal) →

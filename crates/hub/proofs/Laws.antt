@@ -18,6 +18,7 @@ use Rattle.rules.proofs.Lists.{t≠f}
 use Rattle.answers.specs.View.{oneOf, firstOf, answerOf, backsOf, backsIn, BacksOk, changesNothing}
 use Rattle.answers.specs.declared.Answer.{Answer}
 use Rattle.answers.specs.declared.Answer.the-variants.{Refused, Placed, Wait, Sent, Done, Skipped, Committed, Aborted, Down, Up, Limited}
+use Rattle.answers.specs.declared.Answer.the-variants.{Held, NotHeld}
 use Rattle.answers.specs.declared.PutBacks.{PutBacks}
 use Rattle.answers.proofs.Answer.{the-type}
 use Rattle.state.specs.View.{stateOf, firstCommitted}
@@ -40,10 +41,10 @@ use Rattle.hub.specs.declared.Outcome.{Outcome}
 
 -- the answers that are no refusal, and those that are no wait, by their numbers
 abbrev pub notRefused : List ℕ
-notRefused = 1 ∷ 2 ∷ 3 ∷ 4 ∷ 5 ∷ 6 ∷ 7 ∷ 8 ∷ 9 ∷ 10 ∷ []
+notRefused = 1 ∷ 2 ∷ 3 ∷ 4 ∷ 5 ∷ 6 ∷ 7 ∷ 8 ∷ 9 ∷ 10 ∷ 11 ∷ 12 ∷ []
 
 abbrev pub notWait : List ℕ
-notWait = 0 ∷ 1 ∷ 3 ∷ 4 ∷ 5 ∷ 6 ∷ 7 ∷ 8 ∷ 9 ∷ 10 ∷ []
+notWait = 0 ∷ 1 ∷ 3 ∷ 4 ∷ 5 ∷ 6 ∷ 7 ∷ 8 ∷ 9 ∷ 10 ∷ 11 ∷ 12 ∷ []
 
 -- any other answer tells of a change
 pub changes : (a : Answer) → OneOf notRefused (tagOf the-type a) → OneOf notWait (tagOf the-type a) → changesNothing a ≡ false
@@ -58,6 +59,8 @@ changes (Aborted i) h k = refl
 changes (Down d i) h k = refl
 changes (Up d i) h k = refl
 changes (Limited j) h k = refl
+changes (Held i) h k = refl
+changes (NotHeld i) h k = refl
 
 abbrev dueIf : State → Bool → Bool
 dueIf s t = if t then false else firstCommitted (s .sequence)

@@ -1,4 +1,4 @@
--- Demand 3 of this hub: the theorem of the rules, carried along a chain of calls. Assumes nothing.
+-- Demand 3 of this hub, and the replay of conditions: the theorems of the rules, carried along a chain of calls. Assumes nothing.
 use mathlib.Core.Path.{_≡_, refl, sym, ap, _∙_, subst}
 use mathlib.Core.List.{List, [], _∷_, _++_, map, map-append}
 use Prim.Native.Nat.{ℕ}
@@ -13,14 +13,16 @@ use Rattle.rules.specs.Serial.{DeviceState, allUp}
 use Rattle.rules.specs.World.{World, accounts, Act, calls, takes-one, afterCall, worldAfter, worldAfterAll, Premised, PremiseAll}
 use Rattle.rules.specs.Demand3.{orderIn, EndState, Begins, CommandsStand, Demand3}
 use Rattle.rules.specs.HubOrder.{IsHubs}
+use Rattle.rules.specs.Replay.{ConditionsReplay}
 use Rattle.rules.proofs.Theorem.{demand-3, hub-order}
+use Rattle.rules.proofs.Replay.{replay}
 use Rattle.rules.proofs.AllDue.{list-entry}
 use Rattle.hub.specs.View.{view, resultIn}
 use Rattle.hub.specs.Valid.{Valid}
 use Rattle.hub.specs.Contract.{Opens, Gives}
 use Rattle.hub.specs.Demand3.{HubCall, submits, turns, reports, fails, restarts, cancels, limits, callOf, Meets, HubAct, called}
 use Rattle.hub.specs.Demand3.{device-takes, Chain, hubAfter, worldThenAll, PremiseThenAll, newWorldOf, HubDemand3, HubStatement}
-use Rattle.hub.specs.Demand3.{ReadersStatement, ListStatement}
+use Rattle.hub.specs.Demand3.{HubReplayStatement, ReadersStatement, ListStatement}
 use Rattle.hub.specs.declared.Hub.{Hub}
 use Rattle.hub.specs.declared.Opened.{Opened}
 use Rattle.hub.specs.declared.Outcome.{Outcome}
@@ -107,6 +109,13 @@ opens-as n k first o op accepted = sym (op .gives) ∙ ap (λ v. openIf v (view 
 pub hub-demand-3 : HubStatement
 hub-demand-3 n k first o op accepted acts ch =
     carried (o .hub) acts ch (demand-3 n k first (view (o .hub)) (opens-as n k first o op accepted) (map actOf acts))
+
+-- The replay of conditions.
+pub hub-replay : HubReplayStatement
+hub-replay n k first o op accepted acts ch =
+    let h = o .hub in
+    subst ConditionsReplay (sym (worlds (newWorldOf h) h acts refl ch))
+    (replay n k first (view h) (opens-as n k first o op accepted) (map actOf acts))
 
 -- What the readers tell.
 pub hub-readers : ReadersStatement

@@ -1,5 +1,6 @@
 -- Demand 3 of this hub: for every chain of hubs that starts at an accepted `open` and goes from each hub to the next by the contract of a
--- public call, with the answers that the contracts give. The proof is `hub-demand-3` of `proofs/Theorem.antt`. Assumes nothing.
+-- public call, with the answers that the contracts give. The proof is `hub-demand-3` of `proofs/Theorem.antt`. The same of the replay of
+-- conditions (document 02, item 4), `hub-replay`. Assumes nothing.
 use mathlib.Core.Path.{_≡_}
 use mathlib.Core.List.{List, [], _∷_, _++_}
 use Prim.Native.Nat.{ℕ, _<_, _≤_}
@@ -15,6 +16,7 @@ use Rattle.rules.specs.Order.{entries}
 use Rattle.rules.specs.Serial.{allUp, serialRun}
 use Rattle.rules.specs.World.{World, accounts, takes-one, worldAfter, afterCall, Premised, newWorld}
 use Rattle.rules.specs.Demand3.{orderIn, EndState, Begins, CommandsStand}
+use Rattle.rules.specs.Replay.{ConditionsReplay}
 use Rattle.hub.specs.View.{view, answersIn, resultIn}
 use Rattle.hub.specs.Contract.{Opens, Submitted, Turned, Reported, Cancelled, Failed, Restarted, Limited}
 use Rattle.hub.specs.declared.Hub.{Hub}
@@ -112,6 +114,13 @@ ReadersTell h acts =
 abbrev pub HubStatement : Type 0
 HubStatement = (n k first : ℕ) (o : Opened) → Opens n k first o → o .verdict ≡ Accepted → (acts : List HubAct) → Chain (o .hub) acts →
     HubDemand3 (o .hub) acts
+
+-- And document 02, item 4: run in the hub's order, every condition that was not skipped has the outcome that it had live. It needs no
+-- premise on the devices. The proof is `hub-replay`.
+abbrev pub HubReplayStatement : Type 0
+HubReplayStatement =
+    (n k first : ℕ) (o : Opened) → Opens n k first o → o .verdict ≡ Accepted → (acts : List HubAct) → Chain (o .hub) acts →
+    ConditionsReplay (worldThenAll (newWorldOf (o .hub)) acts)
 
 -- And what the readers tell. The proof is `hub-readers`.
 abbrev pub ReadersStatement : Type 0

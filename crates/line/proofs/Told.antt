@@ -14,6 +14,7 @@ use Rattle.rules.proofs.Lists.{t≠f}
 use Rattle.answers.specs.View.{backsOf, oneOf, firstOf, answerOf, answersOf, changesNothing}
 use Rattle.answers.specs.declared.Answer.{Answer}
 use Rattle.answers.specs.declared.Answer.the-variants.{Refused, Placed, Wait, Sent, Done, Skipped, Committed, Aborted, Down, Up, Limited}
+use Rattle.answers.specs.declared.Answer.the-variants.{Held, NotHeld}
 use Rattle.answers.specs.declared.First.{First}
 use Rattle.answers.specs.declared.First.the-variants.{NoAbort, Abort as AbortFirst}
 use Rattle.answers.specs.declared.PutBacks.{PutBacks}
@@ -56,13 +57,13 @@ module _ {most : ℕ} {before after : List ℕ} {end : ℕ} {text : List ℕ} (p
 
 -- the answers that are no refusal, no wait and no abort, by their numbers
 abbrev pub notRefused : List ℕ
-notRefused = 1 ∷ 2 ∷ 3 ∷ 4 ∷ 5 ∷ 6 ∷ 7 ∷ 8 ∷ 9 ∷ 10 ∷ []
+notRefused = 1 ∷ 2 ∷ 3 ∷ 4 ∷ 5 ∷ 6 ∷ 7 ∷ 8 ∷ 9 ∷ 10 ∷ 11 ∷ 12 ∷ []
 
 abbrev pub notWait : List ℕ
-notWait = 0 ∷ 1 ∷ 3 ∷ 4 ∷ 5 ∷ 6 ∷ 7 ∷ 8 ∷ 9 ∷ 10 ∷ []
+notWait = 0 ∷ 1 ∷ 3 ∷ 4 ∷ 5 ∷ 6 ∷ 7 ∷ 8 ∷ 9 ∷ 10 ∷ 11 ∷ 12 ∷ []
 
 abbrev pub notAborted : List ℕ
-notAborted = 0 ∷ 1 ∷ 2 ∷ 3 ∷ 4 ∷ 5 ∷ 6 ∷ 8 ∷ 9 ∷ 10 ∷ []
+notAborted = 0 ∷ 1 ∷ 2 ∷ 3 ∷ 4 ∷ 5 ∷ 6 ∷ 8 ∷ 9 ∷ 10 ∷ 11 ∷ 12 ∷ []
 
 -- an answer that is neither refusal nor wait changes something
 pub changes : (a : Answer) → OneOf notRefused (tagOf answer-type a) → OneOf notWait (tagOf answer-type a) → changesNothing a ≡ false
@@ -77,6 +78,8 @@ changes (Aborted i) h k = refl
 changes (Down d i) h k = refl
 changes (Up d i) h k = refl
 changes (Limited j) h k = refl
+changes (Held i) h k = refl
+changes (NotHeld i) h k = refl
 
 -- one that is no abort
 pub no-abort : (a : Answer) {f : First} → f ≡ NoAbort → OneOf notAborted (tagOf answer-type a) → isAbort f a ≡ false
@@ -91,6 +94,8 @@ no-abort (Aborted i) e h = absurd (miss notAborted 7 tt h)
 no-abort (Down d i) e h = ap (λ (f : First). isAbort f (Down d i)) e
 no-abort (Up d i) e h = ap (λ (f : First). isAbort f (Up d i)) e
 no-abort (Limited k) e h = ap (λ (f : First). isAbort f (Limited k)) e
+no-abort (Held i) e h = ap (λ (f : First). isAbort f (Held i)) e
+no-abort (NotHeld i) e h = ap (λ (f : First). isAbort f (NotHeld i)) e
 
 -- ---- the answers of an abort
 
@@ -143,6 +148,8 @@ once-plain NoAbort (Aborted i) l e t = (i, refl)
 once-plain NoAbort (Down d i) l e t = t≠f (sym t)
 once-plain NoAbort (Up d i) l e t = t≠f (sym t)
 once-plain NoAbort (Limited k) l e t = t≠f (sym t)
+once-plain NoAbort (Held i) l e t = t≠f (sym t)
+once-plain NoAbort (NotHeld i) l e t = t≠f (sym t)
 
 -- the answer of an event puts nothing back
 once-event : (f : First) (a : Answer) (l : List Back) → isAbort NoAbort a ≡ false → answerOf a [] ≡ answerOf a l → isAbort f a ≡ true →

@@ -13,6 +13,7 @@ use Rattle.rules.specs.Answers.{Back}
 use Rattle.answers.specs.View.{answerOf}
 use Rattle.answers.specs.declared.Answer.{Answer}
 use Rattle.answers.specs.declared.Answer.the-variants.{Refused, Placed, Wait, Sent, Done, Skipped, Committed, Aborted, Down, Up, Limited}
+use Rattle.answers.specs.declared.Answer.the-variants.{Held, NotHeld}
 use Rattle.answers.specs.declared.First.{First}
 use Rattle.answers.specs.declared.First.the-variants.{NoAbort, Abort}
 use Rattle.line_rules.specs.Text.{lineEnd, bytes}
@@ -109,6 +110,8 @@ isAbort NoAbort (Aborted i) = true
 isAbort NoAbort (Down d i) = false
 isAbort NoAbort (Up d i) = false
 isAbort NoAbort (Limited k) = false
+isAbort NoAbort (Held i) = false
+isAbort NoAbort (NotHeld i) = false
 
 -- What is put back stands beside the abort alone: behind an abort comes an answer that puts nothing back.
 abbrev pub BacksOnce : First → Answer → List Back → Type 0
