@@ -225,8 +225,8 @@ def main():
         return 2
     count = int(sys.argv[2]) if len(sys.argv) > 2 else 60
     seed = int(sys.argv[3]) if len(sys.argv) > 3 else 4
-    check_reach(count, seed)
     given, expected = vectors(count, seed)
+    check_reach(count, seed)
     crate = os.path.join(sys.argv[1], "hub_vectors")
     os.makedirs(crate, exist_ok=True)
     for name, content in (("stdin", given), ("stdout", expected)):
