@@ -318,6 +318,30 @@ fn the_outcome_does_not_matter_for_the_wait() {
 }
 
 #[test]
+fn it_waits_although_another_setting_stands_since() {
+    // Another routine has set the device and committed.
+    behind_first(&[
+        ("S 0 0 70", "placed 2 after 1"),
+        ("N 2", "send 2 0 70"),
+        ("D 2", "done 2"),
+        ("N 2", "committed 2"),
+        ("S 0 2 70 2 0 7", "placed 3 after 2"),
+        ("N 3", "wait 3 on 1"),
+        ("C 1", "aborted 1 back 0"),
+        ("N 3", "held 3"),
+    ]);
+    // The device has restarted.
+    behind_first(&[
+        ("F 0", "down 0 after 1"),
+        ("R 0 40", "up 0 after 1"),
+        ("S 0 2 41 2 0 7", "placed 2 after 1"),
+        ("N 2", "wait 2 on 1"),
+        ("C 1", "aborted 1 back 0"),
+        ("N 2", "not held 2"),
+    ]);
+}
+
+#[test]
 fn a_plain_command_does_not_wait_for_a_done_setting() {
     behind_first(&[
         ("S 0 0 60 0 2 60 2 0 7", "placed 2 after 1"),
