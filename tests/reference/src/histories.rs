@@ -552,19 +552,19 @@ impl Sitting {
                 self.say_of_newest("NN");
             }
             5..=6 => {
-                let lame = if down.is_empty() { device } else { *self.random.pick(&down) as usize };
+                let failed = if down.is_empty() { device } else { *self.random.pick(&down) as usize };
                 if down.is_empty() {
-                    self.say(format!("F {lame}"));
+                    self.say(format!("F {failed}"));
                 }
                 let (first, tag) = match self.random.below(10) {
                     0..=2 => (String::new(), tag),
-                    3 => (format!(" {lame} 1 {}", settings[0]), MUST),
-                    _ => (format!(" {lame} 1 {}", settings[0]), BEST_EFFORT),
+                    3 => (format!(" {failed} 1 {}", settings[0]), MUST),
+                    _ => (format!(" {failed} 1 {}", settings[0]), BEST_EFFORT),
                 };
-                self.say(format!("S{first} {lame} 2 {number} {other} {tag} {}", settings[2]));
+                self.say(format!("S{first} {failed} 2 {number} {other} {tag} {}", settings[2]));
                 self.say_of_newest("N");
                 if self.random.percent(90) {
-                    self.say(format!("R {lame} {}", settings[1]));
+                    self.say(format!("R {failed} {}", settings[1]));
                 }
                 self.say_of_newest("N");
             }
