@@ -372,7 +372,7 @@ accounts-moves s a l h u t (commits i ga g gb e n r f q) =
       sent = o .sent-is;
       agree = o .agrees;
     }))
-accounts-moves s a l h z t (sends i ga g gb c e n r f q w u plain) =
+accounts-moves s a l h z t (sends i ga g gb c e n r f q w u plain on) =
     let w = subst (HubOk s) e h in
     let v = subst (Each (AccountTells a)) e t in
     let o = each-mid (AccountTells a) ga g gb v in
@@ -455,7 +455,7 @@ unfolding place commitTurn sendTurn doneReport skippedState skipReport abort lea
 unsent-moves s a l h u (places cs ga gb q f v p n) i e =
     byIf (λ (x : Account). x .sends ≡ 0) (eqb i (s .nextId)) (λ _. refl) (λ _. u i (omega arith))
 unsent-moves s a l h u (commits j ga g gb f n r k q) i e = put-sends a (g .member .id) _ refl i ∙ u i e
-unsent-moves s a l h u (sends j ga g gb c f n r k q x v plain) i e =
+unsent-moves s a l h u (sends j ga g gb c f n r k q x v plain on) i e =
     ap (λ (y : Account). y .sends) (put-other a (g .member .id) _ i (λ z. given z)) ∙ u i e
   where
     below : g .member .id < s .nextId
@@ -496,7 +496,7 @@ pub working-moves : (s : State) (w : ℕ → Bool) (l : List Group) {c : Call} {
 unfolding place commitTurn sendTurn doneReport skippedState skipReport abort leave attach
 working-moves s w l e (places cs ga gb q f u p n) d = e d
 working-moves s w l e (commits i ga g gb f n r k q) d = e d
-working-moves s w l e (sends i ga g gb c f n r k q x u plain) d = e d
+working-moves s w l e (sends i ga g gb c f n r k q x u plain on) d = e d
 working-moves s w l e (passes i ga g gb c f n r k q x st u) d =
     by-answer (λ x. workingAfter x w d ≡ s .up d) (g .member .id) (e d) (e d) (e d) st
 working-moves s w l e (dones i code ga g gb x f n r k q) d = e d

@@ -25,7 +25,8 @@ use Rattle.rules.proofs.Lists.{byIf, t≠f, or-right, this-or-other, ea
 use Rattle.rules.proofs.Lists.{each-swap, each-map}
 use Rattle.rules.proofs.Groups.{Group, alone, with, stillHeld}
 use Rattle.rules.proofs.Same.{Pairwise, no-pair, pair, Same, same-placed, same-leaving, same-attached, same-each}
-use Rattle.rules.proofs.Steps.{InTurn, wasAsked, askedOn, send-step, skip-step, done-step, fail-step, fail-done, done-gains}
+use Rattle.rules.proofs.Steps.{flightIsSkipped, sent-skipped, grounded-skipped, left-skipped, InTurn, wasAsked, askedOn, send-step}
+use Rattle.rules.proofs.Steps.{skip-step, done-step, fail-step, fail-done, done-gains}
 use Rattle.rules.proofs.Steps.{skip-steps}
 use Rattle.rules.proofs.Steps.{unbegun-asked, Fresh, fresh-newcomer}
 use Rattle.rules.proofs.Invariant.{NotBegun, HubOk}
@@ -212,7 +213,7 @@ spares-moves s l h w (places cs a b q e u p n) =
     units (y ∷ b) = (tt, units b)
 spares-moves s l h w (commits i a g b e n r f q) =
     spares-swap a g (with g (commit (g .member))) b (λ d y. y) (λ d y. set-is d (commit (g .member))) (subst (AllPairs Spares) e w)
-spares-moves s l h w (sends i a g b c e n r f q x u plain) =
+spares-moves s l h w (sends i a g b c e n r f q x u plain on) =
     let k = send-step (g .member) (in-turn s a g b (subst (HubOk s) e h)) c (due s (c .device)) q f in
     spares-same a g (with g (sentMember s g c)) b refl (k .same-asked) (k .same-done) (subst (AllPairs Spares) e w)
 spares-moves s l h w (passes i a g b c e n r f q x st u) =
@@ -266,16 +267,21 @@ spares-moves s l h w (fails d r lead k n u g) =
 spares-moves s l h w (restarts d v r lead k n u g) =
     pairs-same Spares same-spares (same-attached (r .state .mark d) (restart-of d v) k) (gone-spares s d l h w g)
 
--- ---- what is in flight is no condition
+-- ---- what is in flight is no condition, nor one that a condition skips
 
 pub record FlightIsPlain (g : Group) : Type 0 where
   pub plain : (x : Flight) → flight (g .member .steps) ≡ some x → isCondition (x .command) ≡ false
+  pub unskipped : flightIsSkipped false (g .member .steps) ≡ false
 
 same-plain : (g h : Group) → Same g h → FlightIsPlain g → FlightIsPlain h
-same-plain g h s p = record { plain = λ x e. p .plain x (ap flight (sym (s .same-steps)) ∙ e) }
+same-plain g h s p = record {
+  plain = λ x e. p .plain x (ap flight (sym (s .same-steps)) ∙ e);
+  unskipped = ap (flightIsSkipped false) (s .same-steps) ∙ p .unskipped;
+}
 
 grounded-plain : (g : Group) → flight (g .member .steps) ≡ none → FlightIsPlain g
-grounded-plain g e = record { plain = λ x f. absurd (Option·none-ne-some x (sym e ∙ f)) }
+grounded-plain g e =
+    record { plain = λ x f. absurd (Option·none-ne-some x (sym e ∙ f)); unskipped = grounded-skipped (g .member .steps) e }
 
 gone-plain : (s : State) (d : ℕ) (l : List Group) {r : Result} {lead : List Event} {k : List Group} → HubOk s l → Each FlightIsPlain l →
     Gone s d l r lead k → Each FlightIsPlain k
@@ -286,7 +292,11 @@ gone-plain s d l h w (loses a g b e q m) =
     let k = skip-steps d (g .member) (in-turn s a g b (subst (HubOk s) e h)) in
     let y = subst (Each FlightIsPlain) e w in
     each-swap FlightIsPlain a g (with g (skippedLeft d g)) b y
-    (record { plain = λ x f. each-mid FlightIsPlain a g b y .plain x (k .flight-was x f .0) })
+    (record {
+      plain = λ x f. each-mid FlightIsPlain a g b y .plain x (k .flight-was x f .0);
+      unskipped = left-skipped d (g .member .steps) (in-turn s a g b (subst (HubOk s) e h)) false
+          (each-mid FlightIsPlain a g b y .unskipped);
+    })
 
 pub plain-moves : (s : State) (l : List Group) {c : Call} {r : Result} {lead : List Event} {k : List Group} → HubOk s l →
     Each FlightIsPlain l → Moves s l c r lead k → Each FlightIsPlain k
@@ -296,12 +306,12 @@ plain-moves s l h w (places cs a b q e u p n) =
     (each-insert FlightIsPlain a _ b (subst (Each FlightIsPlain) e w) (grounded-plain _ (fresh-newcomer (s .nextId) cs .flight-is)))
 plain-moves s l h w (commits i a g b e n r f q) =
     each-swap FlightIsPlain a g (with g (commit (g .member))) b (subst (Each FlightIsPlain) e w) (grounded-plain _ f)
-plain-moves s l h w (sends i a g b c e n r f q x u plain) =
+plain-moves s l h w (sends i a g b c e n r f q x u plain on) =
     let k = send-step (g .member) (in-turn s a g b (subst (HubOk s) e h)) c (due s (c .device)) q f in
     each-swap FlightIsPlain a g (with g (sentMember s g c)) b (subst (Each FlightIsPlain) e w)
     (record {
-      plain = λ x o. ap (λ (y : Flight). isCondition (y .command)) (sym (Option·some-injective _ x (sym (k .flight-is) ∙ o)))
-          ∙ plain;
+      plain = λ x o. ap (λ (y : Flight). isCondition (y .command)) (sym (Option·some-injective _ x (sym (k .flight-is) ∙ o))) ∙ plain;
+      unskipped = sent-skipped (due s (c .device)) false (g .member .steps) f on;
     })
 plain-moves s l h w (passes i a g b c e n r f q x st u) =
     each-swap FlightIsPlain a g (with g (passedMember st g)) b (subst (Each FlightIsPlain) e w)

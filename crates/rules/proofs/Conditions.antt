@@ -1,7 +1,7 @@
 -- The replay of conditions is kept by every call: device by device, along the order. Assumes nothing.
 use mathlib.Core.Path.{_≡_, refl, sym, ap, ap₂, _∙_, subst}
 use mathlib.Core.Logic.{_≢_, _⊎_, inl, inr}
-use mathlib.Core.Bool.{Bool, true, false, not, _&&_, _||_}
+use mathlib.Core.Bool.{Bool, true, false, not, _&&_, _||_, and-false}
 use mathlib.Core.List.{List, [], _∷_, _++_, map, append-assoc}
 use mathlib.Core.Option.{none, some}
 use Prim.Native.Nat.{ℕ}
@@ -25,7 +25,7 @@ use Rattle.rules.specs.Turn.{hasSet, commit, commitTurn, sendTurn, isHel
 use Rattle.rules.specs.Report.{doneReport, skipReport}
 use Rattle.rules.specs.History.{Outcome, not-yet, reported-done, reported-failed, not-sent, by-event, found-held, found-not-held}
 use Rattle.rules.specs.History.{isLeft, Noted, notedAs, Account, placedAccount, sentAccount, noteFirst, answeredAccount, endedAccount}
-use Rattle.rules.specs.History.{isFor, hasBegun, noteLeft, skippedAccount, eventAccount, noteAnswers}
+use Rattle.rules.specs.History.{isFor, noteLeft, skippedAccount, noteAnswers}
 use Rattle.rules.specs.Order.{Event, failure-of, restart-of, deviceOf, Entry, routine, event, Order, orderAfterAll, entries}
 use Rattle.rules.specs.Demand3.{skipsFollowing}
 use Rattle.rules.specs.HubOrder.{doneSteps, is-to-do, is-in-flight, is-done, is-failed, is-not-sent, is-by-event, is-held}
@@ -34,7 +34,8 @@ use Rattle.rules.proofs.Lists.{byIf, t≠f, or-left, or-right, and-righ
 use Rattle.rules.proofs.Lists.{each-right, each-mid, IsNot, NotIn, ids-fresh, ids-other}
 use Rattle.rules.proofs.Groups.{Group, ids, flat, entryIds, alone, with, passAll, leaving, leadOf, attachEvent}
 use Rattle.rules.proofs.Groups.{leadWith, entryIds-++, entryIds-events, entryIds-flat, flat-pass, flat-leaving}
-use Rattle.rules.proofs.Steps.{InTurn, AllBehind, askedOn, behind-over, skip-step, done-gains, fail-done}
+use Rattle.rules.proofs.Steps.{InTurn, flightIsSkipped, behind-turn, AllBehind, askedOn, behind-over, skip-step, done-gains}
+use Rattle.rules.proofs.Steps.{fail-done}
 use Rattle.rules.proofs.Steps.{send-step, skip-steps, unbegun-asked}
 use Rattle.rules.proofs.Invariant.{NotBegun, HubOk, setEvent, setCommands, setAfter, upEvent, upAfter, EventsOk, OrderOk}
 use Rattle.rules.proofs.Invariant.{AccountTells}
@@ -48,7 +49,7 @@ use Rattle.rules.proofs.Runs.{not-begun-members}
 use Rattle.rules.proofs.Marks.{ClearOfDevice, in-turn, turn-clear, flight-clear, mark-place, halfway-is}
 use Rattle.rules.proofs.Moved.{hub-gone, hub-up}
 use Rattle.rules.proofs.Serial.{order-due}
-use Rattle.rules.proofs.Running.{note-++, passOutcome, pass-noted, RunsTold}
+use Rattle.rules.proofs.Running.{passOutcome, pass-noted, RunsTold}
 use Rattle.rules.proofs.Accounts.{eventTold, TellsEvent, event-accounts, accounts-moves}
 use Rattle.rules.proofs.Ordered.{cut-at, order-moves}
 use Rattle.rules.proofs.Followed.{notedIn, put-noted, ended-noted}
@@ -56,104 +57,143 @@ use Rattle.rules.proofs.Fits.{AtFirst, at-next, at-flight}
 use Rattle.rules.proofs.Stands.{flat-at, up-clear, entry-ids, openPart}
 use Rattle.rules.proofs.Asked.{AllPairs, pairs-around, Spares, set-is, set-unasked, FlightIsPlain}
 
--- ---- what is answered as a condition is one
+-- ---- what is answered as a condition is one, and what a condition skips is not done
 
-abbrev pub Tagged : Command → Outcome → Type 0
-Tagged c not-yet = Unit {0}
-Tagged c reported-done = isCondition c ≡ false
-Tagged c reported-failed = isCondition c ≡ false
-Tagged c not-sent = Unit {0}
-Tagged c by-event = Unit {0}
-Tagged c found-held = isCondition c ≡ true
-Tagged c found-not-held = isCondition c ≡ true
+abbrev pub Tagged : Bool → Command → Outcome → Type 0
+Tagged skipping c not-yet = Unit {0}
+Tagged skipping c reported-done = (isCondition c ≡ false) × (skipping ≡ false)
+Tagged skipping c reported-failed = isCondition c ≡ false
+Tagged skipping c not-sent = Unit {0}
+Tagged skipping c by-event = Unit {0}
+Tagged skipping c found-held = isCondition c ≡ true
+Tagged skipping c found-not-held = isCondition c ≡ true
 
-abbrev pub AllTagged : List Noted → Type 0
-AllTagged l = Each (λ (x : Noted). Tagged (x .command) (x .outcome)) l
+abbrev pub AllTagged : Bool → List Noted → Type 0
+AllTagged skipping [] = Unit {0}
+AllTagged skipping (x ∷ l) = Tagged skipping (x .command) (x .outcome) × AllTagged (skipsFollowing x) l
 
-tagged-first : (o : Outcome) (skipping : Bool) (l : List Noted) → AllTagged l → AtFirst (λ c _ _. Tagged c o) skipping l →
-    AllTagged (noteFirst o l)
-tagged-first o b [] h k = tt
-tagged-first o b (x ∷ l) h k = go (tagged-first o (skipsFollowing x) l (h .1)) (isLeft (x .outcome)) k
-  where
-    go : (AtFirst (λ c _ _. Tagged c o) (skipsFollowing x) l → AllTagged (noteFirst o l)) → (t : Bool) →
-        (if t then Tagged (x .command) o else AtFirst (λ c _ _. Tagged c o) (skipsFollowing x) l) →
-        AllTagged (if t then notedAs o (x .command) ∷ l else x ∷ noteFirst o l)
-    go ih true k = (k, h .1)
-    go ih false k = (h .0, ih k)
+-- behind the first command that is left none is done: they may stand behind any other
+tagged-behind : (b c : Bool) {l : List Noted} {k : List Step} → AllAgree l k → AllBehind k → AllTagged b l → AllTagged c l
+tagged-behind b c no-command w h = tt
+tagged-behind b c (one-more x is-to-do a) w h = h
+tagged-behind b c (one-more x is-in-flight a) w h = t≠f (sym (w .0))
+tagged-behind b c (one-more x is-done a) w h = t≠f (sym (w .0))
+tagged-behind b c (one-more x is-failed a) w h = h
+tagged-behind b c (one-more x is-not-sent a) w h = h
+tagged-behind b c (one-more x is-by-event a) w h = h
+tagged-behind b c (one-more x is-held a) w h = t≠f (sym (w .0))
+tagged-behind b c (one-more x is-not-held a) w h = t≠f (sym (w .0))
 
-tagged-left : (d : ℕ) (l : List Noted) → AllTagged l → AllTagged (noteLeft d l)
-tagged-left d [] h = tt
-tagged-left d (x ∷ l) h = (
-  byIf (λ (y : Noted). Tagged (y .command) (y .outcome)) (isFor d (x .command) && isLeft (x .outcome)) (λ _. tt) (λ _. h .0),
-  tagged-left d l (h .1),
-)
+tagged-first : (o : Outcome) (b : Bool) {l : List Noted} {k : List Step} → AllAgree l k → InTurn k → AllTagged b l →
+    AtFirst (λ c skipping _. Tagged skipping c o) b l → AllTagged b (noteFirst o l)
+tagged-first o b no-command t h p = tt
+tagged-first o b (one-more c is-to-do a) t h p = (p, tagged-behind (isCondition c && false) _ a t (h .1))
+tagged-first o b (one-more c is-in-flight a) t h p = (p, tagged-behind (isCondition c && false) _ a t (h .1))
+tagged-first o b (one-more c is-done a) t h p = (h .0, tagged-first o _ a t (h .1) p)
+tagged-first o b (one-more c is-failed a) t h p = (h .0, tagged-first o _ a t (h .1) p)
+tagged-first o b (one-more c is-not-sent a) t h p = (h .0, tagged-first o _ a t (h .1) p)
+tagged-first o b (one-more c is-by-event a) t h p = (h .0, tagged-first o _ a t (h .1) p)
+tagged-first o b (one-more c is-held a) t h p = (h .0, tagged-first o _ a t (h .1) p)
+tagged-first o b (one-more c is-not-held a) t h p = (h .0, tagged-first o _ a t (h .1) p)
 
-tagged-new : (cs : List Command) → AllTagged (map (notedAs not-yet) cs)
-tagged-new [] = tt
-tagged-new (c ∷ cs) = (tt, tagged-new cs)
+-- an event of d skips what is left on it
+module _ (d : ℕ) where
+  skip-or-stay : (t : Bool) (b : Bool) (c : Command) (l : List Noted) → AllTagged (isCondition c && true) l →
+      AllTagged (isCondition c && false) l → AllTagged b ((if t then notedAs by-event c else notedAs not-yet c) ∷ l)
+  skip-or-stay true b c l h k = (tt, h)
+  skip-or-stay false b c l h k = (tt, k)
+
+  tagged-left : (b : Bool) {l : List Noted} {k : List Step} → AllAgree l k → InTurn k → AllTagged b l → AllTagged b (noteLeft d l)
+  tagged-left b no-command t h = tt
+  tagged-left b (one-more c {l = l} {k = k} is-to-do a) t h =
+      skip-or-stay (isFor d c && true) b c (noteLeft d l)
+      (tagged-left _ a (behind-turn k t) (tagged-behind (isCondition c && false) _ a t (h .1)))
+      (tagged-left _ a (behind-turn k t) (h .1))
+  tagged-left b (one-more c {l = l} {k = k} is-in-flight a) t h =
+      skip-or-stay (isFor d c && true) b c (noteLeft d l)
+      (tagged-left _ a (behind-turn k t) (tagged-behind (isCondition c && false) _ a t (h .1)))
+      (tagged-left _ a (behind-turn k t) (h .1))
+  tagged-left b (one-more c is-done a) t h = rw (and-false (isFor d c)) (h .0, tagged-left _ a t (h .1))
+  tagged-left b (one-more c is-failed a) t h = rw (and-false (isFor d c)) (h .0, tagged-left _ a t (h .1))
+  tagged-left b (one-more c is-not-sent a) t h = rw (and-false (isFor d c)) (h .0, tagged-left _ a t (h .1))
+  tagged-left b (one-more c is-by-event a) t h = rw (and-false (isFor d c)) (h .0, tagged-left _ a t (h .1))
+  tagged-left b (one-more c is-held a) t h = rw (and-false (isFor d c)) (h .0, tagged-left _ a t (h .1))
+  tagged-left b (one-more c is-not-held a) t h = rw (and-false (isFor d c)) (h .0, tagged-left _ a t (h .1))
+
+tagged-new : (b : Bool) (cs : List Command) → AllTagged b (map (notedAs not-yet) cs)
+tagged-new b [] = tt
+tagged-new b (c ∷ cs) = (tt, tagged-new _ cs)
 
 -- of every id
 abbrev pub TaggedAll : (ℕ → Account) → Type 0
-TaggedAll a = (i : ℕ) → AllTagged (a i .commands)
+TaggedAll a = (i : ℕ) → AllTagged false (a i .commands)
 
-tagged-put : (a : ℕ → Account) (j : ℕ) (z : Account) → TaggedAll a → AllTagged (z .commands) → TaggedAll (put a j z)
-tagged-put a j z h k i = byIf (λ (y : Account). AllTagged (y .commands)) (eqb i j) (λ _. k) (λ _. h i)
+tagged-put : (a : ℕ → Account) (j : ℕ) (z : Account) → TaggedAll a → AllTagged false (z .commands) → TaggedAll (put a j z)
+tagged-put a j z h k i = byIf (λ (y : Account). AllTagged false (y .commands)) (eqb i j) (λ _. k) (λ _. h i)
 
-tagged-event : (d : ℕ) (a : ℕ → Account) → TaggedAll a → TaggedAll (λ i. eventAccount d (a i))
-tagged-event d a h i =
-    byIf (λ (y : Account). AllTagged (y .commands)) (a i .running && hasBegun d (a i)) (λ _. tagged-left d (a i .commands) (h i)) (λ _. h i)
-
-gone-tagged : (s : State) (c : Call) (d : ℕ) (a : ℕ → Account) (l : List Group) {r : Result} {lead : List Event} {k : List Group} →
-    TaggedAll a → Gone s d l r lead k → TaggedAll (noteAnswers c (r .answers) a)
-unfolding abort
-gone-tagged s c d a l h (nobody q) = h
-gone-tagged s c d a l h (somebody x g y e q) = tagged-put a (g .member .id) (endedAccount (a (g .member .id))) h (h (g .member .id))
-gone-tagged s c d a l h (loses x g y e q m) = h
+gone-tagged : (s : State) (d : ℕ) (a : ℕ → Account) (l : List Group) {r : Result} {lead : List Event} {k : List Group} → HubOk s l →
+    Each (AccountTells a) l → TaggedAll a → (w : Gone s d l r lead k) → TaggedAll (eventTold w a)
+gone-tagged s d a l h t w (nobody q) = w
+gone-tagged s d a l h t w (somebody x g y e q) = tagged-put a (g .member .id) (endedAccount (a (g .member .id))) w (w (g .member .id))
+gone-tagged s d a l h t w (loses x g y e q m) =
+    tagged-put a (g .member .id) (skippedAccount d (a (g .member .id))) w
+    (tagged-left d false (each-mid (AccountTells a) x g y (subst (Each (AccountTells a)) e t) .agrees)
+    (in-turn s x g y (subst (HubOk s) e h)) (w (g .member .id)))
 
 happens-tagged : (s : State) (c : Call) (d : ℕ) (v : Answer) (a : ℕ → Account) (l : List Group)
-    {r : Result} {lead : List Event} {k : List Group} → TellsEvent d c v → TaggedAll a → Gone s d l r lead k →
-    TaggedAll (noteAnswers c (r .answers ++ (v ∷ [])) a)
-happens-tagged s c d v a l {r = r} n h g =
-    let b = noteAnswers c (r .answers) a in
-    subst TaggedAll (sym (note-++ c (r .answers) (v ∷ []) a ∙ n b)) (tagged-event d b (gone-tagged s c d a l h g))
+    {r : Result} {lead : List Event} {k : List Group} → TellsEvent d c v → HubOk s l → RunsTold a l → Each (AccountTells a) l →
+    TaggedAll a → Gone s d l r lead k → TaggedAll (noteAnswers c (r .answers ++ (v ∷ [])) a)
+happens-tagged s c d v a l n h u t w g = subst TaggedAll (sym (event-accounts s d c v a l n h u t g)) (gone-tagged s d a l h t w g)
 
-module _ (s : State) (a : ℕ → Account) (l : List Group) (h : HubOk s l) (t : Each (AccountTells a) l) (f : Each FlightIsPlain l)
-    (w : TaggedAll a) where
+module _ (s : State) (a : ℕ → Account) (l : List Group) (h : HubOk s l) (run : RunsTold a l) (t : Each (AccountTells a) l)
+    (f : Each FlightIsPlain l) (w : TaggedAll a) where
+  -- the first command that is left of g is answered so
+  answers-tagged : (x : List Group) (g : Group) (y : List Group) → l ≡ x ++ (g ∷ y) → (o : Outcome) →
+      AtFirst (λ c skipping _. Tagged skipping c o) false (a (g .member .id) .commands) →
+      TaggedAll (put a (g .member .id) (answeredAccount o (a (g .member .id))))
+  answers-tagged x g y e o p =
+      tagged-put a (g .member .id) (answeredAccount o (a (g .member .id))) w
+      (tagged-first o false (each-mid (AccountTells a) x g y (subst (Each (AccountTells a)) e t) .agrees)
+      (in-turn s x g y (subst (HubOk s) e h)) (w (g .member .id)) p)
+
+  -- the one in flight
+  flight-tagged : (x : List Group) (g : Group) (y : List Group) → l ≡ x ++ (g ∷ y) → (o : Outcome) (v : Flight) →
+      flight (g .member .steps) ≡ some v →
+      (isCondition (v .command) ≡ false → flightIsSkipped false (g .member .steps) ≡ false →
+      Tagged (flightIsSkipped false (g .member .steps)) (v .command) o) →
+      TaggedAll (put a (g .member .id) (answeredAccount o (a (g .member .id))))
+  flight-tagged x g y e o v k p =
+      let q = each-mid FlightIsPlain x g y (subst (Each FlightIsPlain) e f) in
+      answers-tagged x g y e o
+      (at-flight (λ c skipping _. Tagged skipping c o) false v (each-mid (AccountTells a) x g y (subst (Each (AccountTells a)) e t) .agrees)
+      (in-turn s x g y (subst (HubOk s) e h)) k (λ _. p (q .plain v k) (q .unskipped)))
+
   pub tagged-moves : {c : Call} {r : Result} {lead : List Event} {k : List Group} → Moves s l c r lead k →
       TaggedAll (noteAnswers c (r .answers) a)
   unfolding newcomer commit commitTurn sendTurn doneReport skipReport abort
-  tagged-moves (places cs x y q e u p n) = tagged-put a (s .nextId) (placedAccount cs) w (tagged-new cs)
+  tagged-moves (places cs x y q e u p n) = tagged-put a (s .nextId) (placedAccount cs) w (tagged-new false cs)
   tagged-moves (commits i x g y e n r k q) = tagged-put a (g .member .id) (endedAccount (a (g .member .id))) w (w (g .member .id))
-  tagged-moves (sends i x g y c e n r k q m u plain) =
+  tagged-moves (sends i x g y c e n r k q m u plain on) =
       tagged-put a (g .member .id) (sentAccount c (a (g .member .id))) w (w (g .member .id))
   tagged-moves (passes i x g y c e n r k q m st u) =
       subst TaggedAll (sym (pass-noted i st (g .member .id) a))
-      (tagged-put a (g .member .id) (answeredAccount (passOutcome st) (a (g .member .id))) w
-      (tagged-first (passOutcome st) false (a (g .member .id) .commands) (w (g .member .id))
-      (at-next (λ c _ _. Tagged c (passOutcome st)) false c
-      (each-mid (AccountTells a) x g y (subst (Each (AccountTells a)) e t) .agrees) k q
-      (tag u))))
+      (answers-tagged x g y e (passOutcome st)
+      (at-next (λ c skipping _. Tagged skipping c (passOutcome st)) false c
+      (each-mid (AccountTells a) x g y (subst (Each (AccountTells a)) e t) .agrees) k q (tag _ u)))
     where
-      tag : {st : Status} → Passes s g c st → Tagged c (passOutcome st)
-      tag (is-down u) = tt
-      tag (is-off u) = tt
-      tag (does-hold u k z) = k
-      tag (does-not u k z) = k
-  tagged-moves (dones i code x g y v e n r k q) =
-      tagged-put a (g .member .id) (answeredAccount reported-done (a (g .member .id))) w
-      (tagged-first reported-done false (a (g .member .id) .commands) (w (g .member .id))
-      (at-flight (λ c _ _. isCondition c ≡ false) false v (each-mid (AccountTells a) x g y (subst (Each (AccountTells a)) e t) .agrees)
-      (in-turn s x g y (subst (HubOk s) e h)) k
-      (λ _ _. each-mid FlightIsPlain x g y (subst (Each FlightIsPlain) e f) .plain v k)))
-  tagged-moves (misses i code x g y v e n r k q) =
-      tagged-put a (g .member .id) (answeredAccount reported-failed (a (g .member .id))) w
-      (tagged-first reported-failed false (a (g .member .id) .commands) (w (g .member .id))
-      (at-flight (λ c _ _. isCondition c ≡ false) false v (each-mid (AccountTells a) x g y (subst (Each (AccountTells a)) e t) .agrees)
-      (in-turn s x g y (subst (HubOk s) e h)) k
-      (λ _ _. each-mid FlightIsPlain x g y (subst (Each FlightIsPlain) e f) .plain v k)))
+      tag : (b : Bool) {st : Status} → Passes s g c st → Tagged b c (passOutcome st)
+      tag b (is-down u) = tt
+      tag b (is-off u) = tt
+      tag b (does-hold u k z) = k
+      tag b (does-not u k z) = k
+  tagged-moves (dones i code x g y v e n r k q) = flight-tagged x g y e reported-done v k (λ p z. (p, z))
+  tagged-moves (misses i code x g y v e n r k q) = flight-tagged x g y e reported-failed v k (λ p z. p)
   tagged-moves (aborts c x g y e r k) = tagged-put a (g .member .id) (endedAccount (a (g .member .id))) w (w (g .member .id))
-  tagged-moves (fails d r lead k n u g) = happens-tagged _ (failure d) d (down d (r .state .mark d)) a l (λ b. refl) w g
-  tagged-moves (restarts d v r lead k n u g) = happens-tagged s (restart d v) d (up d (r .state .mark d)) a l (λ b. refl) w g
+  tagged-moves (fails d r lead k n u g) =
+      happens-tagged (withUp s (put (s .up) d false)) (failure d) d (down d (r .state .mark d)) a l (λ b. refl)
+      (hub-up s (put (s .up) d false) l h) run t w g
+  tagged-moves (restarts d v r lead k n u g) =
+      happens-tagged s (restart d v) d (up d (r .state .mark d)) a l (λ b. refl) h run t w g
 
 -- ---- the commands of a routine, on one device
 
@@ -636,7 +676,7 @@ moves-on s o a l f t (places cs x y v e m n b) = λ _. replays-places s o a cs x
 moves-on s o a l f t (commits i x g y e j r n b) = λ _.
     replays-changes s o a x g y (subst (λ l. Before s o a l) e f) (commit (g .member)) (endedAccount (a (g .member .id))) refl
     (λ d h. h) (λ d. inl refl)
-moves-on s o a l f t (sends i x g y c e j r n b m u plain) = λ _.
+moves-on s o a l f t (sends i x g y c e j r n b m u plain on) = λ _.
     let w = subst (λ l. Before s o a l) e f in
     let k = send-step (g .member) (in-turn s x g y (w .hub)) c (due s (c .device)) b n in
     replays-changes s o a x g y w (sentMember s g c) (sentAccount c (a (g .member .id))) refl (λ d h. h)

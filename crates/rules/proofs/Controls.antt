@@ -302,12 +302,21 @@ pub equal-holds :
     ReplaysAt (call (submit (must 0 (pos 20) ∷ [])) ∷ call (turn 1) ∷ takes-one 0 0 ∷ call (report 1 0) ∷ call (turn 1) ∷ call
     (submit (condition 0 (pos 20) ∷ must 1 (pos 5) ∷ [])) ∷ call (turn 2) ∷ [])
 unfolding calcWorld
-equal-holds = ((refl, tt), (((refl, refl, refl), (tt, tt)), tt))
+equal-holds = (((refl, refl), tt), (((refl, refl, refl), (tt, tt)), tt))
 
 -- skipped_at_once: the command after the condition that does not hold is skipped at its own turn. Skipped with the condition, where no
 -- answer tells it, the account would have it done, and not the one that was.
 pub skipped-in-turn :
-    Stands (call (submit (condition 0 (pos 5) ∷ must 1 (pos 6) ∷ must 1 (pos 7) ∷ [])) ∷ call (turn 1) ∷ call (turn 1) ∷ takes-one 1 0 ∷ call
+    Stands (call (submit (condition 0 (pos 5) ∷ must 1 (pos 6) ∷ must 1 (pos 7) ∷ [])) ∷ call (turn 1) ∷ call
+    (turn 1) ∷ takes-one 1 0 ∷ call
     (report 1 0) ∷ call (turn 1) ∷ takes-one 1 0 ∷ call (report 1 0) ∷ [])
 unfolding calcWorld
 skipped-in-turn = (refl, (refl, (inl refl, (refl, tt))), tt)
+
+-- skipped_counts_as_held: device 0 is down, and the condition on it is skipped: so is the command after it, though its device is up. Sent,
+-- it would be done, which is no replay.
+pub skipped-skips :
+    ReplaysAt (call (failure 0) ∷ call (submit (condition 0 (pos 0) ∷ best 1 (pos 5) ∷ [])) ∷ call (turn 1) ∷ call (turn 1) ∷ takes-one 1 0
+    ∷ call (report 1 0) ∷ [])
+unfolding calcWorld
+skipped-skips = ((tt, (tt, tt)), tt)

@@ -41,7 +41,7 @@ device-moves d s a l ds v n h e t w z f p (places cs x y _ q u b _) =
     device-places d s cs x y (subst (HubOk s) q h) a ds v z u b (subst (λ m. DeviceOk d s a m (ds d)) q w)
 device-moves d s a l ds v n h e t w z f p (commits i x g y q _ _ u _) =
     device-commits s a x g y ds v (subst (HubOk s) q h) d i u (subst (λ m. DeviceOk d s a m (ds d)) q w)
-device-moves d s a l ds v n h e t w z f p (sends i x g y c q _ _ u b j k plain) =
+device-moves d s a l ds v n h e t w z f p (sends i x g y c q _ _ u b j k plain on) =
     device-sends s a x g y ds v (subst (HubOk s) q h) d i c b u j k (subst (λ m. DeviceOk d s a m (ds d)) q w)
 device-moves d s a l ds v n h e t w z f p (passes i x g y c q _ _ u b _ st pass) =
     device-passes s a x g y ds v (subst (HubOk s) q h) d i c st (passing pass) b u (subst (λ m. DeviceOk d s a m (ds d)) q w)

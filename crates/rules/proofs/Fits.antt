@@ -20,7 +20,7 @@ use Rattle.rules.specs.Demand3.{skipsFollowing}
 use Rattle.rules.specs.HubOrder.{is-to-do, is-in-flight, is-done, is-failed, is-not-sent, is-by-event, is-held, is-not-held}
 use Rattle.rules.specs.HubOrder.{AllAgree, no-command, one-more}
 use Rattle.rules.proofs.Lists.{byIf, t≠f, or-left, or-right, and-right}
-use Rattle.rules.proofs.Steps.{InTurn, behind-grounded}
+use Rattle.rules.proofs.Steps.{InTurn, flightIsSkipped, behind-grounded}
 use Rattle.rules.proofs.Agree.{answeredFor, leftFor, agree-commands}
 
 -- is the device up; does the condition before it skip it; is the tag that counts must
@@ -150,11 +150,11 @@ module _ (P : Command → Bool → Bool → Type 0) where
   at-next skipping c (one-more b is-not-held h) f e p = at-next (isCondition b && true) c h f e p
 
   pub at-flight : (skipping : Bool) (x : Flight) {l : List Noted} {k : List Step} → AllAgree l k → InTurn k → flight k ≡ some x →
-      ((skipping must : Bool) → P (x .command) skipping must) → AtFirst P skipping l
+      ((must : Bool) → P (x .command) (flightIsSkipped skipping k) must) → AtFirst P skipping l
   at-flight skipping x no-command t f p = tt
   at-flight skipping x (one-more b {k = k} is-to-do h) t f p = absurd (Option·none-ne-some x (sym (behind-grounded k t) ∙ f))
   at-flight skipping x (one-more b {l = l} is-in-flight h) t f p =
-      subst (λ (y : Flight). P (y .command) skipping (countsAsMust b (namesOf l))) (sym (Option·some-injective _ x f)) (p skipping _)
+      subst (λ (y : Flight). P (y .command) skipping (countsAsMust b (namesOf l))) (sym (Option·some-injective _ x f)) (p _)
   at-flight skipping x (one-more b is-done h) t f p = at-flight (isCondition b && false) x h t f p
   at-flight skipping x (one-more b is-failed h) t f p = at-flight (isCondition b && true) x h t f p
   at-flight skipping x (one-more b is-not-sent h) t f p = at-flight (isCondition b && true) x h t f p
@@ -171,7 +171,7 @@ pub fit-flight : (u : ℕ → Bool) (o : Outcome) (x : Flight) {l : List Noted} 
     flight k ≡ some x → ((skipping must : Bool) → FindsUp (u (x .command .device)) skipping must o) → Fit u false l →
     Fit u false (noteFirst o l)
 fit-flight u o x {l = l} a t f p h =
-    fit-first u o false l h (at-flight (λ c skipping must. FindsUp (u (c .device)) skipping must o) false x a t f p)
+    fit-first u o false l h (at-flight (λ c skipping must. FindsUp (u (c .device)) skipping must o) false x a t f (p _))
 
 -- ---- an event of d skips what is left on it
 

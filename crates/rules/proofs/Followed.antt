@@ -375,7 +375,7 @@ followed-moves s a p l h u t o f (places cs x y v e m n b) =
 followed-moves s a p l h u t o f (commits i x g y e j r n b) =
     let w = subst (Before s a p) e (record { ids-ok = o; parts = f }) in
     becomes s a p x g y w (with g (commit (g .member))) (endedAccount (a (g .member .id))) refl (own-followed s a p x g y w)
-followed-moves s a p l h u t o f (sends i x g y c e j r n b m v plain) =
+followed-moves s a p l h u t o f (sends i x g y c e j r n b m v plain on) =
     let w = subst (Before s a p) e (record { ids-ok = o; parts = f }) in
     becomes s a p x g y w _ (sentAccount c (a (g .member .id))) refl (own-followed s a p x g y w)
 followed-moves s a p l h u t o f (passes i x g y c e j r n b m st v) =

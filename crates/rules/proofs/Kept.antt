@@ -62,7 +62,7 @@ pub hub-moves : (s : State) (l : List Group) {c : Call} {r : Result} {lead : Lis
     Moves s l c r lead k → HubOk (r .state) k
 hub-moves s l h (places cs a b _ e u p n) = hub-places s cs a b (subst (HubOk s) e h) u p n
 hub-moves s l h (commits i a g b e _ _ f x) = hub-commits s a g b (subst (HubOk s) e h) f x
-hub-moves s l h (sends i a g b c e _ r f x n _ plain) = hub-sends s a g b c (subst (HubOk s) e h) r f x n
+hub-moves s l h (sends i a g b c e _ r f x n _ plain on) = hub-sends s a g b c (subst (HubOk s) e h) r f x n
 hub-moves s l h (passes i a g b c e _ r f x n st pass) = hub-passes s a g b c st (passing pass) (subst (HubOk s) e h) r f x n
 hub-moves s l h (dones i code a g b x e _ r f _) = hub-dones s a g b x (subst (HubOk s) e h) r f
 hub-moves s l h (misses i code a g b x e _ r f _) = hub-misses s a g b x (subst (HubOk s) e h) r f
@@ -141,7 +141,7 @@ flies-moves s l h f (places cs a b _ e _ _ _) =
 flies-moves s l h f (commits i a g b e _ _ _ _) =
     let w = subst (Each (InFlightIsUp s)) e f in
     flies-changes s a g b w (commitTurn s (foundAt a g b) .state) refl (commit (g .member)) (each-mid (InFlightIsUp s) a g b w .flies-up)
-flies-moves s l h f (sends i a g b c e _ _ n x _ u plain) =
+flies-moves s l h f (sends i a g b c e _ _ n x _ u plain on) =
     let y = send-step (g .member) (in-turn s a g b (subst (HubOk s) e h)) c (due s (c .device)) x n in
     flies-changes s a g b (subst (Each (InFlightIsUp s)) e f) (sendTurn s (foundAt a g b) c .state) refl (sentMember s g c)
     (λ d q. ap (s .up) (sym (eqb-true (c .device) d (sym (y .flies d) ∙ q))) ∙ u)

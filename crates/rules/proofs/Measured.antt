@@ -114,7 +114,7 @@ module _ (k i : ℕ) (s : State) (in-force : s .passLimit ≡ k) (h : List Told)
         swap-at-most k i a g (with g (commit (g .member))) b refl refl
             (omega arith),
       ))
-  moves-at-most (sends j a g b c e n r f q w u plain) of =
+  moves-at-most (sends j a g b c e n r f q w u plain on) of =
       let x = send-step (g .member) (in-turn s a g b (subst (HubOk s) e (y .hub))) c (due s (c .device)) q f in
       subst (λ z. NotRaised k i z (a ++ (with g (sentMember s g c) ∷ b))) (sym e)
       (swapped k i a g (with g (sentMember s g c)) b refl refl refl (rw (x .same-left) (omega arith)))
@@ -216,7 +216,7 @@ module _ (k : ℕ) (s : State) (h : List Told) (l : List Group) (y : Ready s h l
     others-move i (places cs a b q e u p n) o w = absurd o
     others-move i (commits _ a g b e n r f q) o w =
         head-kept j steps a g (with g (commit (g .member))) b (λ z. w (sym (n ∙ o) ∙ z)) (subst (HeadIs j steps) e hd)
-    others-move i (sends _ a g b c e n r f q z u plain) o w =
+    others-move i (sends _ a g b c e n r f q z u plain on) o w =
         head-kept j steps a g (with g (sentMember s g c)) b (λ z. w (sym (n ∙ o) ∙ z)) (subst (HeadIs j steps) e hd)
     others-move i (passes _ a g b c e n r f q z st u) o w =
         head-kept j steps a g (with g (passedMember st g)) b (λ z. w (sym (n ∙ o) ∙ z)) (subst (HeadIs j steps) e hd)
@@ -255,7 +255,7 @@ module _ (k : ℕ) (s : State) (h : List Told) (l : List Group) (y : Ready s h l
     own-moves (commits i a g b e n r f q) o =
         own-less a g b e (n ∙ o) (turn i) (with g (commit (g .member))) refl refl
         (let w : weight (g .member) ≡ suc (length (leftSteps (g .member .steps))) = rw r refl in omega arith)
-    own-moves (sends i a g b c e n r f q z u plain) o =
+    own-moves (sends i a g b c e n r f q z u plain on) o =
         let x = send-step (g .member) (in-turn s a g b (subst (HubOk s) e (y .hub))) c (due s (c .device)) q f in
         flies tt (sentMember s g c .steps)
         (subst (λ p. HeadIs j (sentMember s g c .steps) (p ++ (with g (sentMember s g c) ∷ b))) (sym (none-ahead a g b e (n ∙ o)))

@@ -469,7 +469,7 @@ order-moves s o n l h k t (places cs a b _ e u _ _) =
     (a ++ (alone (newcomer (s .nextId) cs) ∷ passAll b))) (sym u)
     (order-places s o cs a b (subst (λ m. HubOk s m) e h) (subst (λ m. OrderOk s o [] m) e k))
 order-moves s o n l h k t (commits i a g b e _ _ _ _) = order-commits s o a g b (subst (λ m. OrderOk s o [] m) e k) _
-order-moves s o n l h k t (sends i a g b c e _ _ f x _ _ plain) =
+order-moves s o n l h k t (sends i a g b c e _ _ f x _ _ plain on) =
     order-untouched s o a g b (subst (λ m. OrderOk s o [] m) e k) _ _ _
     (send-step (g .member) (in-turn s a g b (subst (HubOk s) e h)) c _ x f .same-done)
 order-moves s o n l h k t (passes i a g b c e _ _ f x _ st pass) =

@@ -96,7 +96,7 @@ low-moves s l h w (places cs a b q e u p n) =
     each-++ LowCount a (alone (newcomer (s .nextId) cs) ∷ passAll b) (each-left LowCount a b z)
     (record { low = omega arith }, low-passed s cs h b (each-right LowCount a b z) n)
 low-moves s l h w (commits i a g b e n r f q) = swap a g (with g (commit (g .member))) b (subst (Each LowCount) e w) refl
-low-moves s l h w (sends i a g b c e n r f q x u plain) = swap a g (with g (sentMember s g c)) b (subst (Each LowCount) e w) refl
+low-moves s l h w (sends i a g b c e n r f q x u plain on) = swap a g (with g (sentMember s g c)) b (subst (Each LowCount) e w) refl
 low-moves s l h w (passes i a g b c e n r f q x st u) = swap a g (with g (passedMember st g)) b (subst (Each LowCount) e w) refl
 low-moves s l h w (dones i code a g b x e n r f q) = swap a g (with g (doneMember g)) b (subst (Each LowCount) e w) refl
 low-moves s l h w (misses i code a g b x e n r f q) = swap a g (with g (failedMember g)) b (subst (Each LowCount) e w) refl

@@ -91,7 +91,7 @@ few-left-moves s l h t (places cs a b q e u p n) =
 few-left-moves s l h t (commits i a g b e n r f q) =
     let w = subst (Each FewLeft) e t in
     each-swap FewLeft a g (with g (commit (g .member))) b w (record { few-left = each-mid FewLeft a g b w .few-left })
-few-left-moves s l h t (sends i a g b c e n r f q w u plain) =
+few-left-moves s l h t (sends i a g b c e n r f q w u plain on) =
     let z = subst (Each FewLeft) e t in
     let y = send-step (g .member) (in-turn s a g b (subst (HubOk s) e h)) c (due s (c .device)) q f in
     each-swap FewLeft a g (with g (sentMember s g c)) b z
@@ -121,7 +121,7 @@ pub fixed-moves : (s : State) (l : List Group) {c : Call} {r : Result} {lead : L
 unfolding place commitTurn sendTurn doneReport skippedState skipReport abort leave attach
 fixed-moves s l (places cs a b q e u p n) = (refl, omega arith)
 fixed-moves s l (commits i a g b e n r f q) = (refl, omega arith)
-fixed-moves s l (sends i a g b c e n r f q w u plain) = (refl, omega arith)
+fixed-moves s l (sends i a g b c e n r f q w u plain on) = (refl, omega arith)
 fixed-moves s l (passes i a g b c e n r f q w st u) = (refl, omega arith)
 fixed-moves s l (dones i code a g b x e n r f q) = (refl, omega arith)
 fixed-moves s l (misses i code a g b x e n r f q) = (refl, omega arith)
@@ -201,7 +201,7 @@ room-moves s l h t (places cs a b q e u p n) =
     let z = ap length e in
     omega arith
 room-moves s l h t (commits i a g b e n r f q) = swapped-room a g (with g (commit (g .member))) b e t
-room-moves s l h t (sends i a g b c e n r f q w u plain) = swapped-room a g (with g (sentMember s g c)) b e t
+room-moves s l h t (sends i a g b c e n r f q w u plain on) = swapped-room a g (with g (sentMember s g c)) b e t
 room-moves s l h t (passes i a g b c e n r f q w st u) = swapped-room a g (with g (passedMember st g)) b e t
 room-moves s l h t (dones i code a g b x e n r f q) = swapped-room a g (with g (doneMember g)) b e t
 room-moves s l h t (misses i code a g b x e n r f q) = swapped-room a g (with g (failedMember g)) b e t
@@ -311,7 +311,7 @@ limit-moves : (s : State) (l : List Group) {c : Call} {r : Result} {lead : List 
 unfolding commitTurn sendTurn doneReport skipReport abort
 limit-moves s l (places cs a b q e u p m) n = refl
 limit-moves s l (commits i a g b e m r f q) n = refl
-limit-moves s l (sends i a g b c e m r f q w u plain) n = refl
+limit-moves s l (sends i a g b c e m r f q w u plain on) n = refl
 limit-moves s l (passes i a g b c e m r f q w st u) n =
     by-answer (λ x. limitAfter x n ≡ n) (g .member .id) refl refl refl st
 limit-moves s l (dones i code a g b x e m r f q) n = refl

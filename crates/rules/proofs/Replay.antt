@@ -14,7 +14,7 @@ use Rattle.rules.specs.History.{Outcome, not-yet, reported-done, reporte
 use Rattle.rules.specs.History.{Noted, Account}
 use Rattle.rules.specs.Order.{Event, Entry, routine, event, beforeBar}
 use Rattle.rules.specs.Serial.{DeviceState, runEntry}
-use Rattle.rules.specs.Demand3.{committedPart, afterNoted}
+use Rattle.rules.specs.Demand3.{committedPart, skipsFollowing, afterNoted}
 use Rattle.rules.specs.HubOrder.{doneSteps}
 use Rattle.rules.specs.Replay.{Replayed, AllReplayed, Replays}
 use Rattle.rules.proofs.Groups.{Group, flat}
@@ -30,14 +30,15 @@ use Rattle.rules.proofs.Conditions.{unset-commands}
 -- ---- along an order, from a table of devices
 
 -- one command
-replayed-is : (c : Command) (t : DeviceState) (o : Outcome) → Tagged c o → FoundAs (c .setting) (t .up) (t .setting) o → Replayed c t o
-replayed-is c t not-yet g f = tt
-replayed-is c t reported-done g f = g
-replayed-is c t reported-failed g f = g
-replayed-is c t not-sent g f = tt
-replayed-is c t by-event g f = tt
-replayed-is c t found-held g f = (g, f .0, f .1)
-replayed-is c t found-not-held g f = (g, f .0, f .1)
+replayed-is : (b : Bool) (c : Command) (t : DeviceState) (o : Outcome) → Tagged b c o → FoundAs (c .setting) (t .up) (t .setting) o →
+    Replayed b c t o
+replayed-is b c t not-yet g f = tt
+replayed-is b c t reported-done g f = g
+replayed-is b c t reported-failed g f = g
+replayed-is b c t not-sent g f = tt
+replayed-is b c t by-event g f = tt
+replayed-is b c t found-held g f = (g, f .0, f .1)
+replayed-is b c t found-not-held g f = (g, f .0, f .1)
 
 -- what it leaves
 noted-set : (d : ℕ) (c : Command) (o : Outcome) (t : ℕ → DeviceState) → afterNoted o c t d .setting ≡ setBy d c o (t d .setting)
@@ -49,12 +50,13 @@ noted-set d c by-event t = refl
 noted-set d c found-held t = refl
 noted-set d c found-not-held t = refl
 
-all-replayed : (l : List Noted) (t : ℕ → DeviceState) → AllTagged l → ((d : ℕ) → RunsOn d l (t d .up) (t d .setting)) → AllReplayed l t
-all-replayed [] t g h = tt
-all-replayed (x ∷ l) t g h = (
-  replayed-is (x .command) (t (x .command .device)) (x .outcome) (g .0)
+all-replayed : (b : Bool) (l : List Noted) (t : ℕ → DeviceState) → AllTagged b l → ((d : ℕ) → RunsOn d l (t d .up) (t d .setting)) →
+    AllReplayed b l t
+all-replayed b [] t g h = tt
+all-replayed b (x ∷ l) t g h = (
+  replayed-is b (x .command) (t (x .command .device)) (x .outcome) (g .0)
       (h (x .command .device) .0 (eq-eqb (x .command .device) (x .command .device) refl)),
-  all-replayed l (afterNoted (x .outcome) (x .command) t) (g .1)
+  all-replayed (skipsFollowing x) l (afterNoted (x .outcome) (x .command) t) (g .1)
       (λ d. subst (λ b. RunsOn d l b (afterNoted (x .outcome) (x .command) t d .setting))
       (sym (ap (λ u. u d) (noted-up (x .outcome) (x .command) t)))
       (subst (RunsOn d l (t d .up)) (sym (noted-set d (x .command) (x .outcome) t)) (h d .1))),
@@ -72,7 +74,7 @@ pub replays-is : (a : ℕ → Account) (l : List Entry) (t : ℕ → DeviceState
     ((d : ℕ) → OnDevice d (notedIn a) l (t d .up) (t d .setting)) → Replays a l t
 replays-is a [] t g h = tt
 replays-is a (routine i cs b ∷ l) t g h = (
-  all-replayed (a i .commands) t (g i) (λ d. h d .0),
+  all-replayed false (a i .commands) t (g i) (λ d. h d .0),
   replays-is a l (runEntry (routine i cs b) t) g (entry-is a (routine i cs b) l t (λ d. h d .1)),
 )
 replays-is a (event e ∷ l) t g h = replays-is a l (runEntry (event e) t) g (entry-is a (event e) l t h)

@@ -240,7 +240,7 @@ module _ (s : State) (h : List Told) (l : List Group) (i j : ℕ) (other : i ≢
   others-told o (limits w e) = absurd o
   others-told o (moves (places cs a b q e u p n)) = absurd o
   others-told o (moves (commits w a g b e n r f q)) = elsewhere (accountsOf h) g _ (n ∙ o)
-  others-told o (moves (sends w a g b c e n r f q x u plain)) = elsewhere (accountsOf h) g _ (n ∙ o)
+  others-told o (moves (sends w a g b c e n r f q x u plain on)) = elsewhere (accountsOf h) g _ (n ∙ o)
   others-told o (moves (passes w a g b c e n r f q x st u)) =
       ap (λ k. k i) (pass-noted w st (g .member .id) (accountsOf h)) ∙ elsewhere (accountsOf h) g _ (n ∙ o)
   others-told o (moves (dones w code a g b x e n r f q)) = elsewhere (accountsOf h) g _ (n ∙ o)

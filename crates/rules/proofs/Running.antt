@@ -229,7 +229,7 @@ runs-moves s a l h t (commits i ga g gb e n r f q) =
     λ i. put-part (λ (y : Account). y .running) a (g .member .id) (endedAccount (a (g .member .id))) i
     ∙ tells-put isRunning (runningIn a) false ga g (with g (commit (g .member))) gb (other-ids (s .nextId) ga g gb (w .ids-ok)) refl refl
     (subst (RunsTold a) e t) i
-runs-moves s a l h t (sends i ga g gb c e n r f q w u plain) =
+runs-moves s a l h t (sends i ga g gb c e n r f q w u plain on) =
     stays-running s a ga g gb (subst (HubOk s) e h) (subst (RunsTold a) e t) (sentAccount c (a (g .member .id)))
     (with g (sentMember s g c)) refl refl refl
 runs-moves s a l h t (passes i ga g gb c e n r f q w st u) =

@@ -351,7 +351,7 @@ unfolding abort commit commitTurn sendTurn doneReport skipReport
 stand-moves s o a l f t (places cs x y v e m n b) = stand-places s o a cs x y (subst (λ l. Before s o a l) e f)
 stand-moves s o a l f t (commits i x g y e j r n b) =
     stand-changes s o a x g y (subst (λ l. Before s o a l) e f) (g .member .steps) true (endedAccount (a (g .member .id))) (λ h. h)
-stand-moves s o a l f t (sends i x g y c e j r n b m u plain) =
+stand-moves s o a l f t (sends i x g y c e j r n b m u plain on) =
     stand-changes s o a x g y (subst (λ l. Before s o a l) e f) (sentMember s g c .steps) (g .member .committed)
     (sentAccount c (a (g .member .id))) (λ h. h)
 stand-moves s o a l f t (passes i x g y c e j r n b m st u) =

@@ -14,7 +14,7 @@ use Rattle.routine.specs.declared.Command.{Command}
 use Rattle.rules.specs.Tables.{anyOf}
 use Rattle.rules.specs.State.{Status, to-do, in-flight, was-done, was-skipped, was-held, was-not-held, Step, Member}
 use Rattle.rules.specs.Progress.{isOn, isToDo, isInFlight, isDone, isAnswered, begun, finished, inFlightOn, next}
-use Rattle.rules.specs.Progress.{Flight, flightOr, flight, advance, answerFlight, withSteps}
+use Rattle.rules.specs.Progress.{skipsNext, nextIsSkipped, Flight, flightOr, flight, advance, answerFlight, withSteps}
 use Rattle.rules.specs.Due.{afterSteps}
 use Rattle.rules.specs.Submit.{stepOf, newcomer}
 use Rattle.rules.specs.Events.{skipLeft}
@@ -74,6 +74,11 @@ wasAsked was-not-held = true
 -- is there one on d?
 abbrev pub askedOn : ℕ → List Step → Bool
 askedOn d l = anyOf (λ x. isOn d x && wasAsked (x .status)) l
+
+-- is the command in flight one that the condition before it skips? `before`: whether the command before these skips the first of them
+abbrev pub flightIsSkipped : Bool → List Step → Bool
+flightIsSkipped before [] = false
+flightIsSkipped before (x ∷ l) = if isInFlight (x .status) then before else flightIsSkipped (skipsNext x) l
 
 -- ---- what a change of the commands does
 
@@ -229,7 +234,7 @@ behind-over f h k =
     by-status (λ q. AllBehind q → f q ≡ f []) (λ w. refl) (λ c l e w. h c l ∙ e (w .1)) (λ c u l e w. t≠f (sym (w .0)))
     (λ c l e w. t≠f (sym (w .0))) (λ c l e w. k c l ∙ e (w .1)) (λ c l e w. t≠f (sym (w .0))) (λ c l e w. t≠f (sym (w .0)))
 
-behind-turn : (q : List Step) → AllBehind q → InTurn q
+pub behind-turn : (q : List Step) → AllBehind q → InTurn q
 behind-turn =
     by-status (λ q. AllBehind q → InTurn q) (λ w. tt) (λ c l h w. w .1) (λ c u l h w. t≠f (sym (w .0))) (λ c l h w. t≠f (sym (w .0)))
     (λ c l h w. h (w .1)) (λ c l h w. t≠f (sym (w .0))) (λ c l h w. t≠f (sym (w .0)))
@@ -828,6 +833,54 @@ skip-steps d m t = record {
   where
     l : List Step
     l = m .steps
+
+-- ---- the command in flight, behind its condition
+
+-- one that is sent is skipped if it was before
+pub sent-skipped : (u : ℤ) (before : Bool) (l : List Step) → flight l ≡ none → nextIsSkipped before l ≡ false →
+    flightIsSkipped before (advance (in-flight u) l) ≡ false
+sent-skipped u before l =
+    by-status (λ l. (before : Bool) → flight l ≡ none → nextIsSkipped before l ≡ false →
+    flightIsSkipped before (advance (in-flight u) l) ≡ false) (λ b f e. refl) (λ c l h b f e. e)
+    (λ c v l h b f. absurd (Option·some-ne-none (record { command = c; dueThen = v }) f)) (λ c l h b. h _) (λ c l h b. h _)
+    (λ c l h b. h _) (λ c l h b. h _) l before
+
+none-skipped : (l : List Step) (before : Bool) → flight l ≡ none → flightIsSkipped before l ≡ false
+none-skipped =
+    by-status (λ l. (before : Bool) → flight l ≡ none → flightIsSkipped before l ≡ false) (λ b f. refl) (λ c l h b. h _)
+    (λ c v l h b f. absurd (Option·some-ne-none (record { command = c; dueThen = v }) f)) (λ c l h b. h _) (λ c l h b. h _)
+    (λ c l h b. h _) (λ c l h b. h _)
+
+pub grounded-skipped : (l : List Step) → flight l ≡ none → flightIsSkipped false l ≡ false
+grounded-skipped l = none-skipped l false
+
+-- an event of d skips what is left; what stands ahead of the command in flight is answered
+pub left-skipped : (d : ℕ) (l : List Step) → InTurn l → (before : Bool) → flightIsSkipped before l ≡ false →
+    flightIsSkipped before (skipLeft d l) ≡ false
+left-skipped d = by-skip d (λ l m. InTurn l → (before : Bool) → flightIsSkipped before l ≡ false → flightIsSkipped before m ≡ false)
+    (λ t b e. refl) stays goes
+  where
+    stays : (c : Command) (s : Status) (l : List Step) → (eqb (c .device) d && isOpen s) ≡ false →
+        (InTurn l → (before : Bool) → flightIsSkipped before l ≡ false → flightIsSkipped before (skipLeft d l) ≡ false) →
+        InTurnAt s l (InTurn l) → (before : Bool) → flightIsSkipped before (step c s ∷ l) ≡ false →
+        flightIsSkipped before (step c s ∷ skipLeft d l) ≡ false
+    stays c to-do l t h w b e = h (behind-turn l w) _ e
+    stays c (in-flight u) l t h w b e = e
+    stays c was-done l t h w b e = h w _ e
+    stays c was-skipped l t h w b e = h w _ e
+    stays c was-held l t h w b e = h w _ e
+    stays c was-not-held l t h w b e = h w _ e
+
+    goes : (c : Command) (s : Status) (l : List Step) → c .device ≡ d → isAnswered s ≡ false →
+        (InTurn l → (before : Bool) → flightIsSkipped before l ≡ false → flightIsSkipped before (skipLeft d l) ≡ false) →
+        InTurnAt s l (InTurn l) → (before : Bool) → flightIsSkipped before (step c s ∷ l) ≡ false →
+        flightIsSkipped before (step c was-skipped ∷ skipLeft d l) ≡ false
+    goes c to-do l t u h w b e = none-skipped (skipLeft d l) _ (behind-grounded (skipLeft d l) (skip-behind d l w))
+    goes c (in-flight v) l t u h w b e = none-skipped (skipLeft d l) _ (behind-grounded (skipLeft d l) (skip-behind d l w))
+    goes c was-done l t u h w b e = t≠f u
+    goes c was-skipped l t u h w b e = t≠f u
+    goes c was-held l t u h w b e = t≠f u
+    goes c was-not-held l t u h w b e = t≠f u
 
 -- ---- a newcomer
 

@@ -122,7 +122,7 @@ pub moves-same : (s : State) (l : List Group) {c : Call} {r : Result} {lead : Li
 unfolding place commitTurn sendTurn doneReport skippedState skipReport abort leave attach
 moves-same s l (places cs a b q e u p n) = (refl, refl)
 moves-same s l (commits i a g b e n r f q) = (refl, refl)
-moves-same s l (sends i a g b c e n r f q w u plain) = (refl, refl)
+moves-same s l (sends i a g b c e n r f q w u plain on) = (refl, refl)
 moves-same s l (passes i a g b c e n r f q w st u) =
     (by-answer (λ x. isAccepted (x ∷ []) ≡ true) (g .member .id) refl refl refl st, refl)
 moves-same s l (dones i code a g b x e n r f q) = (refl, refl)
@@ -235,7 +235,7 @@ told P w c v h {r = r} {lead = lead} {k = k} m = record {
           (sym (bar-entries (orderAfterAll c a (r .answers) (orderIn w))))
           (stands-moves s (orderIn w) a l (j .hub) (j .flies) (j .order) (j .runs) (j .tells) (j .stands) m);
       plain = each-held FlightIsPlain k (plain-moves s l (j .hub) (j .plain) m);
-      tagged = tagged-moves s a l (j .hub) (j .tells) (j .plain) (j .tagged) m;
+      tagged = tagged-moves s a l (j .hub) (j .runs) (j .tells) (j .plain) (j .tagged) m;
       spared = pairs-held Spares k (spares-moves s l (j .hub) (j .spared) m);
       replays = subst (ReplaysOn (noteAnswers c (r .answers) a)) (sym (bar-entries (orderAfterAll c a (r .answers) (orderIn w))))
           (replays-moves s (orderIn w) a l (j .hub) (j .order) (j .runs) (j .tells) (j .spared) (j .replays) m);

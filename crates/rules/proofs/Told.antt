@@ -103,7 +103,7 @@ flies-told s a l h u v t (places cs ga gb q e z p n) =
 flies-told s a l h u v t (commits i ga g gb e n r x q) =
     now-flies s a ga g gb (subst (HubOk s) e h) (subst (FliesTold a) e t) (endedAccount (a (g .member .id))) (with g (commit (g .member)))
     refl refl
-flies-told s a l h u v t (sends i ga g gb c e n r x q w z plain) =
+flies-told s a l h u v t (sends i ga g gb c e n r x q w z plain on) =
     let y = subst (HubOk s) e h in
     let k = send-step (g .member) (in-turn s ga g gb y) c (due s (c .device)) q x in
     now-flies s a ga g gb y (subst (FliesTold a) e t) (sentAccount c (a (g .member .id))) (with g (sentMember s g c)) refl

@@ -123,7 +123,7 @@ pub data Moves (s : State) (l : List Group) : Call → Result → List Event →
   sends : (i : ℕ) (a : List Group) (g : Group) (b : List Group) (c : Command) → l ≡ a ++ (g ∷ b) → g .member .id ≡ i →
       g .member .committed ≡ false →
       flight (g .member .steps) ≡ none → next (g .member .steps) ≡ some c → firstHolding (c .device) (isCondition c) (members a) ≡ none →
-      s .up (c .device) ≡ true → isCondition c ≡ false →
+      s .up (c .device) ≡ true → isCondition c ≡ false → nextIsSkipped false (g .member .steps) ≡ false →
       Moves s l (turn i) (sendTurn s (foundAt a g b) c) [] (a ++ (with g (sentMember s g c) ∷ b))
   passes : (i : ℕ) (a : List Group) (g : Group) (b : List Group) (c : Command) → l ≡ a ++ (g ∷ b) → g .member .id ≡ i →
       g .member .committed ≡ false →
@@ -255,11 +255,11 @@ module _ (s : State) {l : List Group} (i : ℕ) (a : List Group) (g : Group) (b 
       unheld (some j) h = waits i a g b (c .device) (isCondition c) j w n h
       unheld none h =
           byIf Turned (nextIsSkipped false (g .member .steps)) (λ t. moves (passes i a g b c w n u f e h was-skipped (is-off t)))
-          (λ _. byIf Turned (s .up (c .device))
+          (λ z. byIf Turned (s .up (c .device))
           (λ t. byIf Turned (isCondition c)
           (λ k. byIf Turned (isHeld s c) (λ y. moves (passes i a g b c w n u f e h was-held (does-hold t k y)))
           (λ y. moves (passes i a g b c w n u f e h was-not-held (does-not t k y))))
-          (λ k. moves (sends i a g b c w n u f e h t k)))
+          (λ k. moves (sends i a g b c w n u f e h t k z)))
           (λ t. byIf Turned (nextCountsAsMust (g .member .steps)) (λ _. moves (aborts (turn i) a g b w u (by-turn i n f)))
           (λ _. moves (passes i a g b c w n u f e h was-skipped (is-down t)))))
 

@@ -316,22 +316,45 @@ waitsForSet = record {
 
 pub waits-for-set : Passes waitsForSet × ReplaysIn waitsForSet
 unfolding calcWorld
-waits-for-set = (record {
-  accepted = refl;
-  premise = ((λ _. tt), ((λ _. tt), (tt, ((λ _. refl), ((λ _. tt), ((λ _. tt), ((λ _. tt), (tt, ((λ _. refl), ((λ _. tt), ((λ _. tt), ((λ _. tt), ((λ _. tt), (tt, ((λ _. refl), ((λ _. tt), tt))))))))))))))));
-  none-runs = λ i. elsewhere (accounts (endOf waitsForSet)) 1 refl i (λ n. elsewhere (accounts (endOf waitsForSet)) 2 refl i (λ m. rw (n, m) refl));
-  ready = refl;
-  settings-are = refl;
-  serial-is = refl;
-  stands = (refl, (refl, (refl, tt)), (refl, (refl, (refl, tt)), tt));
-}, ((refl, (refl, tt)), (((refl, refl, refl), (refl, tt)), tt)))
+waits-for-set = (
+  record {
+    accepted = refl;
+    premise = (
+      (λ _. tt),
+      (
+        (λ _. tt),
+        (
+          tt,
+          (
+            (λ _. refl),
+            (
+              (λ _. tt),
+              (
+                (λ _. tt),
+                ((λ _. tt), (tt, ((λ _. refl), ((λ _. tt), ((λ _. tt), ((λ _. tt), ((λ _. tt), (tt, ((λ _. refl), ((λ _. tt), tt)))))))))),
+              ),
+            ),
+          ),
+        ),
+      ),
+    );
+    none-runs = λ i. elsewhere (accounts (endOf waitsForSet)) 1 refl i
+        (λ n. elsewhere (accounts (endOf waitsForSet)) 2 refl i (λ m. rw (n, m) refl));
+    ready = refl;
+    settings-are = refl;
+    serial-is = refl;
+    stands = (refl, (refl, (refl, tt)), (refl, (refl, (refl, tt)), tt));
+  },
+  (((refl, refl), ((refl, refl), tt)), (((refl, refl, refl), ((refl, refl), tt)), tt)),
+)
 
 -- Device 0 is down for routine 1, and restarts at 25 behind it: the condition of 2 holds because of that, while 1 runs.
 abbrev pub holdsByRestart : Passage
 holdsByRestart = record {
   devices = 2;
   passLimit = 0;
-  acts = calls (failure 0) (pos 25) ∷ call (submit (best 0 (pos 3) ∷ must 1 (pos 1) ∷ [])) ∷ call (turn 1) ∷ call (restart 0 (pos 25)) ∷ call
+  acts = calls (failure 0) (pos 25) ∷ call (submit (best 0 (pos 3) ∷ must 1 (pos 1) ∷ [])) ∷ call (turn 1) ∷ call
+      (restart 0 (pos 25)) ∷ call
       (submit (condition 0 (pos 20) ∷ must 1 (pos 7) ∷ [])) ∷ call (turn 2) ∷ call (turn 1) ∷ takes-one 1 0 ∷ call (report 1 0) ∷ call
       (turn 1) ∷ call (turn 2) ∷ takes-one 1 0 ∷ call (report 2 0) ∷ call (turn 2) ∷ [];
   settings = pos 25 ∷ pos 7 ∷ [];
@@ -339,22 +362,39 @@ holdsByRestart = record {
 
 pub holds-by-restart : Passes holdsByRestart × ReplaysIn holdsByRestart
 unfolding calcWorld
-holds-by-restart = (record {
-  accepted = refl;
-  premise = ((λ _. tt), ((λ _. tt), ((λ _. tt), ((λ _. refl), ((λ _. tt), ((λ _. tt), ((λ _. tt), (tt, ((λ _. refl), ((λ _. tt), ((λ _. tt), (tt, ((λ _. refl), ((λ _. tt), tt))))))))))))));
-  none-runs = λ i. elsewhere (accounts (endOf holdsByRestart)) 1 refl i (λ n. elsewhere (accounts (endOf holdsByRestart)) 2 refl i (λ m. rw (n, m) refl));
-  ready = refl;
-  settings-are = refl;
-  serial-is = refl;
-  stands = (refl, (inr refl, (refl, tt)), (refl, (refl, (refl, tt)), tt));
-}, ((tt, (refl, tt)), (((refl, refl, refl), (refl, tt)), tt)))
+holds-by-restart = (
+  record {
+    accepted = refl;
+    premise = (
+      (λ _. tt),
+      (
+        (λ _. tt),
+        (
+          (λ _. tt),
+          (
+            (λ _. refl),
+            ((λ _. tt), ((λ _. tt), ((λ _. tt), (tt, ((λ _. refl), ((λ _. tt), ((λ _. tt), (tt, ((λ _. refl), ((λ _. tt), tt)))))))))),
+          ),
+        ),
+      ),
+    );
+    none-runs = λ i. elsewhere (accounts (endOf holdsByRestart)) 1 refl i
+        (λ n. elsewhere (accounts (endOf holdsByRestart)) 2 refl i (λ m. rw (n, m) refl));
+    ready = refl;
+    settings-are = refl;
+    serial-is = refl;
+    stands = (refl, (inr refl, (refl, tt)), (refl, (refl, (refl, tt)), tt));
+  },
+  ((tt, ((refl, refl), tt)), (((refl, refl, refl), ((refl, refl), tt)), tt)),
+)
 
 -- The same, but routine 1 is cancelled once the condition held: the restart behind it stays, and the condition holds still.
 abbrev pub aheadAborts : Passage
 aheadAborts = record {
   devices = 2;
   passLimit = 0;
-  acts = calls (failure 0) (pos 25) ∷ call (submit (best 0 (pos 3) ∷ must 1 (pos 1) ∷ [])) ∷ call (turn 1) ∷ call (restart 0 (pos 25)) ∷ call
+  acts = calls (failure 0) (pos 25) ∷ call (submit (best 0 (pos 3) ∷ must 1 (pos 1) ∷ [])) ∷ call (turn 1) ∷ call
+      (restart 0 (pos 25)) ∷ call
       (submit (condition 0 (pos 20) ∷ must 0 (pos 7) ∷ [])) ∷ call (turn 2) ∷ call (cancel 1) ∷ call (turn 2) ∷ takes-one 0 0 ∷ call
       (report 2 0) ∷ call (turn 2) ∷ [];
   settings = pos 7 ∷ pos 0 ∷ [];
@@ -362,15 +402,22 @@ aheadAborts = record {
 
 pub ahead-aborts : Passes aheadAborts × ReplaysIn aheadAborts
 unfolding calcWorld
-ahead-aborts = (record {
-  accepted = refl;
-  premise = ((λ _. tt), ((λ _. tt), ((λ _. tt), ((λ _. refl), ((λ _. tt), ((λ _. tt), ((λ _. tt), ((λ _. tt), (tt, ((λ _. refl), ((λ _. tt), tt)))))))))));
-  none-runs = λ i. elsewhere (accounts (endOf aheadAborts)) 1 refl i (λ n. elsewhere (accounts (endOf aheadAborts)) 2 refl i (λ m. rw (n, m) refl));
-  ready = refl;
-  settings-are = refl;
-  serial-is = refl;
-  stands = (refl, (refl, (refl, tt)), tt);
-}, (((refl, refl, refl), (refl, tt)), tt))
+ahead-aborts = (
+  record {
+    accepted = refl;
+    premise = (
+      (λ _. tt),
+      ((λ _. tt), ((λ _. tt), ((λ _. refl), ((λ _. tt), ((λ _. tt), ((λ _. tt), ((λ _. tt), (tt, ((λ _. refl), ((λ _. tt), tt)))))))))),
+    );
+    none-runs = λ i. elsewhere (accounts (endOf aheadAborts)) 1 refl i
+        (λ n. elsewhere (accounts (endOf aheadAborts)) 2 refl i (λ m. rw (n, m) refl));
+    ready = refl;
+    settings-are = refl;
+    serial-is = refl;
+    stands = (refl, (refl, (refl, tt)), tt);
+  },
+  (((refl, refl, refl), ((refl, refl), tt)), tt),
+)
 
 -- Device 0 fails when the condition on it is left, with a best-effort command after it: the condition is skipped by that, and its command
 -- at its turn, though its device, 1, is up.
@@ -386,15 +433,21 @@ skippedByEvent = record {
 
 pub skipped-by-event : Passes skippedByEvent × ReplaysIn skippedByEvent
 unfolding calcWorld
-skipped-by-event = (record {
-  accepted = refl;
-  premise = ((λ _. tt), ((λ _. tt), (tt, ((λ _. refl), ((λ _. tt), ((λ _. tt), ((λ _. tt), (tt, ((λ _. refl), ((λ _. tt), ((λ _. refl), tt)))))))))));
-  none-runs = λ i. elsewhere (accounts (endOf skippedByEvent)) 1 refl i (λ n. rw n refl);
-  ready = refl;
-  settings-are = refl;
-  serial-is = refl;
-  stands = (refl, (refl, ((refl, refl), (inl refl, (refl, tt)))), tt);
-}, ((refl, (tt, (tt, (refl, tt)))), tt))
+skipped-by-event = (
+  record {
+    accepted = refl;
+    premise = (
+      (λ _. tt),
+      ((λ _. tt), (tt, ((λ _. refl), ((λ _. tt), ((λ _. tt), ((λ _. tt), (tt, ((λ _. refl), ((λ _. tt), ((λ _. refl), tt)))))))))),
+    );
+    none-runs = λ i. elsewhere (accounts (endOf skippedByEvent)) 1 refl i (λ n. rw n refl);
+    ready = refl;
+    settings-are = refl;
+    serial-is = refl;
+    stands = (refl, (refl, ((refl, refl), (inl refl, (refl, tt)))), tt);
+  },
+  (((refl, refl), (tt, (tt, ((refl, refl), tt)))), tt),
+)
 
 -- the world after the first n acts
 abbrev pub after : ℕ → Passage → World
