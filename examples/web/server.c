@@ -87,7 +87,7 @@ static const char form_page[] =
     "<h2>The calls</h2>\n"
     "<table>\n"
     CALL("O devices passes first", "open a hub, with its pass limit and first id")
-    CALL("S device tag setting &hellip;", "submit a routine; tag 0 is must, 1 is best-effort")
+    CALL("S device tag setting &hellip;", "submit a routine; tag 0 is must, 1 is best-effort, 2 a condition")
     CALL("N id", "turn of a routine")
     CALL("D id", "its command is done")
     CALL("B id", "its command has failed")

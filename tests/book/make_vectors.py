@@ -22,10 +22,11 @@ write_vectors  Routines to write: four parts, each its number of bytes and its
 Covered in reading: counts; truncations; single bytes changed; bytes left over;
 lengths; offsets; layouts with gaps, overlaps and another order; devices, tags
 and settings at their edges; each refusal at its first, middle and last index;
-two faults in one book; random books, valid, changed and nearly random.
+two faults in one book; conditions, where they may stand and where not; random
+books, valid, changed and nearly random.
 Covered in writing: numbers of routines; lengths of the buffer; counts, with
 fewer and with more commands lent; slices of unequal lengths, each of the three
-too short; commands left over; edges; two faults; random lists.
+too short; commands left over; edges; two faults; conditions; random lists.
 """
 
 import collections
@@ -42,7 +43,8 @@ SUM_MODULUS = 4294967291
 
 SETTINGS = [-32768, -1001, -1000, -999, -1, 0, 1, 999, 1000, 1001, 32767]
 DEVICES = [0, 31, 32, 33, 128, 255]
-TAGS = [0, 1, 2, 255]
+TAGS = [0, 1, 2, 3, 255]
+CONDITION = model.CONDITION
 BYTES = [0, 1, 2, 3, 4, 8, 16, 31, 32, 33, 36, 64, 65, 127, 128, 232, 233, 252, 255]
 LENGTHS = [0, 1, 2, 3, 4, 5, 6, 7, 8, 12, 16, 20, 24, 28, 29, 30, 31, 32, 33, 36, 40, 64,
            256, 260, 2**16, 2**16 + 4, 2**24 + 4, 2**31, 2**31 + 4,
@@ -426,7 +428,7 @@ def read_edges():
 
 def read_each_refusal_in_full_book():
     for at in (0, 7):
-        for number, change in [(5, {'device': 32}), (6, {'setting': 1001}), (7, {'tag': 2})]:
+        for number, change in [(5, {'device': 32}), (6, {'setting': 1001}), (7, {'tag': 3})]:
             routines = with_command(ALL_FULL, 63, at, **change)
             yield expecting(f'refused {number} {at}', reading(book_of(routines)))
     yield expecting('refused 20 63', reading(with_pair(ALL_FULL, 63, length=36)))
@@ -451,7 +453,7 @@ def spoil(pairs, routines, fault):
     else:
         device, tag, setting = routines[index][at]
         routines[index][at] = (32 if kind == 'device' else device,
-                               2 if kind == 'tag' else tag,
+                               {'tag': 3, 'condition': CONDITION}.get(kind, tag),
                                -1001 if kind == 'setting' else setting)
 
 
@@ -468,7 +470,7 @@ def read_pairs_of_faults():
     """Every two of these faults, and each beside bytes left over or missing."""
     routines = sample(2, 2, 2)
     faults = [(kind, index, 0) for kind in ('length', 'place') for index in range(3)]
-    faults += [(kind, index, at) for kind in ('device', 'setting', 'tag')
+    faults += [(kind, index, at) for kind in ('device', 'setting', 'tag', 'condition')
                for index in range(3) for at in range(2)]
     for i, first in enumerate(faults):
         for second in faults[i + 1:]:
@@ -494,7 +496,7 @@ def read_order_of_tests():
         yield expecting('refused 19', reading(
             spoilt(routines, [('place', index, 0), ('device', index, 0)])))
     for earlier, later in [(0, 1), (0, 2), (1, 2)]:
-        for kind, number in [('device', 5), ('setting', 6), ('tag', 7)]:
+        for kind, number in [('device', 5), ('setting', 6), ('tag', 7), ('condition', 22)]:
             for late in ('length', 'place'):
                 yield expecting(f'refused {number} 1', reading(
                     spoilt(routines, [(kind, earlier, 1), (late, later, 0)])))
@@ -525,13 +527,98 @@ def read_order_of_tests():
             spoilt(routines, [('length', index, 0)], b'\0')))
 
 
+# Routines with conditions, and number and index that they are refused with; none: accepted.
+# Each command's 5, 6, 7 and 22 come before the next one's.
+CONDITIONS = [
+    ([(0, 2, 30), (1, 0, 50)], None),
+    ([(0, 2, -1000), (1, 1, 50)], None),
+    ([(31, 2, 1000), (31, 0, 0), (31, 2, 0), (31, 1, 0)], None),
+    ([(1, 0, 5), (0, 2, 30), (1, 0, 50)], None),
+    ([(0, 2, 1), (0, 0, 2)] * 4, None),
+    ([(0, 0, 1)] * 6 + [(0, 2, 1), (0, 1, 1)], None),
+    # Last.
+    ([(0, 2, 30)], (22, 0)),
+    ([(0, 0, 30), (0, 2, 30)], (22, 1)),
+    ([(0, 1, 30), (0, 2, 30)], (22, 1)),
+    ([(0, 2, 30), (0, 0, 30), (0, 2, 30)], (22, 2)),
+    ([(0, 0, 1)] * 4 + [(0, 2, 1)], (22, 4)),
+    ([(0, 0, 1)] * 7 + [(0, 2, 1)], (22, 7)),
+    # Before another, which is itself not last, or last.
+    ([(0, 2, 30), (1, 2, 30), (0, 0, 50)], (22, 0)),
+    ([(0, 2, 30), (1, 2, 30)], (22, 0)),
+    ([(0, 0, 30), (0, 2, 30), (1, 2, 30), (0, 0, 50)], (22, 1)),
+    ([(0, 0, 1)] * 4 + [(0, 2, 1)] * 2 + [(0, 0, 1)] * 2, (22, 4)),
+    ([(0, 0, 1)] * 6 + [(0, 2, 1)] * 2, (22, 6)),
+    ([(0, 2, 1)] * 8, (22, 0)),
+    # After 5 and 6 of its own command.
+    ([(32, 2, 30)], (5, 0)),
+    ([(0, 2, 1001)], (6, 0)),
+    ([(32, 2, 1001), (0, 2, 0)], (5, 0)),
+    ([(0, 2, -1001), (0, 2, 0)], (6, 0)),
+    ([(0, 0, 0), (255, 2, 0)], (5, 1)),
+    ([(0, 0, 0), (0, 2, 32767)], (6, 1)),
+    # 7 before it and behind it; a tag above 2 is no condition.
+    ([(0, 3, 0)], (7, 0)),
+    ([(0, 3, 0), (0, 2, 0)], (7, 0)),
+    ([(0, 2, 0), (0, 3, 0)], (7, 1)),
+    ([(0, 2, 0), (0, 255, 0), (0, 2, 0)], (7, 1)),
+    ([(0, 2, 0), (0, 2, 0), (0, 3, 0)], (22, 0)),
+    ([(0, 2, 0), (0, 0, 0), (0, 3, 0), (0, 2, 0)], (7, 2)),
+    # Before 5, 6 and 7 of later commands.
+    ([(0, 2, 0), (32, 2, 0)], (22, 0)),
+    ([(0, 2, 0), (0, 2, 1001)], (22, 0)),
+    ([(0, 2, 0), (32, 2, 1001), (32, 3, 1001)], (22, 0)),
+    ([(0, 2, 0), (32, 0, 0)], (5, 1)),
+    ([(0, 2, 0), (0, 0, -1001)], (6, 1)),
+    ([(0, 2, 0), (32, 3, 1001)], (5, 1)),
+    ([(0, 2, 0), (0, 3, 1001)], (6, 1)),
+]
+
+
+def read_conditions():
+    good = sample(2)[0]
+    for routine, fault in CONDITIONS:
+        text = 'routine' if fault is None else f'refused {fault[0]} {fault[1]}'
+        for before in (0, 1, 2):
+            for after in (0, 1):
+                routines = [good] * before + [routine] + [good] * after
+                yield expecting(text, reading(book_of(routines)))
+        book = book_of([routine])
+        yield expecting('refused 19' if fault is None else text, reading(book + b'\0'))
+        yield expecting('refused 19', reading(book[:-1]))
+        yield expecting('refused 19', reading(with_pair([routine], 0, offset=9)))
+        yield expecting('refused 20 0', reading(with_pair([routine], 0, length=3)))
+        # The next routine's pair is looked at after this one's commands.
+        for late, number in [('length', '20 1'), ('place', '19')]:
+            yield expecting(f'refused {number}' if fault is None else text,
+                            reading(spoilt([routine, good], [(late, 1, 0)])))
+    # The last of its routine, whatever stands behind it in the book.
+    for first in (0, 1, 2, 3):
+        yield expecting('refused 22 0', reading(book_of([[(0, 2, 5)], [(0, first, 5), (0, 0, 5)]])))
+    for at in range(8):
+        routines = with_command(ALL_FULL, 63, at, tag=CONDITION)
+        yield expecting('refused 22 7' if at == 7 else 'routine', reading(book_of(routines)))
+        if at < 7:
+            twice = with_command(routines, 63, at + 1, tag=CONDITION)
+            yield expecting(f'refused 22 {at}', reading(book_of(twice)))
+
+
 def random_command(rng):
     return (rng.randrange(32), rng.randrange(2), rng.randint(-1000, 1000))
 
 
+def random_routine(rng):
+    """Every other one has conditions, none of them last or before another."""
+    routine = [random_command(rng) for _ in range(rng.randint(1, 8))]
+    likely = rng.choice([0, 0.4])
+    for at in range(len(routine) - 1):
+        if rng.random() < likely and (at == 0 or routine[at - 1][1] != CONDITION):
+            routine = with_command([routine], 0, at, tag=CONDITION)[0]
+    return routine
+
+
 def random_routines(rng, most):
-    return [[random_command(rng) for _ in range(rng.randint(1, 8))]
-            for _ in range(rng.randint(0, most))]
+    return [random_routine(rng) for _ in range(rng.randint(0, most))]
 
 
 def read_random_books():
@@ -602,7 +689,8 @@ def write_bad_behind_the_64th():
         for index in (0, 63, 64, number - 1):
             at = len(routines[index]) - 1
             for refusal, change in [(5, {'device': 32}), (6, {'setting': 1001}),
-                                    (6, {'setting': -1001}), (7, {'tag': 2})]:
+                                    (6, {'setting': -1001}), (7, {'tag': 3}),
+                                    (22, {'tag': CONDITION})]:
                 changed = with_command(routines, index, at, **change)
                 yield expecting(f'refused {refusal} {at}', writing(changed, 1000, number))
                 yield expecting(f'refused {refusal} {at}', writing(changed, 0, number))
@@ -697,7 +785,7 @@ def write_left_over():
         need = 2 + 8 * len(counts) + 4 * used
         for extra in (1, 2, 9, 300):
             yield expecting(f'length {need}', lending_row(counts, row_of(used + extra), 100, extra))
-        for bad in ((32, 0, 0), (0, 2, 0), (0, 0, 1001), (255, 255, -32768)):
+        for bad in ((32, 0, 0), (0, 2, 0), (0, 3, 0), (0, 0, 1001), (255, 255, -32768)):
             row = row_of(used) + [bad]
             yield expecting(f'length {need}', lending_row(counts, row, 100, 30))
 
@@ -727,13 +815,13 @@ def write_edges():
                 yield writing(with_command(routines, index, at, setting=setting), room, at)
             for device in (0, 31, 32, 255):
                 yield writing(with_command(routines, index, at, device=device), room + 2, at)
-            for tag in (0, 1, 2, 255):
+            for tag in TAGS:
                 yield writing(with_command(routines, index, at, tag=tag), room + 5, at)
 
 
 def write_each_refusal_in_full_book():
     for at in (0, 7):
-        for number, change in [(5, {'device': 32}), (6, {'setting': 1001}), (7, {'tag': 2})]:
+        for number, change in [(5, {'device': 32}), (6, {'setting': 1001}), (7, {'tag': 3})]:
             routines = with_command(ALL_FULL, 63, at, **change)
             yield expecting(f'refused {number} {at}', writing(routines, 2562, at))
 
@@ -743,15 +831,15 @@ def write_order_of_tests():
     good = sample(2, 2, 2)
     for index in range(3):
         for at in range(2):
-            for change, number in [({'device': 32, 'setting': 1001, 'tag': 2}, 5),
-                                   ({'device': 32, 'tag': 2}, 5),
+            for change, number in [({'device': 32, 'setting': 1001, 'tag': 3}, 5),
+                                   ({'device': 32, 'tag': 3}, 5),
                                    ({'device': 32, 'setting': -1001}, 5),
-                                   ({'setting': -1001, 'tag': 2}, 6),
-                                   ({'tag': 2}, 7)]:
+                                   ({'setting': -1001, 'tag': 3}, 6),
+                                   ({'tag': 3}, 7)]:
                 for room in (0, 49, 50):
                     yield expecting(f'refused {number} {at}', writing(
                         with_command(good, index, at, **change), room, at))
-        tag_first = with_command(good, index, 0, tag=2)
+        tag_first = with_command(good, index, 0, tag=3)
         yield expecting('refused 7 0', writing(
             with_command(tag_first, index, 1, device=32), 50))
         nine = sample(9)[0]
@@ -764,10 +852,38 @@ def write_order_of_tests():
         early_command = with_command(sample(2, 2), 0, 1, setting=1001)
         yield expecting('refused 6 1', writing(early_command + [bad], 200))
         yield expecting('refused 4', writing([bad] + early_command, 200))
-    early_tag = with_command(good, 0, 1, tag=2)
+    early_tag = with_command(good, 0, 1, tag=3)
     yield expecting('refused 7 1', writing(with_command(early_tag, 1, 0, device=32), 50))
     early_device = with_command(good, 1, 1, device=32)
-    yield expecting('refused 5 1', writing(with_command(early_device, 2, 0, tag=2), 50))
+    yield expecting('refused 5 1', writing(with_command(early_device, 2, 0, tag=3), 50))
+
+
+def write_conditions():
+    good = sample(2)[0]
+    for routine, fault in CONDITIONS:
+        for before in (0, 1, 64):
+            routines = [good] * before + [routine]
+            need = len(book_of(routines))
+            text = f'length {need}' if fault is None else f'refused {fault[0]} {fault[1]}'
+            if fault is None and len(routines) > 64:
+                text = 'refused 21'
+            yield expecting(text, writing(routines, need, before))
+            yield expecting('refused 21' if fault is None else text, writing(routines, need - 1, before))
+        text = 'refused 4' if fault is None else f'refused {fault[0]} {fault[1]}'
+        yield expecting(text, writing([routine, []], 200))
+        yield expecting('refused 4', writing([[], routine], 200))
+    # Last by its count, whatever is lent behind it; not last by its count, with what is behind it not lent.
+    for behind in range(4):
+        yield expecting('refused 22 0', lending([1], [0, 0], [2, behind], [0, 0], 100, behind))
+        yield expecting('refused 22 0', lending([1, 1], [0, 0], [2, behind], [0, 0], 100, behind))
+    yield expecting('refused 5 1', lending([2], [0], [2], [0], 100))
+    yield expecting('refused 5 1', lending([2], [0], [2], [0, 0], 100))
+    yield expecting('refused 6 1', lending([2], [0, 0], [2], [0], 100))
+    yield expecting('refused 7 1', lending([2], [0, 0], [2], [0, 0], 100))
+    yield expecting('refused 22 0', lending([2], [0], [2, 2], [0], 100))
+    yield expecting('refused 5 0', lending([2], [], [2, 2], [], 100))
+    yield expecting('refused 6 0', lending([2], [0], [2, 2], [], 100))
+    yield expecting('refused 4', lending([9], [0] * 9, [2] * 9, [0] * 9, 100))
 
 
 def write_random_lists():
@@ -786,7 +902,7 @@ def write_random_slices():
         size = rng.randint(0, 30)
         counts = [rng.choice([1, 2, 3, 8, rng.randrange(12)]) for _ in range(rng.randint(0, 6))]
         devices = [rng.randrange(32) for _ in range(size)]
-        tags = [rng.randrange(2) for _ in range(size + rng.randint(0, 2))]
+        tags = [rng.choice([0, 0, 0, 1, 1, 1, CONDITION]) for _ in range(size + rng.randint(0, 2))]
         settings = [rng.randint(-1000, 1000) for _ in range(size + rng.randint(0, 2))]
         if size and rng.random() < 0.3:
             devices[rng.randrange(size)] = rng.randrange(256)
@@ -816,6 +932,7 @@ CASES = [
     read_each_setting_byte,
     read_pairs_of_faults,
     read_order_of_tests,
+    read_conditions,
     read_random_books,
     read_random_changes,
     read_random_bytes,
@@ -830,6 +947,7 @@ CASES = [
     write_edges,
     write_each_refusal_in_full_book,
     write_order_of_tests,
+    write_conditions,
     write_random_lists,
     write_random_slices,
 ]
@@ -856,8 +974,9 @@ def check_coverage(tally):
     """Each kind shows each of its numbers, at the first, a middle and the last index."""
     expected = {
         'R': {18: [None], 19: [None], 20: [0, 32, 63],
-              5: [0, 4, 7], 6: [0, 4, 7], 7: [0, 4, 7]},
-        'W': {4: [None], 21: [None], 5: [0, 4, 7], 6: [0, 4, 7], 7: [0, 4, 7]}}
+              5: [0, 4, 7], 6: [0, 4, 7], 7: [0, 4, 7], 22: [0, 4, 7]},
+        'W': {4: [None], 21: [None],
+              5: [0, 4, 7], 6: [0, 4, 7], 7: [0, 4, 7], 22: [0, 4, 7]}}
     for kind, numbers in expected.items():
         assert tally[kind, None] > 0
         for number, indexes in numbers.items():

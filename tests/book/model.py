@@ -1,7 +1,9 @@
-"""The routine book, written plainly from the scope document.
+"""The routine book, written plainly from the scope document and, where a
+request changed it, document 02.
 
 The sections meant are "Things and ranges", "The routine book" and "When a
-call is turned down". A routine is a list of (device, tag, setting).
+call is turned down"; of document 02, item 4. A routine is a list of
+(device, tag, setting).
 
 read(book)             -> ('refused', number, index or None)
                        or ('routines', list of routines)
@@ -18,7 +20,10 @@ MOST_COMMANDS = 8
 DEVICES = 32
 LEAST_SETTING = -1000
 MOST_SETTING = 1000
-MOST_TAG = 1
+MOST_TAG = 2
+
+# "Tag 2 is a condition".
+CONDITION = 2
 
 # Sizes in bytes.
 COUNT_SIZE = 2
@@ -36,9 +41,10 @@ BAD_HEAD = 18
 BAD_PLACE = 19
 BAD_LENGTH = 20
 BAD_ROOM = 21
+BAD_CONDITION = 22
 
 
-# "Indexes count from 0"; 5, 6, 7 and 20 return number and index, the others the number alone.
+# "Indexes count from 0"; 5, 6, 7, 20 and 22 return number and index, the others the number alone.
 def refused(number, index=None):
     return ('refused', number, index)
 
@@ -82,7 +88,14 @@ def is_within(least, number, most):
     return number is not None and least <= number <= most
 
 
-# "then the commands in turn, each 5, 6, 7"; "a command's [index] within its routine"
+# 22: "a condition is last in its routine or is followed by another condition"
+def condition_is_misplaced(routine, index):
+    if routine[index][1] != CONDITION:
+        return False
+    return index + 1 == len(routine) or routine[index + 1][1] == CONDITION
+
+
+# "then the commands in turn, each 5, 6, 7"; 22 "for each command after its 7"; "a command's [index] within its routine"
 def fault_in_commands(routine):
     for index, (device, tag, setting) in enumerate(routine):
         if not is_within(0, device, DEVICES - 1):
@@ -91,6 +104,8 @@ def fault_in_commands(routine):
             return refused(BAD_SETTING, index)
         if not is_within(0, tag, MOST_TAG):
             return refused(BAD_TAG, index)
+        if condition_is_misplaced(routine, index):
+            return refused(BAD_CONDITION, index)
     return None
 
 

@@ -1,9 +1,10 @@
-"""Runs show_book on the settings that matter where two bytes become a setting, against the model.
+"""Runs show_book on the settings that matter where two bytes become a setting, and on the tags, against the model.
 
     python3 tests/book/settings.py PROGRAM
 
-Every setting from -1,000 to 1,000, in as few books as hold them; and books of one command for pairs of bytes around the edges: of the two
-cases (upper byte 127 and 128), of the range, and of the bytes.
+Every setting from -1,000 to 1,000, in as few books as hold them, once of musts and once as a condition's number; and books of one command
+for pairs of bytes around the edges: of the two cases (upper byte 127 and 128), of the range, and of the bytes. Each tag around the edges,
+alone, before and behind commands of each tag.
 """
 
 import subprocess
@@ -14,6 +15,7 @@ import show
 
 LOWER = [0, 1, 23, 24, 127, 128, 232, 233, 255]
 UPPER = [0, 3, 4, 127, 128, 129, 251, 252, 255]
+TAGS = [0, 1, 2, 3, 4, 127, 128, 129, 254, 255]
 
 
 def book_of(commands):
@@ -28,10 +30,17 @@ def books():
     most = model.MOST_ROUTINES * model.MOST_COMMANDS
     for at in range(0, len(settings), most):
         yield book_of([(0, 0, setting) for setting in settings[at:at + most]])
+    for at in range(0, len(settings), most // 2):
+        yield book_of([command for setting in settings[at:at + most // 2] for command in [(0, 2, setting), (0, 1, -setting)]])
     one = book_of([(0, 0, 0)])[:-2]
     for lower in LOWER:
         for upper in UPPER:
             yield one + bytes([lower, upper])
+    for tag in TAGS:
+        yield model.laid_out([[(0, tag, 7)]])
+        for other in TAGS[:4]:
+            yield model.laid_out([[(0, tag, 7), (1, other, 8)]])
+            yield model.laid_out([[(0, other, 7), (1, tag, 8), (2, 0, 9)]])
 
 
 def main():

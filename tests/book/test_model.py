@@ -8,10 +8,18 @@ import model
 BYTE = bytes.fromhex
 
 
+def random_routine(rng):
+    routine = [(rng.randrange(32), rng.randrange(2), rng.randint(-1000, 1000))
+               for _ in range(rng.randint(1, 8))]
+    # Conditions, none of them last or before another.
+    for at in range(len(routine) - 1):
+        if rng.random() < 0.2 and (at == 0 or routine[at - 1][1] != 2):
+            routine[at] = (routine[at][0], 2, routine[at][2])
+    return routine
+
+
 def random_routines(rng, most):
-    return [[(rng.randrange(32), rng.randrange(2), rng.randint(-1000, 1000))
-             for _ in range(rng.randint(1, 8))]
-            for _ in range(rng.randint(0, most))]
+    return [random_routine(rng) for _ in range(rng.randint(0, most))]
 
 
 def refusal(number, index=None):
@@ -35,17 +43,36 @@ def reading():
     yield BYTE('01 00  0a 00 00 00 04 00 00 00  20 01 18 fc'), refusal(5, 0)
     yield BYTE('01 00  0a 00 00 00 04 00 00 00  1f 01 17 fc'), refusal(6, 0)
     yield BYTE('01 00  0a 00 00 00 04 00 00 00  1f 01 e9 03'), refusal(6, 0)
-    yield BYTE('01 00  0a 00 00 00 04 00 00 00  1f 02 18 fc'), refusal(7, 0)
-    yield BYTE('01 00  0a 00 00 00 04 00 00 00  20 02 17 fc'), refusal(5, 0)
-    yield BYTE('01 00  0a 00 00 00 04 00 00 00  1f 02 17 fc'), refusal(6, 0)
+    yield BYTE('01 00  0a 00 00 00 04 00 00 00  1f 03 18 fc'), refusal(7, 0)
+    yield BYTE('01 00  0a 00 00 00 04 00 00 00  20 03 17 fc'), refusal(5, 0)
+    yield BYTE('01 00  0a 00 00 00 04 00 00 00  1f 03 17 fc'), refusal(6, 0)
     yield BYTE('01 00  0a 00 00 00 00 00 00 00'), refusal(20, 0)
     yield BYTE('01 00  0b 00 00 00 05 00 00 00  1f 01 18 fc'), refusal(20, 0)
     yield BYTE('01 00  0b 00 00 00 04 00 00 00  1f 01 18 fc'), refusal(19)
     yield BYTE('02 00  12 00 00 00 04 00 00 00  16 00 00 00 24 00 00 00'
-               '  00 02 e8 03'), refusal(7, 0)
+               '  00 03 e8 03'), refusal(7, 0)
     yield BYTE('02 00  12 00 00 00 04 00 00 00  16 00 00 00 24 00 00 00'
                '  00 01 e8 03'), refusal(20, 1)
     yield BYTE('41 00') + bytes(65 * 12), refusal(18)
+    # Conditions: accepted before a must and before a best-effort, refused last and before another.
+    pair = BYTE('01 00  0a 00 00 00 08 00 00 00')
+    yield pair + BYTE('1f 02 18 fc  00 00 05 00'), ('routines', [[(31, 2, -1000), (0, 0, 5)]])
+    yield pair + BYTE('1f 02 e8 03  00 01 05 00'), ('routines', [[(31, 2, 1000), (0, 1, 5)]])
+    yield pair + BYTE('1f 02 18 fc  00 02 05 00'), refusal(22, 0)
+    yield pair + BYTE('1f 00 18 fc  00 02 05 00'), refusal(22, 1)
+    yield BYTE('01 00  0a 00 00 00 04 00 00 00  1f 02 18 fc'), refusal(22, 0)
+    # 22 comes after 5, 6 and 7 of its command and before those of the next.
+    yield pair + BYTE('20 02 18 fc  00 02 05 00'), refusal(5, 0)
+    yield pair + BYTE('1f 02 17 fc  00 02 05 00'), refusal(6, 0)
+    yield pair + BYTE('1f 02 18 fc  20 02 17 fc'), refusal(22, 0)
+    yield pair + BYTE('1f 02 18 fc  20 00 05 00'), refusal(5, 1)
+    yield pair + BYTE('1f 02 18 fc  00 03 05 00'), refusal(7, 1)
+    # One that is last is so whatever the next routine begins with, and that routine's pair is looked at later.
+    yield BYTE('02 00  12 00 00 00 04 00 00 00  16 00 00 00 04 00 00 00'
+               '  00 02 05 00  00 00 05 00'), refusal(22, 0)
+    yield BYTE('02 00  12 00 00 00 04 00 00 00  16 00 00 00 24 00 00 00'
+               '  00 02 05 00'), refusal(22, 0)
+    yield BYTE('01 00  0b 00 00 00 04 00 00 00  1f 02 18 fc'), refusal(19)
 
 
 def writing():
@@ -58,12 +85,23 @@ def writing():
     yield [[]], 0, refusal(4)
     yield [good * 9], 1000, refusal(4)
     yield [good * 8], 42, ('book', BYTE('01 00  0a 00 00 00 20 00 00 00') + bytes(32))
-    yield [good, [(0, 0, 0), (32, 2, 1001)]], 0, refusal(5, 1)
-    yield [good, [(0, 0, 0), (31, 2, 1001)]], 0, refusal(6, 1)
-    yield [good, [(0, 0, 0), (31, 2, -1001)]], 0, refusal(6, 1)
-    yield [good, [(0, 0, 0), (31, 2, -1000)]], 0, refusal(7, 1)
+    yield [good, [(0, 0, 0), (32, 3, 1001)]], 0, refusal(5, 1)
+    yield [good, [(0, 0, 0), (31, 3, 1001)]], 0, refusal(6, 1)
+    yield [good, [(0, 0, 0), (31, 3, -1001)]], 0, refusal(6, 1)
+    yield [good, [(0, 0, 0), (31, 3, -1000)]], 0, refusal(7, 1)
     yield [good] * 65, 10000, refusal(21)
-    yield [good] * 64 + [[(0, 2, 0)]], 10000, refusal(7, 0)
+    yield [good] * 64 + [[(0, 3, 0)]], 10000, refusal(7, 0)
+    asked = [(0, 2, 30), (1, 0, 50)]
+    yield [asked], 18, ('book', BYTE('01 00  0a 00 00 00 08 00 00 00  00 02 1e 00  01 00 32 00'))
+    yield [asked], 17, refusal(21)
+    yield [good, [(0, 2, 0)]], 0, refusal(22, 0)
+    yield [good, asked + [(0, 2, 0)]], 0, refusal(22, 2)
+    yield [[(0, 2, 0), (32, 2, 1001)], []], 0, refusal(22, 0)
+    yield [[(0, 2, 0), (32, 0, 0)]], 0, refusal(5, 1)
+    yield [[(0, 2, 0), (0, 0, 1001)]], 0, refusal(6, 1)
+    yield [[(0, 2, 0), (0, 3, 0)]], 0, refusal(7, 1)
+    yield [good * 8 + [(0, 2, 0)]], 0, refusal(4)
+    yield [good] * 64 + [[(0, 2, 0)]], 10000, refusal(22, 0)
 
 
 # Counts, devices, tags, settings, room and the answer: a count is the caller's word.
@@ -89,6 +127,11 @@ def lending():
     yield [1], [31, 255], [1, 9, 9], [-1000], 14, ('book', BYTE(
         '01 00  0a 00 00 00 04 00 00 00  1f 01 18 fc'))
     yield [], [0], [0, 2], [1001], 2, ('book', BYTE('00 00'))
+    # What is lent behind a routine's last command is not the command after it; what is not lent is no condition.
+    yield [1], [0, 0], [2, 0], [0, 0], 100, refusal(22, 0)
+    yield [2], [0], [2], [0], 100, refusal(5, 1)
+    yield [2], [0, 0], [2], [0, 0], 100, refusal(7, 1)
+    yield [2], [0], [2, 2], [0], 100, refusal(22, 0)
 
 
 # Each yields whether one check holds.

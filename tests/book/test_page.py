@@ -15,7 +15,7 @@ CODE = ROOT / 'crates' / 'layout' / 'src' / 'lib.rt'
 READING = ["below 128: the two bytes' number;", '128 or above: that less 65,536.']
 WRITING = ['0 or above: itself;', 'below 0: that and 65,536.']
 
-TAGS = ['must', 'best-effort']
+TAGS = ['must', 'best-effort', 'condition']
 
 
 # Numbers as the page writes them.

@@ -11,7 +11,8 @@ that of document 01, or was worked out from document 02; the model must give it 
 
 Two more letters are readings of due settings. `V`, and a device: `due` and its setting. `L`, a number of entries and two bytes: all due
 settings into the first so many entries (document 02, item 14) of a list of 40 that holds the two bytes' number everywhere; printed are the
-refusal, if there is one, and `list` with all 40. They stand in COUNT further histories, which end with a list of each length from 0 to 40 in turn, one of N entries and one of N - 1.
+refusal, if there is one, and `list` with all 40. They stand in COUNT further histories, which end with a list of each length from 0 to 40
+in turn, one of N entries and one of N - 1.
 
 One more letter is a call that no line makes: `K`, and the new pass limit (document 02, item 13), which prints `limited` and it, or the
 refusal. It stands in COUNT further histories.
@@ -19,6 +20,7 @@ refusal. It stands in COUNT further histories.
 import os
 import random
 import sys
+from collections import Counter
 
 HERE = os.path.dirname(os.path.abspath(__file__))
 ROOT = os.path.dirname(os.path.dirname(HERE))
@@ -26,7 +28,10 @@ sys.path.insert(0, os.path.join(ROOT, "tests", "rules"))
 
 from histories import history  # noqa: E402
 from model import Hub, Refused  # noqa: E402
+from reach import WANTED, reached  # noqa: E402
 
+LETTERS = {"submit": b"S", "turn": b"N", "report": b"P", "cancel": b"C", "failure": b"F", "restart": b"R", "limit": b"K",
+           "one": b"V", "list": b"L"}
 CALL_SIZE = 40
 LIST_ROOM = 40
 LIMITS = 0.15
@@ -84,8 +89,7 @@ def call_bytes(call):
         body = bytes([call[2]]) + low_first(call[1], 4)
     else:
         body = b"\0" + low_first(call[1], 4)
-    letter = {"submit": b"S", "turn": b"N", "report": b"P", "cancel": b"C", "failure": b"F", "restart": b"R", "one": b"V", "list": b"L", "limit": b"K"}[word]
-    return (letter + body).ljust(CALL_SIZE, b"\0")
+    return (LETTERS[word] + body).ljust(CALL_SIZE, b"\0")
 
 
 def record(opening, calls):
@@ -170,6 +174,31 @@ def with_readings(rng, index):
 
 # ---- all vectors
 
+def all_histories(count, seed):
+    """Plain ones, so many with readings, and so many with new pass limits."""
+    rng = random.Random(seed)
+    for _ in range(count):
+        yield history(rng)[:2]
+    rng = random.Random(f"readings {seed}")
+    for index in range(count):
+        yield with_readings(rng, index)
+    rng = random.Random(f"limits {seed}")
+    for _ in range(count):
+        yield history(rng, LIMITS)[:2]
+
+
+def check_reach(count, seed):
+    """The histories reach all that conditions bring."""
+    counts = Counter()
+    for opening, calls in all_histories(count, seed):
+        counts += reached(opening, [call for call in calls if call[0] not in ("one", "list")])
+    for name in WANTED:
+        print(f"{counts[name]:6} {name}")
+    missing = [name for name in WANTED if counts[name] == 0]
+    if missing:
+        raise SystemExit(f"never reached: {missing}")
+
+
 def vectors(count, seed):
     """The records and the lines that are printed for them."""
     records, lines = [], []
@@ -184,19 +213,7 @@ def vectors(count, seed):
                 raise SystemExit("the model disagrees with the example:\n" + "\n".join(output(opening, calls)))
             records.append(record(opening, calls))
         lines += expected
-    rng = random.Random(seed)
-    for _ in range(count):
-        opening, calls, _, _ = history(rng)
-        records.append(record(opening, calls))
-        lines += output(opening, calls)
-    rng = random.Random(f"readings {seed}")
-    for index in range(count):
-        opening, calls = with_readings(rng, index)
-        records.append(record(opening, calls))
-        lines += output(opening, calls)
-    rng = random.Random(f"limits {seed}")
-    for _ in range(count):
-        opening, calls, _, _ = history(rng, LIMITS)
+    for opening, calls in all_histories(count, seed):
         records.append(record(opening, calls))
         lines += output(opening, calls)
     return b"".join(records), "".join(line + "\n" for line in lines).encode()
@@ -209,6 +226,7 @@ def main():
     count = int(sys.argv[2]) if len(sys.argv) > 2 else 60
     seed = int(sys.argv[3]) if len(sys.argv) > 3 else 4
     given, expected = vectors(count, seed)
+    check_reach(count, seed)
     crate = os.path.join(sys.argv[1], "hub_vectors")
     os.makedirs(crate, exist_ok=True)
     for name, content in (("stdin", given), ("stdout", expected)):

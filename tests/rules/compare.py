@@ -3,8 +3,9 @@
 
     tests/rules/compare.py [COUNT] [SEED]
 
-Writes COUNT histories (100 if none is given), every other with new pass limits, as examples of crate `rules`, with the answers and device lines of the
-model and all due settings read into a list, into a temporary copy of the crates, and has the checker compute each. The seed is printed. Exit status 0: all agree.
+Writes COUNT histories (100 if none is given), every other with new pass limits, as examples of crate `rules`, with the answers and device
+lines of the model and all due settings read into a list, into a temporary copy of the crates, and has the checker compute each. The seed
+is printed. Exit status 0: all agree.
 """
 import os
 import random
@@ -51,6 +52,8 @@ def answer_text(a):
         return f"send {a[1]} ({command(a[2])})"
     if a[0] in ("skipped", "aborted"):
         return f"{a[0]} {a[1]} {listed([f'back {d} ({whole(s)})' for d, s in a[2]])}"
+    if a[0] == "not held":
+        return f"not-held {a[1]}"
     return " ".join(str(x) for x in a)
 
 
@@ -97,7 +100,8 @@ use Rattle.routine.specs.declared.Verdict.the-variants.{Accepted, Refused}
 use Rattle.rules.specs.AllDue.{allDue, listCheck, listAfter}
 use Rattle.rules.specs.Open.{newHub}
 use Rattle.rules.specs.Calls.{stateAfter}
-use Rattle.rules.specs.Answers.{Call, submit, turn, report, failure, restart, cancel, limit, refused, placed, wait, send, done, skipped, committed, aborted, down, up, limited}
+use Rattle.rules.specs.Answers.{Call, submit, turn, report, failure, restart, cancel, limit}
+use Rattle.rules.specs.Answers.{refused, placed, wait, send, held, not-held, done, skipped, committed, aborted, down, up, limited}
 use Rattle.rules.specs.Examples.{calc, Holds, back}
 """
 

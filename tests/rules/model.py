@@ -7,6 +7,8 @@ A call is a tuple: ("submit", [(device, tag, setting), ..]), ("turn", id), ("rep
 
 LAST_ID = 4294967295
 
+MUST, BEST_EFFORT, CONDITION = 0, 1, 2
+
 
 class Refused(Exception):
     def __init__(self, number, index=None):
@@ -18,7 +20,7 @@ class Routine:
     def __init__(self, rid, commands):
         self.id = rid
         self.commands = commands
-        self.answers = [None] * len(commands)  # "done" or "skipped"; None: left
+        self.answers = [None] * len(commands)  # "done", "skipped", of a condition "held" or "not held"; None: left
         self.flight = None  # the due setting when the command now in flight was sent
         self.committed = False
         self.passed = 0
@@ -31,6 +33,18 @@ class Routine:
     def left(self, device):
         """The places of the commands on the device that are not answered."""
         return [i for i, c in enumerate(self.commands) if c[0] == device and self.answers[i] is None]
+
+    def has_done(self, device):
+        return any(c[0] == device and a == "done" for c, a in zip(self.commands, self.answers))
+
+    def deciding_tag(self, place):
+        """Where the device is down or has an event. Document 02, item 4: a condition has the tag of the command after it."""
+        tag = self.commands[place][1]
+        return self.commands[place + 1][1] if tag == CONDITION else tag
+
+    def is_dropped(self, place):
+        """The command follows a condition that did not hold or was skipped (document 02, item 4)."""
+        return place > 0 and self.commands[place - 1][1] == CONDITION and self.answers[place - 1] in ("not held", "skipped")
 
     def begun(self, device):
         return self.on_its_way(device) or any(c[0] == device and a is not None for c, a in zip(self.commands, self.answers))
@@ -99,6 +113,13 @@ class Hub:
                 return r
         raise Refused(10)
 
+    def awaited(self, r, device, tag):
+        """The id that a command of the routine waits on, if it waits. Document 02, item 4: a condition has two causes to wait."""
+        for o in self.sequence[:self.sequence.index(r)]:
+            if not o.committed and (not o.finished(device) or tag == CONDITION and o.has_done(device)):
+                return o.id
+        return None
+
     # ---- changes that several calls share
 
     def attach(self, rid, events):
@@ -145,8 +166,10 @@ class Hub:
                 raise Refused(5, i)
             if not -1000 <= setting <= 1000:
                 raise Refused(6, i)
-            if tag > 1:
+            if tag > CONDITION:
                 raise Refused(7, i)
+            if tag == CONDITION and (i + 1 == len(commands) or commands[i + 1][1] == CONDITION):
+                raise Refused(22, i)
         if len(self.sequence) >= 16:
             raise Refused(8)
         if self.next_id > LAST_ID:
@@ -172,17 +195,23 @@ class Hub:
         if r.next() is None:
             r.committed = True
             return [("committed", r.id)]
-        device, tag, setting = r.commands[r.next()]
-        for o in self.sequence[:self.sequence.index(r)]:
-            if not o.committed and not o.finished(device):
-                return [("wait", r.id, o.id)]
-        if not self.up[device] and tag == 0:
+        place = r.next()
+        device, tag, setting = r.commands[place]
+        on = self.awaited(r, device, tag)
+        if on is not None:
+            return [("wait", r.id, on)]
+        dropped = r.is_dropped(place)
+        if not dropped and not self.up[device] and r.deciding_tag(place) == MUST:
             return [self.abort(r)]
         if not r.begun(device):
             self.mark[device] = r.id
-        if not self.up[device]:
+        if dropped or not self.up[device]:
             r.answer_next("skipped")
             return [("skipped", r.id, [])]
+        if tag == CONDITION:
+            outcome = "not held" if self.due(device) < setting else "held"
+            r.answer_next(outcome)
+            return [(outcome, r.id)]
         r.flight = self.due(device)
         return [("send", r.id, (device, tag, setting))]
 
@@ -196,7 +225,7 @@ class Hub:
         if code == 0:
             r.answer_next("done")
             return [("done", r.id)]
-        if tag == 0:
+        if tag == MUST:
             return [self.abort(r)]
         then = r.flight
         r.answer_next("skipped")
@@ -216,7 +245,7 @@ class Hub:
     def event(self, device, event, word):
         answers = []
         for r in [r for r in self.sequence if not r.committed and r.begun(device) and not r.finished(device)]:
-            if any(r.commands[i][1] == 0 for i in r.left(device)):
+            if any(r.deciding_tag(i) == MUST for i in r.left(device)):
                 answers.append(self.abort(r))
             else:
                 r.skip_left(device)

@@ -6,11 +6,11 @@ use mathlib.Core.List.{List, [], _∷_, _++_, map}
 use Prim.Native.Nat.{_≤_}
 use lib.ListN.{take}
 use Rattle.routine.specs.Routine.{maxDevices}
-use Rattle.rules.specs.Answers.{Back, Answer as Told, refused, placed, wait, send, done, skipped, held, not-held, committed, aborted, down, up}
-use Rattle.rules.specs.Answers.{limited}
+use Rattle.rules.specs.Answers.{Back, Answer as Told, refused, placed, wait, send, done, skipped, held, not-held, committed, aborted, down}
+use Rattle.rules.specs.Answers.{up, limited}
 use Rattle.answers.specs.declared.Answer.{Answer}
-use Rattle.answers.specs.declared.Answer.the-variants.{Refused, Placed, Wait, Sent, Done, Skipped, Committed, Aborted, Down, Up, Limited}
-use Rattle.answers.specs.declared.Answer.the-variants.{Held, NotHeld}
+use Rattle.answers.specs.declared.Answer.the-variants.{Refused, Placed, Wait, Sent, Done, Skipped, Committed, Aborted, Down, Up}
+use Rattle.answers.specs.declared.Answer.the-variants.{Limited, Held, NotHeld}
 use Rattle.answers.specs.declared.First.{First}
 use Rattle.answers.specs.declared.First.the-variants.{NoAbort, Abort}
 use Rattle.answers.specs.declared.OneBack.{OneBack}

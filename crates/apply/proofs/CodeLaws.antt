@@ -127,11 +127,12 @@ module _ (stage : List ℕ) (from mid end : ℕ) (old : CodesUpTo stage from mid
         (λ _. omega arith) (λ _. h))
 
     still-behind : (j : ℕ) → from ≤ j → j < end → CodeBehind (getD stage j 0) → CodeBehind (getD now j 0)
+    unfolding statusOf
     still-behind j i m h =
         subst CodeBehind (sym (s .inside j i m))
         (byTest (λ (t : Bool). CodeBehind (if t then skippedCode else getD stage j 0))
         (eqb (getD device j 0) d && ltb (getD stage j 0) doneCode)
-        (λ _. ((λ e. omega arith), (λ e. omega arith))) (λ _. h))
+        (λ _. refl) (λ _. h))
 
     pub codes-skipped : FirstOpen now mid end r → CodesUpTo now from r end
     codes-skipped f = record {

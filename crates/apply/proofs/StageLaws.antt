@@ -1,18 +1,16 @@
 -- A command comes to a stage, or a routine commits: the slot's routine becomes another, and all others stay. Assumes nothing.
-use Prim.Native.Nat.{ℕ, _+_, _-_, _*_, _<_}
+use Prim.Native.Nat.{ℕ, _+_, _-_, _*_, _≤_, _<_}
 use native.Mathlib.Omega.{arith}
 use borrow.Author.Tests.{eq-eqb, ne-eqb}
-use mathlib.Core.Path.{_≡_, refl, ap, subst}
+use mathlib.Core.Path.{_≡_, refl, sym, ap, subst, _∙_}
 use mathlib.Core.Bool.{Bool, true, false}
 use mathlib.Core.List.{List, _∷_, _++_}
-use lib.Dec.{eqb}
 use lib.IntN.{ℤ, pos}
 use lib.ListN.{length, getD, set}
 use lib.Seq.{getD-set-same, getD-set-other}
 use Rattle.routine.specs.Choice.{if_then_else_}
 use Rattle.routine.specs.Routine.{maxCommands}
-use Rattle.routine.proofs.Laws.{byTest}
-use Rattle.rules.specs.State.{maxHeld, to-do, in-flight, was-done, was-skipped, Status, Member}
+use Rattle.rules.specs.State.{maxHeld, Status, Member}
 use Rattle.rules.specs.Tables.{put}
 use Rattle.rules.specs.Progress.{isToDo, isAnswered, withSteps}
 use Rattle.rules.specs.Sequence.{withSequence, withMark}
@@ -28,7 +26,7 @@ use Rattle.state.specs.Open.{answeredAt}
 use Rattle.state.specs.declared.HubState.{HubState}
 use Rattle.state.specs.declared.Staged.{Staged}
 use Rattle.state.proofs.Steps.{each-setStatus, sent-stays}
-use Rattle.state.proofs.Rows.{answered-code, withStages, steps-outside, steps-staged}
+use Rattle.state.proofs.Rows.{status-to-do, status-sent, withStages, steps-outside, steps-staged}
 use Rattle.state.proofs.Codes.{codes-upto}
 use Rattle.state.proofs.Members.{changed-held, length-steps, stands-below, place-within}
 use Rattle.apply.specs.Stages.{FirstOpen}
@@ -97,20 +95,11 @@ module _ (h : HubState) (x : ℕ) (v : StateOk h) (s : Stands (h .links) x) (n :
 
 -- one that was sent or answered: it is in flight, or answered
 sent-in-flight : (code : ℕ) (due : ℤ) → code ≡ inFlightCode → isAnswered (statusOf code due) ≡ false
-unfolding statusOf
-sent-in-flight code due e = rw e
+sent-in-flight code due e = ap isAnswered (status-sent code due e)
 
-sent-answered : (code : ℕ) (due : ℤ) → isToDo (statusOf code due) ≡ false → (code ≡ inFlightCode → ⊥) →
-    isAnswered (statusOf code due) ≡ true
-unfolding statusOf
+sent-answered : (code : ℕ) (due : ℤ) → isToDo (statusOf code due) ≡ false → (code ≡ inFlightCode → ⊥) → doneCode ≤ code
 sent-answered code due e n =
-    let later = if eqb code inFlightCode then in-flight due else if eqb code doneCode then was-done else was-skipped in
-    byTest (λ (t : Bool). isToDo (if t then to-do else later) ≡ false → isAnswered (if t then to-do else later) ≡ true)
-    (eqb code toDoCode)
-    (λ _ f. t≠f f)
-    (λ _ _. rw (ne-eqb code inFlightCode n)
-    (byTest (λ (t : Bool). isAnswered (if t then was-done else was-skipped) ≡ true) (eqb code doneCode) (λ _. refl) (λ _. refl)))
-    e
+    byEq code toDoCode (λ f. t≠f (sym (ap isToDo (status-to-do code due f)) ∙ e)) (λ m. omega arith)
 
 module _ (h : HubState) (c : Staged) (v : StateOk h) (ok : StageOk h c) where
   -- the status that it gets
@@ -147,7 +136,7 @@ module _ (h : HubState) (c : Staged) (v : StateOk h) (ok : StageOk h c) where
   next-open n l m r f =
       let i = at-slot in
       let j = at-place in
-      let done = answered-code (c .stage) (c .«due_then») (sent-answered (c .stage) (c .«due_then») (ok .sent-or-answered) n) in
+      let done = sent-answered (c .stage) (c .«due_then») (ok .sent-or-answered) n in
       let codes = codes-answered _ _ _ _ (come-codes h (c .at) v (ok .stands)) r (c .stage) (omega arith) done f in
       let e = getD-set-same (h .answered) (c .at) (r - fromOf (c .at)) 0 (omega arith) in
       let p : r ≡ fromOf (c .at) + (r - fromOf (c .at)) = omega (arith, codes .within .0) in

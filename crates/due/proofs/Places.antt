@@ -11,35 +11,12 @@ use lib.IntN.{ℤ, pos}
 use lib.ListN.{length, getD, set, length-set}
 use Rattle.routine.specs.Choice.{if_then_else_}
 use Rattle.routine.specs.Routine.{maxDevices}
-use Rattle.rules.specs.Progress.{isDone, isInFlight}
 use Rattle.rules.specs.Due.{afterSteps}
 use Rattle.rules.proofs.Lists.{eqb-sym}
-use Rattle.sequence.proofs.Tables.{byEq}
-use Rattle.state.specs.View.{settingsOf, Rows, statusOf, stepAt, stepsFrom, toDoCode, inFlightCode, doneCode}
+use Rattle.state.specs.View.{settingsOf, Rows, stepAt, stepsFrom, doneCode}
+use Rattle.state.proofs.Rows.{done-code}
 use Rattle.due.specs.Contract.{LastDone, AfterDone}
 use Rattle.due.proofs.Tables.{set-put}
-
--- ---- the codes
-
-pub done-code : (code : ℕ) (u : ℤ) → isDone (statusOf code u) ≡ eqb code doneCode
-unfolding statusOf
-done-code code u =
-    byEq code toDoCode
-    (λ e. rw (e))
-    (λ m. byEq code inFlightCode
-    (λ e. rw (e))
-    (λ n. rw (ne-eqb code toDoCode m, ne-eqb code inFlightCode n)
-    (byEq code doneCode (λ e. rw (e)) (λ p. rw (ne-eqb code doneCode p)))))
-
-pub flight-code : (code : ℕ) (u : ℤ) → isInFlight (statusOf code u) ≡ eqb code inFlightCode
-unfolding statusOf
-flight-code code u =
-    byEq code toDoCode
-    (λ e. rw (e))
-    (λ m. byEq code inFlightCode
-    (λ e. rw (e))
-    (λ n. rw (ne-eqb code toDoCode m, ne-eqb code inFlightCode n)
-    (byEq code doneCode (λ e. rw (e)) (λ p. rw (ne-eqb code doneCode p)))))
 
 -- ---- what a device is due
 

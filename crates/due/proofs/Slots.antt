@@ -29,11 +29,11 @@ use Rattle.state.specs.View.{inFlightCode}
 use Rattle.state.specs.Valid.{StateOk}
 use Rattle.state.specs.declared.HubState.{HubState}
 use Rattle.state.proofs.Steps.{done-upto, flights-all, flights-open}
-use Rattle.state.proofs.Rows.{take-stepsFrom, steps-open}
+use Rattle.state.proofs.Rows.{flight-code, take-stepsFrom, steps-open}
 use Rattle.state.proofs.Members.{steps-are, length-steps, stands-below, answered-most, counts-most, device-within}
 use Rattle.due.specs.Contract.{LastDone, AfterDone, DevicesFit, membersBut, noneDone, dueBut}
 use Rattle.due.proofs.Tables.{set-put}
-use Rattle.due.proofs.Places.{flight-code, rowsWith, afterPlaces, after-places}
+use Rattle.due.proofs.Places.{rowsWith, afterPlaces, after-places}
 
 -- ---- what a device is due
 

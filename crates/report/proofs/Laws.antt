@@ -17,7 +17,7 @@ use Rattle.routine.specs.Refusals.{refusalOf}
 use Rattle.routine.specs.Routine.{maxCommands, mustTag}
 use Rattle.routine.specs.declared.Refusal.the-variants.{Number}
 use Rattle.routine.proofs.Laws.{byTest, any-default}
-use Rattle.rules.specs.State.{maxHeld, Status, to-do, in-flight, was-done, was-skipped, Step, Member, State}
+use Rattle.rules.specs.State.{maxHeld, Status, to-do, in-flight, was-done, was-skipped, was-held, was-not-held, Step, Member, State}
 use Rattle.rules.specs.Tables.{sameSetting}
 use Rattle.rules.specs.Answers.{Back, Result, turnedDown, done, skipped}
 use Rattle.rules.specs.Progress.{isMust, isOn, isToDo, isInFlight, isDone, Flight, flight, answerFlight, withSteps}
@@ -86,6 +86,8 @@ not-done to-do e = refl
 not-done (in-flight u) e = refl
 not-done was-done e = t≠f (sym e)
 not-done was-skipped e = refl
+not-done was-held e = refl
+not-done was-not-held e = refl
 
 skipped-after : (d : ℕ) (l : List Step) (v : ℤ) → afterSteps d (answerFlight was-skipped l) v ≡ afterSteps d l v
 skipped-after d [] v = refl

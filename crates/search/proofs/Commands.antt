@@ -3,25 +3,26 @@ use Prim.Native.Nat.{ℕ, zero, suc, _+_, _-_, _*_, _≤_, _<_}
 use native.Mathlib.Omega.{arith}
 use borrow.Author.Tests.{eq-eqb, ne-eqb, lt-ltb, le-ltb, le-leb, lt-leb}
 use mathlib.Core.Path.{_≡_, refl, sym, ap, _∙_}
-use mathlib.Core.Bool.{Bool, true, false, not, _&&_, _||_, and-true, and-false, Bool·not-not}
+use mathlib.Core.Bool.{Bool, true, false, not, _&&_, _||_, and-true, and-false, or-true, or-false, Bool·not-not, and-or-distrib-left}
 use mathlib.Core.List.{List, [], _∷_}
 use lib.Dec.{eqb, ltb, leb}
 use lib.IntN.{ℤ, pos}
-use lib.ListN.{length, take, drop, getD}
-use Rattle.routine.specs.Routine.{maxCommands, mustTag}
+use lib.ListN.{length, take, getD}
+use Rattle.routine.specs.Choice.{if_then_else_}
+use Rattle.routine.specs.Routine.{maxCommands, mustTag, conditionTag}
+use Rattle.routine.proofs.Laws.{byTest}
 use Rattle.rules.specs.Tables.{anyOf}
 use Rattle.rules.specs.State.{Step}
 use Rattle.rules.specs.Sequence.{isRunning}
-use Rattle.rules.specs.Progress.{isMust, isOn, isToDo, isAnswered, isLeftOn, begun, finished}
-use Rattle.rules.specs.Turn.{holds}
-use Rattle.rules.specs.Events.{mustLeft}
+use Rattle.rules.specs.Progress.{isOn, isToDo, isDone, isAnswered, isLeftOn, begun, finished, commandsIn, countsAsMust}
+use Rattle.rules.specs.Turn.{holds, hasSet, holdsUp}
+use Rattle.rules.specs.Events.{mustAmong, mustLeft}
 use Rattle.sequence.proofs.Tables.{byEq, byLess}
-use Rattle.state.specs.View.{toDoCode, inFlightCode, doneCode, statusOf, Rows, stepAt, stepsFrom, rowsOf, stepsAt, memberAt}
-use Rattle.state.specs.Valid.{AnsweredUpTo, SlotOk}
+use Rattle.state.specs.View.{toDoCode, inFlightCode, doneCode, skippedCode, statusOf, Rows, stepAt, stepsFrom, rowsOf, stepsAt, memberAt}
 use Rattle.state.specs.declared.HubState.{HubState}
-use Rattle.state.proofs.Steps.{begins, upto-length}
-use Rattle.state.proofs.Rows.{length-stepsFrom, drop-stepsFrom}
-use Rattle.search.specs.Contract.{anyOn, anyStaged, highestStage, anyMust}
+use Rattle.state.proofs.Steps.{begins}
+use Rattle.state.proofs.Rows.{status-to-do, status-begun, status-answered, status-open, done-code}
+use Rattle.search.specs.Contract.{anyOn, anyStaged, highestStage, countingTag, anyMust}
 
 -- Does one of n places, from k on, pass a test?
 abbrev pub anyAt : (ℕ → Bool) → ℕ → ℕ → Bool
@@ -43,26 +44,44 @@ module _ (q : ℕ → Bool) (k e : ℕ) where
   pub at-end : e ≤ k → anyAt q k (e - k) ≡ false
   at-end h = let n : e - k ≡ 0 = omega arith in rw n
 
+at-or : (q r : ℕ → Bool) (k n : ℕ) → (anyAt q k n || anyAt r k n) ≡ anyAt (λ j. q j || r j) k n
+at-or q r k zero = refl
+at-or q r k (suc n) = four (q k) (anyAt q (suc k) n) (r k) (anyAt r (suc k) n) ∙ ap (λ (t : Bool). (q k || r k) || t) (at-or q r (suc k) n)
+  where
+    four : (a b c d : Bool) → ((a || b) || (c || d)) ≡ ((a || c) || (b || d))
+    four true b c d = refl
+    four false true c d = sym (or-true c)
+    four false false c d = refl
+
 at-same : (q r : ℕ → Bool) (k n : ℕ) → ((j : ℕ) → q j ≡ r j) → anyAt q k n ≡ anyAt r k n
 at-same q r k zero h = refl
 at-same q r k (suc n) h = rw (h k, at-same q r (suc k) n h)
 
 -- ---- tests of an entry
 
+-- the stage from which on a command holds nobody up: none but those left hold up a command; those done hold up a condition, too
+abbrev pub pastOf : Bool → ℕ
+pastOf asks = if asks then skippedCode else doneCode
+
+-- the test of `hasSet`
+abbrev sets : ℕ → Step → Bool
+sets d x = isOn d x && isDone (x .status)
+
 abbrev pub onAt : List ℕ → ℕ → ℕ → Bool
 onAt device d j = eqb (getD device j 0) d
 
--- on the device and not answered
-unfoldable pub openAt : List ℕ → List ℕ → ℕ → ℕ → Bool
-openAt device stage d j = onAt device d j && ltb (getD stage j 0) doneCode
+-- on the device and at a stage below another
+unfoldable pub belowAt : List ℕ → List ℕ → ℕ → ℕ → ℕ → Bool
+belowAt device stage past d j = onAt device d j && ltb (getD stage j 0) past
 
 -- on the device and at a stage from one to another
 unfoldable pub stagedAt : List ℕ → List ℕ → ℕ → ℕ → ℕ → ℕ → Bool
 stagedAt device stage d low high j = onAt device d j && leb low (getD stage j 0) && leb (getD stage j 0) high
 
--- on the device, not answered and a must
-unfoldable pub mustAt : List ℕ → List ℕ → List ℕ → ℕ → ℕ → Bool
-mustAt device tag stage d j = onAt device d j && leb (getD stage j 0) inFlightCode && eqb (getD tag j 0) mustTag
+-- on the device, not answered and, of a routine that ends there, counted as a must
+unfoldable pub mustAt : List ℕ → List ℕ → List ℕ → ℕ → ℕ → ℕ → Bool
+mustAt device tag stage end d j =
+    onAt device d j && leb (getD stage j 0) inFlightCode && eqb (countingTag tag j (end - j)) mustTag
 
 pub on-at : (device : List ℕ) (d k n : ℕ) → anyAt (onAt device d) k n ≡ anyOn device d k n
 on-at device d k zero = refl
@@ -74,23 +93,26 @@ unfolding stagedAt
 staged-at device stage d low high k zero = refl
 staged-at device stage d low high k (suc n) = rw (staged-at device stage d low high (suc k) n)
 
-pub must-at : (device tag stage : List ℕ) (d k n : ℕ) → anyAt (mustAt device tag stage d) k n ≡ anyMust device tag stage d k n
+pub must-at : (device tag stage : List ℕ) (end d k n : ℕ) → end ≡ k + n →
+    anyAt (mustAt device tag stage end d) k n ≡ anyMust device tag stage d k n
 unfolding mustAt
-must-at device tag stage d k zero = refl
-must-at device tag stage d k (suc n) = rw (must-at device tag stage d (suc k) n)
+must-at device tag stage end d k zero e = refl
+must-at device tag stage end d k (suc n) e =
+    let m : end - k ≡ suc n = omega arith in rw (m, must-at device tag stage end d (suc k) n (omega arith))
 
 module _ (device stage : List ℕ) (d j : ℕ) where
-  pub open-here : getD device j 0 ≡ d → getD stage j 0 < doneCode → openAt device stage d j ≡ true
-  unfolding openAt
-  open-here e h = rw (eq-eqb (getD device j 0) d e, lt-ltb (getD stage j 0) doneCode h)
+  module _ (past : ℕ) where
+    pub below-here : getD device j 0 ≡ d → getD stage j 0 < past → belowAt device stage past d j ≡ true
+    unfolding belowAt
+    below-here e h = rw (eq-eqb (getD device j 0) d e, lt-ltb (getD stage j 0) past h)
 
-  pub open-other : (getD device j 0 ≡ d → ⊥) → openAt device stage d j ≡ false
-  unfolding openAt
-  open-other n = rw (ne-eqb (getD device j 0) d n)
+    pub below-other : (getD device j 0 ≡ d → ⊥) → belowAt device stage past d j ≡ false
+    unfolding belowAt
+    below-other n = rw (ne-eqb (getD device j 0) d n)
 
-  pub open-answered : doneCode ≤ getD stage j 0 → openAt device stage d j ≡ false
-  unfolding openAt
-  open-answered h = rw (le-ltb (getD stage j 0) doneCode h) (and-false (onAt device d j))
+    pub below-past : past ≤ getD stage j 0 → belowAt device stage past d j ≡ false
+    unfolding belowAt
+    below-past h = rw (le-ltb (getD stage j 0) past h) (and-false (onAt device d j))
 
   module _ (low high : ℕ) where
     pub staged-here : getD device j 0 ≡ d → low ≤ getD stage j 0 → getD stage j 0 ≤ high → stagedAt device stage d low high j ≡ true
@@ -109,22 +131,41 @@ module _ (device stage : List ℕ) (d j : ℕ) where
     unfolding stagedAt
     staged-above h = rw (lt-leb (getD stage j 0) high h) (and-false (onAt device d j && leb low (getD stage j 0)))
 
-  module _ (tag : List ℕ) where
-    pub must-here : getD device j 0 ≡ d → getD stage j 0 ≤ inFlightCode → getD tag j 0 ≡ mustTag → mustAt device tag stage d j ≡ true
+  module _ (tag : List ℕ) (end : ℕ) where
+    pub must-here : getD device j 0 ≡ d → getD stage j 0 ≤ inFlightCode → {t : ℕ} → t ≡ countingTag tag j (end - j) → t ≡ mustTag →
+        mustAt device tag stage end d j ≡ true
     unfolding mustAt
-    must-here e h i = rw (eq-eqb (getD device j 0) d e, le-leb (getD stage j 0) inFlightCode h, eq-eqb (getD tag j 0) mustTag i)
+    must-here e h c i =
+        rw (eq-eqb (getD device j 0) d e, le-leb (getD stage j 0) inFlightCode h, eq-eqb (countingTag tag j (end - j)) mustTag (sym c ∙ i))
 
-    pub must-other : (getD device j 0 ≡ d → ⊥) → mustAt device tag stage d j ≡ false
+    pub must-other : (getD device j 0 ≡ d → ⊥) → mustAt device tag stage end d j ≡ false
     unfolding mustAt
     must-other n = rw (ne-eqb (getD device j 0) d n)
 
-    pub must-answered : inFlightCode < getD stage j 0 → mustAt device tag stage d j ≡ false
+    pub must-answered : inFlightCode < getD stage j 0 → mustAt device tag stage end d j ≡ false
     unfolding mustAt
     must-answered h = rw (lt-leb (getD stage j 0) inFlightCode h, and-false (onAt device d j))
 
-    pub must-best-effort : (getD tag j 0 ≡ mustTag → ⊥) → mustAt device tag stage d j ≡ false
+    pub must-not : {t : ℕ} → t ≡ countingTag tag j (end - j) → (t ≡ mustTag → ⊥) → mustAt device tag stage end d j ≡ false
     unfolding mustAt
-    must-best-effort n = rw (ne-eqb (getD tag j 0) mustTag n) (and-false (onAt device d j && leb (getD stage j 0) inFlightCode))
+    must-not c n =
+        rw (ne-eqb (countingTag tag j (end - j)) mustTag (λ e. n (c ∙ e)))
+        (and-false (onAt device d j && leb (getD stage j 0) inFlightCode))
+
+-- ---- the tag that counts
+
+module _ (tag : List ℕ) (k end : ℕ) where
+  -- a condition that is not the last
+  pub counting-next : getD tag k 0 ≡ conditionTag → k + 1 < end → getD tag (k + 1) 0 ≡ countingTag tag k (end - k)
+  counting-next e i =
+      let m : k + 1 ≡ suc k = omega arith in
+      rw (eq-eqb (getD tag k 0) conditionTag e, lt-ltb 1 (end - k) (omega arith), m)
+
+  pub counting-last : end ≤ k + 1 → getD tag k 0 ≡ countingTag tag k (end - k)
+  counting-last i = rw (le-ltb 1 (end - k) (omega arith), and-false (eqb (getD tag k 0) conditionTag))
+
+  pub counting-own : (getD tag k 0 ≡ conditionTag → ⊥) → getD tag k 0 ≡ countingTag tag k (end - k)
+  counting-own n = rw (ne-eqb (getD tag k 0) conditionTag n)
 
 -- the first of a row, as a list
 pub among-at : (l : List ℕ) (i n : ℕ) → n ≤ length l → anyOn l i 0 n ≡ anyOf (λ j. eqb j i) (take n l)
@@ -142,15 +183,19 @@ among-at l i n h = go l 0 n h (λ j. let e : 0 + j ≡ j = omega arith in rw e)
 
 module _ (code : ℕ) (u : ℤ) where
   code-answered : not (isAnswered (statusOf code u)) ≡ ltb code doneCode
-  unfolding statusOf
   code-answered =
-      byEq code toDoCode
-      (λ e. rw (eq-eqb code toDoCode e, lt-ltb code doneCode (omega arith)))
-      (λ n. byEq code inFlightCode
-      (λ e. rw (ne-eqb code toDoCode n, eq-eqb code inFlightCode e, lt-ltb code doneCode (omega arith)))
-      (λ m. byEq code doneCode
-      (λ e. rw (ne-eqb code toDoCode n, ne-eqb code inFlightCode m, eq-eqb code doneCode e, le-ltb code doneCode (omega arith)))
-      (λ o. rw (ne-eqb code toDoCode n, ne-eqb code inFlightCode m, ne-eqb code doneCode o, le-ltb code doneCode (omega arith)))))
+      byLess code doneCode
+      (λ h. rw (status-open code u h, lt-ltb code doneCode h))
+      (λ h. rw (status-answered code u h, le-ltb code doneCode h))
+
+  -- not answered, or done
+  code-set : (ltb code doneCode || eqb code doneCode) ≡ ltb code skippedCode
+  code-set =
+      byLess code doneCode
+      (λ h. rw (lt-ltb code doneCode h, lt-ltb code skippedCode (omega arith)))
+      (λ h. byEq code doneCode
+      (λ e. rw (le-ltb code doneCode h, eq-eqb code doneCode e, lt-ltb code skippedCode (omega arith)))
+      (λ n. rw (le-ltb code doneCode h, ne-eqb code doneCode n, le-ltb code skippedCode (omega arith))))
 
   -- not answered: up to in flight; not to do: from in flight on
   code-left : not (isAnswered (statusOf code u)) ≡ leb code inFlightCode
@@ -161,15 +206,10 @@ module _ (code : ℕ) (u : ℤ) where
       (λ h. rw (le-ltb code doneCode h, lt-leb code inFlightCode (omega arith)))
 
   code-begun : not (isToDo (statusOf code u)) ≡ leb inFlightCode code
-  unfolding statusOf
   code-begun =
       byEq code toDoCode
-      (λ e. rw (eq-eqb code toDoCode e, lt-leb inFlightCode code (omega arith)))
-      (λ n. byEq code inFlightCode
-      (λ e. rw (ne-eqb code toDoCode n, eq-eqb code inFlightCode e, le-leb inFlightCode code (omega arith)))
-      (λ m. byEq code doneCode
-      (λ e. rw (ne-eqb code toDoCode n, ne-eqb code inFlightCode m, eq-eqb code doneCode e, le-leb inFlightCode code (omega arith)))
-      (λ o. rw (ne-eqb code toDoCode n, ne-eqb code inFlightCode m, ne-eqb code doneCode o, le-leb inFlightCode code (omega arith)))))
+      (λ e. rw (status-to-do code u e, lt-leb inFlightCode code (omega arith)))
+      (λ n. rw (status-begun code u n, le-leb inFlightCode code (omega arith)))
 
 -- ---- the commands as steps
 
@@ -178,11 +218,21 @@ steps-at q rows u k zero = refl
 steps-at q rows u k (suc n) = rw (steps-at q rows u (suc k) n)
 
 module _ (rows : Rows) (u : ℤ) (d k n : ℕ) where
-  steps-unanswered : anyOf (isLeftOn d) (stepsFrom rows u k n) ≡ anyAt (openAt (rows .devices) (rows .stages) d) k n
-  unfolding stepAt openAt
-  steps-unanswered =
-      steps-at (isLeftOn d) rows u k n
+  -- not answered; or done
+  steps-below : (asks : Bool) → (anyOf (isLeftOn d) (stepsFrom rows u k n) || (asks && anyOf (sets d) (stepsFrom rows u k n)))
+      ≡ anyAt (belowAt (rows .devices) (rows .stages) (pastOf asks) d) k n
+  unfolding stepAt belowAt
+  steps-below false =
+      or-false (anyOf (isLeftOn d) (stepsFrom rows u k n))
+      ∙ steps-at (isLeftOn d) rows u k n
       ∙ at-same _ _ k n (λ j. ap (λ (t : Bool). onAt (rows .devices) d j && t) (code-answered (getD (rows .stages) j 0) u))
+  steps-below true =
+      rw (steps-at (isLeftOn d) rows u k n, steps-at (sets d) rows u k n) (at-or _ _ k n)
+      ∙ at-same _ _ k n
+      (λ j.
+      let code = getD (rows .stages) j 0 in
+      sym (and-or-distrib-left (onAt (rows .devices) d j) (not (isAnswered (statusOf code u))) (isDone (statusOf code u)))
+      ∙ rw (code-answered code u, done-code code u, code-set code u))
 
   steps-left : anyOf (isLeftOn d) (stepsFrom rows u k n) ≡ anyStaged (rows .devices) (rows .stages) d toDoCode inFlightCode k n
   unfolding stepAt stagedAt
@@ -205,59 +255,44 @@ module _ (rows : Rows) (u : ℤ) (d k n : ℕ) where
       rw (code-begun code u, le-leb code highestStage (b j)) (sym (and-true (onAt (rows .devices) d j && leb inFlightCode code))))
       ∙ staged-at (rows .devices) (rows .stages) d inFlightCode highestStage k n
 
-  steps-must : anyOf (λ x. isLeftOn d x && isMust (x .command)) (stepsFrom rows u k n)
-      ≡ anyMust (rows .devices) (rows .tags) (rows .stages) d k n
-  unfolding stepAt mustAt
-  steps-must =
-      steps-at (λ x. isLeftOn d x && isMust (x .command)) rows u k n
-      ∙ at-same _ _ k n (λ j. rw (code-left (getD (rows .stages) j 0) u))
-      ∙ must-at (rows .devices) (rows .tags) (rows .stages) d k n
+-- what the tag that counts says of a command, with those behind it
+pub counts-must : (rows : Rows) (u : ℤ) (k n : ℕ) →
+    countsAsMust (stepAt rows u k .command) (commandsIn (stepsFrom rows u (suc k) n)) ≡ eqb (countingTag (rows .tags) k (suc n)) mustTag
+unfolding stepAt
+counts-must rows u k zero = rw (and-false (eqb (getD (rows .tags) k 0) conditionTag))
+counts-must rows u k (suc n) =
+    let tag = rows .tags in
+    rw (lt-ltb 1 (suc (suc n)) (omega arith), and-true (eqb (getD tag k 0) conditionTag))
+    (byTest (λ (t : Bool). (if t then eqb (getD tag (suc k) 0) mustTag else eqb (getD tag k 0) mustTag)
+    ≡ eqb (if t then getD tag (suc k) 0 else getD tag k 0) mustTag)
+    (eqb (getD tag k 0) conditionTag) (λ _. refl) (λ _. refl))
 
--- those not answered are among those from n on
-unanswered-left : (n : ℕ) (l : List Step) (d : ℕ) → AnsweredUpTo n l → anyOf (isLeftOn d) l ≡ anyOf (isLeftOn d) (drop n l)
-unanswered-left zero l d a = refl
-unanswered-left (suc n) [] d a = absurd a
-unanswered-left (suc n) (x ∷ l) d a = rw (a .0, and-false (isOn d x)) (unanswered-left n l d (a .1))
-
--- ---- a routine of which so many commands are answered
-
-module _ (rows : Rows) (u : ℤ) (d k n c : ℕ) (a : AnsweredUpTo n (stepsFrom rows u k c)) where
-  most : n ≤ c
-  most = let e = upto-length n (stepsFrom rows u k c) a in omega (arith, length-stepsFrom rows u k c)
-
-  -- not finished
-  open-rows : anyOf (isLeftOn d) (stepsFrom rows u k c) ≡ anyAt (openAt (rows .devices) (rows .stages) d) (k + n) (c - n)
-  open-rows =
-      unanswered-left n (stepsFrom rows u k c) d a
-      ∙ ap (anyOf (isLeftOn d)) (drop-stepsFrom rows u k n c most)
-      ∙ steps-unanswered rows u d (k + n) (c - n)
+steps-must : (rows : Rows) (u : ℤ) (d k n : ℕ) →
+    mustAmong d (stepsFrom rows u k n) ≡ anyMust (rows .devices) (rows .tags) (rows .stages) d k n
+unfolding stepAt
+steps-must rows u d k zero = refl
+steps-must rows u d k (suc n) = rw (counts-must rows u k n, code-left (getD (rows .stages) k 0) u, steps-must rows u d (suc k) n)
 
 -- ---- the routine in a slot
 
-module _ (h : HubState) (x : ℕ) (v : SlotOk h x) (d : ℕ) where
-  abbrev from : ℕ
-  from = x * maxCommands
-
-  abbrev answered : ℕ
-  answered = getD (h .answered) x 0
-
-  abbrev commands : ℕ
-  commands = getD (h .counts) x 0
-
-  upto : AnsweredUpTo answered (stepsFrom (rowsOf h) (getD (h .«due_then») x (pos 0)) from commands)
-  unfolding stepsAt
-  upto = v .come-so-far
-
-  pub holds-slot : holds d (memberAt h x) ≡
-      (not (getD (h .committed) x false) && anyAt (openAt (h .device) (h .stage) d) (from + answered) (commands - answered))
-  unfolding holds isRunning finished memberAt stepsAt
-  holds-slot = ap (λ (t : Bool). not (getD (h .committed) x false) && t)
-      (Bool·not-not _ ∙ open-rows (rowsOf h) _ d from answered commands upto)
-
-  pub slot-fits : (answered ≤ commands) × (commands ≤ maxCommands)
-  slot-fits = (most (rowsOf h) _ d from answered commands upto, v .fits)
+-- it runs, and the one or the other
+running-either : (runs a b asks : Bool) → ((runs && not (not a)) || (asks && (runs && b))) ≡ (runs && (a || (asks && b)))
+running-either true a b asks = ap (λ (t : Bool). t || (asks && b)) (Bool·not-not a)
+running-either false a b asks = and-false asks
 
 module _ (h : HubState) (x d : ℕ) where
+  -- a command of it on the device is not answered; or done, which holds up a condition
+  pub holds-up-slot : (asks : Bool) → holdsUp d asks (memberAt h x)
+      ≡ (not (getD (h .committed) x false) && anyAt (belowAt (h .device) (h .stage) (pastOf asks) d) (x * maxCommands)
+      (getD (h .counts) x 0))
+  unfolding holdsUp holds hasSet isRunning finished memberAt stepsAt
+  holds-up-slot asks =
+      let u = getD (h .«due_then») x (pos 0) in
+      let l = stepsFrom (rowsOf h) u (x * maxCommands) (getD (h .counts) x 0) in
+      running-either (not (getD (h .committed) x false)) (anyOf (isLeftOn d) l) (anyOf (sets d) l) asks
+      ∙ ap (λ (t : Bool). not (getD (h .committed) x false) && t)
+      (steps-below (rowsOf h) u d (x * maxCommands) (getD (h .counts) x 0) asks)
+
   pub begun-slot : ((j : ℕ) → getD (h .stage) j 0 ≤ highestStage) →
       begun d (memberAt h x)
       ≡ anyStaged (h .device) (h .stage) d inFlightCode highestStage (x * maxCommands) (getD (h .counts) x 0)

@@ -18,7 +18,7 @@ use Rattle.rules.specs.Tables.{anyOf}
 use Rattle.rules.specs.State.{maxHeld, Member}
 use Rattle.rules.specs.Sequence.{isRunning, runs}
 use Rattle.rules.specs.Progress.{begun}
-use Rattle.rules.specs.Turn.{holds, firstHolding}
+use Rattle.rules.specs.Turn.{holdsUp, firstHolding}
 use Rattle.rules.specs.Events.{isHalfway, mustLeft}
 use Rattle.rules.specs.Submit.{blocks}
 use Rattle.sequence.specs.Lists.{count}
@@ -36,7 +36,7 @@ use Rattle.search.specs.Contract.{hasId, Finds, anyOn, anyStaged, highes
 use Rattle.search.proofs.Slots.{firstSlot, Seeks, stopAt, seeks-there, seeks-found, seeks-end, first-same, first-some, find-slot}
 use Rattle.search.proofs.Slots.{find-nowhere, holding-none, holding-some}
 use Rattle.search.proofs.Back.{back-around, back-place}
-use Rattle.search.proofs.Commands.{anyAt, openAt, among-at, holds-slot, begun-slot, left-slot, must-slot, slot-fits}
+use Rattle.search.proofs.Commands.{anyAt, pastOf, belowAt, among-at, holds-up-slot, begun-slot, left-slot, must-slot}
 
 -- ---- the tests of a slot, as the rows have them
 
@@ -46,23 +46,23 @@ idIn ids i x = eqb (getD ids x 0) i
 unfoldable pub runsIn : List ℕ → List Bool → ℕ → ℕ → Bool
 runsIn ids committed i x = idIn ids i x && not (getD committed x false)
 
--- one of the commands left is on the device and not answered
-unfoldable pub openIn : List ℕ → List ℕ → List ℕ → List ℕ → ℕ → ℕ → Bool
-openIn counts answered device stage d x =
-    anyAt (openAt device stage d) (x * maxCommands + getD answered x 0) (getD counts x 0 - getD answered x 0)
+-- one of its commands is on the device and at a stage below `past`
+unfoldable pub belowIn : List ℕ → List ℕ → List ℕ → ℕ → ℕ → ℕ → Bool
+belowIn counts device stage past d x = anyAt (belowAt device stage past d) (x * maxCommands) (getD counts x 0)
 
--- where a search through the commands left starts
-pub open-start : (counts answered device stage : List ℕ) (d x : ℕ) →
-    anyAt (openAt device stage d) (x * maxCommands + getD answered x 0)
-    (x * maxCommands + getD counts x 0 - (x * maxCommands + getD answered x 0))
-    ≡ openIn counts answered device stage d x
-unfolding openIn
-open-start counts answered device stage d x =
-    let e : x * maxCommands + getD counts x 0 - (x * maxCommands + getD answered x 0) ≡ getD counts x 0 - getD answered x 0 = omega arith in
-    rw e
+-- the commands of a slot, from its first to past its last
+slot-places : (at n : ℕ) → at * maxCommands + n - at * maxCommands ≡ n
+slot-places at n = omega arith
 
-unfoldable pub holdsIn : List Bool → List ℕ → List ℕ → List ℕ → List ℕ → ℕ → ℕ → Bool
-holdsIn committed counts answered device stage d x = not (getD committed x false) && openIn counts answered device stage d x
+-- where a search through its commands starts
+pub below-start : (counts device stage : List ℕ) (past d x : ℕ) →
+    anyAt (belowAt device stage past d) (x * maxCommands) (x * maxCommands + getD counts x 0 - x * maxCommands)
+    ≡ belowIn counts device stage past d x
+unfolding belowIn
+below-start counts device stage past d x = rw (slot-places x (getD counts x 0))
+
+unfoldable pub holdsIn : List Bool → List ℕ → List ℕ → List ℕ → ℕ → ℕ → ℕ → Bool
+holdsIn committed counts device stage past d x = not (getD committed x false) && belowIn counts device stage past d x
 
 -- it has begun the device; a command on it is left
 abbrev pub begunIn : List ℕ → List ℕ → List ℕ → ℕ → ℕ → Bool
@@ -95,10 +95,6 @@ pub id-other : (ids : List ℕ) (i x : ℕ) → (getD ids x 0 ≡ i → ⊥) →
 unfolding idIn
 id-other ids i x n = ne-eqb (getD ids x 0) i n
 
--- the commands of a slot, from its first to past its last
-slot-places : (at n : ℕ) → at * maxCommands + n - at * maxCommands ≡ n
-slot-places at n = omega arith
-
 module _ (committed : List Bool) (counts device stage : List ℕ) (d x : ℕ) where
   pub halfway-committed : not (getD committed x false) ≡ false → halfwayIn committed counts device stage d x ≡ false
   unfolding halfwayIn
@@ -121,15 +117,14 @@ module _ (committed : List Bool) (counts device stage : List ℕ) (d x : ℕ) wh
         let b : leftIn counts device stage d x ≡ false = rw (slot-places x (getD counts x 0)) at (sym e ∙ f) in
         rw b (and-false (not (getD committed x false) && begunIn counts device stage d x))
 
-module _ (committed : List Bool) (counts answered device stage : List ℕ) (d x : ℕ) where
-  module _ (at : ℕ) (n : x ≡ at → ⊥) where
-    pub holds-committed : not (getD committed x false) ≡ false → stopAt at (holdsIn committed counts answered device stage d) x ≡ false
-    unfolding stopAt holdsIn
-    holds-committed e = rw (ne-eqb x at n, e)
+module _ (committed : List Bool) (counts device stage : List ℕ) (past d x at : ℕ) (n : x ≡ at → ⊥) where
+  pub holds-committed : not (getD committed x false) ≡ false → stopAt at (holdsIn committed counts device stage past d) x ≡ false
+  unfolding stopAt holdsIn
+  holds-committed e = rw (ne-eqb x at n, e)
 
-    pub holds-off : openIn counts answered device stage d x ≡ false → stopAt at (holdsIn committed counts answered device stage d) x ≡ false
-    unfolding stopAt holdsIn
-    holds-off e = rw (ne-eqb x at n, e) (and-false (not (getD committed x false)))
+  pub holds-off : belowIn counts device stage past d x ≡ false → stopAt at (holdsIn committed counts device stage past d) x ≡ false
+  unfolding stopAt holdsIn
+  holds-off e = rw (ne-eqb x at n, e) (and-false (not (getD committed x false)))
 
 module _ (marks : List ℕ) (n limit : ℕ) (ids passed : List ℕ) (committed : List Bool) (x : ℕ)
     (o : anyOn marks (getD ids x 0) 0 n ≡ false) where
@@ -190,8 +185,8 @@ module _ (h : HubState) (v : StateOk h) where
   -- ---- a slot that stands
 
   module _ (at : ℕ) (st : Stands (h .links) at) where
-    pub commands-fit : (at < maxHeld) × (getD (h .answered) at 0 ≤ getD (h .counts) at 0) × (getD (h .counts) at 0 ≤ maxCommands)
-    commands-fit = let f = slot-fits h at (v .slots-ok at st) 0 in (stands-slot (h .links) at (v .links-ok) st, f .0, f .1)
+    pub commands-fit : (at < maxHeld) × (getD (h .counts) at 0 ≤ maxCommands)
+    commands-fit = (stands-slot (h .links) at (v .links-ok) st, v .slots-ok at st .fits)
 
     pub begun-is : (device stage : List ℕ) (d : ℕ) → device ≡ h .device → stage ≡ h .stage →
         ((j : ℕ) → getD (h .stage) j 0 ≤ highestStage) → {t : Bool} →
@@ -282,12 +277,12 @@ module _ (h : HubState) (v : StateOk h) where
 
   -- ---- the wait search, whose long rows are lent
 
-  module _ (device stage : List ℕ) (same-device : device ≡ h .device) (same-stage : stage ≡ h .stage) (d at : ℕ)
-      (st : Stands (h .links) at) {x : ℕ}
-      (s : Seeks (stopAt at (holdsIn (h .committed) (h .counts) (h .answered) device stage d)) (h .links .behind) (h .links .first) x)
+  module _ (device stage : List ℕ) (same-device : device ≡ h .device) (same-stage : stage ≡ h .stage) (asks : Bool) {past : ℕ}
+      (p : past ≡ pastOf asks) (d at : ℕ) (st : Stands (h .links) at) {x : ℕ}
+      (s : Seeks (stopAt at (holdsIn (h .committed) (h .counts) device stage past d)) (h .links .behind) (h .links .first) x)
     where
       abbrev stops : ℕ → Bool
-      stops y = stopAt at (holdsIn (h .committed) (h .counts) (h .answered) device stage d) y
+      stops y = stopAt at (holdsIn (h .committed) (h .counts) device stage past d) y
 
       -- the walk does not come to its end
       pub holder-slot : x < maxHeld
@@ -301,27 +296,26 @@ module _ (h : HubState) (v : StateOk h) where
           ap (λ (y : ℕ). count y (slotsOf (h .links))) (seeks-end s i) ∙ none-apart in
           absurd (omega arith))
 
-      holds-is : (y : ℕ) → Stands (h .links) y → holds d (memberAt h y) ≡ holdsIn (h .committed) (h .counts) (h .answered) device stage d y
-      unfolding holdsIn openIn
-      holds-is y k = holds-slot h y (v .slots-ok y k) d ∙ rw (same-device, same-stage)
+      holds-is : (y : ℕ) → holdsUp d asks (memberAt h y) ≡ holdsIn (h .committed) (h .counts) device stage past d y
+      unfolding holdsIn belowIn
+      holds-is y = holds-up-slot h y d asks ∙ rw (same-device, same-stage, p)
 
-      stops-is : firstSlot (stopAt at (λ y. holds d (memberAt h y))) (slotsOf (h .links)) ≡ firstSlot stops (slotsOf (h .links))
+      stops-is : firstSlot (stopAt at (λ y. holdsUp d asks (memberAt h y))) (slotsOf (h .links)) ≡ firstSlot stops (slotsOf (h .links))
       unfolding stopAt
-      stops-is = first-same _ stops (slotsOf (h .links)) (λ y k. ap (λ (u : Bool). eqb y at || u) (holds-is y k))
+      stops-is = first-same _ stops (slotsOf (h .links)) (λ y k. ap (λ (u : Bool). eqb y at || u) (holds-is y))
 
-      pub holder-nobody : x ≡ at → nothing ≡ firstHolding d (there h at .ahead)
+      pub holder-nobody : x ≡ at → nothing ≡ firstHolding d asks (there h at .ahead)
       unfolding there stopAt
       holder-nobody e =
           sym
-          (holding-none d (memberAt h) at (slotsOf (h .links)) (stops-is ∙ seeks-found s holder-slot (rw (eq-eqb x at e)) ∙ e))
+          (holding-none d asks (memberAt h) at (slotsOf (h .links)) (stops-is ∙ seeks-found s holder-slot (rw (eq-eqb x at e)) ∙ e))
 
-      pub holder-found : (x ≡ at → ⊥) → not (getD (h .committed) x false) ≡ true →
-          openIn (h .counts) (h .answered) device stage d x ≡ true →
-          some (getD (h .ids) x 0) ≡ firstHolding d (there h at .ahead)
+      pub holder-found : (x ≡ at → ⊥) → not (getD (h .committed) x false) ≡ true → belowIn (h .counts) device stage past d x ≡ true →
+          some (getD (h .ids) x 0) ≡ firstHolding d asks (there h at .ahead)
       unfolding there memberAt stopAt holdsIn
       holder-found n c o =
           sym
-          (holding-some d (memberAt h) at (slotsOf (h .links)) x (stops-is ∙ seeks-found s holder-slot (rw (ne-eqb x at n, c, o))) n
+          (holding-some d asks (memberAt h) at (slotsOf (h .links)) x (stops-is ∙ seeks-found s holder-slot (rw (ne-eqb x at n, c, o))) n
           (not-none x holder-slot))
 
   -- ---- the last that a newcomer follows

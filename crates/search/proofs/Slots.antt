@@ -12,7 +12,7 @@ use Rattle.routine.specs.Choice.{if_then_else_}
 use Rattle.routine.proofs.Laws.{byTest}
 use Rattle.rules.specs.State.{maxHeld, Member}
 use Rattle.rules.specs.Sequence.{find, onto}
-use Rattle.rules.specs.Turn.{holds, firstHolding}
+use Rattle.rules.specs.Turn.{holdsUp, firstHolding}
 use Rattle.rules.proofs.Lists.{t≠f}
 use Rattle.sequence.specs.Lists.{count, upTo, rest}
 use Rattle.sequence.specs.Links.{none, along, Walks}
@@ -132,35 +132,35 @@ module _ (p : Member → Bool) (f : ℕ → Member) where
 unfoldable pub stopAt : ℕ → (ℕ → Bool) → ℕ → Bool
 stopAt at t x = eqb x at || t x
 
-module _ (d : ℕ) (f : ℕ → Member) (at : ℕ) where
+module _ (d : ℕ) (asks : Bool) (f : ℕ → Member) (at : ℕ) where
   abbrev stops : ℕ → Bool
-  stops x = stopAt at (λ y. holds d (f y)) x
+  stops x = stopAt at (λ y. holdsUp d asks (f y)) x
 
-  pub holding-none : (l : List ℕ) → firstSlot stops l ≡ at → firstHolding d (map f (upTo at l)) ≡ nothing
+  pub holding-none : (l : List ℕ) → firstSlot stops l ≡ at → firstHolding d asks (map f (upTo at l)) ≡ nothing
   unfolding firstSlot stopAt
   holding-none [] e = refl
   holding-none (y ∷ l) e =
       byEq y at
       (λ q. rw (eq-eqb y at q))
       (λ m.
-      let g : (if holds d (f y) then y else firstSlot stops l) ≡ at = rw (ne-eqb y at m) at e in
+      let g : (if holdsUp d asks (f y) then y else firstSlot stops l) ≡ at = rw (ne-eqb y at m) at e in
       rw (ne-eqb y at m)
       (byTest (λ (u : Bool). (if u then y else firstSlot stops l) ≡ at →
-      (if u then some (f y .id) else firstHolding d (map f (upTo at l))) ≡ nothing) (holds d (f y))
+      (if u then some (f y .id) else firstHolding d asks (map f (upTo at l))) ≡ nothing) (holdsUp d asks (f y))
       (λ _ b. absurd (m b))
       (λ _ b. holding-none l b) g))
 
   pub holding-some : (l : List ℕ) (x : ℕ) → firstSlot stops l ≡ x → (x ≡ at → ⊥) → (x ≡ none → ⊥) →
-      firstHolding d (map f (upTo at l)) ≡ some (f x .id)
+      firstHolding d asks (map f (upTo at l)) ≡ some (f x .id)
   unfolding firstSlot stopAt
   holding-some [] x e k n = absurd (n (sym e))
   holding-some (y ∷ l) x e k n =
       byEq y at
       (λ q. absurd (k (sym (rw (eq-eqb y at q) at e) ∙ q)))
       (λ m.
-      let g : (if holds d (f y) then y else firstSlot stops l) ≡ x = rw (ne-eqb y at m) at e in
+      let g : (if holdsUp d asks (f y) then y else firstSlot stops l) ≡ x = rw (ne-eqb y at m) at e in
       rw (ne-eqb y at m)
       (byTest (λ (u : Bool). (if u then y else firstSlot stops l) ≡ x →
-      (if u then some (f y .id) else firstHolding d (map f (upTo at l))) ≡ some (f x .id)) (holds d (f y))
+      (if u then some (f y .id) else firstHolding d asks (map f (upTo at l))) ≡ some (f x .id)) (holdsUp d asks (f y))
       (λ _ b. ap (λ (z : ℕ). some (f z .id)) b)
       (λ _ b. holding-some l x b k n) g))

@@ -185,7 +185,7 @@ pub fn halfway(state: HubState, wanted: u8) -> Place
 // The tag that counts for the command at a place of its routine, which ends at `end`: "the condition has the tag of the command after it"
 // (document 02, item 4).
 pub fn counting_tag<'a>(tag: &'a [u8; STEPS], k: usize, end: usize) -> u8
-    requires { ⌜ (k < end) × (end ≤ maxHeld * maxCommands) ⌝ }
+    requires { ⌜ (k < maxHeld * maxCommands) × (end ≤ maxHeld * maxCommands) ⌝ }
     ensures { λ r. ⌜ r ≡ countingTag (now (tag .entry)) k (end - k) ⌝ }
 {
     if tag[k] == CONDITION {

@@ -1,22 +1,23 @@
 -- How far a routine has come, by the codes of its stages. Assumes nothing.
 use mathlib.Core.Path.{_≡_, sym, subst}
+use mathlib.Core.Bool.{true}
 use mathlib.Core.List.{List}
 use Prim.Native.Nat.{ℕ, zero, suc, _+_, _≤_, _<_}
 use native.Mathlib.Omega.{arith}
-use lib.IntN.{ℤ}
+use lib.IntN.{ℤ, pos}
 use lib.ListN.{getD}
 use Rattle.rules.specs.Tables.{Each}
 use Rattle.sequence.proofs.Tables.{byEq}
-use Rattle.state.specs.View.{inFlightCode, doneCode, Rows, stepAt, stepsFrom}
-use Rattle.state.specs.Valid.{IsBehind, AnsweredUpTo}
-use Rattle.state.proofs.Rows.{status-answered, status-open, status-behind, answered-code, open-code, behind-code}
+use Rattle.state.specs.View.{doneCode, statusOf, Rows, stepAt, stepsFrom}
+use Rattle.state.specs.Valid.{isBehind, IsBehind, AnsweredUpTo}
+use Rattle.state.proofs.Rows.{status-answered, status-open, answered-code, open-code, behind-due}
 
--- neither in flight nor done
+-- to do or skipped
 abbrev pub CodeBehind : ℕ → Type 0
-CodeBehind code = (code ≡ inFlightCode → ⊥) × (code ≡ doneCode → ⊥)
+CodeBehind code = isBehind (statusOf code (pos 0)) ≡ true
 
--- Of the commands from one place to another those before a third are answered, and what stands there is not; behind that none is in
--- flight or done.
+-- Of the commands from one place to another those before a third are answered, and what stands there is not; behind that each is to do or
+-- skipped.
 pub record CodesUpTo (stages : List ℕ) (from mid end : ℕ) : Type 0 where
   pub within : (from ≤ mid) × (mid ≤ end)
   pub answered-before : (j : ℕ) → from ≤ j → j < mid → doneCode ≤ getD stages j 0
@@ -28,15 +29,15 @@ module _ (rows : Rows) (u : ℤ) where
   unfolding stepAt
   all-behind k zero h = tt
   all-behind k (suc n) h =
-      let b = h k (omega arith) (omega arith) in
-      (status-behind (getD (rows .stages) k 0) u (b .0) (b .1), all-behind (suc k) n (λ j i l. h j (omega arith) (omega arith)))
+      let b = behind-due (getD (rows .stages) k 0) (pos 0) u (h k (omega arith) (omega arith)) in
+      (b, all-behind (suc k) n (λ j i l. h j (omega arith) (omega arith)))
 
   behind-all : (k n j : ℕ) → Each IsBehind (stepsFrom rows u k n) → k ≤ j → j < k + n → CodeBehind (getD (rows .stages) j 0)
   unfolding stepAt
   behind-all k zero j b h i = absurd (omega arith)
   behind-all k (suc n) j b h i =
       byEq j k
-      (λ e. subst (λ (m : ℕ). CodeBehind (getD (rows .stages) m 0)) (sym e) (behind-code (getD (rows .stages) k 0) u (b .0)))
+      (λ e. subst (λ (m : ℕ). CodeBehind (getD (rows .stages) m 0)) (sym e) (behind-due (getD (rows .stages) k 0) u (pos 0) (b .0)))
       (λ m. behind-all (suc k) n j (b .1) (omega arith) (omega arith))
 
   -- by the codes

@@ -17,6 +17,8 @@ use Rattle.sequence.specs.Links.{Stands}
 use Rattle.answers.specs.View.{oneOf, answerOf, backsIn, changesNothing}
 use Rattle.answers.specs.declared.Answer.{Answer}
 use Rattle.answers.specs.declared.Answer.the-variants.{Refused, Placed, Wait, Sent, Done, Skipped, Committed, Aborted, Down, Up, Limited}
+use Rattle.answers.specs.declared.Answer.the-variants.{Held}
+use Rattle.answers.specs.declared.Answer.the-variants.{NotHeld}
 use Rattle.answers.specs.declared.First.the-variants.{NoAbort}
 use Rattle.answers.specs.declared.OneBack.{OneBack}
 use Rattle.state.specs.View.{stateOf, there, firstCommitted}
@@ -38,6 +40,8 @@ no-backs (Aborted i) = refl
 no-backs (Down d i) = refl
 no-backs (Up d i) = refl
 no-backs (Limited k) = refl
+no-backs (Held i) = refl
+no-backs (NotHeld i) = refl
 
 all-backs : (l : List Back) → l ≡ l ++ []
 all-backs [] = refl

@@ -2,19 +2,20 @@
 use mathlib.Core.Path.{_≡_, refl, sym, ap, _∙_}
 use mathlib.Core.Bool.{false}
 use mathlib.Core.List.{List, _∷_}
-use Prim.Native.Nat.{ℕ, suc, _+_, _*_, _-_, _≤_, _<_}
+use Prim.Native.Nat.{ℕ, zero, suc, _+_, _*_, _-_, _≤_, _<_}
 use native.Mathlib.Omega.{arith}
-use lib.ListN.{drop, getD}
+use lib.ListN.{take, drop, getD}
 use Rattle.routine.specs.Routine.{maxCommands}
 use Rattle.rules.specs.State.{in-flight, Step}
-use Rattle.rules.specs.Progress.{isInFlight}
+use Rattle.rules.specs.Progress.{isInFlight, commandsIn, countsAsMust}
 use Rattle.sequence.specs.Links.{Stands}
 use Rattle.state.specs.View.{inFlightCode, rowsOf, stepAt, stepsFrom, stepsAt}
 use Rattle.state.specs.Valid.{AnsweredUpTo, StateOk}
-use Rattle.state.specs.Open.{answeredAt, dueThenAt, NoneOpen, OpenToDo, OpenInFlight}
+use Rattle.state.specs.Open.{answeredAt, dueThenAt, skipsAfter, commandsPast, NoneOpen, OpenToDo, OpenInFlight}
 use Rattle.state.specs.declared.HubState.{HubState}
-use Rattle.state.proofs.Steps.{flight-all, next-all, flight-to-do, next-to-do, advance-to-do, flight-sent, answer-sent}
-use Rattle.state.proofs.Rows.{status-sent, status-not-sent, steps-open}
+use Rattle.state.proofs.Steps.{flight-all, next-all, flight-to-do, next-to-do, advance-to-do, lastSkips, skipped-to-do, must-to-do}
+use Rattle.state.proofs.Steps.{flight-sent, answer-sent}
+use Rattle.state.proofs.Rows.{status-sent, status-not-sent, steps-open, take-stepsFrom, steps-last}
 use Rattle.state.proofs.Members.{steps-are, length-steps, device-within}
 
 module _ (h : HubState) (x : ℕ) (v : StateOk h) (s : Stands (h .links) x) where
@@ -46,6 +47,19 @@ module _ (h : HubState) (x : ℕ) (v : StateOk h) (s : Stands (h .links) x) wher
         ap (drop (answeredAt h x)) (steps-are h x)
         ∙ steps-open (rowsOf h) (dueThenAt h x) (x * maxCommands) (answeredAt h x) (getD (h .counts) x 0) i
 
+    behind-past : commandsIn behindIt ≡ commandsPast h x (suc (answeredAt h x))
+    behind-past =
+        let e : suc openPlace ≡ x * maxCommands + suc (answeredAt h x) = omega arith in
+        ap (λ (k : ℕ). commandsIn (stepsFrom (rowsOf h) (dueThenAt h x) k (getD (h .counts) x 0 - suc (answeredAt h x)))) e
+
+    -- the last of the first n
+    last-skips : (n : ℕ) → n ≤ getD (h .counts) x 0 → lastSkips false (take n (stepsAt h x)) ≡ skipsAfter h x n
+    last-skips zero q = refl
+    last-skips (suc n) q =
+        ap (λ (l : List Step). lastSkips false (take (suc n) l)) (steps-are h x)
+        ∙ ap (lastSkips false) (take-stepsFrom (rowsOf h) (dueThenAt h x) (x * maxCommands) (suc n) (getD (h .counts) x 0) q)
+        ∙ steps-last (rowsOf h) (dueThenAt h x) (x * maxCommands) n false
+
     pub to-do-open : (getD (h .stage) openPlace 0 ≡ inFlightCode → ⊥) → OpenToDo h x openPlace
     unfolding stepAt
     to-do-open n =
@@ -57,6 +71,10 @@ module _ (h : HubState) (x : ℕ) (v : StateOk h) (s : Stands (h .links) x) wher
           no-flight = flight-to-do (answeredAt h x) (stepsAt h x) come openStep behindIt open-at-place t;
           next-is = next-to-do (answeredAt h x) (stepsAt h x) come openStep behindIt open-at-place t;
           advances = advance-to-do (answeredAt h x) (stepsAt h x) come openStep behindIt open-at-place t;
+          next-skipped = skipped-to-do false (answeredAt h x) (stepsAt h x) come openStep behindIt open-at-place t
+              ∙ last-skips (answeredAt h x) (omega arith);
+          next-must = must-to-do (answeredAt h x) (stepsAt h x) come openStep behindIt open-at-place t
+              ∙ ap (countsAsMust (openStep .command)) behind-past;
         }
 
     pub in-flight-open : getD (h .stage) openPlace 0 ≡ inFlightCode → OpenInFlight h x openPlace

@@ -14,15 +14,16 @@ use Rattle.routine.specs.Choice.{if_then_else_}
 use Rattle.routine.specs.Routine.{maxDevices, maxCommands, zeroCommand}
 use Rattle.routine.specs.declared.Command.{Command}
 use Rattle.routine.proofs.Laws.{byTest, any-default}
-use Rattle.rules.specs.State.{maxHeld, Status, to-do, in-flight, was-done, was-skipped, Step}
-use Rattle.rules.specs.Progress.{isInFlight, isDone, isAnswered, flight, withStatus}
+use Rattle.rules.specs.State.{maxHeld, Status, to-do, in-flight, was-done, was-skipped, was-held, was-not-held, Step}
+use Rattle.rules.specs.Progress.{isToDo, isInFlight, isDone, isAnswered, countsAsNotHeld, skipsNext, flight, withStatus}
 use Rattle.rules.specs.Submit.{stepOf}
 use Rattle.rules.proofs.Lists.{byIf, t≠f}
-use Rattle.state.specs.View.{noRestart, isRestart, restartOf, toDoCode, inFlightCode, doneCode, skippedCode, statusOf, Rows, stepAt}
-use Rattle.state.specs.View.{stepsFrom, restartsAt}
+use Rattle.sequence.proofs.Tables.{byEq}
+use Rattle.state.specs.View.{noRestart, isRestart, restartOf, toDoCode, inFlightCode, doneCode, heldCode, notHeldCode, statusOf}
+use Rattle.state.specs.View.{Rows, stepAt, stepsFrom, restartsAt}
 use Rattle.state.specs.Valid.{isBehind, AnsweredUpTo}
 use Rattle.state.specs.Contract.{setStatus}
-use Rattle.state.proofs.Steps.{answered-is, flight-not, behind-flight}
+use Rattle.state.proofs.Steps.{answered-is, behind-is, flight-not, behind-flight, lastSkips}
 
 -- ---- one command
 
@@ -55,6 +56,10 @@ step-same rows other u k a b c d = λ i. record { command = record { device = a 
 
 -- ---- where a command stands, by its code
 
+-- all that is no other
+abbrev pub CodeSkipped : ℕ → Type 0
+CodeSkipped code = (doneCode < code) × (code ≡ heldCode → ⊥) × (code ≡ notHeldCode → ⊥)
+
 module _ (code : ℕ) (u : ℤ) where
   pub status-to-do : code ≡ toDoCode → statusOf code u ≡ to-do
   unfolding statusOf
@@ -68,65 +73,112 @@ module _ (code : ℕ) (u : ℤ) where
   unfolding statusOf
   status-done e = rw (ne-eqb code toDoCode (λ z. omega arith), ne-eqb code inFlightCode (λ z. omega arith), eq-eqb code doneCode e)
 
-  pub status-skipped : skippedCode ≤ code → statusOf code u ≡ was-skipped
+  pub status-held : code ≡ heldCode → statusOf code u ≡ was-held
+  unfolding statusOf
+  status-held e = rw e
+
+  pub status-not-held : code ≡ notHeldCode → statusOf code u ≡ was-not-held
+  unfolding statusOf
+  status-not-held e = rw e
+
+  pub status-skipped : CodeSkipped code → statusOf code u ≡ was-skipped
   unfolding statusOf
   status-skipped h =
-      rw (ne-eqb code toDoCode (λ z. omega arith), ne-eqb code inFlightCode (λ z. omega arith), ne-eqb code doneCode (λ z. omega arith))
+      let n : doneCode < code = h .0 in
+      rw (
+        ne-eqb code toDoCode (λ z. omega arith),
+        ne-eqb code inFlightCode (λ z. omega arith),
+        ne-eqb code doneCode (λ z. omega arith),
+        ne-eqb code heldCode (h .1),
+        ne-eqb code notHeldCode (h .2),
+      )
 
   -- what a test of the code tells, by cases on it
   module _ (P : Status → Type 0) where
     by-code : (code ≡ toDoCode → P to-do) → (code ≡ inFlightCode → P (in-flight u)) → (code ≡ doneCode → P was-done) →
-        (skippedCode ≤ code → P was-skipped) → P (statusOf code u)
+        (code ≡ heldCode → P was-held) → (code ≡ notHeldCode → P was-not-held) → (CodeSkipped code → P was-skipped) → P (statusOf code u)
     unfolding statusOf
-    by-code a b c d =
-        byIf P (eqb code toDoCode) (λ e. a (eqb-true code toDoCode e))
-        (λ e. let i = eqb-false code toDoCode e in
-        byIf P (eqb code inFlightCode) (λ f. b (eqb-true code inFlightCode f))
-        (λ f. let j = eqb-false code inFlightCode f in
-        byIf P (eqb code doneCode) (λ g. c (eqb-true code doneCode g))
-        (λ g. let k = eqb-false code doneCode g in d (not-below i j k))))
+    by-code a b c d e f =
+        byIf P (eqb code toDoCode) (λ t. a (eqb-true code toDoCode t))
+        (λ t. let i = eqb-false code toDoCode t in
+        byIf P (eqb code inFlightCode) (λ t. b (eqb-true code inFlightCode t))
+        (λ t. let j = eqb-false code inFlightCode t in
+        byIf P (eqb code doneCode) (λ t. c (eqb-true code doneCode t))
+        (λ t. let k = eqb-false code doneCode t in
+        byIf P (eqb code heldCode) (λ t. d (eqb-true code heldCode t))
+        (λ t. let m = eqb-false code heldCode t in
+        byIf P (eqb code notHeldCode) (λ t. e (eqb-true code notHeldCode t))
+        (λ t. f (not-below i j k, m, eqb-false code notHeldCode t))))))
       where
-        not-below : (code ≡ toDoCode → ⊥) → (code ≡ inFlightCode → ⊥) → (code ≡ doneCode → ⊥) → skippedCode ≤ code
+        not-below : (code ≡ toDoCode → ⊥) → (code ≡ inFlightCode → ⊥) → (code ≡ doneCode → ⊥) → doneCode < code
         not-below i j k = omega arith
 
-  pub status-not-sent : (code ≡ inFlightCode → ⊥) → isInFlight (statusOf code u) ≡ false
-  status-not-sent n = by-code (λ st. isInFlight st ≡ false) (λ e. refl) (λ e. absurd (n e)) (λ e. refl) (λ e. refl)
+  pub status-begun : (code ≡ toDoCode → ⊥) → isToDo (statusOf code u) ≡ false
+  status-begun n =
+      by-code (λ st. isToDo st ≡ false) (λ e. absurd (n e)) (λ e. refl) (λ e. refl) (λ e. refl) (λ e. refl) (λ e. refl)
 
-  pub status-not-done : (code ≡ doneCode → ⊥) → isDone (statusOf code u) ≡ false
-  status-not-done n = by-code (λ st. isDone st ≡ false) (λ e. refl) (λ e. refl) (λ e. absurd (n e)) (λ e. refl)
+  pub status-not-sent : (code ≡ inFlightCode → ⊥) → isInFlight (statusOf code u) ≡ false
+  status-not-sent n =
+      by-code (λ st. isInFlight st ≡ false) (λ e. refl) (λ e. absurd (n e)) (λ e. refl) (λ e. refl) (λ e. refl) (λ e. refl)
 
   -- the codes from `doneCode` on are answered
   pub status-answered : doneCode ≤ code → isAnswered (statusOf code u) ≡ true
-  status-answered h = by-code (λ st. isAnswered st ≡ true) (λ e. absurd (omega arith)) (λ e. absurd (omega arith)) (λ e. refl) (λ e. refl)
+  status-answered h =
+      by-code (λ st. isAnswered st ≡ true) (λ e. absurd (omega arith)) (λ e. absurd (omega arith)) (λ e. refl) (λ e. refl) (λ e. refl)
+      (λ e. refl)
 
   pub status-open : code < doneCode → isAnswered (statusOf code u) ≡ false
-  status-open h = by-code (λ st. isAnswered st ≡ false) (λ e. refl) (λ e. refl) (λ e. absurd (omega arith)) (λ e. absurd (omega arith))
+  status-open h =
+      by-code (λ st. isAnswered st ≡ false) (λ e. refl) (λ e. refl) (λ e. absurd (omega arith)) (λ e. absurd (omega arith))
+      (λ e. absurd (omega arith)) (λ e. absurd (omega (arith, e .0)))
 
-  pub status-behind : (code ≡ inFlightCode → ⊥) → (code ≡ doneCode → ⊥) → isBehind (statusOf code u) ≡ true
-  status-behind n m = by-code (λ st. isBehind st ≡ true) (λ e. refl) (λ e. absurd (n e)) (λ e. absurd (m e)) (λ e. refl)
+  -- one code each is in flight, and done
+  pub flight-code : isInFlight (statusOf code u) ≡ eqb code inFlightCode
+  flight-code =
+      byEq code inFlightCode
+      (λ e. rw (status-sent e, eq-eqb code inFlightCode e))
+      (λ n. rw (status-not-sent n, ne-eqb code inFlightCode n))
+
+  pub done-code : isDone (statusOf code u) ≡ eqb code doneCode
+  done-code =
+      byEq code doneCode
+      (λ e. rw (status-done e, eq-eqb code doneCode e))
+      (λ n. rw (ne-eqb code doneCode n)
+      (by-code (λ st. isDone st ≡ false) (λ e. refl) (λ e. refl) (λ e. absurd (n e)) (λ e. refl) (λ e. refl) (λ e. refl)))
 
   -- and back to the code
   pub answered-code : isAnswered (statusOf code u) ≡ true → doneCode ≤ code
   answered-code t =
       by-code (λ st. isAnswered st ≡ true → doneCode ≤ code)
-      (λ e f. t≠f (sym f)) (λ e f. t≠f (sym f)) (λ e f. omega arith) (λ e f. omega arith) t
+      (λ e f. t≠f (sym f)) (λ e f. t≠f (sym f)) (λ e f. omega arith) (λ e f. omega arith) (λ e f. omega arith)
+      (λ e f. omega (arith, e .0)) t
 
   pub open-code : isAnswered (statusOf code u) ≡ false → code < doneCode
   open-code t =
       by-code (λ st. isAnswered st ≡ false → code < doneCode)
-      (λ e f. omega arith) (λ e f. omega arith) (λ e f. t≠f f) (λ e f. t≠f f) t
+      (λ e f. omega arith) (λ e f. omega arith) (λ e f. t≠f f) (λ e f. t≠f f) (λ e f. t≠f f) (λ e f. t≠f f) t
 
-  pub behind-code : isBehind (statusOf code u) ≡ true → (code ≡ inFlightCode → ⊥) × (code ≡ doneCode → ⊥)
-  behind-code t =
-      by-code (λ st. isBehind st ≡ true → (code ≡ inFlightCode → ⊥) × (code ≡ doneCode → ⊥))
-      (λ e f. ((λ i. omega arith), (λ i. omega arith))) (λ e f. t≠f (sym f)) (λ e f. t≠f (sym f))
-      (λ e f. ((λ i. omega arith), (λ i. omega arith))) t
+  -- from `doneCode` on all but that and `heldCode` count as not held
+  pub status-counts : doneCode < code → (code ≡ heldCode → ⊥) → countsAsNotHeld (statusOf code u) ≡ true
+  status-counts h n =
+      by-code (λ st. countsAsNotHeld st ≡ true) (λ e. absurd (omega arith)) (λ e. absurd (omega arith)) (λ e. absurd (omega arith))
+      (λ e. absurd (n e)) (λ e. refl) (λ e. refl)
+
+  pub status-counts-not : code ≤ doneCode → countsAsNotHeld (statusOf code u) ≡ false
+  status-counts-not h =
+      by-code (λ st. countsAsNotHeld st ≡ false) (λ e. refl) (λ e. refl) (λ e. refl) (λ e. refl) (λ e. absurd (omega arith))
+      (λ e. absurd (omega (arith, e .0)))
 
 -- the due setting matters to one in flight alone
 status-due : (code : ℕ) (u v : ℤ) → isInFlight (statusOf code u) ≡ false → statusOf code v ≡ statusOf code u
 status-due code u v e =
     by-code code u (λ st. isInFlight st ≡ false → statusOf code v ≡ st)
-    (λ i _. status-to-do code v i) (λ i f. t≠f f) (λ i _. status-done code v i) (λ i _. status-skipped code v i) e
+    (λ i _. status-to-do code v i) (λ i f. t≠f f) (λ i _. status-done code v i) (λ i _. status-held code v i)
+    (λ i _. status-not-held code v i) (λ i _. status-skipped code v i) e
+
+-- it never matters to those behind
+pub behind-due : (code : ℕ) (u v : ℤ) → isBehind (statusOf code u) ≡ true → isBehind (statusOf code v) ≡ true
+behind-due code u v t = ap isBehind (status-due code u v (behind-is (statusOf code u) t .0)) ∙ t
 
 pub step-due : (rows : Rows) (u v : ℤ) (k : ℕ) → isInFlight (stepAt rows u k .status) ≡ false → stepAt rows v k ≡ stepAt rows u k
 unfolding stepAt
@@ -165,6 +217,13 @@ module _ (rows : Rows) (u : ℤ) where
   steps-read k zero (suc n) z h = let e : k ≡ k + 0 = omega arith in ap (stepAt rows u) e
   steps-read k (suc j) (suc n) z h =
       let e : suc k + j ≡ k + suc j = omega arith in steps-read (suc k) j n z (omega arith) ∙ ap (stepAt rows u) e
+
+  -- the last of them
+  pub steps-last : (k n : ℕ) (before : Bool) → lastSkips before (stepsFrom rows u k (suc n)) ≡ skipsNext (stepAt rows u (k + n))
+  steps-last k zero before = let e : k ≡ k + 0 = omega arith in ap (λ (m : ℕ). skipsNext (stepAt rows u m)) e
+  steps-last k (suc n) before =
+      let e : suc k + n ≡ k + suc n = omega arith in
+      steps-last (suc k) n (skipsNext (stepAt rows u k)) ∙ ap (λ (m : ℕ). skipsNext (stepAt rows u m)) e
 
 -- ---- rows that are read alike
 

@@ -10,9 +10,10 @@ use lib.Dec.{eqb}
 use lib.IntN.{ℤ}
 use lib.ListN.{length, take, drop, getD}
 use Rattle.routine.specs.declared.Command.{Command}
-use Rattle.rules.specs.State.{Status, to-do, in-flight, was-done, was-skipped, Step}
+use Rattle.rules.specs.State.{Status, to-do, in-flight, was-done, was-skipped, was-held, was-not-held, Step}
 use Rattle.rules.specs.Tables.{anyOf, Each}
-use Rattle.rules.specs.Progress.{isOn, isToDo, isInFlight, isDone, isAnswered, next, Flight, flightOr, flight, advance, answerFlight}
+use Rattle.rules.specs.Progress.{isOn, isToDo, isInFlight, isDone, isAnswered, next, commandsIn, countsAsMust, nextCountsAsMust, skipsNext}
+use Rattle.rules.specs.Progress.{nextIsSkipped, Flight, flightOr, flight, advance, answerFlight}
 use Rattle.rules.specs.Due.{afterSteps}
 use Rattle.rules.specs.Submit.{stepOf}
 use Rattle.rules.proofs.Lists.{t≠f}
@@ -67,30 +68,40 @@ answered-is to-do e = t≠f (sym e)
 answered-is (in-flight u) e = t≠f (sym e)
 answered-is was-done e = (refl, refl)
 answered-is was-skipped e = (refl, refl)
+answered-is was-held e = (refl, refl)
+answered-is was-not-held e = (refl, refl)
 
 pub to-do-is : (st : Status) → isToDo st ≡ true → (isAnswered st ≡ false) × (isInFlight st ≡ false)
 to-do-is to-do e = (refl, refl)
 to-do-is (in-flight u) e = t≠f (sym e)
 to-do-is was-done e = t≠f (sym e)
 to-do-is was-skipped e = t≠f (sym e)
+to-do-is was-held e = t≠f (sym e)
+to-do-is was-not-held e = t≠f (sym e)
 
-behind-is : (st : Status) → isBehind st ≡ true → (isInFlight st ≡ false) × (isDone st ≡ false)
+pub behind-is : (st : Status) → isBehind st ≡ true → (isInFlight st ≡ false) × (isDone st ≡ false)
 behind-is to-do e = (refl, refl)
 behind-is (in-flight u) e = t≠f (sym e)
 behind-is was-done e = t≠f (sym e)
 behind-is was-skipped e = (refl, refl)
+behind-is was-held e = t≠f (sym e)
+behind-is was-not-held e = t≠f (sym e)
 
 open-not-done : (st : Status) → isAnswered st ≡ false → isDone st ≡ false
 open-not-done to-do e = refl
 open-not-done (in-flight u) e = refl
 open-not-done was-done e = t≠f e
 open-not-done was-skipped e = t≠f e
+open-not-done was-held e = refl
+open-not-done was-not-held e = refl
 
 open-to-do : (st : Status) → isAnswered st ≡ false → isInFlight st ≡ false → isToDo st ≡ true
 open-to-do to-do e f = refl
 open-to-do (in-flight u) e f = t≠f f
 open-to-do was-done e f = t≠f e
 open-to-do was-skipped e f = t≠f e
+open-to-do was-held e f = t≠f e
+open-to-do was-not-held e f = t≠f e
 
 -- a step that is not in flight adds no flight
 flight-past : (x : Step) (st : Status) (other : Option Flight) → isInFlight st ≡ false → flightOr x st other ≡ other
@@ -98,6 +109,8 @@ flight-past x to-do other e = refl
 flight-past x (in-flight u) other e = t≠f e
 flight-past x was-done other e = refl
 flight-past x was-skipped other e = refl
+flight-past x was-held other e = refl
+flight-past x was-not-held other e = refl
 
 -- there is no flight: this is none, nor is one behind it
 pub flight-not : (x : Step) (st : Status) (other : Option Flight) → flightOr x st other ≡ none → (isInFlight st ≡ false) × (other ≡ none)
@@ -105,6 +118,8 @@ flight-not x to-do other e = (refl, e)
 flight-not x (in-flight u) other e = not-none _ (sym e)
 flight-not x was-done other e = (refl, e)
 flight-not x was-skipped other e = (refl, e)
+flight-not x was-held other e = (refl, e)
+flight-not x was-not-held other e = (refl, e)
 
 -- there is one, and not behind this
 flight-this : (x : Step) (st : Status) (other : Option Flight) (f : Flight) → other ≡ none → flightOr x st other ≡ some f →
@@ -116,6 +131,8 @@ flight-this x (in-flight u) other f n e = let c : x .command ≡ f .command = fl
     flown c u f e = ap (λ (o : Option Flight). commandOr c o) e
 flight-this x was-done other f n e = not-none f (sym n ∙ e)
 flight-this x was-skipped other f n e = not-none f (sym n ∙ e)
+flight-this x was-held other f n e = not-none f (sym n ∙ e)
+flight-this x was-not-held other f n e = not-none f (sym n ∙ e)
 
 -- ---- none is in flight or done
 
@@ -245,6 +262,32 @@ advance-to-do (suc n) (y ∷ l) a x r e t st =
 pub flights-to-do : (n : ℕ) (l : List Step) → AnsweredUpTo n l → (x : Step) (r : List Step) → drop n l ≡ x ∷ r →
     isInFlight (x .status) ≡ false → (d : ℕ) → anyOf (flies d) l ≡ false
 flights-to-do n l a x r e t d = flights-none n l a (flight-to-do n l a x r e t) d
+
+-- it is skipped if the one before it, the last that is answered, skips it
+abbrev pub lastSkips : Bool → List Step → Bool
+lastSkips before [] = before
+lastSkips before (x ∷ l) = lastSkips (skipsNext x) l
+
+pub skipped-to-do : (before : Bool) (n : ℕ) (l : List Step) → AnsweredUpTo n l → (x : Step) (r : List Step) → drop n l ≡ x ∷ r →
+    isInFlight (x .status) ≡ false → nextIsSkipped before l ≡ lastSkips before (take n l)
+skipped-to-do before zero [] a x r e t = no-steps x r e
+skipped-to-do before zero (y ∷ l) a x r e t = rw (first-to-do y x (same-first y x l r e) (a .0) t)
+skipped-to-do before (suc n) [] a x r e t = absurd a
+skipped-to-do before (suc n) (y ∷ l) a x r e t =
+    rw (answered-is (y .status) (a .0) .0) (skipped-to-do (skipsNext y) n l (a .1) x r e t)
+
+-- and counts with the commands behind it
+pub must-to-do : (n : ℕ) (l : List Step) → AnsweredUpTo n l → (x : Step) (r : List Step) → drop n l ≡ x ∷ r →
+    isInFlight (x .status) ≡ false → nextCountsAsMust l ≡ countsAsMust (x .command) (commandsIn r)
+must-to-do zero [] a x r e t = no-steps x r e
+must-to-do zero (y ∷ l) a x r e t =
+    rw (first-to-do y x (same-first y x l r e) (a .0) t) (ap counts e)
+  where
+    counts : List Step → Bool
+    counts [] = false
+    counts (z ∷ m) = countsAsMust (z .command) (commandsIn m)
+must-to-do (suc n) [] a x r e t = absurd a
+must-to-do (suc n) (y ∷ l) a x r e t = rw (answered-is (y .status) (a .0) .0) (must-to-do n l (a .1) x r e t)
 
 -- it is in flight
 first-sent : (y x : Step) (u : ℤ) → y ≡ x → x .status ≡ in-flight u → y .status ≡ in-flight u

@@ -1,33 +1,38 @@
 -- Laws that the proofs of this crate cite. Assumes nothing.
 use mathlib.Core.Path.{_≡_, refl, sym, ap, _∙_, subst}
 use mathlib.Core.Logic.{_≢_}
-use mathlib.Core.Bool.{Bool, true, false, not}
+use mathlib.Core.Bool.{Bool, true, false, not, _&&_, and-false}
 use mathlib.Core.List.{List, [], _∷_}
 use mathlib.Core.Option.{Option, none}
-use Prim.Native.Nat.{ℕ, _*_, _<_}
+use Prim.Native.Nat.{ℕ, suc, _+_, _-_, _*_, _<_, _≤_}
 use native.Mathlib.Omega.{arith}
-use borrow.Author.Tests.{eq-eqb, ne-eqb}
+use borrow.Author.Tests.{eq-eqb, ne-eqb, lt-ltb, le-ltb}
+use lib.Dec.{eqb, ltb}
 use lib.IntN.{ℤ, pos}
 use lib.ListN.{getD}
+use lib.Signed.{ltZ}
 use Rattle.routine.specs.Choice.{if_then_else_}
 use Rattle.routine.specs.Refusals.{refusalOf}
-use Rattle.routine.specs.Routine.{maxDevices, maxCommands, mustTag}
+use Rattle.routine.specs.Routine.{maxDevices, maxCommands, mustTag, conditionTag, isCondition}
 use Rattle.routine.specs.declared.Command.{Command}
 use Rattle.routine.specs.declared.Refusal.the-variants.{Number}
-use Rattle.rules.specs.State.{maxHeld, Status, in-flight, was-skipped, Member}
+use Rattle.rules.specs.State.{maxHeld, Status, in-flight, was-skipped, was-held, was-not-held, Member, State}
 use Rattle.rules.specs.Tables.{put}
-use Rattle.rules.specs.Answers.{wait, send, skipped, committed}
-use Rattle.rules.specs.Progress.{isToDo, begun, next, flight, Flight, advance, withSteps}
+use Rattle.rules.specs.Answers.{Answer as Told, Result, wait, send, skipped, held, not-held, committed}
+use Rattle.rules.specs.Progress.{isToDo, begun, next, commandsIn, countsAsMust, nextCountsAsMust, countsAsNotHeld, skipsNext, nextIsSkipped}
+use Rattle.rules.specs.Progress.{flight, Flight, advance, withSteps}
 use Rattle.rules.specs.Due.{due}
 use Rattle.rules.specs.Sequence.{Found, runs, withMark, change}
 use Rattle.rules.specs.Abort.{abort}
 use Rattle.rules.specs.Settle.{settling}
-use Rattle.rules.specs.Turn.{firstHolding, markBegun, commitTurn, nextBecomes, sendTurn, skipTurn}
-use Rattle.rules.specs.Turn.{proceed, waitOr, turnNext, turnFlight, turnFound, turnOf}
+use Rattle.rules.specs.Turn.{firstHolding, markBegun, commitTurn, nextBecomes, sendTurn, skipTurn, isHeld, heldTurn, notHeldTurn}
+use Rattle.rules.specs.Turn.{proceedUp, proceed, waitOr, turnNext, turnFlight, turnFound, turnOf}
 use Rattle.sequence.specs.Links.{Stands}
-use Rattle.state.specs.View.{inFlightCode, skippedCode, statusOf, stepAt, stepsAt, memberAt, stateOf, there, holderOf}
+use Rattle.sequence.proofs.Tables.{byLess}
+use Rattle.state.specs.View.{inFlightCode, doneCode, skippedCode, heldCode, notHeldCode, statusOf, rowsOf, stepAt, stepsFrom, stepsAt}
+use Rattle.state.specs.View.{memberAt, stateOf, there, holderOf}
 use Rattle.state.specs.Valid.{StateOk}
-use Rattle.state.specs.Open.{answeredAt, commandAt, NoneOpen, OpenToDo, OpenInFlight}
+use Rattle.state.specs.Open.{answeredAt, dueThenAt, commandAt, skipsAfter, NoneOpen, OpenToDo, OpenInFlight}
 use Rattle.state.specs.Contract.{setStatus, staged, committedAt, StageOk, plainly, Decides}
 use Rattle.state.specs.declared.HubState.{HubState}
 use Rattle.state.specs.declared.Place.{Place}
@@ -37,11 +42,14 @@ use Rattle.state.specs.declared.Holder.the-variants.{Routine, Nobody}
 use Rattle.state.specs.declared.Staged.{Staged}
 use Rattle.state.specs.declared.Change.the-variants.{Nothing, Stage, Commit, Abort}
 use Rattle.state.specs.declared.Decision.{Decision}
-use Rattle.answers.specs.declared.Answer.the-variants.{Refused, Wait, Sent as ToSend, Skipped, Committed, Aborted}
-use Rattle.state.proofs.Rows.{status-sent, status-skipped}
+use Rattle.answers.specs.View.{answerOf, changesNothing}
+use Rattle.answers.specs.declared.Answer.{Answer}
+use Rattle.answers.specs.declared.Answer.the-variants.{Refused, Wait, Sent as ToSend, Skipped, Committed, Aborted, Held, NotHeld}
+use Rattle.state.proofs.Rows.{status-sent, status-skipped, status-held, status-not-held, status-counts, status-counts-not}
 use Rattle.state.proofs.Members.{there-it, member-steps, place-within}
 use Rattle.state.proofs.Laws.{refused-decides, wait-decides, stage-decides, commit-decides, abort-decides}
-use Rattle.search.specs.Contract.{Finds}
+use Rattle.search.specs.Contract.{Finds, countingTag}
+use Rattle.search.proofs.Commands.{counts-must}
 use Rattle.search.proofs.Found.{found-as, stands-at, found-id}
 
 -- ---- the place of the next command is in the rows
@@ -55,9 +63,12 @@ module _ (h : HubState) (k : ℕ) where
   unfolding stepAt
   device-read row e = ap (λ (l : List ℕ). getD l k 0) e
 
-  pub tag-read : getD (h .tag) k 0 ≡ commandAt h k .tag
+  pub tag-read : (row : List ℕ) → row ≡ h .tag → getD row k 0 ≡ commandAt h k .tag
   unfolding stepAt
-  tag-read = refl
+  tag-read row e = ap (λ (l : List ℕ). getD l k 0) e
+
+  pub asks-read : (row : List ℕ) → row ≡ h .tag → eqb (getD row k 0) conditionTag ≡ isCondition (commandAt h k)
+  asks-read row e = ap (λ (t : ℕ). eqb t conditionTag) (tag-read row e)
 
   pub setting-read : getD (h .setting) k (pos 0) ≡ commandAt h k .setting
   unfolding stepAt
@@ -123,17 +134,58 @@ module _ (h : HubState) (x k : ℕ) (s : Stands (h .links) x) (o : OpenToDo h x 
         (stage-decides h [] _ (ToSend (record { id = i; command = c })) refl (becomes inFlightCode u) (next-ok inFlightCode u (ap isToDo q))
         (λ j. settling (record { state = w j; answers = send (n j) (g j) ∷ [] })))
 
+    -- it is answered: one answer, with the id
+    answered-decides : (code : ℕ) (u : ℤ) (st : Status) → statusOf code u ≡ st → isToDo st ≡ false → (a : Answer) →
+        changesNothing a ≡ false → (told : ℕ → Told) → answerOf a [] ≡ told i → (y : Decision) → y ≡ plainly a (Stage (becomes code u)) →
+        Decides h [] y
+        (settling (record {
+          state = nextBecomes (stateOf h) (there h x) (commandAt h k) st;
+          answers = told (there h x .it .id) ∷ [];
+        }))
+    answered-decides code u st e t a c told f y z =
+        let w = staged-next code u st e in
+        let n : answerOf a [] ≡ told (there h x .it .id) = f ∙ ap told (id-there h x i r) in
+        let after : Result = settling (record {
+          state = nextBecomes (stateOf h) (there h x) (commandAt h k) st;
+          answers = told (there h x .it .id) ∷ [];
+        }) in
+        subst (λ (g : Decision). Decides h [] g after) (sym z)
+        (stage-decides h [] after a c (becomes code u) (next-ok code u (ap isToDo e ∙ t))
+        (λ j. settling (record { state = w j; answers = n j ∷ [] })))
+
     -- "a best-effort is skipped"
     pub skip-decides : (u : ℤ) (y : Decision) → y ≡ plainly (Skipped i) (Stage (becomes skippedCode u)) →
         Decides h [] y (settling (skipTurn (stateOf h) (there h x) (commandAt h k)))
     unfolding skipTurn
     skip-decides u y z =
-        let t = status-skipped skippedCode u (omega arith) in
-        let w = staged-next skippedCode u was-skipped t in
-        let n = id-there h x i r in
-        subst (λ (f : Decision). Decides h [] f (settling (skipTurn (stateOf h) (there h x) (commandAt h k)))) (sym z)
-        (stage-decides h [] _ (Skipped i) refl (becomes skippedCode u) (next-ok skippedCode u (ap isToDo t))
-        (λ j. settling (record { state = w j; answers = skipped (n j) [] ∷ [] })))
+        answered-decides skippedCode u was-skipped (status-skipped skippedCode u (omega arith)) refl (Skipped i) refl
+        (λ j. skipped j []) refl y z
+
+    -- a condition: "if its device's due setting is below the given number, it doesn't hold"
+    module _ (now number : ℤ) (e : now ≡ due (stateOf h) d) (f : number ≡ commandAt h k .setting) where
+      abbrev askTurn : Result
+      askTurn =
+          if isHeld (stateOf h) (commandAt h k) then settling (heldTurn (stateOf h) (there h x) (commandAt h k))
+          else settling (notHeldTurn (stateOf h) (there h x) (commandAt h k))
+
+      held-by : isHeld (stateOf h) (commandAt h k) ≡ not (ltZ now number)
+      unfolding isHeld
+      held-by = let g : due (stateOf h) (commandAt h k .device) ≡ now = ap (due (stateOf h)) (sym p) ∙ sym e in
+          λ j. not (ltZ (g j) (sym f j))
+
+      pub held-decides : ltZ now number ≡ false → (u : ℤ) (y : Decision) → y ≡ plainly (Held i) (Stage (becomes heldCode u)) →
+          Decides h [] y askTurn
+      unfolding heldTurn
+      held-decides t u y z =
+          rw (held-by ∙ ap not t)
+          (answered-decides heldCode u was-held (status-held heldCode u refl) refl (Held i) refl held refl y z)
+
+      pub not-held-decides : ltZ now number ≡ true → (u : ℤ) (y : Decision) → y ≡ plainly (NotHeld i) (Stage (becomes notHeldCode u)) →
+          Decides h [] y askTurn
+      unfolding notHeldTurn
+      not-held-decides t u y z =
+          rw (held-by ∙ ap not t)
+          (answered-decides notHeldCode u was-not-held (status-not-held notHeldCode u refl) refl (NotHeld i) refl not-held refl y z)
 
   -- "a must aborts R"
   pub must-decides : (i : ℕ) → i ≡ memberAt h x .id → (y : Decision) → y ≡ plainly (Aborted i) (Abort x) →
@@ -144,11 +196,13 @@ module _ (h : HubState) (x k : ℕ) (s : Stands (h .links) x) (o : OpenToDo h x 
 
   -- ---- the wait search: wait, or go on
 
-  module _ (d : ℕ) (p : d ≡ commandAt h k .device) (w : Holder) (e : holderOf w ≡ firstHolding d (there h x .ahead)) where
+  module _ (d : ℕ) (p : d ≡ commandAt h k .device) (asks : Bool) (a : asks ≡ isCondition (commandAt h k)) (w : Holder)
+      (e : holderOf w ≡ firstHolding d asks (there h x .ahead)) where
     holder-tells : (o : Holder) → w ≡ o →
         waitOr (stateOf h) (there h x) (commandAt h k) (holderOf o) ≡ turnNext (stateOf h) (there h x) (next (stepsAt h x))
     holder-tells v q =
-        ap (waitOr (stateOf h) (there h x) (commandAt h k)) (sym (ap holderOf q) ∙ e ∙ ap (λ (c : ℕ). firstHolding c (there h x .ahead)) p)
+        ap (waitOr (stateOf h) (there h x) (commandAt h k))
+        (sym (ap holderOf q) ∙ e ∙ (λ j. firstHolding (p j) (a j) (there h x .ahead)))
         ∙ ap (turnNext (stateOf h) (there h x)) (sym (o .next-is))
 
     pub goes-on : (y : Decision) → w ≡ Nobody → Decides h [] y (proceed (stateOf h) (there h x) (commandAt h k)) →
@@ -163,20 +217,93 @@ module _ (h : HubState) (x k : ℕ) (s : Stands (h .links) x) (o : OpenToDo h x 
         subst (λ (f : Decision). Decides h [] f (turnNext (stateOf h) (there h x) (next (stepsAt h x)))) (sym z)
         (wait-decides h [] _ i j ((λ a. record { state = stateOf h; answers = wait (n a) j ∷ [] }) ∙ holder-tells (Routine j) q))
 
--- ---- "If D is down"
+-- ---- does the condition before the next command skip it?
 
-module _ (h : HubState) (f : Found) (c : Command) (d : ℕ) (p : d ≡ c .device) (t : Bool) (e : t ≡ stateOf h .up d) where
-  up-is : stateOf h .up (c .device) ≡ t
-  up-is = ap (stateOf h .up) (sym p) ∙ sym e
+module _ (h : HubState) (x k : ℕ) (o : OpenToDo h x k) where
+  pub none-before : k ≤ x * maxCommands → false ≡ nextIsSkipped false (stepsAt h x)
+  none-before i = let e : answeredAt h x ≡ 0 = omega (arith, o .place) in sym (o .next-skipped ∙ ap (skipsAfter h x) e)
 
-  pub proceed-up : t ≡ true → settling (sendTurn (stateOf h) f c) ≡ proceed (stateOf h) f c
-  proceed-up u = rw (up-is ∙ u)
+  module _ (tags stages : List ℕ) (t : tags ≡ h .tag) (s : stages ≡ h .stage) (i : x * maxCommands < k) where
+    abbrev tagBefore : ℕ
+    tagBefore = getD tags (k - 1) 0
 
-  pub proceed-must : t ≡ false → c .tag ≡ mustTag → settling (abort (stateOf h) f) ≡ proceed (stateOf h) f c
-  proceed-must u m = rw (up-is ∙ u, eq-eqb (c .tag) mustTag m)
+    abbrev stageBefore : ℕ
+    stageBefore = getD stages (k - 1) 0
 
-  pub proceed-skip : t ≡ false → c .tag ≢ mustTag → settling (skipTurn (stateOf h) f c) ≡ proceed (stateOf h) f c
-  proceed-skip u m = rw (up-is ∙ u, ne-eqb (c .tag) mustTag m)
+    before-is : nextIsSkipped false (stepsAt h x)
+        ≡ (eqb tagBefore conditionTag && countsAsNotHeld (statusOf stageBefore (dueThenAt h x)))
+    unfolding stepAt
+    before-is =
+        let n = k - 1 - x * maxCommands in
+        let e : answeredAt h x ≡ suc n = omega (arith, o .place) in
+        let j : x * maxCommands + n ≡ k - 1 = omega arith in
+        o .next-skipped ∙ ap (skipsAfter h x) e ∙ ap (λ (m : ℕ). skipsNext (stepAt (rowsOf h) (dueThenAt h x) m)) j ∙ rw (t, s)
+
+    pub before-command : (tagBefore ≡ conditionTag → ⊥) → false ≡ nextIsSkipped false (stepsAt h x)
+    before-command n = rw (before-is, ne-eqb tagBefore conditionTag n)
+
+    pub before-held : stageBefore ≡ heldCode → false ≡ nextIsSkipped false (stepsAt h x)
+    before-held e = rw (before-is, status-held stageBefore (dueThenAt h x) e) (sym (and-false (eqb tagBefore conditionTag)))
+
+    pub before-condition : tagBefore ≡ conditionTag → (stageBefore ≡ heldCode → ⊥) →
+        ltb doneCode stageBefore ≡ nextIsSkipped false (stepsAt h x)
+    before-condition e n =
+        rw (before-is, eq-eqb tagBefore conditionTag e)
+        (byLess doneCode stageBefore
+        (λ a. rw (lt-ltb doneCode stageBefore a, status-counts stageBefore (dueThenAt h x) a n))
+        (λ a. rw (le-ltb doneCode stageBefore a, status-counts-not stageBefore (dueThenAt h x) a)))
+
+-- ---- what the next command counts as
+
+pub counts-as : (h : HubState) (x k : ℕ) → OpenToDo h x k → (tags : List ℕ) → tags ≡ h .tag → (t : ℕ) →
+    t ≡ countingTag tags k (x * maxCommands + getD (h .counts) x 0 - k) → nextCountsAsMust (stepsAt h x) ≡ eqb t mustTag
+unfolding stepAt
+counts-as h x k o tags e t c =
+    let n = getD (h .counts) x 0 - suc (answeredAt h x) in
+    let i : x * maxCommands + suc (answeredAt h x) ≡ suc k = omega (arith, o .place) in
+    let j : suc n ≡ x * maxCommands + getD (h .counts) x 0 - k = omega (arith, o .place, o .not-all) in
+    o .next-must
+    ∙ ap (λ (m : ℕ). countsAsMust (commandAt h k) (commandsIn (stepsFrom (rowsOf h) (dueThenAt h x) m n))) i
+    ∙ counts-must (rowsOf h) (dueThenAt h x) k n
+    ∙ ap (λ (m : ℕ). eqb (countingTag (h .tag) k m) mustTag) j
+    ∙ ap (λ (l : List ℕ). eqb (countingTag l k (x * maxCommands + getD (h .counts) x 0 - k)) mustTag) (sym e)
+    ∙ ap (λ (m : ℕ). eqb m mustTag) (sym c)
+
+-- ---- "its device up or down"
+
+module _ (h : HubState) (x : ℕ) (c : Command) (skips : Bool) (a : skips ≡ nextIsSkipped false (stepsAt h x)) where
+  skips-is : nextIsSkipped false (there h x .it .steps) ≡ skips
+  skips-is = ap (nextIsSkipped false) (steps-there h x) ∙ sym a
+
+  pub proceed-skipped : skips ≡ true → settling (skipTurn (stateOf h) (there h x) c) ≡ proceed (stateOf h) (there h x) c
+  proceed-skipped s = rw (skips-is ∙ s)
+
+  module _ (s : skips ≡ false) (d : ℕ) (p : d ≡ c .device) (t : Bool) (e : t ≡ stateOf h .up d) where
+    up-is : stateOf h .up (c .device) ≡ t
+    up-is = ap (stateOf h .up) (sym p) ∙ sym e
+
+    pub proceed-up : t ≡ true → proceedUp (stateOf h) (there h x) c ≡ proceed (stateOf h) (there h x) c
+    proceed-up u = rw (skips-is ∙ s, up-is ∙ u)
+
+    -- "If D is down"
+    module _ (u : t ≡ false) (tag : ℕ) (m : nextCountsAsMust (stepsAt h x) ≡ eqb tag mustTag) where
+      must-is : nextCountsAsMust (there h x .it .steps) ≡ eqb tag mustTag
+      must-is = ap nextCountsAsMust (steps-there h x) ∙ m
+
+      pub proceed-must : tag ≡ mustTag → settling (abort (stateOf h) (there h x)) ≡ proceed (stateOf h) (there h x) c
+      proceed-must q = rw (skips-is ∙ s, up-is ∙ u, must-is ∙ eq-eqb tag mustTag q)
+
+      pub proceed-skip : tag ≢ mustTag → settling (skipTurn (stateOf h) (there h x) c) ≡ proceed (stateOf h) (there h x) c
+      proceed-skip n = rw (skips-is ∙ s, up-is ∙ u, must-is ∙ ne-eqb tag mustTag n)
+
+-- "Otherwise the command is sent and is in flight"; a condition is asked.
+module _ (s : State) (f : Found) (c : Command) where
+  pub up-asks : c .tag ≡ conditionTag →
+      (if isHeld s c then settling (heldTurn s f c) else settling (notHeldTurn s f c)) ≡ proceedUp s f c
+  up-asks e = rw (eq-eqb (c .tag) conditionTag e)
+
+  pub up-sends : c .tag ≢ conditionTag → settling (sendTurn s f c) ≡ proceedUp s f c
+  up-sends n = rw (ne-eqb (c .tag) conditionTag n)
 
 -- ---- the ways of a turn
 

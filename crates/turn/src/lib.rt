@@ -148,7 +148,8 @@ fn is_skipped<'a>(
     at: usize,
     k: usize,
 ) -> bool
-    requires { ⌜ (StateOk state) × (Stands (state .links) at) × (OpenToDo state at k) × (now tag ≡ state .tag) × (now stage ≡ state .stage) ⌝ }
+    requires { ⌜ (StateOk state) × (Stands (state .links) at) × (OpenToDo state at k)
+        × (now tag ≡ state .tag) × (now stage ≡ state .stage) ⌝ }
     ensures { λ r. ⌜ r ≡ nextIsSkipped false (stepsAt state at) ⌝ }
 {
     if k <= at * MAX_COMMANDS {

@@ -188,7 +188,9 @@ pub type Back = (usize, i64);
 pub enum Answer {
     Placed { id: u64, after: u64 },
     Send { id: u64, device: usize, setting: i64 },
-    Wait { id: u64 },
+    Wait { id: u64, on: u64 },
+    Held { id: u64 },
+    NotHeld { id: u64 },
     Skipped { id: u64, back: Vec<Back> },
     Committed { id: u64 },
     Aborted { id: u64, back: Vec<Back> },
@@ -215,7 +217,9 @@ impl Answer {
         Some(match words[0] {
             "placed" if words.get(2) == Some(&"after") => long(4).and(Some(Answer::Placed { id: id(1)?, after: id(3)? }))?,
             "send" => long(4).and(Some(Answer::Send { id: id(1)?, device: device(2)?, setting: setting(3)? }))?,
-            "wait" if words.get(2) == Some(&"on") => long(4).and(id(3)).and(Some(Answer::Wait { id: id(1)? }))?,
+            "wait" if words.get(2) == Some(&"on") => long(4).and(Some(Answer::Wait { id: id(1)?, on: id(3)? }))?,
+            "held" => long(2).and(Some(Answer::Held { id: id(1)? }))?,
+            "not" if words.get(1) == Some(&"held") => long(3).and(Some(Answer::NotHeld { id: id(2)? }))?,
             "skipped" if words.len() == 2 => Answer::Skipped { id: id(1)?, back: Vec::new() },
             "skipped" => Answer::Skipped { id: id(1)?, back: back(2)? },
             "committed" => long(2).and(Some(Answer::Committed { id: id(1)? }))?,

@@ -1,4 +1,4 @@
-//! The examples of document 01, and of document 02's item 3, as tests/hub/examples.txt has them.
+//! The examples of document 01, and of document 02's items 3 and 4, as tests/hub/examples.txt has them.
 
 /// The examples that are inputs of the line program, each with its output. A book, and a report with another code than 0 and 1,
 /// are none.
@@ -25,6 +25,6 @@ pub fn read(path: &str) -> Vec<(Vec<u8>, Vec<u8>)> {
     }
     let own = |input: &str| input.lines().all(|line| !line.starts_with("P ") && !line.starts_with("book"));
     let found: Vec<_> = found.into_iter().filter(|(input, _)| own(input)).collect();
-    assert!(found.len() >= 32, "{path}: only {} examples", found.len());
+    assert!(found.len() >= 60, "{path}: only {} examples", found.len());
     found.into_iter().map(|(input, output)| (input.into_bytes(), output.into_bytes())).collect()
 }

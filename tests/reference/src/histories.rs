@@ -4,7 +4,7 @@
 //! command in flight, a device that is up or down. `random` gives lines of the right shape, refused ones among them;
 //! `damaged` gives such histories with faults of all kinds in the bytes.
 
-use crate::hub::{Command, Glance, BEST_EFFORT, LAST_ID, MOST_ROUTINES, MUST};
+use crate::hub::{Command, Glance, BEST_EFFORT, CONDITION, LAST_ID, MOST_ROUTINES, MUST};
 use crate::line::Program;
 
 // ---- numbers
@@ -97,7 +97,8 @@ struct Habit {
     enough: usize,
     most_commands: i64,
     most_devices: i64,
-    /// In a hundred: best-effort commands, failed reports, turns of routines that must wait.
+    /// In a hundred: conditions where one may stand, best-effort commands, failed reports, turns of routines that must wait.
+    conditions: usize,
     best_effort: usize,
     failed: usize,
     waits: usize,
@@ -107,11 +108,12 @@ struct Habit {
 const HABITS: [Habit; 7] = [
     // An ordinary sitting.
     Habit {
-        weights: [20, 57, 3, 8, 4, 4, 3, 1],
+        weights: [20, 57, 3, 13, 4, 4, 3, 1],
         first: (1, 4),
         enough: 5,
         most_commands: 8,
         most_devices: 6,
+        conditions: 15,
         best_effort: 40,
         failed: 15,
         waits: 25,
@@ -119,11 +121,12 @@ const HABITS: [Habit; 7] = [
     },
     // Short routines on few devices, many cancelled: settings go back.
     Habit {
-        weights: [20, 53, 9, 10, 2, 3, 2, 1],
+        weights: [20, 53, 9, 15, 2, 3, 2, 1],
         first: (2, 5),
         enough: 4,
         most_commands: 3,
         most_devices: 3,
+        conditions: 20,
         best_effort: 60,
         failed: 35,
         waits: 10,
@@ -131,11 +134,12 @@ const HABITS: [Habit; 7] = [
     },
     // Devices go down and come back all the time.
     Habit {
-        weights: [18, 44, 3, 12, 10, 10, 2, 1],
+        weights: [18, 44, 3, 17, 10, 10, 2, 1],
         first: (2, 5),
         enough: 4,
         most_commands: 5,
         most_devices: 5,
+        conditions: 25,
         best_effort: 60,
         failed: 15,
         waits: 15,
@@ -143,11 +147,12 @@ const HABITS: [Habit; 7] = [
     },
     // A full sequence.
     Habit {
-        weights: [25, 58, 3, 2, 3, 3, 3, 1],
+        weights: [25, 58, 3, 4, 3, 3, 3, 1],
         first: (14, 19),
         enough: 17,
         most_commands: 4,
         most_devices: 8,
+        conditions: 15,
         best_effort: 30,
         failed: 15,
         waits: 25,
@@ -155,11 +160,12 @@ const HABITS: [Habit; 7] = [
     },
     // Much is refused.
     Habit {
-        weights: [15, 40, 3, 1, 5, 5, 30, 1],
+        weights: [15, 40, 3, 2, 5, 5, 30, 1],
         first: (1, 3),
         enough: 5,
         most_commands: 4,
         most_devices: 4,
+        conditions: 20,
         best_effort: 40,
         failed: 20,
         waits: 20,
@@ -167,11 +173,12 @@ const HABITS: [Habit; 7] = [
     },
     // The ids run out.
     Habit {
-        weights: [25, 55, 5, 2, 4, 4, 3, 2],
+        weights: [25, 55, 5, 4, 4, 4, 3, 2],
         first: (1, 4),
         enough: 4,
         most_commands: 2,
         most_devices: 4,
+        conditions: 30,
         best_effort: 40,
         failed: 20,
         waits: 15,
@@ -179,11 +186,12 @@ const HABITS: [Habit; 7] = [
     },
     // Long routines over many devices.
     Habit {
-        weights: [15, 66, 3, 7, 3, 3, 2, 1],
+        weights: [15, 66, 3, 11, 3, 3, 2, 1],
         first: (2, 6),
         enough: 6,
         most_commands: 8,
         most_devices: 32,
+        conditions: 20,
         best_effort: 40,
         failed: 12,
         waits: 15,
@@ -284,9 +292,10 @@ impl Sitting {
             Action::Advance => self.advance(),
             Action::Cancel => self.cancel(),
             Action::Scene => match self.random.below(100) {
-                0..=34 => self.undercut(),
-                35..=64 => self.event_amid(),
-                _ => self.lamp(),
+                0..=22 => self.undercut(),
+                23..=44 => self.event_amid(),
+                45..=66 => self.lamp(),
+                _ => self.condition(),
             },
             Action::Failure => self.failure(),
             Action::Restart => self.restart(),
@@ -329,13 +338,28 @@ impl Sitting {
         // Few devices, so that routines meet on them; a base apart for some routines, so that all are used.
         let spread = self.random.between(1, self.habit.most_devices.min(n));
         let base = if self.random.percent(70) { 0 } else { self.random.below(n as usize) as i64 };
-        (0..count)
+        let mut commands: Vec<Command> = (0..count)
             .map(|_| Command {
                 device: ((base + self.random.between(0, spread - 1)) % n) as u8,
                 tag: if self.random.percent(self.habit.best_effort) { BEST_EFFORT } else { MUST },
                 setting: self.setting() as i16,
             })
-            .collect()
+            .collect();
+        // In half of the routines conditions: not last, and none before another.
+        if self.random.percent(50) {
+            for at in 1..commands.len() {
+                if (at < 2 || commands[at - 2].tag != CONDITION) && self.random.percent(2 * self.habit.conditions) {
+                    commands[at - 1].tag = CONDITION;
+                    commands[at - 1].setting = self.number() as i16;
+                }
+            }
+        }
+        commands
+    }
+
+    /// Of a condition: near the settings.
+    fn number(&mut self) -> i64 {
+        (self.setting() + self.random.pick(&[0, 0, 1, -1])).clamp(-1000, 1000)
     }
 
     fn submit(&mut self) {
@@ -487,6 +511,75 @@ impl Sitting {
         }
     }
 
+    /// A condition on a device that a running routine ahead has set, or a committed one; one that an event skips; one on a device that is
+    /// down; one before a command whose device goes down in between (document 02, item 4).
+    fn condition(&mut self) {
+        let n = self.device_count() as usize;
+        let (up, down) = (self.devices(true), self.devices(false));
+        if n == 1 || up.is_empty() {
+            return self.restart();
+        }
+        let device = *self.random.pick(&up) as usize;
+        let other = (device + 1 + self.random.below(n - 1)) % n;
+        let settings = [self.setting(), self.setting(), self.setting()];
+        let (number, tag) = (self.number(), self.random.below(2) as u8);
+        let asks = format!("S {device} 2 {number} {other} {tag} {}", settings[2]);
+        match self.random.below(10) {
+            0..=1 => {
+                self.say(format!("S {device} 0 {} {other} 1 {}", settings[0], settings[1]));
+                self.say_of_newest("ND");
+                let ahead = self.running().iter().map(|r| r.id).max();
+                self.say(asks);
+                self.say_of_newest("N");
+                if let (Some(id), true) = (ahead, self.random.percent(40)) {
+                    self.say(format!("C {id}"));
+                    self.say_of_newest("NN");
+                }
+            }
+            2 => {
+                self.say(format!("S {other} 0 {}", settings[0]));
+                self.say_of_newest("ND");
+                self.say(format!("S {other} 1 {} {device} 0 {}", settings[1], settings[2]));
+                self.say_of_newest("NDNDN");
+                self.say(asks);
+                self.say_of_newest("NN");
+            }
+            3..=4 => {
+                self.say(format!("S {device} 1 {} {device} 2 {number} {other} {tag} {}", settings[0], settings[1]));
+                let done = self.random.percent(50);
+                self.say_of_newest(if done { "ND" } else { "N" });
+                self.say(format!("F {device}"));
+                self.say_of_newest("NN");
+            }
+            5..=6 => {
+                let failed = if down.is_empty() { device } else { *self.random.pick(&down) as usize };
+                if down.is_empty() {
+                    self.say(format!("F {failed}"));
+                }
+                let (first, tag) = match self.random.below(10) {
+                    0..=2 => (String::new(), tag),
+                    3 => (format!(" {failed} 1 {}", settings[0]), MUST),
+                    _ => (format!(" {failed} 1 {}", settings[0]), BEST_EFFORT),
+                };
+                self.say(format!("S{first} {failed} 2 {number} {other} {tag} {}", settings[2]));
+                self.say_of_newest("N");
+                if self.random.percent(90) {
+                    self.say(format!("R {failed} {}", settings[1]));
+                }
+                self.say_of_newest("N");
+            }
+            _ => {
+                let due = self.program.hub().map_or(0, |hub| hub.due_setting(device as u8));
+                let tag = if self.random.percent(80) { MUST } else { BEST_EFFORT };
+                let number = i64::from(due) + self.random.between(0, 1);
+                self.say(format!("S {device} 2 {number} {other} {tag} {}", settings[0]));
+                self.say_of_newest("N");
+                self.say(format!("F {other}"));
+                self.say_of_newest("N");
+            }
+        }
+    }
+
     fn late_report(&mut self) {
         let at = self.random.below(self.lost.len());
         let id = self.lost.swap_remove(at);
@@ -563,7 +656,7 @@ impl Sitting {
                 }
                 self.say(submission(&commands));
             }
-            5..=7 => {
+            5..=6 => {
                 let count = self.random.between(1, 8);
                 let mut commands = self.commands(count);
                 for _ in 0..self.random.between(1, 2) {
@@ -645,10 +738,17 @@ impl Sitting {
     fn spoil(&mut self, commands: &mut [Command]) {
         let n = self.device_count();
         let at = self.random.below(commands.len());
-        match self.random.below(3) {
+        match self.random.below(4) {
             0 => commands[at].device = *self.random.pick(&[n as u8, n as u8 + 1, 32, 255]),
             1 => commands[at].setting = self.bad_setting(),
-            _ => commands[at].tag = *self.random.pick(&[2, 3, 255]),
+            2 => commands[at].tag = *self.random.pick(&[3, 4, 255]),
+            // Last, or before another condition.
+            _ => {
+                commands[at].tag = CONDITION;
+                if let Some(after) = commands.get_mut(at + 1) {
+                    after.tag = CONDITION;
+                }
+            }
         }
     }
 }
@@ -664,8 +764,8 @@ pub fn submission(commands: &[Command]) -> String {
 
 // ---- damage
 
-const BOUNDS: [&str; 32] = [
-    "255", "256", "254", "257", "32", "33", "31", "8", "9", "2", "1000", "1001", "-1000", "-1001", "32767", "32768", "-32768",
+const BOUNDS: [&str; 33] = [
+    "255", "256", "254", "257", "32", "33", "31", "8", "9", "2", "3", "1000", "1001", "-1000", "-1001", "32767", "32768", "-32768",
     "-32769", "32766", "-32767", "65535", "65536", "4294967295", "4294967296", "4294967294", "4294967297", "18446744073709551615",
     "18446744073709551616", "18446744073709551617", "99999999999999999999999999999999999999", "340282366920938463463374607431768211456",
     "79228162514264337593543950336",

@@ -15,6 +15,8 @@ pub const SETTLED: u32 = 0;
 
 pub const MUST: u8 = 0;
 pub const BEST_EFFORT: u8 = 1;
+/// Document 02, item 4.
+pub const CONDITION: u8 = 2;
 
 pub const DONE: u8 = 0;
 pub const FAILED: u8 = 1;
@@ -68,6 +70,8 @@ pub enum Answer {
     Committed { id: u32 },
     Wait { id: u32, on: u32 },
     Send { id: u32, device: u8, setting: i16 },
+    Held { id: u32 },
+    NotHeld { id: u32 },
     Done { id: u32 },
     Skipped { id: u32, backs: Backs },
     Aborted(Aborted),
@@ -122,8 +126,11 @@ struct Routine {
     count: u8,
     /// The commands that are not answered.
     left: Places,
-    /// Those that were done; what is neither left nor done was skipped.
+    /// Those that were done.
     done: Places,
+    /// The conditions that held. A command that is neither left nor done was skipped, a condition neither left nor here did not hold or
+    /// was skipped, which comes to the same.
+    held: Places,
     /// The first command left is in flight.
     in_flight: bool,
     /// The due setting of the device of the command in flight, when that was sent.
@@ -138,8 +145,32 @@ impl Routine {
         &self.commands[..self.count as usize]
     }
 
+    fn next_place(&self) -> Option<usize> {
+        (self.left != 0).then(|| self.left.trailing_zeros() as usize)
+    }
+
     fn next(&self) -> Option<Command> {
-        (self.left != 0).then(|| self.commands[self.left.trailing_zeros() as usize])
+        self.next_place().map(|place| self.commands[place])
+    }
+
+    /// The tag that counts where the device is down or has an event: of a condition, that of the command after it.
+    fn deciding_tag(&self, place: usize) -> u8 {
+        let tag = self.commands[place].tag;
+        if tag == CONDITION {
+            self.commands[place + 1].tag
+        } else {
+            tag
+        }
+    }
+
+    /// The command follows a condition.
+    fn is_asked(&self, place: usize) -> bool {
+        place > 0 && self.commands[place - 1].tag == CONDITION
+    }
+
+    /// The command, all before it answered, follows a condition that did not hold or was skipped.
+    fn is_dropped(&self, place: usize) -> bool {
+        self.is_asked(place) && self.held >> (place - 1) & 1 == 0
     }
 
     fn command_in_flight(&self) -> Option<Command> {
@@ -172,6 +203,10 @@ impl Routine {
         self.done >> index & 1 == 1
     }
 
+    fn has_done(&self, device: u8) -> bool {
+        bits(self.done.into()).any(|i| self.commands[i as usize].device == device)
+    }
+
     /// A bit for each device on which a command was done.
     fn done_devices(&self) -> u32 {
         bits(self.done.into()).fold(0, |set, i| set | 1 << self.commands[i as usize].device)
@@ -186,11 +221,12 @@ impl Routine {
         })
     }
 
-    fn answer_next(&mut self, done: bool) {
+    /// The first command left is so no longer; its bit is given back.
+    fn answer_next(&mut self) -> Places {
         let place = self.left & self.left.wrapping_neg();
         self.left ^= place;
-        self.done |= if done { place } else { 0 };
         self.in_flight = false;
+        place
     }
 
     /// These commands, all of them left, are skipped: document 02, item 3. One in flight is so no longer.
@@ -207,13 +243,18 @@ pub struct Glance {
     pub id: u32,
     pub running: bool,
     pub in_flight: bool,
-    /// The command in flight, or the next to be sent.
+    /// The command in flight, or the next to have a turn.
     pub next: Option<Command>,
+    /// If the next command follows a condition: did that hold?
+    pub condition_held: Option<bool>,
     /// The due setting of its device when the command in flight was sent.
     pub due_at_send: i16,
     pub answered: usize,
+    pub conditions_left: usize,
     /// A bit for each device on which a command was done.
     pub done_devices: u32,
+    /// A bit for each device on which a command is left.
+    pub left_devices: u32,
     /// A bit for each device that it has begun and not finished.
     pub amid: u32,
 }
@@ -261,7 +302,7 @@ impl Hub {
             return refused(4);
         }
         for (i, command) in commands.iter().enumerate() {
-            if let Some(number) = self.fault(command) {
+            if let Some(number) = self.fault(command, commands.get(i + 1)) {
                 return Err(Refusal { number, index: Some(i as u8) });
             }
         }
@@ -285,6 +326,7 @@ impl Hub {
             count: commands.len() as u8,
             left: Places::MAX >> (Places::BITS as usize - commands.len()),
             done: 0,
+            held: 0,
             in_flight: false,
             due_at_send: 0,
             passed: 0,
@@ -303,17 +345,21 @@ impl Hub {
         if self.sequence[at].in_flight {
             return refused(11);
         }
-        let Some(command) = self.sequence[at].next() else {
+        let Some(place) = self.sequence[at].next_place() else {
             self.sequence[at].committed = true;
             self.settle();
             return Ok(Answer::Committed { id });
         };
+        let command = self.sequence[at].commands[place];
         let device = command.device;
+        let asks = command.tag == CONDITION;
         // The wait comes before the look at the device: a must on a down device may first wait.
-        if let Some(ahead) = self.sequence[..at].iter().find(|r| !r.committed && r.has_left(device)) {
+        let delays = |r: &&Routine| !r.committed && (r.has_left(device) || asks && r.has_done(device));
+        if let Some(ahead) = self.sequence[..at].iter().find(delays) {
             return Ok(Answer::Wait { id, on: ahead.id });
         }
-        if !self.is_up(device) && command.tag == MUST {
+        let dropped = self.sequence[at].is_dropped(place);
+        if !dropped && !self.is_up(device) && self.sequence[at].deciding_tag(place) == MUST {
             let aborted = self.abort(at);
             self.settle();
             return Ok(Answer::Aborted(aborted));
@@ -321,13 +367,20 @@ impl Hub {
         if !self.sequence[at].has_begun(device) {
             self.marks[device as usize] = id;
         }
-        if !self.is_up(device) {
-            self.sequence[at].answer_next(false);
+        if dropped || !self.is_up(device) {
+            self.sequence[at].answer_next();
             self.settle();
             return Ok(Answer::Skipped { id, backs: Backs::default() });
         }
         let due = self.due_setting(device);
         let routine = &mut self.sequence[at];
+        if asks {
+            let holds = due >= command.setting;
+            let asked = routine.answer_next();
+            routine.held |= if holds { asked } else { 0 };
+            self.settle();
+            return Ok(if holds { Answer::Held { id } } else { Answer::NotHeld { id } });
+        }
         routine.in_flight = true;
         routine.due_at_send = due;
         self.settle();
@@ -341,13 +394,14 @@ impl Hub {
         };
         let answer = match code {
             DONE => {
-                self.sequence[at].answer_next(true);
+                let routine = &mut self.sequence[at];
+                routine.done |= routine.answer_next();
                 Answer::Done { id }
             }
             // The command is still in flight for the abort: its device is to be sent its due setting.
             FAILED if command.tag == MUST => Answer::Aborted(self.abort(at)),
             FAILED => {
-                self.sequence[at].answer_next(false);
+                self.sequence[at].answer_next();
                 let mut backs = Backs::default();
                 let due = self.due_setting(command.device);
                 if due != self.sequence[at].due_at_send {
@@ -448,9 +502,12 @@ impl Hub {
             running: !r.committed,
             in_flight: r.in_flight,
             next: r.next(),
+            condition_held: r.next_place().filter(|&place| r.is_asked(place)).map(|place| !r.is_dropped(place)),
             due_at_send: r.due_at_send,
             answered: usize::from(r.count) - r.left.count_ones() as usize,
+            conditions_left: bits(r.left.into()).filter(|&i| r.commands[i as usize].tag == CONDITION).count(),
             done_devices: r.done_devices(),
+            left_devices: bits(r.left.into()).fold(0, |set, i| set | 1 << r.commands[i as usize].device),
             amid: r.commands().iter().map(|c| c.device).filter(|&d| r.has_begun(d) && r.has_left(d)).fold(0, |set, d| set | 1 << d),
         })
     }
@@ -465,13 +522,16 @@ impl Hub {
 
     // ---- parts of the calls
 
-    fn fault(&self, command: &Command) -> Option<u8> {
+    /// `after`: the command after it in its routine.
+    fn fault(&self, command: &Command, after: Option<&Command>) -> Option<u8> {
         if command.device >= self.device_count {
             Some(5)
         } else if !in_range(command.setting) {
             Some(6)
-        } else if command.tag > BEST_EFFORT {
+        } else if command.tag > CONDITION {
             Some(7)
+        } else if command.tag == CONDITION && after.is_none_or(|c| c.tag == CONDITION) {
+            Some(22)
         } else {
             None
         }
@@ -512,7 +572,7 @@ impl Hub {
         let at = self.sequence.iter().position(|r| !r.committed && r.has_begun(device) && r.has_left(device))?;
         let routine = &mut self.sequence[at];
         let left = routine.left_on(device);
-        if bits(left.into()).any(|i| routine.commands[i as usize].tag == MUST) {
+        if bits(left.into()).any(|i| routine.deciding_tag(i as usize) == MUST) {
             return Some(self.abort(at));
         }
         routine.skip(left);

@@ -175,6 +175,8 @@ fn print_answer(out: &mut Vec<u8>, answer: &Answer) {
         Answer::Send { id, device, setting } => {
             words(out, "send", &[(*id).into(), (*device).into(), (*setting).into()]);
         }
+        Answer::Held { id } => words(out, "held", &[(*id).into()]),
+        Answer::NotHeld { id } => words(out, "not held", &[(*id).into()]),
         Answer::Done { id } => words(out, "done", &[(*id).into()]),
         Answer::Skipped { id, backs } => {
             words(out, "skipped", &[(*id).into()]);
@@ -211,12 +213,12 @@ impl Program {
         Program::default()
     }
 
-    /// The hub of the last accepted opening.
     /// For calls that no line makes.
     pub fn hub_mut(&mut self) -> Option<&mut Hub> {
         self.hub.as_mut()
     }
 
+    /// The hub of the last accepted opening.
     pub fn hub(&self) -> Option<&Hub> {
         self.hub.as_ref()
     }

@@ -1,7 +1,8 @@
-//! A new pass limit without a stop: document 02, item 13; and the waiting promise with such limits.
+//! A new pass limit without a stop: document 02, item 13; and the waiting promise with such limits and with conditions (item 4).
 
 use reference::histories::Random;
-use reference::hub::{Answer, Command, Hub, Refusal, BEST_EFFORT, DONE, FAILED, MOST_COMMANDS, MOST_PASSES, MOST_ROUTINES, MUST};
+use reference::hub::{Answer, Command, Hub, Refusal};
+use reference::hub::{BEST_EFFORT, CONDITION, DONE, FAILED, MOST_COMMANDS, MOST_PASSES, MOST_ROUTINES, MUST};
 use std::collections::HashMap;
 
 fn one() -> Vec<Command> {
@@ -69,11 +70,13 @@ fn counts_are_kept_through_several_limits() {
 }
 
 /// Rounds with submissions and new limits between them: once (8 + 1) x (16 + K) rounds count, since the submission or, if later, the
-/// last new limit, by the K in force, the routine has ended. Every other schedule has full routines on one device alone.
+/// last new limit, by the K in force, the routine has ended. Every other schedule has full routines on one device alone; two of three have
+/// conditions.
 #[test]
 fn the_waiting_promise_counts_from_the_last_change() {
     let mut most = 0.0f64;
     let mut counted_again = 0;
+    let mut conditions = 0;
     for index in 0..60 {
         let mut random = Random::new(13, index);
         let full = index % 2 == 0;
@@ -84,9 +87,12 @@ fn the_waiting_promise_counts_from_the_last_change() {
             for _ in 0..1 + random.below(2) {
                 let devices = if full { 1 } else { 3 };
                 let count = if full { MOST_COMMANDS } else { 1 + random.below(MOST_COMMANDS) };
-                let commands: Vec<Command> = (0..count)
+                let mut commands: Vec<Command> = (0..count)
                     .map(|_| Command { device: random.below(devices) as u8, tag: *random.pick(&[MUST, BEST_EFFORT]), setting: 5 })
                     .collect();
+                if index % 3 != 0 {
+                    put_conditions(&mut commands, &mut random);
+                }
                 if let Ok(Answer::Placed { id, .. }) = hub.submit(&commands) {
                     counts.insert(id, 0);
                 }
@@ -100,7 +106,7 @@ fn the_waiting_promise_counts_from_the_last_change() {
                 }
             }
             let failed = if full { 0 } else { 10 };
-            round(&mut hub, &mut random, failed);
+            conditions += round(&mut hub, &mut random, failed);
             let enough = (MOST_COMMANDS as u32 + 1) * (MOST_ROUTINES as u32 + u32::from(limit));
             counts.retain(|id, _| hub.routines().any(|r| r.id == *id && r.running));
             for count in counts.values_mut() {
@@ -111,18 +117,67 @@ fn the_waiting_promise_counts_from_the_last_change() {
         }
     }
     assert!(counted_again > 1000, "{counted_again} routines are counted again");
+    assert!(conditions > 1000, "{conditions} conditions are answered");
     assert!(most > 0.5, "a schedule comes near the promise: {most}");
 }
 
-/// One turn for each routine that runs and has nothing in flight, in any order; then a report for each command in flight.
-fn round(hub: &mut Hub, random: &mut Random, failed: usize) {
+/// Some of the commands become conditions, none of them last or before another.
+fn put_conditions(commands: &mut [Command], random: &mut Random) {
+    for at in 1..commands.len() {
+        if (at < 2 || commands[at - 2].tag != CONDITION) && random.percent(40) {
+            commands[at - 1].tag = CONDITION;
+            commands[at - 1].setting = *random.pick(&[0, 5, 6]);
+        }
+    }
+}
+
+/// One turn for each routine that runs and has nothing in flight, in any order; then a report for each command in flight. How many
+/// conditions were answered: each has then had its turn, with nothing in flight behind it.
+fn round(hub: &mut Hub, random: &mut Random, failed: usize) -> usize {
+    let mut conditions = 0;
     let mut ids: Vec<u32> = hub.routines().filter(|r| r.running && !r.in_flight).map(|r| r.id).collect();
     while !ids.is_empty() {
-        hub.turn(ids.swap_remove(random.below(ids.len()))).unwrap();
+        let id = ids.swap_remove(random.below(ids.len()));
+        if let Ok(Answer::Held { .. } | Answer::NotHeld { .. }) = hub.turn(id) {
+            assert!(hub.routines().all(|r| r.id != id || !r.in_flight));
+            conditions += 1;
+        }
     }
     let mut ids: Vec<u32> = hub.routines().filter(|r| r.in_flight).map(|r| r.id).collect();
     while !ids.is_empty() {
         let code = if random.percent(failed) { FAILED } else { DONE };
         hub.report(ids.swap_remove(random.below(ids.len())), code).unwrap();
+    }
+    conditions
+}
+
+/// Routines of eight commands, every other of them a condition, all on one device, and turns from behind: each waits until the one ahead
+/// has committed. The last of a full sequence, passed as often as may be, needs every round that is promised.
+#[test]
+fn with_conditions_the_last_round_of_the_promise_is_needed() {
+    let tags = [CONDITION, MUST].into_iter().cycle().take(MOST_COMMANDS);
+    let full: Vec<Command> = tags.map(|tag| Command { device: 0, tag, setting: 0 }).collect();
+    for limit in [0, 1, 3, MOST_PASSES] {
+        // In the order of the submissions; the limit is then the new one, from which the rounds count.
+        let mut hub = Hub::open(1, 0, 1).unwrap();
+        for _ in 0..MOST_ROUTINES {
+            hub.submit(&full).unwrap();
+        }
+        hub.limit(limit).unwrap();
+        let last = MOST_ROUTINES as u32;
+        let mut rounds = 0;
+        while hub.routines().any(|r| r.id == last && r.running) {
+            let turns: Vec<u32> = hub.routines().filter(|r| r.running && !r.in_flight).map(|r| r.id).collect();
+            for id in turns.into_iter().rev() {
+                hub.turn(id).unwrap();
+            }
+            let reports: Vec<u32> = hub.routines().filter(|r| r.in_flight).map(|r| r.id).collect();
+            for id in reports {
+                hub.report(id, DONE).unwrap();
+            }
+            let _ = hub.submit(&full); // refused while the sequence is full
+            rounds += 1;
+        }
+        assert_eq!(rounds, (MOST_COMMANDS + 1) * (MOST_ROUTINES + usize::from(limit)), "K = {limit}");
     }
 }

@@ -26,12 +26,12 @@ fn submissions() {
         ("O 2 0 4294967280", "opened"),
         ("S", "refused 4"),
         ("S 9 9 2000 0 0 1 0 0 1 0 0 1 0 0 1 0 0 1 0 0 1 0 0 1 0 0 1", "refused 4"),
-        ("S 2 2 1001", "refused 5 0"),
-        ("S 1 2 1001", "refused 6 0"),
-        ("S 1 2 -1001", "refused 6 0"),
-        ("S 1 2 1000", "refused 7 0"),
+        ("S 2 3 1001", "refused 5 0"),
+        ("S 1 3 1001", "refused 6 0"),
+        ("S 1 3 -1001", "refused 6 0"),
+        ("S 1 3 1000", "refused 7 0"),
         ("S 0 0 5 1 1 5 0 0 1001 2 0 0", "refused 6 2"),
-        ("S 0 0 5 1 2 5 0 0 1001 2 0 0", "refused 7 1"),
+        ("S 0 0 5 1 3 5 0 0 1001 2 0 0", "refused 7 1"),
         ("S 0 0 1 0 0 1 0 0 1 0 0 1 0 0 1 0 0 1 0 0 1 255 0 1", "refused 5 7"),
     ];
     // Sixteen use the ids up: 8 comes before 9, the commands before both.
@@ -41,10 +41,10 @@ fn submissions() {
     steps.extend(placed.iter().map(|p| ("S 0 0 5", p.as_str())));
     steps.extend([
         ("S 0 0 5", "refused 8"),
-        ("S 0 2 5", "refused 7 0"),
+        ("S 0 3 5", "refused 7 0"),
         ("C 4294967280", "aborted 4294967280 back 0"),
         ("S 0 0 5", "refused 9"),
-        ("S 0 2 5", "refused 7 0"),
+        ("S 0 3 5", "refused 7 0"),
         ("S", "refused 4"),
     ]);
     lines(&steps);

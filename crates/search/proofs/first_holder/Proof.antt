@@ -13,45 +13,53 @@ use Rattle.sequence.proofs.ReadLaws.{walks-behind}
 use Rattle.state.specs.View.{holderOf}
 use Rattle.state.specs.declared.Holder.the-variants.{Nobody}
 use Rattle.search.proofs.Slots.{Seeks, stopAt, seeks-start, seeks-there, seeks-on, seeks-less, seeks-spot}
-use Rattle.search.proofs.Commands.{anyAt, openAt, at-hit, at-on, at-end, open-here, open-other, open-answered}
-use Rattle.search.proofs.Laws.{openIn, open-start, holdsIn, holds-committed, holds-off, commands-fit, holder-slot, holder-nobody}
+use Rattle.search.proofs.Commands.{anyAt, pastOf, belowAt, at-hit, at-on, at-end, below-here, below-other, below-past}
+use Rattle.search.proofs.Laws.{belowIn, below-start, holdsIn, holds-committed, holds-off, commands-fit, holder-slot, holder-nobody}
 use Rattle.search.proofs.Laws.{holder-found}
 use Rattle.search.proofs.first_holder.Statement.{statement}
 use Rattle.search.proofs.first_holder.Tie as tie
 
 abbrev Inv-loop : tie.InvT-loop
-Inv-loop device stage at wanted behind ids committed counts answered holder₀ i end k₀ holder k = (holder ≡ Nobody)
+Inv-loop device stage at wanted asks behind ids committed counts past holder₀ i end k₀ holder k = (holder ≡ Nobody)
     × (end ≤ maxHeld * maxCommands)
-    × (anyAt (openAt device stage wanted) k (end - k) ≡ openIn counts answered device stage wanted i)
+    × (anyAt (belowAt device stage past wanted) k (end - k) ≡ belowIn counts device stage past wanted i)
 
 abbrev μ-loop : tie.MeasureT-loop
-μ-loop device stage at wanted behind ids committed counts answered holder₀ i end k₀ holder k = end - k
+μ-loop device stage at wanted asks behind ids committed counts past holder₀ i end k₀ holder k = end - k
 
 abbrev Inv-ahead : tie.InvT-ahead
-Inv-ahead device stage at wanted behind ids committed counts answered holder₀ i₀ holder i = (holder ≡ Nobody)
-    × Seeks (stopAt at (holdsIn committed counts answered device stage wanted)) behind i₀ i
+Inv-ahead device stage at wanted asks behind ids committed counts past holder₀ i₀ holder i = (holder ≡ Nobody)
+    × Seeks (stopAt at (holdsIn committed counts device stage past wanted)) behind i₀ i
 
 abbrev μ-ahead : tie.MeasureT-ahead
-μ-ahead device stage at wanted behind ids committed counts answered holder₀ i₀ holder i = length (along behind i)
+μ-ahead device stage at wanted asks behind ids committed counts past holder₀ i₀ holder i = length (along behind i)
+
+abbrev start : tie.Joined1 Inv-loop μ-loop Inv-ahead μ-ahead → tie.Start Inv-loop μ-loop Inv-ahead μ-ahead
+start c = c .before .before .before .before .before .before
+
+-- whom a command waits for, and whom a condition
+past-is : (c : tie.Joined1 Inv-loop μ-loop Inv-ahead μ-ahead) → c .if1 .past ≡ pastOf (start c .args .asks)
+past-is c = ⊎-elim (λ w. w .1 ∙ sym (ap pastOf (w .0 .taken))) (λ w. w .1 ∙ sym (ap pastOf (w .0 .left))) (c .if1 .came)
 
 -- the slot, and how many commands it has
 fits : (c : tie.In-ahead Inv-loop μ-loop Inv-ahead μ-ahead) →
-    let h = c .before .before .before .before .before .before .before .before .before .args .state in
+    let h = start (c .before .before .before) .args .state in
     let x = c .before .ahead .i in
-    (x < maxHeld) × (getD (h .answered) x 0 ≤ getD (h .counts) x 0) × (getD (h .counts) x 0 ≤ maxCommands)
+    (x < maxHeld) × (getD (h .counts) x 0 ≤ maxCommands)
 fits c =
     let s = c .before .ahead .inv .1 in
-    let p = c .before .before .before .before .before .before .before .before .before .pre in
-    commands-fit _ (p .0) _ (seeks-there s (holder-slot _ (p .0) _ _ (p .2) (p .3) _ _ (p .1) s))
+    let j = c .before .before .before in
+    let p = start j .pre in
+    commands-fit _ (p .0) _ (seeks-there s (holder-slot _ (p .0) _ _ (p .2) (p .3) (start j .args .asks) (past-is j) _ _ (p .1) s))
 
 cast-i : tie.Need-cast-i Inv-loop μ-loop Inv-ahead μ-ahead
 cast-i c = search needs
 
 ahead-holds : tie.Need-ahead-holds Inv-loop μ-loop Inv-ahead μ-ahead
-ahead-holds c = (refl, seeks-start _ _ _ (walks-behind _ (c .before .before .before .before .before .before .before .pre .0 .links-ok)))
+ahead-holds c = (refl, seeks-start _ _ _ (walks-behind _ (start (c .before) .pre .0 .links-ok)))
 
-array-read-if1 : tie.Need-array-read-if1 Inv-loop μ-loop Inv-ahead μ-ahead
-array-read-if1 c = fits c .0
+array-read-if2 : tie.Need-array-read-if2 Inv-loop μ-loop Inv-ahead μ-ahead
+array-read-if2 c = fits c .0
 
 mul-end : tie.Need-mul-end Inv-loop μ-loop Inv-ahead μ-ahead
 mul-end c = let f = fits (c .before) in omega (arith, f .0)
@@ -68,32 +76,23 @@ add-end c = let f = fits (c .before) in omega arith
 mul-k : tie.Need-mul-k Inv-loop μ-loop Inv-ahead μ-ahead
 mul-k c = let f = fits (c .before) in omega (arith, f .0)
 
-array-read-k : tie.Need-array-read-k Inv-loop μ-loop Inv-ahead μ-ahead
-array-read-k c = fits (c .before) .0
-
-cast-k : tie.Need-cast-k Inv-loop μ-loop Inv-ahead μ-ahead
-cast-k c = let f = fits (c .before) in omega arith
-
-add-k : tie.Need-add-k Inv-loop μ-loop Inv-ahead μ-ahead
-add-k c = let f = fits (c .before) in omega arith
-
 loop-holds : tie.Need-loop-holds Inv-loop μ-loop Inv-ahead μ-ahead
-loop-holds c = let f = fits (c .before) in (c .before .before .ahead .inv .0, omega arith, open-start _ _ _ _ _ _)
-
-element-copy-out-if2 : tie.Need-element-copy-out-if2 Inv-loop μ-loop Inv-ahead μ-ahead
-element-copy-out-if2 c = omega (arith, c .loop-test .taken, c .before .loop .inv .1)
+loop-holds c = let f = fits (c .before) in (c .before .before .ahead .inv .0, omega arith, below-start _ _ _ _ _ _)
 
 element-copy-out-if3 : tie.Need-element-copy-out-if3 Inv-loop μ-loop Inv-ahead μ-ahead
-element-copy-out-if3 c = let l = c .before .before in omega (arith, l .loop-test .taken, l .before .loop .inv .1)
+element-copy-out-if3 c = omega (arith, c .loop-test .taken, c .before .loop .inv .1)
 
-mul-t35 : tie.Need-mul-t35 Inv-loop μ-loop Inv-ahead μ-ahead
-mul-t35 c = let f = fits (c .before .before .before .before .before .before .before) in omega (arith, f .0)
+element-copy-out-if4 : tie.Need-element-copy-out-if4 Inv-loop μ-loop Inv-ahead μ-ahead
+element-copy-out-if4 c = let l = c .before .before in omega (arith, l .loop-test .taken, l .before .loop .inv .1)
 
-array-read-t38 : tie.Need-array-read-t38 Inv-loop μ-loop Inv-ahead μ-ahead
-array-read-t38 c = fits (c .before .before .before .before .before .before .before) .0
+mul-t36 : tie.Need-mul-t36 Inv-loop μ-loop Inv-ahead μ-ahead
+mul-t36 c = let f = fits (c .before .before .before .before .before .before .before) in omega (arith, f .0)
 
-add-k-2 : tie.Need-add-k-2 Inv-loop μ-loop Inv-ahead μ-ahead
-add-k-2 c = let l = c .before .before in omega (arith, l .loop-test .taken, l .before .loop .inv .1)
+array-read-t39 : tie.Need-array-read-t39 Inv-loop μ-loop Inv-ahead μ-ahead
+array-read-t39 c = fits (c .before .before .before .before .before .before .before) .0
+
+add-k : tie.Need-add-k Inv-loop μ-loop Inv-ahead μ-ahead
+add-k c = let l = c .before .before in omega (arith, l .loop-test .taken, l .before .loop .inv .1)
 
 loop-less : tie.Need-loop-less Inv-loop μ-loop Inv-ahead μ-ahead
 loop-less c = omega (arith, c .before .before .loop-test .taken)
@@ -101,7 +100,7 @@ loop-less c = omega (arith, c .before .before .loop-test .taken)
 loop-again : tie.Need-loop-again Inv-loop μ-loop Inv-ahead μ-ahead
 loop-again c = let l = c .before .before in
     let v = l .before .loop .inv in
-    let o = ⊎-elim (λ w. open-answered _ _ _ _ (w .2 .left)) (λ w. open-other _ _ _ _ (w .left)) (c .if2 .came) in
+    let o = ⊎-elim (λ w. below-past _ _ _ _ _ (w .2 .left)) (λ w. below-other _ _ _ _ _ (w .left)) (c .if3 .came) in
     (v .0, v .1, at-on _ _ _ (l .loop-test .taken) o ∙ v .2)
 
 array-read-i : tie.Need-array-read-i Inv-loop μ-loop Inv-ahead μ-ahead
@@ -116,26 +115,29 @@ ahead-less c = seeks-less (c .before .before .ahead .inv .1) (fits (c .before) .
 ahead-again : tie.Need-ahead-again Inv-loop μ-loop Inv-ahead μ-ahead
 ahead-again c = let w = c .before .before .ahead .inv in
     let n = c .before .ahead-test .taken in (
-      ⊎-elim (λ p. p .3 ∙ p .1 .inv .0) (λ p. p .1 ∙ w .0) (c .if1 .came),
+      ⊎-elim (λ p. p .3 ∙ p .1 .inv .0) (λ p. p .1 ∙ w .0) (c .if2 .came),
       seeks-on (w .1) (fits (c .before) .0)
           (⊎-elim (λ p. holds-off _ _ _ _ _ _ _ _ n (sym (p .1 .inv .2) ∙ at-end _ _ _ (p .2 .left)))
           (λ p. holds-committed _ _ _ _ _ _ _ _ n (p .0 .left))
-          (c .if1 .came)),
+          (c .if2 .came)),
     )
 
 returns : tie.Need-returns Inv-loop μ-loop Inv-ahead μ-ahead
 returns c = let w = c .before .ahead .inv in
-    let p = c .before .before .before .before .before .before .before .before .before .pre in
-    ap holderOf (w .0) ∙ holder-nobody _ (p .0) _ _ (p .2) (p .3) _ _ (p .1) (w .1) (c .ahead-test .left)
+    let j = c .before .before .before in
+    let p = start j .pre in
+    ap holderOf (w .0) ∙ holder-nobody _ (p .0) _ _ (p .2) (p .3) (start j .args .asks) (past-is j) _ _ (p .1) (w .1) (c .ahead-test .left)
 
 returns-2 : tie.Need-returns-2 Inv-loop μ-loop Inv-ahead μ-ahead
 returns-2 c = let l = c .before .before .before .before in
     let v = l .before .loop .inv in
     let t = l .before .before in
     let a = t .before in
-    let p = a .before .before .before .before .before .before .before .before .before .pre in
-    holder-found _ (p .0) _ _ (p .2) (p .3) _ _ (p .1) (a .before .ahead .inv .1) (a .ahead-test .taken) (t .if1 .taken)
-    (sym (v .2) ∙ at-hit _ _ _ (l .loop-test .taken) (open-here _ _ _ _ (c .before .before .if2 .taken) (c .if3 .taken)))
+    let j = a .before .before .before in
+    let p = start j .pre in
+    holder-found _ (p .0) _ _ (p .2) (p .3) (start j .args .asks) (past-is j) _ _ (p .1) (a .before .ahead .inv .1) (a .ahead-test .taken)
+    (t .if2 .taken)
+    (sym (v .2) ∙ at-hit _ _ _ (l .loop-test .taken) (below-here _ _ _ _ _ (c .before .before .if3 .taken) (c .if4 .taken)))
 
 pub first-holder-spec : {M : Type 1} → statement M
 first-holder-spec =
@@ -147,21 +149,18 @@ first-holder-spec =
     μ-ahead
     cast-i
     ahead-holds
-    array-read-if1
+    array-read-if2
     mul-end
     array-read-end
     cast-end
     add-end
     mul-k
-    array-read-k
-    cast-k
-    add-k
     loop-holds
-    element-copy-out-if2
     element-copy-out-if3
-    mul-t35
-    array-read-t38
-    add-k-2
+    element-copy-out-if4
+    mul-t36
+    array-read-t39
+    add-k
     loop-less
     loop-again
     array-read-i

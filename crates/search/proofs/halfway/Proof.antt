@@ -31,7 +31,7 @@ start c = c .before .before .before .before .before .before .before .before
 fits : (c : tie.In-loop Inv-loop μ-loop) →
     let h = start (c .before) .args .state in
     let x = c .before .loop .i in
-    (x < maxHeld) × (getD (h .answered) x 0 ≤ getD (h .counts) x 0) × (getD (h .counts) x 0 ≤ maxCommands)
+    (x < maxHeld) × (getD (h .counts) x 0 ≤ maxCommands)
 fits c =
     commands-fit _ (start (c .before) .pre) _ (seeks-there (c .before .loop .inv) (c .loop-test .taken))
 

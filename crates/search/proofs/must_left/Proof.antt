@@ -13,7 +13,6 @@ abbrev start : tie.After-stage → tie.Start
 start c = c .before .before .before .before
 
 fits : (c : tie.Start) → (c .args .at < maxHeld)
-    × (getD (c .args .state .answered) (c .args .at) 0 ≤ getD (c .args .state .counts) (c .args .at) 0)
     × (getD (c .args .state .counts) (c .args .at) 0 ≤ maxCommands)
 fits c = commands-fit _ (c .pre .0) _ (c .pre .1)
 

@@ -55,12 +55,12 @@ opened c = subst (OpenIs _ _) (c .before .«open» .given .1) (c .before .before
 
 next-turn-requires : tie.Need-next-turn-requires
 next-turn-requires c κs =
-    let t = c .before .before .before in
+    let t = c .before .before .before .before .before in
     let g = t .before .before .before .before .before .before .before in
     let r = g .before .before in
     let f = r .running .ensures in
     let e = g .place .given .1 in
-    (r .before .pre, stands-at _ _ _ f _ e, opened t, found-id _ _ _ f _ e, refl, refl)
+    (r .before .pre, stands-at _ _ _ f _ e, opened t, found-id _ _ _ f _ e, refl, refl, refl)
 
 returns-2 : tie.Need-returns-2
 returns-2 c =
@@ -80,7 +80,7 @@ returns-3 c =
 
 returns-4 : tie.Need-returns-4
 returns-4 c =
-    let t = c .before .before .before .before in
+    let t = c .before .before .before .before .before .before in
     let g = t .before .before .before .before .before .before .before in
     let r = g .before .before in
     turn-on (r .before .args .state) (r .before .args .id) _ (r .running .ensures) _ _ (g .place .given .1) _

@@ -21,19 +21,19 @@ element-copy-out-wanted : tie.Need-element-copy-out-wanted
 element-copy-out-wanted c = within c
 
 mul-setting : tie.Need-mul-setting
-mul-setting c = let i = within (c .before .before .before) in omega arith
+mul-setting c = let i = within (c .before .before) in omega arith
 
 array-copy-out-setting : tie.Need-array-copy-out-setting
-array-copy-out-setting c = within (c .before .before .before)
+array-copy-out-setting c = within (c .before .before)
 
 due-setting-requires : tie.Need-due-setting-requires
-due-setting-requires c κs = let p = c .before .before .before .before .before .pre in (p .0, p .4, p .5, refl)
+due-setting-requires c κs = let p = c .before .before .before .before .pre in (p .0, p .4, p .6, refl)
 
 has-begun-requires : tie.Need-has-begun-requires
-has-begun-requires c κs = let p = c .before .before .before .before .before .before .pre in (p .0, p .1, p .4, p .5)
+has-begun-requires c κs = let p = c .before .before .before .before .before .pre in (p .0, p .1, p .4, p .6)
 
-array-read-t18 : tie.Need-array-read-t18
-array-read-t18 c = within (c .before .before .before .before .before .before .before)
+element-copy-out-t18 : tie.Need-element-copy-out-t18
+element-copy-out-t18 c = within (c .before .before .before .before .before .before)
 
 plain-requires : tie.Need-plain-requires
 plain-requires c κs = search needs
@@ -44,13 +44,13 @@ returns c =
     let h = l .args .state in
     let k = l .args .k in
     let p = l .pre in
-    let d = c .before .before .due-setting in
+    let d = c .before .before .before .due-setting in
     let v = getD (h .setting) k (pos 0) in
     let e : toZ w16 (ofZ w16 v) ≡ v = search needs in
     let u : toZ w16 (ofZ w16 (d .result)) ≡ d .result = search needs in
     send-decides h (l .args .at) k (p .1) (p .2) _ _ _
-    (device-read h k _ (p .4)) (c .before .has-begun .ensures) (p .3)
-    _ _ _ (tag-read h k) (e ∙ setting-read h k) (u ∙ d .ensures) _ (c .plain .ensures)
+    (device-read h k _ (p .4)) (c .before .before .has-begun .ensures) (p .3)
+    _ _ _ (tag-read h k _ (p .5)) (e ∙ setting-read h k) (u ∙ d .ensures) _ (c .plain .ensures)
 
 pub send-spec : {M : Type 1} → statement M
 send-spec =
@@ -61,6 +61,6 @@ send-spec =
     array-copy-out-setting
     due-setting-requires
     has-begun-requires
-    array-read-t18
+    element-copy-out-t18
     plain-requires
     returns)

@@ -124,13 +124,17 @@ fn edges() -> Vec<Vec<u8>> {
             add(&format!("O 1 0 1\nS 0 0 {}7\nN 1\nD 1", "0".repeat(length.saturating_sub(7))));
         }
     }
-    for line in ["S", "S ", "S 0", "S 0 0", "S 0 0 0", "S 0 0 0 ", "S 0 0 0 0", "S 0 0 -0", "S 0 0 --1", "S 0 0 -", "S 0 0 +1", "S 0 -0 1"] {
-        add(&format!("O 2 1 1\n{line}\nN 1\nD 1"));
+    for rest in ["", " ", " 0", " 0 0", " 0 0 0", " 0 0 0 ", " 0 0 0 0", " 0 0 -0", " 0 0 --1", " 0 0 -", " 0 0 +1", " 0 -0 1"] {
+        add(&format!("O 2 1 1\nS{rest}\nN 1\nD 1"));
+    }
+    // Tags up to 2 and above; conditions where they may stand and where not.
+    for commands in ["0 2 0", "0 2 0 1 0 5", "0 2 1 1 0 5", "0 2 0 1 2 0", "0 02 0 1 1 5", "0 3 0 1 0 5", "0 2 0 1 3 5", "0 2 1001 1 0 5"] {
+        add(&format!("O 2 1 1\nS {commands}\nN 1\nD 1\nN 1\nD 1\nF 0\nN 1"));
     }
     for (n, k, first) in [("0", "0", "1"), ("33", "9", "0"), ("32", "9", "0"), ("32", "8", "0"), ("32", "8", "4294967295")] {
         add(&format!("O {n} {k} {first}\nS 31 1 1000\nS 0 0 -1000\nN {first}\nD {first}"));
     }
-    for word in ["255", "256", "-1", "999999999999999999999999", "0000000000000000000255", "4294967295", "4294967296", "00", "", "a", "1a"] {
+    for word in ["255", "256", "-1", "99999999999999999999999", "0000000000000000000255", "4294967295", "4294967296", "00", "", "a", "1a"] {
         add(&format!("O {word} 0 1\nO 1 {word} 1\nO 1 1 {word}"));
         add(&format!("O 3 3 3\nN {word}\nD {word}\nB {word}\nC {word}\nF {word}\nR {word} 1\nS {word} 0 0\nS 0 {word} 0\nS 0 0 {word}"));
     }

@@ -7,7 +7,7 @@
 //! them one turn for each routine that runs and has nothing in flight, in any order, and then a done or failed report for
 //! each command in flight, in any order; submissions between them; and refused calls anywhere. Which routines run and what
 //! is in flight is known from the answers alone; a command in flight that a failure skips (item 3) is so no longer, and no
-//! answer says so. This program checks that
+//! answer says so. A condition (item 4) takes one turn and is never in flight. This program checks that
 //!   - no such turn and no such report is refused, and each is answered for its routine;
 //!   - each routine placed since the rounds began has ended after (8 + 1) x (16 + K) rounds.
 //! It prints the largest share of these rounds that a routine needed.
@@ -39,13 +39,15 @@ enum Seen {
     FullSequence,
     AbortedByReport,
     AbortedAsDown,
-    SkippedAsDown,
+    Skipped,
+    Held,
+    NotHeld,
     FlyingAtStart,
     DownAtStart,
     SkippedBefore,
 }
 
-const SEEN: [(Seen, &str); 12] = [
+const SEEN: [(Seen, &str); 14] = [
     (Seen::Rounds, "rounds"),
     (Seen::Placed, "routines placed since the rounds began"),
     (Seen::Ended, "of them ended"),
@@ -54,7 +56,9 @@ const SEEN: [(Seen, &str); 12] = [
     (Seen::FullSequence, "submissions refused by a full sequence"),
     (Seen::AbortedByReport, "aborts by a failed report"),
     (Seen::AbortedAsDown, "aborts by a turn, a device being down"),
-    (Seen::SkippedAsDown, "commands skipped, a device being down"),
+    (Seen::Skipped, "commands skipped by a turn"),
+    (Seen::Held, "conditions held"),
+    (Seen::NotHeld, "conditions not held"),
     (Seen::FlyingAtStart, "schedules that begin with a command in flight"),
     (Seen::DownAtStart, "schedules that begin with a device down"),
     (Seen::SkippedBefore, "commands in flight skipped by a failure before the rounds"),
@@ -86,6 +90,8 @@ struct Rates {
     submissions: usize,
     refusals: usize,
     best_effort: usize,
+    /// Conditions, where one may stand.
+    conditions: usize,
     reported_failed: usize,
     least_commands: i64,
     used_devices: usize,
@@ -122,6 +128,8 @@ impl Schedule {
                 submissions: 100,
                 refusals: 0,
                 best_effort: 0,
+                // Every other one has as many as there can be: each routine then waits for the one ahead to commit.
+                conditions: if index % 24 == 0 { 0 } else { 100 },
                 reported_failed: 0,
                 least_commands: MOST_COMMANDS as i64,
                 used_devices: 1,
@@ -133,6 +141,7 @@ impl Schedule {
                 submissions: *random.pick(&[10, 40, 80, 100]),
                 refusals: *random.pick(&[0, 5, 20]),
                 best_effort: *random.pick(&[10, 50, 90]),
+                conditions: *random.pick(&[0, 20, 60]),
                 reported_failed: *random.pick(&[0, 5, 30]),
                 least_commands: *random.pick(&[1, 1, 4, MOST_COMMANDS as i64]),
                 used_devices: random.between(1, device_count as i64) as usize,
@@ -234,9 +243,17 @@ impl Schedule {
                     return Err(format!("routine {id} is placed twice"));
                 }
             }
-            Answer::Wait { id } => {
+            Answer::Wait { id, .. } => {
                 self.routine(*id)?;
                 self.seen(Seen::Waits);
+            }
+            Answer::Held { id } => {
+                self.routine(*id)?;
+                self.seen(Seen::Held);
+            }
+            Answer::NotHeld { id } => {
+                self.routine(*id)?;
+                self.seen(Seen::NotHeld);
             }
             Answer::Send { id, device, .. } => self.routine(*id)?.flying = Some(*device),
             Answer::Done { id } | Answer::Skipped { id, .. } => self.routine(*id)?.flying = None,
@@ -259,10 +276,15 @@ impl Schedule {
 
     fn submission(&mut self) -> String {
         let mut line = "S".to_string();
-        for _ in 0..self.random.between(self.rates.least_commands, MOST_COMMANDS as i64) {
+        let count = self.random.between(self.rates.least_commands, MOST_COMMANDS as i64);
+        let mut before = 0;
+        for at in 1..=count {
             let device = self.random.below(self.rates.used_devices);
-            let tag = u8::from(self.random.chance(self.rates.best_effort));
+            // A condition is not last, and not before another.
+            let condition = at < count && before != 2 && self.random.chance(self.rates.conditions);
+            let tag = if condition { 2 } else { u8::from(self.random.chance(self.rates.best_effort)) };
             line += &format!(" {device} {tag} {}", self.random.between(-1000, 1000));
+            before = tag;
         }
         line
     }
@@ -292,7 +314,7 @@ impl Schedule {
             1 => format!("R {device} 5"),
             2 => format!("{} 0", self.random.pick(&["N", "D", "B", "C"])),
             3 => format!("R {} 0", self.device_count),
-            4 => "S 0 0 1001".to_string(),
+            4 => self.random.pick(&["S 0 0 1001", "S 0 3 5", "S 0 2 5", "S 0 2 5 0 2 5 0 0 5"]).to_string(),
             _ => "S".to_string(),
         }
     }
@@ -351,11 +373,13 @@ impl Schedule {
             let turn = line.starts_with('N');
             match (&answer, id) {
                 (Answer::Refused, None) => self.seen(Seen::Refusals),
-                (Answer::Wait { id: same } | Answer::Send { id: same, .. } | Answer::Committed { id: same }, Some(id)) if turn && id == same => {}
+                (Answer::Wait { id: same, .. } | Answer::Send { id: same, .. }, Some(id)) if turn && id == same => {}
+                (Answer::Held { id: same } | Answer::NotHeld { id: same }, Some(id)) if turn && id == same => {}
+                (Answer::Committed { id: same }, Some(id)) if turn && id == same => {}
                 (Answer::Done { id: same }, Some(id)) if !turn && id == same => {}
                 (Answer::Skipped { id: same, .. }, Some(id)) if id == same => {
                     if turn {
-                        self.seen(Seen::SkippedAsDown);
+                        self.seen(Seen::Skipped);
                     }
                 }
                 (Answer::Aborted { id: same, .. }, Some(id)) if id == same => {

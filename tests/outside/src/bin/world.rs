@@ -10,7 +10,11 @@
 //! After every call it checks that
 //!   - the settled part of before stands unchanged at the beginning of the order;
 //!   - in the order's serial run every done command finds its device up, and every skipped one was reported failed, finds it
-//!     down, or was skipped by an event: then an event of its device stands behind its routine and before the next one;
+//!     down, was skipped by an event (then an event of its device stands behind its routine and before the next one), or follows a
+//!     condition that did not hold or was skipped (item 4);
+//!   - every condition that was not skipped finds its device up and has the outcome that it was answered with, in the serial run of the
+//!     whole order and in that of the committed routines and the events alone;
+//!   - a wait is on the first routine ahead that gives a cause, and no other answer of a turn has one;
 //!   - a late report is refused, with 12 while its routine runs, with 10 once that has ended;
 //!   - the device lines printed at the end of the input so far are those of the serial run;
 //!   - if no routine runs: whatever the working devices still take of what was sent to them, once every setting put back
@@ -24,10 +28,16 @@ use std::process::ExitCode;
 
 #[derive(Clone, Copy, PartialEq, Debug)]
 struct Command {
+    /// In its routine.
+    place: usize,
     device: usize,
     tag: u8,
     setting: i64,
 }
+
+const MUST: u8 = 0;
+const BEST_EFFORT: u8 = 1;
+const CONDITION: u8 = 2;
 
 #[derive(Clone, Debug)]
 enum Call {
@@ -76,17 +86,21 @@ fn device_line(line: &str, device: usize) -> Option<Line> {
 // ---- the hub's order
 
 #[derive(Clone, Copy, PartialEq, Debug)]
-enum Answered {
-    Done { device: usize, setting: i64 },
+enum How {
+    Done,
+    Held,
+    NotHeld,
     ReportedFailed,
-    SkippedAsDown { device: usize },
-    SkippedByEvent { device: usize },
+    SkippedAsDown,
+    SkippedByEvent,
+    /// After a condition that did not hold or was skipped.
+    SkippedAfterCondition,
 }
 
 #[derive(Clone, PartialEq, Debug)]
 enum Entry {
     /// Its answered commands, in the order of the answers.
-    Routine { id: u64, commands: Vec<Answered>, committed: bool },
+    Routine { id: u64, commands: Vec<(Command, How)>, committed: bool },
     Failure(usize),
     Restart(usize, i64),
 }
@@ -99,6 +113,32 @@ impl Entry {
     fn is_event_of(&self, wanted: usize) -> bool {
         matches!(self, Entry::Failure(device) | Entry::Restart(device, _) if *device == wanted)
     }
+
+    fn runs(&self) -> bool {
+        matches!(self, Entry::Routine { committed: false, .. })
+    }
+
+    /// The answered commands; an event has none.
+    fn commands(&self) -> &[(Command, How)] {
+        match self {
+            Entry::Routine { commands, .. } => commands,
+            _ => &[],
+        }
+    }
+
+    fn has_done(&self, device: usize) -> bool {
+        self.commands().iter().any(|(command, how)| *how == How::Done && command.device == device)
+    }
+
+    /// A condition was answered `held` or `not held`.
+    fn has_outcome(&self) -> bool {
+        self.commands().iter().any(|(_, how)| matches!(how, How::Held | How::NotHeld))
+    }
+}
+
+/// The command follows a condition that did not hold or was skipped.
+fn is_dropped(answered: &[(Command, How)], command: Command) -> bool {
+    answered.iter().any(|(before, how)| before.tag == CONDITION && before.place + 1 == command.place && *how != How::Held)
 }
 
 /// A list with a bar that ends the settled part.
@@ -129,10 +169,10 @@ impl Order {
         Ok(())
     }
 
-    fn answered(&mut self, wanted: u64, command: Answered) -> Result<(), String> {
+    fn answered(&mut self, wanted: u64, command: Command, how: How) -> Result<(), String> {
         let at = self.place_of(wanted)?;
         if let Entry::Routine { commands, .. } = &mut self.entries[at] {
-            commands.push(command);
+            commands.push((command, how));
         }
         Ok(())
     }
@@ -147,42 +187,58 @@ impl Order {
 
     /// The bar goes before the first routine not committed, or to the end.
     fn move_bar(&mut self) {
-        let running = |entry: &Entry| matches!(entry, Entry::Routine { committed: false, .. });
-        self.bar = self.entries.iter().position(running).unwrap_or(self.entries.len());
+        self.bar = self.entries.iter().position(Entry::runs).unwrap_or(self.entries.len());
     }
 
     fn settled(&self) -> &[Entry] {
         &self.entries[..self.bar]
     }
 
-    /// Runs it from all devices up at 0. Err: a command stands where it must not.
-    fn serial_run(&self, device_count: usize) -> Result<Vec<(bool, i64)>, String> {
+    /// Runs it, or only its committed routines and its events, from all devices up at 0. Err: a command stands where it must not.
+    fn serial_run(&self, device_count: usize, only_committed: bool) -> Result<Vec<(bool, i64)>, String> {
         let mut devices = vec![(true, 0); device_count];
         for (at, entry) in self.entries.iter().enumerate() {
             let events = self.entries[at + 1..].iter().take_while(|entry| !entry.is_routine());
             match entry {
                 Entry::Failure(device) => devices[*device].0 = false,
                 Entry::Restart(device, setting) => devices[*device] = (true, *setting),
+                Entry::Routine { committed: false, .. } if only_committed => {}
                 Entry::Routine { id, commands, .. } => {
-                    for command in commands {
-                        match *command {
-                            Answered::Done { device, .. } if !devices[device].0 => {
-                                return Err(format!("a done command of routine {id} finds device {device} down"));
+                    for (command, how) in commands {
+                        let Command { device, setting, .. } = *command;
+                        let (up, now) = devices[device];
+                        match how {
+                            How::Done if !up => return Err(format!("a done command of routine {id} finds device {device} down")),
+                            How::Done => devices[device].1 = setting,
+                            How::Held | How::NotHeld if !up => {
+                                return Err(format!("a condition of routine {id} finds device {device} down"));
                             }
-                            Answered::Done { device, setting } => devices[device].1 = setting,
-                            Answered::SkippedAsDown { device } if devices[device].0 => {
+                            How::Held | How::NotHeld if (now < setting) != (*how == How::NotHeld) => {
+                                return Err(format!("a condition of routine {id}, {how:?}, finds device {device} at {now}: {setting}"));
+                            }
+                            How::SkippedAsDown if up => {
                                 return Err(format!("a command that routine {id} skipped in its turn finds device {device} up"));
                             }
-                            Answered::SkippedByEvent { device } if !events.clone().any(|event| event.is_event_of(device)) => {
+                            How::SkippedByEvent if !events.clone().any(|event| event.is_event_of(device)) => {
                                 return Err(format!("routine {id} skipped by an event of device {device}; behind it stands none"));
                             }
-                            Answered::SkippedAsDown { .. } | Answered::SkippedByEvent { .. } | Answered::ReportedFailed => {}
+                            How::SkippedAfterCondition if !is_dropped(commands, *command) => {
+                                return Err(format!("routine {id} skipped a command on device {device}; no condition is the ground"));
+                            }
+                            _ => {}
                         }
                     }
                 }
             }
         }
         Ok(devices)
+    }
+
+    /// The last to set the device ahead of this routine is a restart.
+    fn is_restarted(&self, wanted: u64, device: usize) -> Result<bool, String> {
+        let ahead = &self.entries[..self.place_of(wanted)?];
+        let last = ahead.iter().rev().find(|entry| matches!(entry, Entry::Restart(on, _) if *on == device) || entry.has_done(device));
+        Ok(matches!(last, Some(Entry::Restart(..))))
     }
 }
 
@@ -210,16 +266,28 @@ struct Device {
 #[derive(Clone, Copy)]
 struct Flight {
     device: usize,
-    setting: i64,
     ticket: usize,
 }
 
 struct Routine {
-    /// The commands that are not answered, in turn. The one in flight is the first.
+    commands: Vec<Command>,
+    /// Those that are not answered, in turn. The one in flight is the first.
     left: VecDeque<Command>,
     /// The devices of those that are, or were sent.
     begun: HashSet<usize>,
     flight: Option<Flight>,
+}
+
+impl Routine {
+    fn new(commands: &[Command]) -> Routine {
+        Routine { commands: commands.to_vec(), left: commands.iter().copied().collect(), begun: HashSet::new(), flight: None }
+    }
+
+    /// The tag that counts where the device is down or has an event: of a condition, that of the command after it.
+    fn deciding_tag(&self, command: Command) -> u8 {
+        let place = if command.tag == CONDITION { command.place + 1 } else { command.place };
+        self.commands[place].tag
+    }
 }
 
 /// A report that has not come yet, on a command that was skipped in flight.
@@ -259,13 +327,27 @@ enum Seen {
     BackByAbort,
     BackBySkip,
     SkippedAsDown,
+    Held,
+    NotHeld,
+    AtTheNumber,
+    DecidedByRestart,
+    BehindCommitted,
+    AbortAheadOfOutcome,
+    WaitsForDoneSetting,
+    ConditionSkippedAsDown,
+    ConditionAborted,
+    ConditionSkippedByFailure,
+    ConditionSkippedByRestart,
+    SkippedAfterCondition,
+    SkippedAfterConditionDown,
+    SkippedAfterSkippedCondition,
     CommittedBehindRunning,
     PlacedAhead,
     FullSequence,
     EndStates,
 }
 
-const SEEN: [(Seen, &str); 29] = [
+const SEEN: [(Seen, &str); 43] = [
     (Seen::Calls, "calls"),
     (Seen::Refusals, "refused or unread"),
     (Seen::Settled, "entries settled"),
@@ -291,6 +373,20 @@ const SEEN: [(Seen, &str); 29] = [
     (Seen::BackByAbort, "settings put back by an abort"),
     (Seen::BackBySkip, "settings put back by a skip"),
     (Seen::SkippedAsDown, "commands skipped as down"),
+    (Seen::Held, "conditions held"),
+    (Seen::NotHeld, "conditions not held"),
+    (Seen::AtTheNumber, "of both with the setting at the number"),
+    (Seen::DecidedByRestart, "of both where a restart set the device last"),
+    (Seen::BehindCommitted, "of both where a committed routine ahead, not settled, has set the device"),
+    (Seen::AbortAheadOfOutcome, "aborts ahead of a routine with such an outcome"),
+    (Seen::WaitsForDoneSetting, "waits of conditions for a done setting alone"),
+    (Seen::ConditionSkippedAsDown, "conditions skipped as down"),
+    (Seen::ConditionAborted, "conditions that abort as down"),
+    (Seen::ConditionSkippedByFailure, "conditions skipped by a failure"),
+    (Seen::ConditionSkippedByRestart, "conditions skipped by a restart"),
+    (Seen::SkippedAfterCondition, "commands skipped after a condition, the device up"),
+    (Seen::SkippedAfterConditionDown, "commands skipped after a condition, the device down"),
+    (Seen::SkippedAfterSkippedCondition, "of both after one that was skipped"),
     (Seen::CommittedBehindRunning, "commits behind a running routine"),
     (Seen::PlacedAhead, "routines placed ahead of another"),
     (Seen::FullSequence, "refusals of a full sequence"),
@@ -332,6 +428,8 @@ struct Rates {
     submissions: usize,
     idle: usize,
     best_effort: usize,
+    /// Conditions, where one may stand.
+    conditions: usize,
     /// Routines that come back to a device, mostly best-effort.
     lamps: usize,
     reported_failed: usize,
@@ -354,6 +452,7 @@ impl World {
             submissions: *random.pick(&[12, 20, 30]),
             idle: *random.pick(&[1, 5, 15]),
             best_effort: *random.pick(&[10, 40, 70]),
+            conditions: *random.pick(&[0, 20, 50]),
             lamps: *random.pick(&[0, 20, 80]),
             reported_failed: *random.pick(&[10, 30, 60]),
             late: *random.pick(&[5, 15, 40]),
@@ -482,7 +581,8 @@ impl World {
         self.tell(&call, &answers, &lines)?;
         self.order.move_bar();
 
-        let serial = self.order.serial_run(self.devices.len())?;
+        self.order.serial_run(self.devices.len(), true)?;
+        let serial = self.order.serial_run(self.devices.len(), false)?;
         if self.order.bar < settled.len() || self.order.entries[..settled.len()] != settled[..] {
             return Err(format!("the settled part was {settled:?} and is now {:?}", self.order.settled()));
         }
@@ -526,6 +626,112 @@ impl World {
         self.running.get_mut(&id).ok_or(format!("routine {id} is answered for, but does not run"))
     }
 
+    /// The first routine ahead that gives the next command of this one a cause to wait, and whether only by what it has done.
+    fn awaited(&self, id: u64) -> Result<Option<(u64, bool)>, String> {
+        let Some(command) = self.running.get(&id).and_then(|routine| routine.left.front()) else { return Ok(None) };
+        let ahead = &self.order.entries[..self.order.place_of(id)?];
+        Ok(ahead.iter().filter(|entry| entry.runs()).find_map(|entry| {
+            let Entry::Routine { id, .. } = entry else { return None };
+            let unfinished = self.running[id].left.iter().any(|left| left.device == command.device);
+            let done = command.tag == CONDITION && entry.has_done(command.device);
+            (unfinished || done).then_some((*id, !unfinished))
+        }))
+    }
+
+    /// The next command of the routine is answered: it is left no longer, and its device is begun.
+    fn answered(&mut self, id: u64, how: How) -> Result<Command, String> {
+        let routine = self.routine(id)?;
+        let command = routine.left.pop_front().ok_or(format!("routine {id} has no command left to answer"))?;
+        routine.begun.insert(command.device);
+        self.order.answered(id, command, how)?;
+        Ok(command)
+    }
+
+    /// A turn of this routine, which has commands left and none in flight, was answered with this; only an abort is still to be told.
+    fn turned(&mut self, id: u64, answer: &Answer) -> Result<(), String> {
+        let awaited = self.awaited(id)?;
+        let routine = self.routine(id)?;
+        let unexpected = |why: &str| Err(format!("the turn of {id} is answered with {answer:?}: {why}"));
+        let next = if routine.flight.is_none() { routine.left.front().copied() } else { None };
+        let Some(command) = next else { return unexpected("it has no command left, or one in flight") };
+        let tag = routine.deciding_tag(command);
+        let down = self.devices[command.device].failed;
+        let at = self.order.place_of(id)?;
+        let dropped = is_dropped(self.order.entries[at].commands(), command);
+        let is_condition = command.tag == CONDITION;
+        if let Answer::Wait { on, .. } = answer {
+            if awaited.map(|(first, _)| first) != Some(*on) {
+                return unexpected(&format!("it must wait on {awaited:?}"));
+            }
+            if awaited.is_some_and(|(_, done)| done) {
+                self.seen(Seen::WaitsForDoneSetting);
+            }
+            return Ok(());
+        }
+        if awaited.is_some() {
+            return unexpected(&format!("it must wait on {awaited:?}"));
+        }
+        match answer {
+            Answer::Send { device, setting, .. } => {
+                if (command.device, command.setting) != (*device, *setting) || is_condition || down || dropped {
+                    return unexpected("not that command, or it is not to be sent");
+                }
+                let ticket = self.send(*device, *setting, false)?;
+                let routine = self.routine(id)?;
+                routine.begun.insert(*device);
+                routine.flight = Some(Flight { device: *device, ticket });
+            }
+            Answer::Held { .. } | Answer::NotHeld { .. } => {
+                if !is_condition || down {
+                    return unexpected("no condition, or its device is down");
+                }
+                let (how, seen) = match answer {
+                    Answer::Held { .. } => (How::Held, Seen::Held),
+                    _ => (How::NotHeld, Seen::NotHeld),
+                };
+                self.outcome(id, command)?;
+                self.answered(id, how)?;
+                self.seen(seen);
+            }
+            Answer::Skipped { back, .. } if dropped && back.is_empty() => {
+                self.answered(id, How::SkippedAfterCondition)?;
+                self.seen(if down { Seen::SkippedAfterConditionDown } else { Seen::SkippedAfterCondition });
+                let skipped = |(before, how): &(Command, How)| before.place + 1 == command.place && *how != How::NotHeld;
+                if self.order.entries[at].commands().iter().any(skipped) {
+                    self.seen(Seen::SkippedAfterSkippedCondition);
+                }
+            }
+            Answer::Skipped { back, .. } if down && tag == BEST_EFFORT && back.is_empty() => {
+                self.answered(id, How::SkippedAsDown)?;
+                self.seen(if is_condition { Seen::ConditionSkippedAsDown } else { Seen::SkippedAsDown });
+            }
+            Answer::Aborted { .. } if down && tag == MUST && !dropped => {
+                if is_condition {
+                    self.seen(Seen::ConditionAborted);
+                }
+            }
+            _ => return unexpected("the rules give something else"),
+        }
+        Ok(())
+    }
+
+    /// Notes what decides the outcome of a condition.
+    fn outcome(&mut self, id: u64, command: Command) -> Result<(), String> {
+        let at = self.order.place_of(id)?;
+        let own = self.order.entries[at].has_done(command.device);
+        if !own && self.order.is_restarted(id, command.device)? {
+            self.seen(Seen::DecidedByRestart);
+        }
+        if self.order.entries[self.order.bar..at].iter().any(|entry| !entry.runs() && entry.has_done(command.device)) {
+            self.seen(Seen::BehindCommitted);
+        }
+        // The device's line is its due setting.
+        if self.device_lines[command.device] == Some(command.setting) {
+            self.seen(Seen::AtTheNumber);
+        }
+        Ok(())
+    }
+
     fn tell(&mut self, call: &Call, answers: &[Answer], lines: &[String]) -> Result<(), String> {
         let unexpected = || Err(format!("`{}` is answered with {lines:?}", call.line()));
         match (call, answers) {
@@ -557,27 +763,19 @@ impl World {
                 if self.order.entries[self.order.place_of(*id)? + 1..].iter().any(Entry::is_routine) {
                     self.seen(Seen::PlacedAhead);
                 }
-                self.running.insert(*id, Routine { left: commands.iter().copied().collect(), begun: HashSet::new(), flight: None });
+                self.running.insert(*id, Routine::new(commands));
             }
-            (Call::Turn(id), [Answer::Wait { id: same }]) if id == same => {
-                self.routine(*id)?;
-            }
-            (Call::Turn(id), [Answer::Send { id: same, device, setting }]) if id == same => {
-                let ticket = self.send(*device, *setting, false)?;
-                let routine = self.routine(*id)?;
-                let next = routine.left.front();
-                if routine.flight.is_some() || next.is_none_or(|c| (c.device, c.setting) != (*device, *setting)) {
-                    return unexpected();
-                }
-                routine.begun.insert(*device);
-                routine.flight = Some(Flight { device: *device, setting: *setting, ticket });
-            }
-            (Call::Turn(id), [Answer::Skipped { id: same, back }]) if id == same && back.is_empty() => {
-                let routine = self.routine(*id)?;
-                let Some(Command { device, tag: 1, .. }) = routine.left.pop_front() else { return unexpected() };
-                routine.begun.insert(device);
-                self.order.answered(*id, Answered::SkippedAsDown { device })?;
-                self.seen(Seen::SkippedAsDown);
+            (
+                Call::Turn(id),
+                [answer @ (Answer::Wait { id: same, .. }
+                | Answer::Send { id: same, .. }
+                | Answer::Held { id: same }
+                | Answer::NotHeld { id: same }
+                | Answer::Skipped { id: same, .. })],
+            ) if id == same => self.turned(*id, answer)?,
+            (Call::Turn(id), [answer @ Answer::Aborted { id: same, back }]) if id == same => {
+                self.turned(*id, answer)?;
+                self.aborted(*id, back)?;
             }
             (Call::Turn(id), [Answer::Committed { id: same }]) if id == same => {
                 let routine = self.routine(*id)?;
@@ -593,31 +791,29 @@ impl World {
                 }
             }
             (Call::Done(id), [Answer::Done { id: same }]) if id == same => {
-                let routine = self.routine(*id)?;
-                let Some(flight) = routine.flight.take() else { return unexpected() };
-                routine.left.pop_front();
+                let Some(flight) = self.routine(*id)?.flight.take() else { return unexpected() };
                 // The premise: a report says done only if the device took the command.
                 assert!(self.taken.contains(&flight.ticket), "this test broke the premise of a done report");
-                self.order.answered(*id, Answered::Done { device: flight.device, setting: flight.setting })?;
+                self.answered(*id, How::Done)?;
             }
             (Call::Failed(id), [Answer::Skipped { id: same, back }]) if id == same => {
                 self.never_taken(*id)?;
-                if self.routine(*id)?.left.pop_front().is_none_or(|command| command.tag != 1) {
+                if self.answered(*id, How::ReportedFailed)?.tag != BEST_EFFORT {
                     return unexpected();
                 }
-                self.order.answered(*id, Answered::ReportedFailed)?;
                 self.put_back(back, Seen::BackBySkip)?;
             }
             (Call::Failed(id), [Answer::Aborted { id: same, back }]) if id == same => {
                 self.never_taken(*id)?;
                 self.aborted(*id, back)?;
             }
-            (Call::Turn(id) | Call::Cancel(id), [Answer::Aborted { id: same, back }]) if id == same => self.aborted(*id, back)?,
+            (Call::Cancel(id), [Answer::Aborted { id: same, back }]) if id == same => self.aborted(*id, back)?,
             (Call::Failure(device), [before @ .., Answer::Down { device: same, after }]) if device == same && before.len() <= 1 => {
                 // What was sent before is over, and the device has any setting.
                 self.devices[*device].sent.clear();
                 if self.random.chance(60) {
-                    let other = if self.random.chance(50) { *self.random.pick(&self.rates.settings) } else { self.random.between(-1000, 1000) };
+                    let any = self.random.between(-1000, 1000);
+                    let other = if self.random.chance(50) { *self.random.pick(&self.rates.settings) } else { any };
                     if other != self.devices[*device].actual {
                         self.seen(Seen::FailureLeavesOther);
                     }
@@ -649,7 +845,7 @@ impl World {
                     }
                     _ => return unexpected(),
                 }
-                if self.order.serial_run(self.devices.len())?[*device].1 != *setting {
+                if self.order.serial_run(self.devices.len(), false)?[*device].1 != *setting {
                     self.seen(Seen::RestartAtOther);
                 }
                 self.skipped(*device, Seen::SkippedByRestart)?;
@@ -669,10 +865,11 @@ impl World {
         Ok(())
     }
 
-    /// It has begun the device, and a must is left on it.
+    /// It has begun the device, and a must is left on it, or a condition before a must.
     fn has_must_left(&mut self, id: u64, device: usize) -> Result<bool, String> {
         let routine = self.routine(id)?;
-        Ok(routine.begun.contains(&device) && routine.left.iter().any(|command| command.device == device && command.tag == 0))
+        let must = |command: &Command| command.device == device && routine.deciding_tag(*command) == MUST;
+        Ok(routine.begun.contains(&device) && routine.left.iter().any(must))
     }
 
     /// An event of this device: each routine that runs, has begun it and has commands left on it loses them.
@@ -685,10 +882,11 @@ impl World {
             if !routine.begun.contains(&device) {
                 continue;
             }
-            if places.iter().any(|&i| routine.left[i].tag != 1) {
+            if places.iter().any(|&i| routine.deciding_tag(routine.left[i]) == MUST) {
                 return Err(format!("routine {id} goes on, a must left on device {device}, which has an event"));
             }
             let flight = routine.flight.take_if(|flight| flight.device == device);
+            let gone: Vec<Command> = places.iter().map(|&i| routine.left[i]).collect();
             routine.left.retain(|command| command.device != device);
             let to_the_end = routine.left.is_empty();
             if let Some(flight) = flight {
@@ -696,8 +894,14 @@ impl World {
                 self.late.push(Late { id, device, done });
                 self.seen(Seen::FlightSkipped);
             }
-            for _ in 0..places.len() {
-                self.order.answered(id, Answered::SkippedByEvent { device })?;
+            for command in gone {
+                self.order.answered(id, command, How::SkippedByEvent)?;
+                if command.tag == CONDITION {
+                    self.seen(match seen {
+                        Seen::SkippedByFailure => Seen::ConditionSkippedByFailure,
+                        _ => Seen::ConditionSkippedByRestart,
+                    });
+                }
             }
             for _ in usize::from(flight.is_some())..places.len() {
                 self.seen(seen);
@@ -744,6 +948,9 @@ impl World {
 
     fn aborted(&mut self, id: u64, back: &[Back]) -> Result<(), String> {
         self.routine(id)?;
+        if self.order.entries[self.order.place_of(id)? + 1..].iter().any(Entry::has_outcome) {
+            self.seen(Seen::AbortAheadOfOutcome);
+        }
         self.running.remove(&id);
         self.order.remove(id)?;
         self.put_back(back, Seen::BackByAbort)
@@ -759,13 +966,22 @@ impl World {
             devices = vec![*self.random.pick(&devices), *self.random.pick(&devices)];
             best_effort = 85;
         }
-        (0..self.random.between(1, self.rates.most_commands))
-            .map(|_| Command {
+        let mut commands: Vec<Command> = (0..self.random.between(1, self.rates.most_commands) as usize)
+            .map(|place| Command {
+                place,
                 device: *self.random.pick(&devices),
                 tag: u8::from(self.random.chance(best_effort)),
                 setting: *self.random.pick(&self.rates.settings),
             })
-            .collect()
+            .collect();
+        // Conditions: not last, and none before another.
+        for at in 1..commands.len() {
+            if (at < 2 || commands[at - 2].tag != CONDITION) && self.random.chance(self.rates.conditions) {
+                let number = self.random.pick(&self.rates.settings) + self.random.between(-1, 1);
+                commands[at - 1] = Command { tag: CONDITION, setting: number.clamp(-1000, 1000), ..commands[at - 1] };
+            }
+        }
+        commands
     }
 
     /// A turn or a report of this routine that keeps to the premise.
@@ -791,13 +1007,12 @@ impl World {
         let mut found = Vec::new();
         for (&flying, routine) in &self.running {
             let Some(flight) = routine.flight else { continue };
-            if routine.left[0].tag == 0 || self.taken.contains(&flight.ticket) {
+            if routine.left[0].tag == MUST || self.taken.contains(&flight.ticket) {
                 continue;
             }
             for entry in &self.order.entries {
-                if let Entry::Routine { id, commands, committed: false } = entry {
-                    let set = |command: &Answered| matches!(command, Answered::Done { device, .. } if *device == flight.device);
-                    if *id != flying && commands.iter().any(set) {
+                if let Entry::Routine { id, committed: false, .. } = entry {
+                    if *id != flying && entry.has_done(flight.device) {
                         found.push((flying, *id));
                     }
                 }
@@ -821,7 +1036,7 @@ impl World {
         let flying: Vec<u64> = self.running.iter().filter(|(_, r)| r.flight.is_some()).map(|(id, _)| *id).collect();
         let ended = if self.committed.is_empty() { 0 } else { *self.random.pick(&self.committed) };
         let setting = self.random.between(-1000, 1000);
-        Call::Idle(match self.random.below(10) {
+        Call::Idle(match self.random.below(11) {
             0 if !not_flying.is_empty() => format!("{} {}", self.random.pick(&["D", "B"]), self.random.pick(&not_flying)),
             1 if !flying.is_empty() => format!("N {}", self.random.pick(&flying)),
             2 => format!("{} {ended}", self.random.pick(&["N", "D", "B", "C"])),
@@ -831,6 +1046,8 @@ impl World {
             5 if self.devices[device].failed => format!("R {device} {}", self.random.pick(&[1001, -1001, 32767])),
             6 => format!("S {device} 0 {}", self.random.pick(&[1001, -1001])),
             7 => format!("S {device} 0 5 {count} 1 7"),
+            // Tags above 2, and conditions that are last or before another.
+            10 => format!("S {device} {}", self.random.pick(&["3 5", "2 5", "0 5 0 2 7", "2 5 0 2 6 0 0 7", "2 5 0 3 7"])),
             8 => self.random.pick(&["O 0 0 1", "O 33 1 1", "O 3 9 1", "O 3 0 0", "S"]).to_string(),
             _ => self.random.pick(&["", " ", "N", "D 1 ", "F -1", "C 4294967296", "S 0 0", "X 1", "O 1 1"]).to_string(),
         })
@@ -909,7 +1126,7 @@ impl World {
                 }
             }
         }
-        let serial = self.order.serial_run(self.devices.len())?;
+        let serial = self.order.serial_run(self.devices.len(), false)?;
         self.end_state(&serial)?;
         while let Some(Late { id, done, .. }) = self.late.pop() {
             self.call(Call::Late { id, done, number: 10 })?;
@@ -923,9 +1140,9 @@ impl World {
             if !self.devices[device].sent.is_empty() && self.random.chance(50) {
                 self.take(device, 0);
             }
-            let (it, line) = (&self.devices[device], self.device_lines[device]);
-            if !it.failed && (it.actual != serial[device].1 || line != Some(it.actual)) {
-                return Err(format!("device {device} ends at {}, the serial run at {}, its line says {line:?}", it.actual, serial[device].1));
+            let (it, line, end) = (&self.devices[device], self.device_lines[device], serial[device].1);
+            if !it.failed && (it.actual != end || line != Some(end)) {
+                return Err(format!("device {device} ends at {}, the serial run at {end}, its line says {line:?}", it.actual));
             }
         }
         Ok(())

@@ -28,8 +28,8 @@ fn main() {
     let mut made = Made::default();
     for index in 0..count {
         let text = histories::random(seed, index);
-        let mut record =
-            Record { random: Random::new(seed, index), program: Program::new(), limits: index % 2 == 1, bytes: Vec::new(), printed: Vec::new() };
+        let (random, limits) = (Random::new(seed, index), index % 2 == 1);
+        let mut record = Record { random, program: Program::new(), limits, bytes: Vec::new(), printed: Vec::new() };
         for line in text.split(|&b| b == b'\n') {
             record.line(line, &mut made);
         }
