@@ -14,9 +14,10 @@ use Rattle.rules.specs.Order.{Entry, entries, orderOf}
 use Rattle.rules.specs.Serial.{DeviceState, allUp, serialRun}
 use Rattle.rules.specs.World.{World, Act, worldAfterAll, PremiseAll, newWorld}
 use Rattle.rules.specs.Demand3.{orderIn, committedPart, Begins, CommandsStand, Demand3}
+use Rattle.rules.specs.Replay.{Replays}
 use Rattle.rules.specs.Calls.{stateAfter}
 use Rattle.rules.proofs.Lists.{or-left, anyOf-++}
-use Rattle.rules.proofs.Theorem.{opening, demand-3, hub-order, order-committed, working-up}
+use Rattle.rules.proofs.Theorem.{opening, demand-3, hub-order, replay, order-committed, working-up}
 use Rattle.line_rules.specs.Text.{bytes}
 use Rattle.line_rules.specs.Pieces.{linesOf}
 use Rattle.line_rules.specs.Reading.{readLine}
@@ -170,6 +171,10 @@ key-demand-3 lines o = record {
   commands-stand =
       subst (λ (l : List Told). CommandsStand (accountsOf l) (entries (orderOf l)) allUp) (told-alone o)
       (rules o (alone (callsBy (o .behind))) .commands-stand);
+  conditions-replay =
+      let r = replay (o .devices) (o .passLimit) (o .firstId) (o .hub) (o .accepted) (alone (callsBy (o .behind))) in
+      subst (λ (l : List Told). Replays (accountsOf l) (entries (orderOf l)) allUp
+      × Replays (accountsOf l) (committedPart (entries (orderOf l))) allUp) (told-alone o) (r .all-routines, r .committed-routines);
   up-works = up-works o;
 }
 

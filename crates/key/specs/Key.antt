@@ -16,7 +16,8 @@ use Rattle.rules.specs.History.{Told, accountsOf, workingOf}
 use Rattle.rules.specs.Order.{orderOf, entries}
 use Rattle.rules.specs.Serial.{DeviceState, allUp, serialRun}
 use Rattle.rules.specs.World.{World, Act, calls, takes-one, worldAfterAll, PremiseAll, newWorld}
-use Rattle.rules.specs.Demand3.{NoneRuns, isBack, Begins, CommandsStand}
+use Rattle.rules.specs.Demand3.{NoneRuns, isBack, Begins, committedPart, CommandsStand}
+use Rattle.rules.specs.Replay.{Replays}
 use Rattle.line_rules.specs.Text.{bytes}
 use Rattle.line_rules.specs.Pieces.{linesOf}
 use Rattle.line_rules.specs.Reading.{asCall, Line, opening, calling, unread, readLine}
@@ -205,6 +206,10 @@ pub record KeyDemand3 {lines : List (List ℕ)} (o : LastOpening lines) : Type 0
       Begins (orderOf (toldBy (repliesTo (some (o .hub)) before)) .settled) (entries (orderOf (history o)))
   -- "In it every done command finds its device up; every skipped one was reported failed or finds it down."
   pub commands-stand : CommandsStand (accountsOf (history o)) (entries (orderOf (history o))) allUp
+  -- The replay of conditions (document 02, item 4), along the whole order and of the committed routines alone.
+  pub conditions-replay :
+      Replays (accountsOf (history o)) (entries (orderOf (history o))) allUp
+      × Replays (accountsOf (history o)) (committedPart (entries (orderOf (history o)))) allUp
   -- Whether or not a routine runs: up is printed of the devices that work.
   pub up-works : (d : ℕ) → runOf (history o) d .up ≡ workingOf (history o) d
 
