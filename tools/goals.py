@@ -84,6 +84,9 @@ def command(name, over):
         else:
             ours = os.path.exists('crates/' + lib)
             words += ['--extern', '%s=%s/rlib/%s.rlib' % (lib, 'target' if ours else own, lib)]
+    for lib in over:  # those that the crate does not name, but what it builds on does
+        if lib not in builds_on(name):
+            words += ['--lib', '%s=crates/%s/src/lib.rt' % (lib, lib)]
     words += ['-L', 'dependency=target/rlib', '-L', 'dependency=%s/rlib' % own]
     words += ['--antt-project', os.path.join(kit, 'logic', 'antt-project.json'), '--logic-built', os.path.join(own, 'logic-built')]
     os.makedirs('target/over/' + name, exist_ok=True)
