@@ -91,111 +91,113 @@ not-if true a b = refl
 not-if false a b = refl
 
 module _ (h : HubState) (x k : ℕ) (s : Stands (h .links) x) (o : OpenToDo h x k) where
+  -- its device
+  abbrev wanted : ℕ
+  wanted = commandAt h k .device
+
   -- what the code has of the command, and whether its routine begins the device by it
-  module _ (d i : ℕ) (b : Bool) (p : d ≡ commandAt h k .device) (q : b ≡ begun (commandAt h k .device) (memberAt h x))
-      (r : i ≡ memberAt h x .id)
-    where
-      marked : (if not b then put (stateOf h .mark) d i else stateOf h .mark)
-          ≡ markBegun (memberAt h x) (commandAt h k .device) (stateOf h .mark)
-      unfolding markBegun
-      marked =
-          not-if b (put (stateOf h .mark) d i) (stateOf h .mark)
-          ∙ (λ j. if q j then stateOf h .mark else put (stateOf h .mark) (p j) (r j))
+  module _ (d i : ℕ) (b : Bool) (p : d ≡ wanted) (q : b ≡ begun wanted (memberAt h x)) (r : i ≡ memberAt h x .id) where
+    marked : (if not b then put (stateOf h .mark) d i else stateOf h .mark)
+        ≡ markBegun (memberAt h x) (commandAt h k .device) (stateOf h .mark)
+    unfolding markBegun
+    marked =
+        not-if b (put (stateOf h .mark) d i) (stateOf h .mark)
+        ∙ (λ j. if q j then stateOf h .mark else put (stateOf h .mark) (p j) (r j))
 
-      module _ (code : ℕ) (u : ℤ) where
-        abbrev becomes : Staged
-        becomes = record { at = x; stage = code; «due_then» = u; begins = not b; device = d; id = i }
+    module _ (code : ℕ) (u : ℤ) where
+      abbrev becomes : Staged
+      becomes = record { at = x; stage = code; «due_then» = u; begins = not b; device = d; id = i }
 
-        staged-next : (st : Status) → statusOf code u ≡ st → staged h becomes ≡ nextBecomes (stateOf h) (there h x) (commandAt h k) st
-        unfolding staged there memberAt
-        staged-next st e =
-            let l : setStatus (answeredAt h x) (statusOf code u) (stepsAt h x) ≡ advance st (stepsAt h x)
-            = ap (λ (z : Status). setStatus (answeredAt h x) z (stepsAt h x)) e ∙ sym (o .advances st) in
-            λ j. withMark (change (stateOf h) (there h x) (withSteps (memberAt h x) (l j))) (marked j)
+      staged-next : (st : Status) → statusOf code u ≡ st → staged h becomes ≡ nextBecomes (stateOf h) (there h x) (commandAt h k) st
+      unfolding staged there memberAt
+      staged-next st e =
+          let l : setStatus (answeredAt h x) (statusOf code u) (stepsAt h x) ≡ advance st (stepsAt h x)
+          = ap (λ (z : Status). setStatus (answeredAt h x) z (stepsAt h x)) e ∙ sym (o .advances st) in
+          λ j. withMark (change (stateOf h) (there h x) (withSteps (memberAt h x) (l j))) (marked j)
 
-        -- the appliers can carry it out
-        next-ok : isToDo (statusOf code u) ≡ false → StageOk h becomes
-        next-ok e = record {
-          stands = s;
-          not-all = o .not-all;
-          device-fits = subst (λ (e : ℕ). e < maxDevices) (sym p) (o .device-fits);
-          sent-or-answered = e;
-        }
+      -- the appliers can carry it out
+      next-ok : isToDo (statusOf code u) ≡ false → StageOk h becomes
+      next-ok e = record {
+        stands = s;
+        not-all = o .not-all;
+        device-fits = subst (λ (e : ℕ). e < maxDevices) (sym p) (o .device-fits);
+        sent-or-answered = e;
+      }
 
-      -- "Otherwise the command is sent and is in flight."
-      pub send-decides : (t : ℕ) (v u : ℤ) → t ≡ commandAt h k .tag → v ≡ commandAt h k .setting → u ≡ due (stateOf h) d →
-          (y : Decision) (g : Change) →
-          y ≡ plainly (ToSend (record { id = i; command = record { device = d; tag = t; setting = v } })) g →
-          g ≡ Stage (becomes inFlightCode u) →
-          Decides h [] y (settling (sendTurn (stateOf h) (there h x) (commandAt h k)))
-      unfolding sendTurn
-      send-decides t v u a b e y g z j =
-          let c : Command = record { device = d; tag = t; setting = v } in
-          let q = status-sent inFlightCode u refl in
-          let f : u ≡ due (stateOf h) (commandAt h k .device) = e ∙ ap (due (stateOf h)) p in
-          let w = staged-next inFlightCode u (in-flight (due (stateOf h) (commandAt h k .device))) (q ∙ ap in-flight f) in
-          let n = id-there h x i r in
-          let m : c ≡ commandAt h k = λ j. record { device = p j; tag = a j; setting = b j } in
-          subst (λ (o : Decision). Decides h [] o (settling (sendTurn (stateOf h) (there h x) (commandAt h k))))
-          (sym (z ∙ ap (plainly (ToSend (record { id = i; command = c }))) j))
-          (stage-decides h [] _ (ToSend (record { id = i; command = c })) refl (becomes inFlightCode u) (next-ok inFlightCode u (ap isToDo q))
-          (λ j. settling (record { state = w j; answers = send (n j) (m j) ∷ [] })))
+    -- "Otherwise the command is sent and is in flight."
+    pub send-decides : (t : ℕ) (v u : ℤ) → t ≡ commandAt h k .tag → v ≡ commandAt h k .setting → u ≡ due (stateOf h) d →
+        (y : Decision) (g : Change) →
+        y ≡ plainly (ToSend (record { id = i; command = record { device = d; tag = t; setting = v } })) g →
+        g ≡ Stage (becomes inFlightCode u) →
+        Decides h [] y (settling (sendTurn (stateOf h) (there h x) (commandAt h k)))
+    unfolding sendTurn
+    send-decides t v u a b e y g z j =
+        let c : Command = record { device = d; tag = t; setting = v } in
+        let q = status-sent inFlightCode u refl in
+        let f : u ≡ due (stateOf h) (commandAt h k .device) = e ∙ ap (due (stateOf h)) p in
+        let w = staged-next inFlightCode u (in-flight (due (stateOf h) (commandAt h k .device))) (q ∙ ap in-flight f) in
+        let n = id-there h x i r in
+        let m : c ≡ commandAt h k = λ j. record { device = p j; tag = a j; setting = b j } in
+        subst (λ (o : Decision). Decides h [] o (settling (sendTurn (stateOf h) (there h x) (commandAt h k))))
+        (sym (z ∙ ap (plainly (ToSend (record { id = i; command = c }))) j))
+        (stage-decides h [] _ (ToSend (record { id = i; command = c })) refl (becomes inFlightCode u) (next-ok inFlightCode u (ap isToDo q))
+        (λ j. settling (record { state = w j; answers = send (n j) (m j) ∷ [] })))
 
-      -- it is answered: one answer, with the id
-      answered-decides : (code : ℕ) (u : ℤ) (st : Status) → statusOf code u ≡ st → isToDo st ≡ false → (a : Answer) →
-          changesNothing a ≡ false → (told : ℕ → Told) → answerOf a [] ≡ told i → (y : Decision) (g : Change) → y ≡ plainly a g →
-          g ≡ Stage (becomes code u) →
-          Decides h [] y
-          (settling (record {
-            state = nextBecomes (stateOf h) (there h x) (commandAt h k) st;
-            answers = told (there h x .it .id) ∷ [];
-          }))
-      answered-decides code u st e t a c told f y g z j =
-          let w = staged-next code u st e in
-          let n : answerOf a [] ≡ told (there h x .it .id) = f ∙ ap told (id-there h x i r) in
-          let after : Result = settling (record {
-            state = nextBecomes (stateOf h) (there h x) (commandAt h k) st;
-            answers = told (there h x .it .id) ∷ [];
-          }) in
-          subst (λ (o : Decision). Decides h [] o after) (sym (z ∙ ap (plainly a) j))
-          (stage-decides h [] after a c (becomes code u) (next-ok code u (ap isToDo e ∙ t))
-          (λ j. settling (record { state = w j; answers = n j ∷ [] })))
+    -- it is answered: one answer, with the id
+    answered-decides : (code : ℕ) (u : ℤ) (st : Status) → statusOf code u ≡ st → isToDo st ≡ false → (a : Answer) →
+        changesNothing a ≡ false → (told : ℕ → Told) → answerOf a [] ≡ told i → (y : Decision) (g : Change) → y ≡ plainly a g →
+        g ≡ Stage (becomes code u) →
+        Decides h [] y
+        (settling (record {
+          state = nextBecomes (stateOf h) (there h x) (commandAt h k) st;
+          answers = told (there h x .it .id) ∷ [];
+        }))
+    answered-decides code u st e t a c told f y g z j =
+        let w = staged-next code u st e in
+        let n : answerOf a [] ≡ told (there h x .it .id) = f ∙ ap told (id-there h x i r) in
+        let after : Result = settling (record {
+          state = nextBecomes (stateOf h) (there h x) (commandAt h k) st;
+          answers = told (there h x .it .id) ∷ [];
+        }) in
+        subst (λ (o : Decision). Decides h [] o after) (sym (z ∙ ap (plainly a) j))
+        (stage-decides h [] after a c (becomes code u) (next-ok code u (ap isToDo e ∙ t))
+        (λ j. settling (record { state = w j; answers = n j ∷ [] })))
 
-      -- "a best-effort is skipped"
-      pub skip-decides : (u : ℤ) (y : Decision) (g : Change) → y ≡ plainly (Skipped i) g → g ≡ Stage (becomes skippedCode u) →
-          Decides h [] y (settling (skipTurn (stateOf h) (there h x) (commandAt h k)))
-      unfolding skipTurn
-      skip-decides u y g z j =
-          answered-decides skippedCode u was-skipped (status-skipped skippedCode u (omega arith)) refl (Skipped i) refl
-          (λ j. skipped j []) refl y g z j
+    -- "a best-effort is skipped"
+    pub skip-decides : (u : ℤ) (y : Decision) (g : Change) → y ≡ plainly (Skipped i) g → g ≡ Stage (becomes skippedCode u) →
+        Decides h [] y (settling (skipTurn (stateOf h) (there h x) (commandAt h k)))
+    unfolding skipTurn
+    skip-decides u y g z j =
+        answered-decides skippedCode u was-skipped (status-skipped skippedCode u (omega arith)) refl (Skipped i) refl
+        (λ j. skipped j []) refl y g z j
 
-      -- a condition: "if its device's due setting is below the given number, it doesn't hold"
-      module _ (now number : ℤ) (e : now ≡ due (stateOf h) d) (f : number ≡ commandAt h k .setting) where
-        abbrev askTurn : Result
-        askTurn =
-            if isHeld (stateOf h) (commandAt h k) then settling (heldTurn (stateOf h) (there h x) (commandAt h k))
-            else settling (notHeldTurn (stateOf h) (there h x) (commandAt h k))
+    -- a condition: "if its device's due setting is below the given number, it doesn't hold"
+    module _ (now number : ℤ) (e : now ≡ due (stateOf h) d) (f : number ≡ commandAt h k .setting) where
+      abbrev askTurn : Result
+      askTurn =
+          if isHeld (stateOf h) (commandAt h k) then settling (heldTurn (stateOf h) (there h x) (commandAt h k))
+          else settling (notHeldTurn (stateOf h) (there h x) (commandAt h k))
 
-        held-by : isHeld (stateOf h) (commandAt h k) ≡ not (ltZ now number)
-        unfolding isHeld
-        held-by = let g : due (stateOf h) (commandAt h k .device) ≡ now = ap (due (stateOf h)) (sym p) ∙ sym e in
-            λ j. not (ltZ (g j) (sym f j))
+      held-by : isHeld (stateOf h) (commandAt h k) ≡ not (ltZ now number)
+      unfolding isHeld
+      held-by = let g : due (stateOf h) (commandAt h k .device) ≡ now = ap (due (stateOf h)) (sym p) ∙ sym e in
+          λ j. not (ltZ (g j) (sym f j))
 
-        pub held-decides : ltZ now number ≡ false → (u : ℤ) (y : Decision) (g : Change) → y ≡ plainly (Held i) g →
-            g ≡ Stage (becomes heldCode u) →
-            Decides h [] y askTurn
-        unfolding heldTurn
-        held-decides t u y g z j =
-            rw (held-by ∙ ap not t)
-            (answered-decides heldCode u was-held (status-held heldCode u refl) refl (Held i) refl held refl y g z j)
+      pub held-decides : ltZ now number ≡ false → (u : ℤ) (y : Decision) (g : Change) → y ≡ plainly (Held i) g →
+          g ≡ Stage (becomes heldCode u) →
+          Decides h [] y askTurn
+      unfolding heldTurn
+      held-decides t u y g z j =
+          rw (held-by ∙ ap not t)
+          (answered-decides heldCode u was-held (status-held heldCode u refl) refl (Held i) refl held refl y g z j)
 
-        pub not-held-decides : ltZ now number ≡ true → (u : ℤ) (y : Decision) (g : Change) → y ≡ plainly (NotHeld i) g →
-            g ≡ Stage (becomes notHeldCode u) →
-            Decides h [] y askTurn
-        unfolding notHeldTurn
-        not-held-decides t u y g z j =
-            rw (held-by ∙ ap not t)
-            (answered-decides notHeldCode u was-not-held (status-not-held notHeldCode u refl) refl (NotHeld i) refl not-held refl y g z j)
+      pub not-held-decides : ltZ now number ≡ true → (u : ℤ) (y : Decision) (g : Change) → y ≡ plainly (NotHeld i) g →
+          g ≡ Stage (becomes notHeldCode u) →
+          Decides h [] y askTurn
+      unfolding notHeldTurn
+      not-held-decides t u y g z j =
+          rw (held-by ∙ ap not t)
+          (answered-decides notHeldCode u was-not-held (status-not-held notHeldCode u refl) refl (NotHeld i) refl not-held refl y g z j)
 
   -- "a must aborts R"
   pub must-decides : (i : ℕ) → i ≡ memberAt h x .id → (y : Decision) → y ≡ plainly (Aborted i) (Abort x) →
@@ -238,6 +240,7 @@ counts-due code u v =
     (λ n. status-counts code u a n ∙ sym (status-counts code v a n)))
     (λ a. status-counts-not code u a ∙ sym (status-counts-not code v a))
 
+-- as the code tests it
 module _ (tags stages : List ℕ) (from k : ℕ) where
   abbrev tagBefore : ℕ
   tagBefore = getD tags (k - 1) 0
@@ -266,6 +269,7 @@ module _ (tags stages : List ℕ) (from k : ℕ) where
       (λ a. rw (lt-ltb doneCode stageBefore a, status-counts stageBefore (pos 0) a n))
       (λ a. rw (le-ltb doneCode stageBefore a, status-counts-not stageBefore (pos 0) a)))
 
+-- by the rows of the state
 pub skipped-is : (h : HubState) (x k : ℕ) → OpenToDo h x k → (tags stages : List ℕ) → tags ≡ h .tag → stages ≡ h .stage → {t : Bool} →
     t ≡ skippedAt tags stages (x * maxCommands) k → t ≡ nextIsSkipped false (stepsAt h x)
 unfolding stepAt skippedAt

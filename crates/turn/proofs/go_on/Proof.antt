@@ -91,6 +91,8 @@ un-not b e = sym (Bool·not-not b) ∙ ap not e
 no-not : (b : Bool) → not b ≡ false → b ≡ true
 no-not b e = sym (Bool·not-not b) ∙ ap not e
 
+-- ---- the ways to go on
+
 -- it is skipped: by the condition before it, or its device is down and it does not count as a must
 skipped : (c : tie.Joined1) → c .if1 .skips ≡ true →
     let a = start (c .before) .args in
