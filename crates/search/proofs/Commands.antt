@@ -44,6 +44,14 @@ module _ (q : ℕ → Bool) (k e : ℕ) where
   pub at-end : e ≤ k → anyAt q k (e - k) ≡ false
   at-end h = let n : e - k ≡ 0 = omega arith in rw n
 
+-- places that do not pass can be left out
+pub at-past : (q : ℕ → Bool) (k n m e : ℕ) → m ≡ k + n → m ≤ e → ((j : ℕ) → k ≤ j → j < m → q j ≡ false) →
+    anyAt q m (e - m) ≡ anyAt q k (e - k)
+at-past q k zero m e p h f = let i : m ≡ k = omega arith in rw i
+at-past q k (suc n) m e p h f =
+    let i : e - k ≡ suc (e - suc k) = omega arith in
+    at-past q (suc k) n m e (omega arith) h (λ j a b. f j (omega arith) b) ∙ rw (i, f k (omega arith) (omega arith))
+
 at-or : (q r : ℕ → Bool) (k n : ℕ) → (anyAt q k n || anyAt r k n) ≡ anyAt (λ j. q j || r j) k n
 at-or q r k zero = refl
 at-or q r k (suc n) = four (q k) (anyAt q (suc k) n) (r k) (anyAt r (suc k) n) ∙ ap (λ (t : Bool). (q k || r k) || t) (at-or q r (suc k) n)

@@ -8,6 +8,7 @@ use mathlib.Core.List.{List, [], _∷_, _++_, map-append, reverse}
 use mathlib.Core.Option.{none as nothing, some}
 use lib.Dec.{eqb, leb}
 use native.Mathlib.Numerals.{add-one}
+use lib.IntN.{pos}
 use lib.ListN.{length, take, getD, set, length-map}
 use lib.Seq.{take-suc, take-suc-set, getD-take}
 use Rattle.routine.specs.Routine.{maxDevices, maxCommands, zeroCommand, commandsOf}
@@ -26,9 +27,10 @@ use Rattle.sequence.specs.Links.{none, along, slotsOf, Stands}
 use Rattle.sequence.proofs.Lists.{same-self, same-other, past-within}
 use Rattle.sequence.proofs.Tables.{byEq, byLess}
 use Rattle.sequence.proofs.ReadLaws.{once-held, stands-slot, back-reversed}
-use Rattle.state.specs.View.{toDoCode, inFlightCode, memberAt, membersOf, stateOf, there}
-use Rattle.state.specs.Valid.{CommandOk, CommandsOk, StateOk}
+use Rattle.state.specs.View.{toDoCode, inFlightCode, doneCode, rowsOf, stepsAt, memberAt, membersOf, stateOf, there}
+use Rattle.state.specs.Valid.{CommandOk, CommandsOk, AnsweredUpTo, StateOk}
 use Rattle.state.proofs.Steps.{each-at}
+use Rattle.state.proofs.Codes.{upto-codes}
 use Rattle.state.proofs.Members.{member-committed}
 use Rattle.state.specs.declared.HubState.{HubState}
 use Rattle.state.specs.declared.Place.the-variants.{At, Nowhere}
@@ -36,7 +38,8 @@ use Rattle.search.specs.Contract.{hasId, Finds, anyOn, anyStaged, highes
 use Rattle.search.proofs.Slots.{firstSlot, Seeks, stopAt, seeks-there, seeks-found, seeks-end, first-same, first-some, find-slot}
 use Rattle.search.proofs.Slots.{find-nowhere, holding-none, holding-some}
 use Rattle.search.proofs.Back.{back-around, back-place}
-use Rattle.search.proofs.Commands.{anyAt, pastOf, belowAt, among-at, holds-up-slot, begun-slot, left-slot, must-slot}
+use Rattle.search.proofs.Commands.{anyAt, at-past, pastOf, belowAt, below-past, among-at, holds-up-slot, begun-slot, left-slot}
+use Rattle.search.proofs.Commands.{must-slot}
 
 -- ---- the tests of a slot, as the rows have them
 
@@ -55,11 +58,12 @@ slot-places : (at n : ℕ) → at * maxCommands + n - at * maxCommands ≡ n
 slot-places at n = omega arith
 
 -- where a search through its commands starts
-pub below-start : (counts device stage : List ℕ) (past d x : ℕ) →
-    anyAt (belowAt device stage past d) (x * maxCommands) (x * maxCommands + getD counts x 0 - x * maxCommands)
+pub below-start : (counts device stage : List ℕ) (past d x : ℕ) {n : ℕ} → n ≡ 0 →
+    anyAt (belowAt device stage past d) (x * maxCommands + n) (x * maxCommands + getD counts x 0 - (x * maxCommands + n))
     ≡ belowIn counts device stage past d x
 unfolding belowIn
-below-start counts device stage past d x = rw (slot-places x (getD counts x 0))
+below-start counts device stage past d x {n} e =
+    let k : x * maxCommands + n ≡ x * maxCommands = omega arith in rw (k, slot-places x (getD counts x 0))
 
 unfoldable pub holdsIn : List Bool → List ℕ → List ℕ → List ℕ → ℕ → ℕ → ℕ → Bool
 holdsIn committed counts device stage past d x = not (getD committed x false) && belowIn counts device stage past d x
@@ -187,6 +191,25 @@ module _ (h : HubState) (v : StateOk h) where
   module _ (at : ℕ) (st : Stands (h .links) at) where
     pub commands-fit : (at < maxHeld) × (getD (h .counts) at 0 ≤ maxCommands)
     commands-fit = (stands-slot (h .links) at (v .links-ok) st, v .slots-ok at st .fits)
+
+    -- no answered command holds up a command: a search for one that does may start at the first that is not answered
+    pub below-left : (device stage : List ℕ) (d : ℕ) → stage ≡ h .stage → {past : ℕ} → past ≡ doneCode →
+        {n : ℕ} → n ≡ getD (h .answered) at 0 →
+        anyAt (belowAt device stage past d) (at * maxCommands + n) (at * maxCommands + getD (h .counts) at 0 - (at * maxCommands + n))
+        ≡ belowIn (h .counts) device stage past d at
+    unfolding stepsAt belowIn
+    below-left device stage d e {past} p {n} i =
+        let u = getD (h .«due_then») at (pos 0) in
+        let from = at * maxCommands in
+        let many = getD (h .counts) at 0 in
+        let come : AnsweredUpTo n (stepsAt h at) = subst (λ (m : ℕ). AnsweredUpTo m (stepsAt h at)) (sym i) (v .slots-ok at st .come-so-far)
+        in
+        let a = upto-codes (rowsOf h) u from n many (from + n) (from + many) refl refl come in
+        at-past (belowAt device stage past d) from n (from + n) (from + many) refl (a .within .1)
+        (λ j l r.
+        let o : doneCode ≤ getD stage j 0 = subst (λ (row : List ℕ). doneCode ≤ getD row j 0) (sym e) (a .answered-before j l r) in
+        below-past device stage d j past (omega (arith, p)))
+        ∙ ap (anyAt (belowAt device stage past d) from) (slot-places at many)
 
     pub begun-is : (device stage : List ℕ) (d : ℕ) → device ≡ h .device → stage ≡ h .stage →
         ((j : ℕ) → getD (h .stage) j 0 ≤ highestStage) → {t : Bool} →

@@ -72,7 +72,8 @@ pub fn with_id(state: HubState, id: u32) -> Place
 }
 
 // The wait search, "the first such id in the sequence": through the routines ahead, along the links, and the commands of each. A command
-// that is left gives a cause to wait; a condition waits for a done one, too (document 02, item 4).
+// that is left gives a cause to wait: for a command those answered from the first on are passed over. A condition waits for a done one, too
+// (document 02, item 4).
 pub fn first_holder<'a>(
     state: HubState,
     device: &'a [u8; STEPS],
@@ -89,13 +90,15 @@ pub fn first_holder<'a>(
     let ids = state.ids;
     let committed = state.committed;
     let counts = state.counts;
+    let answered = state.answered;
     let past = if asks { SKIPPED } else { DONE };
     let mut holder = Holder::Nobody;
     let mut i = links.first as usize;
     'ahead: while i != at {
         if !committed[i] {
             let end = i * MAX_COMMANDS + (counts[i] as usize);
-            let mut k = i * MAX_COMMANDS;
+            let from = if asks { 0 } else { answered[i] as usize };
+            let mut k = i * MAX_COMMANDS + from;
             while k < end {
                 if device[k] == wanted {
                     if stage[k] < past {

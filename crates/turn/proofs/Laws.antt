@@ -28,7 +28,7 @@ use Rattle.rules.specs.Settle.{settling}
 use Rattle.rules.specs.Turn.{firstHolding, markBegun, commitTurn, nextBecomes, sendTurn, skipTurn, isHeld, heldTurn, notHeldTurn}
 use Rattle.rules.specs.Turn.{proceedUp, proceed, waitOr, turnNext, turnFlight, turnFound, turnOf}
 use Rattle.sequence.specs.Links.{Stands}
-use Rattle.sequence.proofs.Tables.{byLess}
+use Rattle.sequence.proofs.Tables.{byEq, byLess}
 use Rattle.state.specs.View.{inFlightCode, doneCode, skippedCode, heldCode, notHeldCode, statusOf, rowsOf, stepAt, stepsFrom, stepsAt}
 use Rattle.state.specs.View.{memberAt, stateOf, there, holderOf}
 use Rattle.state.specs.Valid.{StateOk}
@@ -40,6 +40,7 @@ use Rattle.state.specs.declared.Place.the-variants.{At, Nowhere}
 use Rattle.state.specs.declared.Holder.{Holder}
 use Rattle.state.specs.declared.Holder.the-variants.{Routine, Nobody}
 use Rattle.state.specs.declared.Staged.{Staged}
+use Rattle.state.specs.declared.Change.{Change}
 use Rattle.state.specs.declared.Change.the-variants.{Nothing, Stage, Commit, Abort}
 use Rattle.state.specs.declared.Decision.{Decision}
 use Rattle.answers.specs.View.{answerOf, changesNothing}
@@ -51,6 +52,7 @@ use Rattle.state.proofs.Laws.{refused-decides, wait-decides, stage-decides, com
 use Rattle.search.specs.Contract.{Finds, countingTag}
 use Rattle.search.proofs.Commands.{counts-must}
 use Rattle.search.proofs.Found.{found-as, stands-at, found-id}
+use Rattle.turn.specs.Contract.{skippedAt}
 
 -- ---- the place of the next command is in the rows
 
@@ -89,14 +91,18 @@ not-if true a b = refl
 not-if false a b = refl
 
 module _ (h : HubState) (x k : ℕ) (s : Stands (h .links) x) (o : OpenToDo h x k) where
+  -- its device
+  abbrev wanted : ℕ
+  wanted = commandAt h k .device
+
   -- what the code has of the command, and whether its routine begins the device by it
-  module _ (d i : ℕ) (b : Bool) (p : d ≡ commandAt h k .device) (q : b ≡ begun d (memberAt h x)) (r : i ≡ memberAt h x .id) where
+  module _ (d i : ℕ) (b : Bool) (p : d ≡ wanted) (q : b ≡ begun wanted (memberAt h x)) (r : i ≡ memberAt h x .id) where
     marked : (if not b then put (stateOf h .mark) d i else stateOf h .mark)
         ≡ markBegun (memberAt h x) (commandAt h k .device) (stateOf h .mark)
     unfolding markBegun
     marked =
         not-if b (put (stateOf h .mark) d i) (stateOf h .mark)
-        ∙ (λ j. if (q ∙ ap (λ (e : ℕ). begun e (memberAt h x)) p) j then stateOf h .mark else put (stateOf h .mark) (p j) (r j))
+        ∙ (λ j. if q j then stateOf h .mark else put (stateOf h .mark) (p j) (r j))
 
     module _ (code : ℕ) (u : ℤ) where
       abbrev becomes : Staged
@@ -119,47 +125,51 @@ module _ (h : HubState) (x k : ℕ) (s : Stands (h .links) x) (o : OpenToDo h x 
       }
 
     -- "Otherwise the command is sent and is in flight."
-    pub send-decides : (t : ℕ) (v u : ℤ) → t ≡ commandAt h k .tag → v ≡ commandAt h k .setting → u ≡ due (stateOf h) d → (y : Decision) →
-        y ≡ plainly (ToSend (record { id = i; command = record { device = d; tag = t; setting = v } })) (Stage (becomes inFlightCode u)) →
+    pub send-decides : (t : ℕ) (v u : ℤ) → t ≡ commandAt h k .tag → v ≡ commandAt h k .setting → u ≡ due (stateOf h) d →
+        (y : Decision) (g : Change) →
+        y ≡ plainly (ToSend (record { id = i; command = record { device = d; tag = t; setting = v } })) g →
+        g ≡ Stage (becomes inFlightCode u) →
         Decides h [] y (settling (sendTurn (stateOf h) (there h x) (commandAt h k)))
     unfolding sendTurn
-    send-decides t v u a b e y z =
+    send-decides t v u a b e y g z j =
         let c : Command = record { device = d; tag = t; setting = v } in
         let q = status-sent inFlightCode u refl in
         let f : u ≡ due (stateOf h) (commandAt h k .device) = e ∙ ap (due (stateOf h)) p in
         let w = staged-next inFlightCode u (in-flight (due (stateOf h) (commandAt h k .device))) (q ∙ ap in-flight f) in
         let n = id-there h x i r in
-        let g : c ≡ commandAt h k = λ j. record { device = p j; tag = a j; setting = b j } in
-        subst (λ (o : Decision). Decides h [] o (settling (sendTurn (stateOf h) (there h x) (commandAt h k)))) (sym z)
+        let m : c ≡ commandAt h k = λ j. record { device = p j; tag = a j; setting = b j } in
+        subst (λ (o : Decision). Decides h [] o (settling (sendTurn (stateOf h) (there h x) (commandAt h k))))
+        (sym (z ∙ ap (plainly (ToSend (record { id = i; command = c }))) j))
         (stage-decides h [] _ (ToSend (record { id = i; command = c })) refl (becomes inFlightCode u) (next-ok inFlightCode u (ap isToDo q))
-        (λ j. settling (record { state = w j; answers = send (n j) (g j) ∷ [] })))
+        (λ j. settling (record { state = w j; answers = send (n j) (m j) ∷ [] })))
 
     -- it is answered: one answer, with the id
     answered-decides : (code : ℕ) (u : ℤ) (st : Status) → statusOf code u ≡ st → isToDo st ≡ false → (a : Answer) →
-        changesNothing a ≡ false → (told : ℕ → Told) → answerOf a [] ≡ told i → (y : Decision) → y ≡ plainly a (Stage (becomes code u)) →
+        changesNothing a ≡ false → (told : ℕ → Told) → answerOf a [] ≡ told i → (y : Decision) (g : Change) → y ≡ plainly a g →
+        g ≡ Stage (becomes code u) →
         Decides h [] y
         (settling (record {
           state = nextBecomes (stateOf h) (there h x) (commandAt h k) st;
           answers = told (there h x .it .id) ∷ [];
         }))
-    answered-decides code u st e t a c told f y z =
+    answered-decides code u st e t a c told f y g z j =
         let w = staged-next code u st e in
         let n : answerOf a [] ≡ told (there h x .it .id) = f ∙ ap told (id-there h x i r) in
         let after : Result = settling (record {
           state = nextBecomes (stateOf h) (there h x) (commandAt h k) st;
           answers = told (there h x .it .id) ∷ [];
         }) in
-        subst (λ (g : Decision). Decides h [] g after) (sym z)
+        subst (λ (o : Decision). Decides h [] o after) (sym (z ∙ ap (plainly a) j))
         (stage-decides h [] after a c (becomes code u) (next-ok code u (ap isToDo e ∙ t))
         (λ j. settling (record { state = w j; answers = n j ∷ [] })))
 
     -- "a best-effort is skipped"
-    pub skip-decides : (u : ℤ) (y : Decision) → y ≡ plainly (Skipped i) (Stage (becomes skippedCode u)) →
+    pub skip-decides : (u : ℤ) (y : Decision) (g : Change) → y ≡ plainly (Skipped i) g → g ≡ Stage (becomes skippedCode u) →
         Decides h [] y (settling (skipTurn (stateOf h) (there h x) (commandAt h k)))
     unfolding skipTurn
-    skip-decides u y z =
+    skip-decides u y g z j =
         answered-decides skippedCode u was-skipped (status-skipped skippedCode u (omega arith)) refl (Skipped i) refl
-        (λ j. skipped j []) refl y z
+        (λ j. skipped j []) refl y g z j
 
     -- a condition: "if its device's due setting is below the given number, it doesn't hold"
     module _ (now number : ℤ) (e : now ≡ due (stateOf h) d) (f : number ≡ commandAt h k .setting) where
@@ -173,19 +183,21 @@ module _ (h : HubState) (x k : ℕ) (s : Stands (h .links) x) (o : OpenToDo h x 
       held-by = let g : due (stateOf h) (commandAt h k .device) ≡ now = ap (due (stateOf h)) (sym p) ∙ sym e in
           λ j. not (ltZ (g j) (sym f j))
 
-      pub held-decides : ltZ now number ≡ false → (u : ℤ) (y : Decision) → y ≡ plainly (Held i) (Stage (becomes heldCode u)) →
+      pub held-decides : ltZ now number ≡ false → (u : ℤ) (y : Decision) (g : Change) → y ≡ plainly (Held i) g →
+          g ≡ Stage (becomes heldCode u) →
           Decides h [] y askTurn
       unfolding heldTurn
-      held-decides t u y z =
+      held-decides t u y g z j =
           rw (held-by ∙ ap not t)
-          (answered-decides heldCode u was-held (status-held heldCode u refl) refl (Held i) refl held refl y z)
+          (answered-decides heldCode u was-held (status-held heldCode u refl) refl (Held i) refl held refl y g z j)
 
-      pub not-held-decides : ltZ now number ≡ true → (u : ℤ) (y : Decision) → y ≡ plainly (NotHeld i) (Stage (becomes notHeldCode u)) →
+      pub not-held-decides : ltZ now number ≡ true → (u : ℤ) (y : Decision) (g : Change) → y ≡ plainly (NotHeld i) g →
+          g ≡ Stage (becomes notHeldCode u) →
           Decides h [] y askTurn
       unfolding notHeldTurn
-      not-held-decides t u y z =
+      not-held-decides t u y g z j =
           rw (held-by ∙ ap not t)
-          (answered-decides notHeldCode u was-not-held (status-not-held notHeldCode u refl) refl (NotHeld i) refl not-held refl y z)
+          (answered-decides notHeldCode u was-not-held (status-not-held notHeldCode u refl) refl (NotHeld i) refl not-held refl y g z j)
 
   -- "a must aborts R"
   pub must-decides : (i : ℕ) → i ≡ memberAt h x .id → (y : Decision) → y ≡ plainly (Aborted i) (Abort x) →
@@ -219,39 +231,60 @@ module _ (h : HubState) (x k : ℕ) (s : Stands (h .links) x) (o : OpenToDo h x 
 
 -- ---- does the condition before the next command skip it?
 
-module _ (h : HubState) (x k : ℕ) (o : OpenToDo h x k) where
-  pub none-before : k ≤ x * maxCommands → false ≡ nextIsSkipped false (stepsAt h x)
-  none-before i = let e : answeredAt h x ≡ 0 = omega (arith, o .place) in sym (o .next-skipped ∙ ap (skipsAfter h x) e)
+-- the due setting of then does not matter to that
+counts-due : (code : ℕ) (u v : ℤ) → countsAsNotHeld (statusOf code u) ≡ countsAsNotHeld (statusOf code v)
+counts-due code u v =
+    byLess doneCode code
+    (λ a. byEq code heldCode
+    (λ e. rw (status-held code u e, status-held code v e))
+    (λ n. status-counts code u a n ∙ sym (status-counts code v a n)))
+    (λ a. status-counts-not code u a ∙ sym (status-counts-not code v a))
 
-  module _ (tags stages : List ℕ) (t : tags ≡ h .tag) (s : stages ≡ h .stage) (i : x * maxCommands < k) where
-    abbrev tagBefore : ℕ
-    tagBefore = getD tags (k - 1) 0
+-- as the code tests it
+module _ (tags stages : List ℕ) (from k : ℕ) where
+  abbrev tagBefore : ℕ
+  tagBefore = getD tags (k - 1) 0
 
-    abbrev stageBefore : ℕ
-    stageBefore = getD stages (k - 1) 0
+  abbrev stageBefore : ℕ
+  stageBefore = getD stages (k - 1) 0
 
-    before-is : nextIsSkipped false (stepsAt h x)
-        ≡ (eqb tagBefore conditionTag && countsAsNotHeld (statusOf stageBefore (dueThenAt h x)))
-    unfolding stepAt
-    before-is =
-        let n = k - 1 - x * maxCommands in
-        let e : answeredAt h x ≡ suc n = omega (arith, o .place) in
-        let j : x * maxCommands + n ≡ k - 1 = omega arith in
-        o .next-skipped ∙ ap (skipsAfter h x) e ∙ ap (λ (m : ℕ). skipsNext (stepAt (rowsOf h) (dueThenAt h x) m)) j ∙ rw (t, s)
+  pub none-before : k ≤ from → false ≡ skippedAt tags stages from k
+  unfolding skippedAt
+  none-before i = rw (le-ltb from k i)
 
-    pub before-command : (tagBefore ≡ conditionTag → ⊥) → false ≡ nextIsSkipped false (stepsAt h x)
-    before-command n = rw (before-is, ne-eqb tagBefore conditionTag n)
+  pub before-command : (tagBefore ≡ conditionTag → ⊥) → false ≡ skippedAt tags stages from k
+  unfolding skippedAt
+  before-command n = rw (ne-eqb tagBefore conditionTag n, and-false (ltb from k))
 
-    pub before-held : stageBefore ≡ heldCode → false ≡ nextIsSkipped false (stepsAt h x)
-    before-held e = rw (before-is, status-held stageBefore (dueThenAt h x) e) (sym (and-false (eqb tagBefore conditionTag)))
+  pub before-held : stageBefore ≡ heldCode → false ≡ skippedAt tags stages from k
+  unfolding skippedAt
+  before-held e = rw (status-held stageBefore (pos 0) e) (sym (and-false (ltb from k && eqb tagBefore conditionTag)))
 
-    pub before-condition : tagBefore ≡ conditionTag → (stageBefore ≡ heldCode → ⊥) →
-        ltb doneCode stageBefore ≡ nextIsSkipped false (stepsAt h x)
-    before-condition e n =
-        rw (before-is, eq-eqb tagBefore conditionTag e)
-        (byLess doneCode stageBefore
-        (λ a. rw (lt-ltb doneCode stageBefore a, status-counts stageBefore (dueThenAt h x) a n))
-        (λ a. rw (le-ltb doneCode stageBefore a, status-counts-not stageBefore (dueThenAt h x) a)))
+  pub before-condition : from < k → tagBefore ≡ conditionTag → (stageBefore ≡ heldCode → ⊥) →
+      ltb doneCode stageBefore ≡ skippedAt tags stages from k
+  unfolding skippedAt
+  before-condition i e n =
+      rw (lt-ltb from k i, eq-eqb tagBefore conditionTag e)
+      (byLess doneCode stageBefore
+      (λ a. rw (lt-ltb doneCode stageBefore a, status-counts stageBefore (pos 0) a n))
+      (λ a. rw (le-ltb doneCode stageBefore a, status-counts-not stageBefore (pos 0) a)))
+
+-- by the rows of the state
+pub skipped-is : (h : HubState) (x k : ℕ) → OpenToDo h x k → (tags stages : List ℕ) → tags ≡ h .tag → stages ≡ h .stage → {t : Bool} →
+    t ≡ skippedAt tags stages (x * maxCommands) k → t ≡ nextIsSkipped false (stepsAt h x)
+unfolding stepAt skippedAt
+skipped-is h x k o tags stages e f g =
+    g ∙ sym (o .next-skipped ∙ byLess (x * maxCommands) k
+    (λ i.
+    let n = k - 1 - x * maxCommands in
+    let a : answeredAt h x ≡ suc n = omega (arith, o .place) in
+    let j : x * maxCommands + n ≡ k - 1 = omega arith in
+    ap (skipsAfter h x) a
+    ∙ ap (λ (m : ℕ). skipsNext (stepAt (rowsOf h) (dueThenAt h x) m)) j
+    ∙ rw (e, f, lt-ltb (x * maxCommands) k i, counts-due (getD (h .stage) (k - 1) 0) (dueThenAt h x) (pos 0)))
+    (λ i.
+    let a : answeredAt h x ≡ 0 = omega (arith, o .place) in
+    ap (skipsAfter h x) a ∙ none-before tags stages (x * maxCommands) k i))
 
 -- ---- what the next command counts as
 

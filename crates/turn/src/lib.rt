@@ -24,135 +24,42 @@ use state::Staged;
 use state::decisions;
 use state::readers;
 ghost use mathlib.Core.Path.{_≡_};
-ghost use mathlib.Core.Bool.{false};
+ghost use mathlib.Core.Bool.{not};
 ghost use mathlib.Core.List.{[]};
-ghost use Rattle.routine.specs.Choice.{if_then_else_};
-ghost use Rattle.rules.specs.Settle.{settling};
-ghost use Rattle.rules.specs.Turn.{sendTurn, skipTurn, isHeld, heldTurn, notHeldTurn, proceedUp, proceed, turnOf, turnNext};
-ghost use Rattle.rules.specs.Progress.{next, nextIsSkipped};
+ghost use Prim.Native.Nat.{_*_, _<_};
+ghost use Rattle.routine.specs.Routine.{maxCommands};
+ghost use Rattle.rules.specs.State.{maxHeld};
+ghost use Rattle.rules.specs.Turn.{proceedUp, proceed, turnOf, turnNext};
+ghost use Rattle.rules.specs.Progress.{begun as hasBegun, next};
 ghost use Rattle.sequence.specs.Links.{Stands};
 ghost use Rattle.state.specs.View.{stepsAt, stateOf, there, memberAt};
 ghost use Rattle.state.specs.Valid.{StateOk};
 ghost use Rattle.state.specs.Open.{commandAt, OpenToDo};
 ghost use Rattle.state.specs.Contract.{Decides};
+ghost use Rattle.turn.specs.Contract.{skippedAt};
 
-// "Otherwise the command is sent and is in flight." It keeps its device's due setting of now.
-fn send<'a>(
-    state: HubState,
-    device: &'a [u8; STEPS],
-    tag: &'a [u8; STEPS],
-    stage: &'a [u8; STEPS],
-    at: usize,
-    k: usize,
-    id: u32,
-) -> Decision
-    requires { ⌜ (StateOk state) × (Stands (state .links) at) × (OpenToDo state at k) × (id ≡ memberAt state at .id)
-        × (now device ≡ state .device) × (now tag ≡ state .tag) × (now stage ≡ state .stage) ⌝ }
-    ensures { λ r. ⌜ Decides state [] r (settling (sendTurn (stateOf state) (there state at) (commandAt state k))) ⌝ }
+// The next command comes to a stage.
+fn staged(at: usize, stage: u8, due_then: i16, begun: bool, device: u8, id: u32) -> Change
+    ensures { λ r. ⌜ r ≡ Change.Stage
+        (record { at = at; stage = stage; «due_then» = «due_then»; begins = not begun; device = device; id = id }) ⌝ }
 {
-    let wanted = device[k];
-    let settings = state.setting;
-    let setting = settings[k];
-    let due_then = due::due_setting(state, device, stage, &settings, wanted);
-    let begun = search::has_begun(state, device, stage, at, wanted);
     let change = Staged {
         at,
-        stage: IN_FLIGHT,
+        stage,
         due_then,
         begins: !begun,
-        device: wanted,
+        device,
         id,
     };
-    let command = Command {
-        device: wanted,
-        tag: tag[k],
-        setting,
-    };
-    let sent = Sent { id, command };
-    decisions::plain(Answer::Sent(sent), Change::Stage(change))
+    Change::Stage(change)
 }
 
-// "a best-effort is skipped"
-fn skip<'a>(
-    state: HubState,
-    device: &'a [u8; STEPS],
-    stage: &'a [u8; STEPS],
-    at: usize,
-    k: usize,
-    id: u32,
-) -> Decision
-    requires { ⌜ (StateOk state) × (Stands (state .links) at) × (OpenToDo state at k) × (id ≡ memberAt state at .id)
-        × (now device ≡ state .device) × (now stage ≡ state .stage) ⌝ }
-    ensures { λ r. ⌜ Decides state [] r (settling (skipTurn (stateOf state) (there state at) (commandAt state k))) ⌝ }
+// Is the command at k one that the condition before it skips? Its routine's commands stand from `from` on.
+fn is_skipped<'a>(tag: &'a [u8; STEPS], stage: &'a [u8; STEPS], from: usize, k: usize) -> bool
+    requires { ⌜ k < maxHeld * maxCommands ⌝ }
+    ensures { λ r. ⌜ r ≡ skippedAt (now (tag .entry)) (now (stage .entry)) from k ⌝ }
 {
-    let wanted = device[k];
-    let begun = search::has_begun(state, device, stage, at, wanted);
-    let change = Staged {
-        at,
-        stage: SKIPPED,
-        due_then: 0,
-        begins: !begun,
-        device: wanted,
-        id,
-    };
-    decisions::plain(Answer::Skipped(id), Change::Stage(change))
-}
-
-// A condition, its device being up: held or not held, by the due setting.
-fn ask<'a>(
-    state: HubState,
-    device: &'a [u8; STEPS],
-    stage: &'a [u8; STEPS],
-    at: usize,
-    k: usize,
-    id: u32,
-) -> Decision
-    requires { ⌜ (StateOk state) × (Stands (state .links) at) × (OpenToDo state at k) × (id ≡ memberAt state at .id)
-        × (now device ≡ state .device) × (now stage ≡ state .stage) ⌝ }
-    ensures { λ r. ⌜ Decides state [] r (if isHeld (stateOf state) (commandAt state k)
-        then settling (heldTurn (stateOf state) (there state at) (commandAt state k))
-        else settling (notHeldTurn (stateOf state) (there state at) (commandAt state k))) ⌝ }
-{
-    let wanted = device[k];
-    let settings = state.setting;
-    let number = settings[k];
-    let due = due::due_setting(state, device, stage, &settings, wanted);
-    let begun = search::has_begun(state, device, stage, at, wanted);
-    if due < number {
-        let change = Staged {
-            at,
-            stage: NOT_HELD,
-            due_then: 0,
-            begins: !begun,
-            device: wanted,
-            id,
-        };
-        return decisions::plain(Answer::NotHeld(id), Change::Stage(change));
-    }
-    let change = Staged {
-        at,
-        stage: HELD,
-        due_then: 0,
-        begins: !begun,
-        device: wanted,
-        id,
-    };
-    decisions::plain(Answer::Held(id), Change::Stage(change))
-}
-
-// Is the next command, at k, one that the condition before it skips?
-fn is_skipped<'a>(
-    state: HubState,
-    tag: &'a [u8; STEPS],
-    stage: &'a [u8; STEPS],
-    at: usize,
-    k: usize,
-) -> bool
-    requires { ⌜ (StateOk state) × (Stands (state .links) at) × (OpenToDo state at k)
-        × (now tag ≡ state .tag) × (now stage ≡ state .stage) ⌝ }
-    ensures { λ r. ⌜ r ≡ nextIsSkipped false (stepsAt state at) ⌝ }
-{
-    if k <= at * MAX_COMMANDS {
+    if k <= from {
         return false;
     }
     let before = k - 1;
@@ -165,7 +72,8 @@ fn is_skipped<'a>(
     DONE < stage[before]
 }
 
-// The next command, its device being up: a condition is asked, a command is sent.
+// The next command, its device being up: a condition is held or not held, by the due setting. "Otherwise the command is sent and is in
+// flight": it keeps its device's due setting of now.
 fn go_on_up<'a>(
     state: HubState,
     device: &'a [u8; STEPS],
@@ -174,15 +82,33 @@ fn go_on_up<'a>(
     at: usize,
     k: usize,
     id: u32,
+    begun: bool,
 ) -> Decision
     requires { ⌜ (StateOk state) × (Stands (state .links) at) × (OpenToDo state at k) × (id ≡ memberAt state at .id)
-        × (now device ≡ state .device) × (now tag ≡ state .tag) × (now stage ≡ state .stage) ⌝ }
+        × (now device ≡ state .device) × (now tag ≡ state .tag) × (now stage ≡ state .stage)
+        × (begun ≡ hasBegun (commandAt state k .device) (memberAt state at)) ⌝ }
     ensures { λ r. ⌜ Decides state [] r (proceedUp (stateOf state) (there state at) (commandAt state k)) ⌝ }
 {
-    if tag[k] == CONDITION {
-        return ask(state, device, stage, at, k, id);
+    let wanted = device[k];
+    let settings = state.setting;
+    let setting = settings[k];
+    let due = due::due_setting(state, device, stage, &settings, wanted);
+    if tag[k] != CONDITION {
+        let command = Command {
+            device: wanted,
+            tag: tag[k],
+            setting,
+        };
+        let sent = Sent { id, command };
+        let change = staged(at, IN_FLIGHT, due, begun, wanted, id);
+        return decisions::plain(Answer::Sent(sent), change);
     }
-    send(state, device, tag, stage, at, k, id)
+    if due < setting {
+        let change = staged(at, NOT_HELD, 0, begun, wanted, id);
+        return decisions::plain(Answer::NotHeld(id), change);
+    }
+    let change = staged(at, HELD, 0, begun, wanted, id);
+    decisions::plain(Answer::Held(id), change)
 }
 
 // The command after a condition that did not hold is skipped. Else: "If D is down, a must aborts R and a best-effort is skipped"; of a
@@ -200,18 +126,23 @@ fn go_on<'a>(
         × (now device ≡ state .device) × (now tag ≡ state .tag) × (now stage ≡ state .stage) ⌝ }
     ensures { λ r. ⌜ Decides state [] r (proceed (stateOf state) (there state at) (commandAt state k)) ⌝ }
 {
-    if is_skipped(state, tag, stage, at, k) {
-        return skip(state, device, stage, at, k, id);
+    let begun = search::has_begun(state, device, stage, at, device[k]);
+    let mut skips = is_skipped(tag, stage, at * MAX_COMMANDS, k);
+    if !skips {
+        if !readers::is_up(state, device[k]) {
+            let counts = state.counts;
+            let end = at * MAX_COMMANDS + (counts[at] as usize);
+            if search::counting_tag(tag, k, end) == MUST {
+                return decisions::plain(Answer::Aborted(id), Change::Abort(at));
+            }
+            skips = true;
+        }
     }
-    if readers::is_up(state, device[k]) {
-        return go_on_up(state, device, tag, stage, at, k, id);
+    if skips {
+        let change = staged(at, SKIPPED, 0, begun, device[k], id);
+        return decisions::plain(Answer::Skipped(id), change);
     }
-    let counts = state.counts;
-    let end = at * MAX_COMMANDS + (counts[at] as usize);
-    if search::counting_tag(tag, k, end) == MUST {
-        return decisions::plain(Answer::Aborted(id), Change::Abort(at));
-    }
-    skip(state, device, stage, at, k, id)
+    go_on_up(state, device, tag, stage, at, k, id, begun)
 }
 
 // The next command: "the answer is wait, with the first such id in the sequence, and no change", or it goes on.
@@ -245,13 +176,13 @@ pub fn decide(state: HubState, id: u32) -> Decision
         return decisions::refused(NOT_RUNNING);
     };
     let stage = state.stage;
+    let tag = state.tag;
     let open = readers::open_at(state, &stage, at);
     match open {
         Open::Nothing => decisions::plain(Answer::Committed(id), Change::Commit(at)),
         Open::InFlight(_) => decisions::refused(TURN_IN_FLIGHT),
         Open::ToDo(k) => {
             let device = state.device;
-            let tag = state.tag;
             next_turn(state, &device, &tag, &stage, at, k, id)
         }
     }

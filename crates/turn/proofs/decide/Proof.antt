@@ -27,7 +27,7 @@ returns c =
 
 open-at-requires : tie.Need-open-at-requires
 open-at-requires c κs =
-    let g = c .before .before .before in
+    let g = c .before .before .before .before in
     let r = g .before .before in
     (r .before .pre, stands-at _ _ _ (r .running .ensures) _ (g .place .given .1), refl)
 
@@ -49,14 +49,14 @@ enum-known-open c = search needs
 -- the next command of the routine that was found
 opened : (c : tie.After-known-told2) →
     let o = c .before .before .before in
-    let g = o .before .before .before .before in
+    let g = o .before .before .before .before .before in
     OpenToDo (g .before .before .before .args .state) (g .place .given .0 .0) (c .before .«open» .given .0 .0)
 opened c = subst (OpenIs _ _) (c .before .«open» .given .1) (c .before .before .before .open-at .ensures)
 
 next-turn-requires : tie.Need-next-turn-requires
 next-turn-requires c κs =
-    let t = c .before .before .before .before .before in
-    let g = t .before .before .before .before .before .before .before in
+    let t = c .before .before .before .before in
+    let g = t .before .before .before .before .before .before .before .before in
     let r = g .before .before in
     let f = r .running .ensures in
     let e = g .place .given .1 in
@@ -65,7 +65,7 @@ next-turn-requires c κs =
 returns-2 : tie.Need-returns-2
 returns-2 c =
     let o = c .before .before .before in
-    let g = o .before .before .before .before in
+    let g = o .before .before .before .before .before in
     let r = g .before .before in
     turn-commits (r .before .args .state) (r .before .args .id) _ (r .running .ensures) _ _ (g .place .given .1)
     (subst (OpenIs _ _) (c .before .enum-told2 .given .1) (o .open-at .ensures)) (c .plain .ensures)
@@ -73,15 +73,15 @@ returns-2 c =
 returns-3 : tie.Need-returns-3
 returns-3 c =
     let o = c .before .before .before in
-    let g = o .before .before .before .before in
+    let g = o .before .before .before .before .before in
     let r = g .before .before in
     turn-sent (r .before .args .state) (r .before .args .id) _ (r .running .ensures) _ _ (g .place .given .1) _
     (subst (OpenIs _ _) (c .before .enum-told3 .given .1) (o .open-at .ensures)) (c .refused2 .ensures)
 
 returns-4 : tie.Need-returns-4
 returns-4 c =
-    let t = c .before .before .before .before .before .before in
-    let g = t .before .before .before .before .before .before .before in
+    let t = c .before .before .before .before .before in
+    let g = t .before .before .before .before .before .before .before .before in
     let r = g .before .before in
     turn-on (r .before .args .state) (r .before .args .id) _ (r .running .ensures) _ _ (g .place .given .1) _
     (opened t) (c .next-turn .ensures)
