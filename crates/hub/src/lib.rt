@@ -83,7 +83,7 @@ pub fn open(devices: u8, pass_limit: u8, first_id: u32) -> Opened
     Opened { verdict, hub }
 }
 
-// "Submission: 4; then the commands in turn, each 5, 6, 7; then 8, 9."
+// "Submission: 4; then the commands in turn, each 5, 6, 7", and 22 (document 02, item 4); "then 8, 9."
 pub fn submit(hub: Hub, routine: Routine) -> Outcome
     requires { ⌜ Valid hub ⌝ }
     ensures { λ r. ⌜ Submitted hub routine r ⌝ }

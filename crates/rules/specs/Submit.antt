@@ -1,4 +1,4 @@
--- Document 01, "Submit". Refusals: 4; then the commands in turn, each 5, 6, 7; then 8, 9. Assumes nothing.
+-- Document 01, "Submit". Refusals: 4; then the commands in turn, each 5, 6, 7 and 22 (document 02, item 4); then 8, 9. Assumes nothing.
 use mathlib.Core.Bool.{Bool, false, _&&_, _||_}
 use mathlib.Core.List.{List, [], _∷_, _++_, map}
 use mathlib.Core.Option.{none}

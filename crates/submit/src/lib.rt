@@ -1,4 +1,4 @@
-// Document 01, "Submit". Refusals: 4; then the commands in turn, each 5, 6, 7; then 8, 9.
+// Document 01, "Submit". Refusals: 4; then the commands in turn, each 5, 6, 7 and 22 (document 02, item 4); then 8, 9.
 use answers::Answer;
 use answers::Placed;
 use routine::HIGHEST_ID;
