@@ -9,11 +9,11 @@ use lib.IntN.{pos}
 use Rattle.rules.specs.Tables.{anyOf}
 use Rattle.rules.specs.Answers.{submit, turn, report, failure, restart, cancel}
 use Rattle.rules.specs.Open.{newHub}
-use Rattle.rules.specs.World.{World, Act, calls, takes-one, accounts, worldAfterAll, taken, PremiseAll, newWorld}
+use Rattle.rules.specs.World.{World, Act, calls, takes-one, worldAfterAll, taken, PremiseAll, newWorld}
 use Rattle.rules.specs.Demand3.{NoneRuns, isBack}
 use Rattle.rules.specs.Examples.{must}
 use Rattle.rules.proofs.Lists.{this-or-other}
-use Rattle.rules.proofs.Worlds.{call, elsewhere}
+use Rattle.rules.proofs.Worlds.{call, none-run}
 use Rattle.line_rules.specs.Text.{bytes}
 use Rattle.key.specs.Key.{deviceLinesFrom, callsBy, callsIn, deviceIn, NoneToPutBack}
 use Rattle.key.specs.Examples.{calc, listingBehind}
@@ -56,7 +56,7 @@ listing-world = record {
       ),
     ),
   );
-  none-runs = λ i. elsewhere (accounts world) 1 refl i (λ n. elsewhere (accounts world) 2 refl i (λ m. rw (n, m) refl));
+  none-runs = none-run world (refl, (refl, tt));
   put-back = λ d _.
       this-or-other (λ (i : ℕ). anyOf isBack (world .devices i .sent) ≡ false) 0 d refl (λ n. rw (ne-eqb d 0 (λ z. n (sym z))) refl);
   lines-are = refl;

@@ -14,7 +14,7 @@ use Rattle.rules.specs.Demand3.{orderIn, Begins, CommandsStand}
 use Rattle.rules.specs.Replay.{Replays}
 use Rattle.rules.specs.Examples.{must, best, condition}
 use Rattle.rules.proofs.Lists.{t≠f}
-use Rattle.rules.proofs.Worlds.{calcWorld, Passage, endOf, Passes, call, elsewhere}
+use Rattle.rules.proofs.Worlds.{calcWorld, Passage, endOf, Passes, call, none-run}
 
 -- commit_leaves_at_once: 2 is committed behind 1, which runs; 3 follows 2. If 2 were gone, 3 would be placed ahead of both, and the serial
 -- run would end with 2's 70.
@@ -52,9 +52,7 @@ committed-stays = record {
       ),
     ),
   );
-  none-runs = λ i. elsewhere (accounts (endOf committedStays)) 1 refl i
-      (λ n. elsewhere (accounts (endOf committedStays)) 2 refl i
-      (λ m. elsewhere (accounts (endOf committedStays)) 3 refl i (λ k. rw (n, m, k) refl)));
+  none-runs = none-run (endOf committedStays) (refl, (refl, (refl, tt)));
   ready = refl;
   settings-are = refl;
   serial-is = refl;
@@ -80,8 +78,7 @@ event-after-abort = record {
     (λ _. tt),
     ((λ _. tt), (tt, ((λ _. refl), ((λ _. tt), ((λ _. tt), ((λ _. refl), ((λ _. tt), (tt, ((λ _. refl), ((λ _. tt), tt)))))))))),
   );
-  none-runs = λ i. elsewhere (accounts (endOf eventAfterAbort)) 1 refl i
-      (λ n. elsewhere (accounts (endOf eventAfterAbort)) 2 refl i (λ m. rw (n, m) refl));
+  none-runs = none-run (endOf eventAfterAbort) (refl, (refl, tt));
   ready = refl;
   settings-are = refl;
   serial-is = refl;
@@ -107,8 +104,7 @@ later-stands = record {
     (λ _. tt),
     ((λ _. tt), (tt, ((λ _. refl), ((λ _. tt), ((λ _. tt), (tt, ((λ _. refl), ((λ _. tt), ((λ _. tt), (tt, tt)))))))))),
   );
-  none-runs = λ i. elsewhere (accounts (endOf laterStands)) 1 refl i
-      (λ n. elsewhere (accounts (endOf laterStands)) 2 refl i (λ m. rw (n, m) refl));
+  none-runs = none-run (endOf laterStands) (refl, (refl, tt));
   ready = refl;
   settings-are = refl;
   serial-is = refl;
@@ -151,8 +147,7 @@ mark-goes-back = record {
       ),
     ),
   );
-  none-runs = λ i. elsewhere (accounts (endOf markGoesBack)) 1 refl i
-      (λ n. elsewhere (accounts (endOf markGoesBack)) 2 refl i (λ m. rw (n, m) refl));
+  none-runs = none-run (endOf markGoesBack) (refl, (refl, tt));
   ready = refl;
   settings-are = refl;
   serial-is = refl;
@@ -195,8 +190,7 @@ events-stay = record {
       ),
     ),
   );
-  none-runs = λ i. elsewhere (accounts (endOf eventsStay)) 1 refl i
-      (λ n. elsewhere (accounts (endOf eventsStay)) 2 refl i (λ m. rw (n, m) refl));
+  none-runs = none-run (endOf eventsStay) (refl, (refl, tt));
   ready = refl;
   settings-are = refl;
   serial-is = refl;

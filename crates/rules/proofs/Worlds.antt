@@ -1,28 +1,27 @@
 -- The theorem is not empty: worlds that meet the premise, end with no routine running and nothing left to put back, and pass through what
 -- is hard. Each is computed; the theorem is not used. Assumes nothing.
-use mathlib.Core.Path.{_≡_, refl, sym}
+use mathlib.Core.Path.{_≡_, refl, sym, ap, _∙_}
 use mathlib.Core.Logic.{inl, inr}
 use mathlib.Core.Bool.{Bool, true, false, not, _&&_}
-use mathlib.Core.List.{List, [], _∷_}
+use mathlib.Core.List.{List, [], _∷_, _++_}
 use Prim.Native.Nat.{ℕ, zero, suc}
-use borrow.Author.Tests.{ne-eqb}
 use lib.Dec.{eqb}
 use lib.IntN.{ℤ, pos, negsuc}
 use lib.ListN.{take}
-use Rattle.rules.specs.Tables.{anyOf}
-use Rattle.rules.specs.Answers.{Call, submit, turn, report, failure, restart, cancel, limit, Answer, refused, placed, wait, done}
-use Rattle.rules.specs.Answers.{skipped, held, aborted, down, up}
-use Rattle.rules.specs.Answers.{limited}
+use Rattle.rules.specs.Tables.{anyOf, Each}
+use Rattle.rules.specs.Answers.{Call, submit, turn, report, failure, restart, cancel, limit, Answer, refused, placed, wait, send}
+use Rattle.rules.specs.Answers.{done, skipped, held, not-held, committed, aborted, down, up, limited}
 use Rattle.routine.specs.declared.Refusal.the-variants.{Number}
 use Rattle.rules.specs.Open.{opened, newHub, openOf}
-use Rattle.rules.specs.History.{Told, Account, workingOf}
+use Rattle.rules.specs.History.{reported-done, found-held, found-not-held, Told, Account, skippedBy, sentAccount, answeredAccount}
+use Rattle.rules.specs.History.{hasBegun, noteAnswer, noteAnswers, accountsOf, workingOf}
 use Rattle.rules.specs.Order.{putAfter, entries, moveBar}
 use Rattle.rules.specs.Serial.{DeviceState, allUp, serialRun}
 use Rattle.rules.specs.World.{put-back, sent-for, World, Act, calls, takes-one, accounts, worldAfterAll, taken, PremiseAll, newWorld}
 use Rattle.rules.specs.Demand3.{orderIn, NoneRuns, isBack, committedPart, CommandsStand}
 use Rattle.rules.specs.Replay.{Replays}
 use Rattle.rules.specs.Examples.{calc, must, best, condition, back}
-use Rattle.rules.proofs.Lists.{t≠f, this-or-other}
+use Rattle.rules.proofs.Lists.{byIf, t≠f, this-or-other, put-other, put-keeps, each-left, each-right, IsNot, NotIn}
 
 -- all that a computation with worlds opens
 unfoldable pub calcWorld : Unit {0}
@@ -70,9 +69,70 @@ pub record Passes (p : Passage) : Type 0 where
 abbrev pub call : Call → Act
 call c = calls c (pos 0)
 
--- a table looked at in one place and in the others
-pub elsewhere : (f : ℕ → Account) (k : ℕ) → f k .running ≡ false → (i : ℕ) → (eqb i k ≡ false → f i .running ≡ false) → f i .running ≡ false
-elsewhere f k e i g = this-or-other (λ j. f j .running ≡ false) k i e (λ n. g (ne-eqb i k (λ z. n (sym z))))
+-- ---- no routine runs: told of the ids that were placed
+
+abbrev placedBy : Answer → List ℕ
+placedBy (refused r) = []
+placedBy (placed i j) = i ∷ []
+placedBy (wait i j) = []
+placedBy (send i c) = []
+placedBy (done i) = []
+placedBy (skipped i l) = []
+placedBy (held i) = []
+placedBy (not-held i) = []
+placedBy (committed i) = []
+placedBy (aborted i l) = []
+placedBy (down d j) = []
+placedBy (up d j) = []
+placedBy (limited k) = []
+
+abbrev placedAmong : List Answer → List ℕ
+placedAmong [] = []
+placedAmong (x ∷ l) = placedBy x ++ placedAmong l
+
+abbrev pub placedIn : List Told → List ℕ
+placedIn [] = []
+placedIn (t ∷ earlier) = placedAmong (t .answers) ++ placedIn earlier
+
+-- no other runs
+module _ (i : ℕ) where
+  one-answer : (c : Call) (x : Answer) (a : ℕ → Account) → NotIn i (placedBy x) → a i .running ≡ false → noteAnswer c x a i .running ≡ false
+  one-answer c (refused r) a n e = e
+  one-answer c (placed j k) a n e = ap (λ (z : Account). z .running) (put-other a j _ i (λ z. n .0 (sym z))) ∙ e
+  one-answer c (wait j k) a n e = e
+  one-answer c (send j y) a n e = put-keeps (λ (z : Account). z .running) a j (sentAccount y (a j)) refl i ∙ e
+  one-answer c (done j) a n e = put-keeps (λ (z : Account). z .running) a j (answeredAccount reported-done (a j)) refl i ∙ e
+  one-answer c (skipped j l) a n e = put-keeps (λ (z : Account). z .running) a j (answeredAccount (skippedBy c) (a j)) refl i ∙ e
+  one-answer c (held j) a n e = put-keeps (λ (z : Account). z .running) a j (answeredAccount found-held (a j)) refl i ∙ e
+  one-answer c (not-held j) a n e = put-keeps (λ (z : Account). z .running) a j (answeredAccount found-not-held (a j)) refl i ∙ e
+  one-answer c (committed j) a n e = byIf (λ (z : Account). z .running ≡ false) (eqb i j) (λ _. refl) (λ _. e)
+  one-answer c (aborted j l) a n e = byIf (λ (z : Account). z .running ≡ false) (eqb i j) (λ _. refl) (λ _. e)
+  one-answer c (down d j) a n e =
+      byIf (λ (z : Account). z .running ≡ false) (a i .running && hasBegun d (a i)) (λ _. e) (λ _. e)
+  one-answer c (up d j) a n e =
+      byIf (λ (z : Account). z .running ≡ false) (a i .running && hasBegun d (a i)) (λ _. e) (λ _. e)
+  one-answer c (limited k) a n e = e
+
+  all-answers : (c : Call) (l : List Answer) (a : ℕ → Account) → NotIn i (placedAmong l) → a i .running ≡ false →
+      noteAnswers c l a i .running ≡ false
+  all-answers c [] a n e = e
+  all-answers c (x ∷ l) a n e =
+      all-answers c l (noteAnswer c x a) (each-right (IsNot i) (placedBy x) (placedAmong l) n)
+      (one-answer c x a (each-left (IsNot i) (placedBy x) (placedAmong l) n) e)
+
+  never-placed : (h : List Told) → NotIn i (placedIn h) → accountsOf h i .running ≡ false
+  never-placed [] n = refl
+  never-placed (t ∷ h) n =
+      all-answers (t .call) (t .answers) (accountsOf h) (each-left (IsNot i) (placedAmong (t .answers)) (placedIn h) n)
+      (never-placed h (each-right (IsNot i) (placedAmong (t .answers)) (placedIn h) n))
+
+pub none-run : (w : World) → Each (λ j. accounts w j .running ≡ false) (placedIn (w .history)) → NoneRuns w
+none-run w h i = go (placedIn (w .history)) h (never-placed i (w .history))
+  where
+    go : (l : List ℕ) → Each (λ j. accounts w j .running ≡ false) l → (NotIn i l → accounts w i .running ≡ false) →
+        accounts w i .running ≡ false
+    go [] h k = k tt
+    go (j ∷ l) h k = this-or-other (λ i. accounts w i .running ≡ false) j i (h .0) (λ n. go l (h .1) (λ m. k (n, m)))
 
 -- A send is taken only after its routine was cancelled; then what puts the device back is taken.
 abbrev pub takenLate : Passage
@@ -88,7 +148,7 @@ unfolding calcWorld
 taken-late = record {
   accepted = refl;
   premise = ((λ _. tt), ((λ _. tt), ((λ _. tt), (tt, (tt, tt)))));
-  none-runs = λ i. elsewhere (accounts (endOf takenLate)) 1 refl i (λ n. rw n refl);
+  none-runs = none-run (endOf takenLate) (refl, tt);
   ready = refl;
   settings-are = refl;
   serial-is = refl;
@@ -111,8 +171,7 @@ unfolding calcWorld
 overtaken-passes = record {
   accepted = refl;
   premise = ((λ _. tt), ((λ _. tt), (tt, ((λ _. refl), ((λ _. tt), ((λ _. tt), ((λ _. tt), (tt, ((λ _. refl), ((λ _. tt), tt))))))))));
-  none-runs = λ i. elsewhere (accounts (endOf overtaken)) 1 refl i
-      (λ n. elsewhere (accounts (endOf overtaken)) 2 refl i (λ m. rw (n, m) refl));
+  none-runs = none-run (endOf overtaken) (refl, (refl, tt));
   ready = refl;
   settings-are = refl;
   serial-is = refl;
@@ -133,7 +192,7 @@ unfolding calcWorld
 failed-in-flight = record {
   accepted = refl;
   premise = ((λ _. tt), ((λ _. tt), ((λ _. tt), ((λ _. refl), tt))));
-  none-runs = λ i. elsewhere (accounts (endOf failedInFlight)) 1 refl i (λ n. rw n refl);
+  none-runs = none-run (endOf failedInFlight) (refl, tt);
   ready = refl;
   settings-are = refl;
   serial-is = refl;
@@ -166,7 +225,7 @@ restarted-elsewhere = record {
       ),
     ),
   );
-  none-runs = λ i. elsewhere (accounts (endOf restartedElsewhere)) 1 refl i (λ n. rw n refl);
+  none-runs = none-run (endOf restartedElsewhere) (refl, tt);
   ready = refl;
   settings-are = refl;
   serial-is = refl;
@@ -189,8 +248,7 @@ unfolding calcWorld
 failed-after-change = record {
   accepted = refl;
   premise = ((λ _. tt), ((λ _. tt), (tt, ((λ _. refl), ((λ _. tt), ((λ _. tt), ((λ _. tt), ((λ _. refl), (tt, ((λ _. tt), tt))))))))));
-  none-runs = λ i. elsewhere (accounts (endOf failedAfterChange)) 1 refl i
-      (λ n. elsewhere (accounts (endOf failedAfterChange)) 2 refl i (λ m. rw (n, m) refl));
+  none-runs = none-run (endOf failedAfterChange) (refl, (refl, tt));
   ready = refl;
   settings-are = refl;
   serial-is = refl;
@@ -229,8 +287,7 @@ limited-anew = record {
       ),
     ),
   );
-  none-runs = λ i. elsewhere (accounts (endOf limitedAnew)) 1 refl i
-      (λ n. elsewhere (accounts (endOf limitedAnew)) 2 refl i (λ m. rw (n, m) refl));
+  none-runs = none-run (endOf limitedAnew) (refl, (refl, tt));
   ready = refl;
   settings-are = refl;
   serial-is = refl;
@@ -266,7 +323,7 @@ lamp-fails = record {
       ),
     ),
   );
-  none-runs = λ i. elsewhere (accounts (endOf lampFails)) 1 refl i (λ n. rw n refl);
+  none-runs = none-run (endOf lampFails) (refl, tt);
   ready = refl;
   settings-are = refl;
   serial-is = refl;
@@ -290,7 +347,7 @@ unfolding calcWorld
 lamp-restarts = record {
   accepted = refl;
   premise = ((λ _. tt), ((λ _. tt), ((λ _. tt), ((λ _. refl), ((λ _. tt), (tt, ((λ _. refl), ((λ _. tt), tt))))))));
-  none-runs = λ i. elsewhere (accounts (endOf lampRestarts)) 1 refl i (λ n. rw n refl);
+  none-runs = none-run (endOf lampRestarts) (refl, tt);
   ready = refl;
   settings-are = refl;
   serial-is = refl;
@@ -338,8 +395,7 @@ waits-for-set = (
         ),
       ),
     );
-    none-runs = λ i. elsewhere (accounts (endOf waitsForSet)) 1 refl i
-        (λ n. elsewhere (accounts (endOf waitsForSet)) 2 refl i (λ m. rw (n, m) refl));
+    none-runs = none-run (endOf waitsForSet) (refl, (refl, tt));
     ready = refl;
     settings-are = refl;
     serial-is = refl;
@@ -378,8 +434,7 @@ holds-by-restart = (
         ),
       ),
     );
-    none-runs = λ i. elsewhere (accounts (endOf holdsByRestart)) 1 refl i
-        (λ n. elsewhere (accounts (endOf holdsByRestart)) 2 refl i (λ m. rw (n, m) refl));
+    none-runs = none-run (endOf holdsByRestart) (refl, (refl, tt));
     ready = refl;
     settings-are = refl;
     serial-is = refl;
@@ -409,8 +464,7 @@ ahead-aborts = (
       (λ _. tt),
       ((λ _. tt), ((λ _. tt), ((λ _. refl), ((λ _. tt), ((λ _. tt), ((λ _. tt), ((λ _. tt), (tt, ((λ _. refl), ((λ _. tt), tt)))))))))),
     );
-    none-runs = λ i. elsewhere (accounts (endOf aheadAborts)) 1 refl i
-        (λ n. elsewhere (accounts (endOf aheadAborts)) 2 refl i (λ m. rw (n, m) refl));
+    none-runs = none-run (endOf aheadAborts) (refl, (refl, tt));
     ready = refl;
     settings-are = refl;
     serial-is = refl;
@@ -440,7 +494,7 @@ skipped-by-event = (
       (λ _. tt),
       ((λ _. tt), (tt, ((λ _. refl), ((λ _. tt), ((λ _. tt), ((λ _. tt), (tt, ((λ _. refl), ((λ _. tt), ((λ _. refl), tt)))))))))),
     );
-    none-runs = λ i. elsewhere (accounts (endOf skippedByEvent)) 1 refl i (λ n. rw n refl);
+    none-runs = none-run (endOf skippedByEvent) (refl, tt);
     ready = refl;
     settings-are = refl;
     serial-is = refl;
