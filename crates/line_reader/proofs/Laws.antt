@@ -84,7 +84,12 @@ module _ (line : List ℕ) (at : ℕ) where
   unfolding wordAt wordEnd
   word-length = rw (length-take-le (reach space (drop at line)) (drop at line) (reach-within space (drop at line)))
 
-  word-inside : at ≤ length line → wordEnd line at ≤ length line
+  -- where it ends, as bytes are parted
+  pub word-ends : wordEnd line at ≡ at + reach space (drop at line)
+  unfolding wordEnd
+  word-ends = refl
+
+  pub word-inside : at ≤ length line → wordEnd line at ≤ length line
   unfolding wordEnd
   word-inside h = omega (arith, reach-within space (drop at line), length-drop at line)
 

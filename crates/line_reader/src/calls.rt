@@ -8,6 +8,14 @@ use crate::numbers::Setting;
 use crate::numbers::number_at;
 use crate::numbers::setting_at;
 use line_rules::SPACE;
+use line_rules::letters::CANCEL;
+use line_rules::letters::DONE;
+use line_rules::letters::FAIL;
+use line_rules::letters::FAILED;
+use line_rules::letters::OPEN;
+use line_rules::letters::RESTART;
+use line_rules::letters::SUBMIT;
+use line_rules::letters::TURN;
 use routine::Command;
 use routine::HIGHEST_ID;
 use routine::reports::CODE_DONE;
@@ -22,23 +30,6 @@ ghost use Rattle.line_rules.specs.Reading.{highest8, unread as notRead, opening
 ghost use Rattle.line_rules.specs.Reading.{fails, lineWith, lineBy};
 ghost use Rattle.line_reader.specs.Held.{letterOf, idCall, idLine, heldLine};
 ghost use Rattle.line_reader.specs.Places.{behindLetter, wordsFrom, CommandAt};
-
-// Letters of 01's lines.
-const OPEN: u8 = 79;
-
-const SUBMIT: u8 = 83;
-
-const TURN: u8 = 78;
-
-const DONE: u8 = 68;
-
-const FAILED: u8 = 66;
-
-const CANCEL: u8 = 67;
-
-const FAIL: u8 = 70;
-
-const RESTART: u8 = 82;
 
 // Where the words behind the letter begin.
 const BEHIND_LETTER: usize = 2;

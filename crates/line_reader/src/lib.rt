@@ -4,6 +4,7 @@ mod numbers;
 mod pieces;
 
 use line_rules::LINE_END;
+use line_rules::SPACE;
 use routine::Routine;
 ghost use mathlib.Core.Path.{_≡_};
 ghost use Prim.Native.Nat.{_+_};
@@ -12,6 +13,7 @@ ghost use Rattle.line_rules.specs.Text.{lineEnd};
 ghost use Rattle.line_rules.specs.Pieces.{reach};
 ghost use Rattle.line_rules.specs.Reading.{readLine};
 ghost use Rattle.line_reader.specs.Held.{heldLine};
+ghost use Rattle.line_reader.specs.Places.{wordEnd};
 
 // Lines of up to this many bytes are read.
 pub const MAX_LINE: usize = 128;
@@ -44,6 +46,13 @@ pub fn line_end(input: &[u8], from: usize) -> usize
     ensures { λ r. ⌜ r ≡ from + reach lineEnd (drop from (now (input .entry))) ⌝ }
 {
     pieces::piece_end(input, from, LINE_END)
+}
+
+// Where the word that begins at a place of a line ends: at the next space, or at the end of the line.
+pub fn word_end(line: &[u8], from: usize) -> usize
+    ensures { λ r. ⌜ r ≡ wordEnd (now (line .entry)) from ⌝ }
+{
+    pieces::piece_end(line, from, SPACE)
 }
 
 // What a line says. Shape and widths come before any rule.

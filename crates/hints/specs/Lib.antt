@@ -1,0 +1,3 @@
+pub mod Why
+pub mod Examples
+pub mod Claims
