@@ -1,6 +1,6 @@
 // The line program over an input that comes in pieces, as a program reads it: document 01, "The line program". The steps are code on byte
 // slices: nothing here reads or writes. specs/Claims.antt says what the steps in turn print.
-mod pieces;
+pub mod pieces;
 
 use hub::Hub;
 use line_printer::MAX_TEXT;
