@@ -400,10 +400,11 @@ def check_refusals(pieces, sittings, in_books):
     check([int(row.content[0]) for row in rows] == sorted(defined) == list(range(1, 23)), 'the numbers of the table are not 1 to 22')
     for row in rows:
         number = int(row.content[0])
+        has_index = defined.get(number)
         check(all(row.content), f'refusal {number}: an empty cell')
-        check((row.content[3] != 'none') == defined[number], f'refusal {number}: another index')
+        check((row.content[3] != 'none') == has_index, f'refusal {number}: another index')
         check(set(codes(row.content[2])) == letters.get(number, set()), f'refusal {number}: the sittings show {letters.get(number)}')
-        if letters.get(number) and defined[number]:
+        if letters.get(number) and has_index:
             check(indexes[number] - {0}, f'refusal {number}: no index shown but 0')
         check(('book' in row.content[2]) == (number in in_books), f'refusal {number}: of a book or not')
         count('refusals')
