@@ -270,7 +270,7 @@ def sittings_of(program, pieces):
     return found, found[answers_begin:]
 
 
-def check_blocks(program, pieces, answers):
+def check_blocks(pieces, answers):
     questions = [piece for piece in pieces if piece.kind == 'block' and piece.name == 'question']
     count('questions', len(questions))
     check([piece.content for piece in questions] == [answer.lines for answer in answers], 'questions and answers have other lines')
@@ -372,8 +372,8 @@ def check_answers(pieces, sittings):
     check(len(set(table)) == len(table), 'a form stands twice in the table of answers')
     check(set(table) == shown, f'forms in the table and in the sittings: {set(table) ^ shown}')
     printed = re.findall(r'^answerText \(([\w-]+)', WORDS_PRINTED.read_text(encoding='utf-8'), re.M)
-    names = {form.split(' back')[0].split(' after')[0].split(' on')[0].replace(' ', '-').split('-2')[0].split('-3')[0] for form in table}
-    check(set(printed) - names == {'limited'}, f'the program has other answers: {set(printed) ^ names}')
+    names = {'not-held' if form == 'not held' else form.split()[0] for form in table}
+    check(set(printed) - names == {'limited'}, f'the definitions print other answers: {set(printed) - names}') # no line is answered so
 
 
 # Numbers of the definitions' table, and whether each has an index.
@@ -398,6 +398,7 @@ def check_refusals(pieces, sittings, in_books):
     rows, defined = rows_of(pieces, 'refusals'), numbers_defined()
     letters, indexes = refusals_shown(sittings)
     check([int(row.content[0]) for row in rows] == sorted(defined) == list(range(1, 23)), 'the numbers of the table are not 1 to 22')
+    check(len({row.content[1] for row in rows}) == len(rows), 'a cause stands twice in the table of refusals')
     for row in rows:
         number = int(row.content[0])
         has_index = defined.get(number)
@@ -452,7 +453,7 @@ def main():
     text = PAGE.read_text(encoding='utf-8')
     pieces = list(pieces_of(text))
     sittings, answers = sittings_of(program, pieces)
-    check_blocks(program, pieces, answers)
+    check_blocks(pieces, answers)
     check_files(program)
     check_calls(program, pieces)
     check_words(program, pieces)
