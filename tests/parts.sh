@@ -172,3 +172,10 @@ readings() {
     done
     python3 tests/hub/compare.py 500 "$seed" "$hub_vectors"
 }
+
+# ---- the handbook
+
+# Every sitting, order, book and table of docs/HANDBOOK.md, and examples/sittings, run through the programs.
+handbook() {
+    python3 tests/handbook.py "$program" "$show_book"
+}
