@@ -1,0 +1,370 @@
+"""Puts the page together: chapters, sections, theorems, contracts, values."""
+import html
+import os
+import re
+
+from page.book import Missing
+from page.library import LIBRARY, SIGNS
+from page.names import Definition, Scope
+from page.render import Render, lines, link
+
+HERE = os.path.dirname(os.path.abspath(__file__))
+
+
+def escaped(text):
+    return html.escape(text, quote=False)
+
+
+def code_words(text):
+    return re.sub(r"`([^`]*)`", r"<code>\1</code>", escaped(text))
+
+
+class Page:
+    def __init__(self, book, chapters, examples, parts, contracts, values, theorems):
+        self.book = book
+        book.give_code_types()
+        self.render = Render(book, LIBRARY)
+        self.chapters = [(*head, self.expanded(sections)) for *head, sections in chapters]
+        self.examples = examples
+        self.parts, self.contracts, self.values = parts, contracts, values
+        self.listed = {(crate, file) for *_, sections in [*self.chapters, examples] for crate, file, _ in sections}
+        for crate, file in sorted(self.listed):
+            if (crate, "specs", file) not in book.files:
+                raise Missing(f"there is no file crates/{crate}/specs/{file}.antt")
+        self.shown = {}  # place: what it is
+        self.counts = {"definitions": 0, "theorems": 0, "contracts": 0, "values": 0}
+        self.functions = self.public_functions()
+        self.theorems = [self.theorem_named(*theorem) for theorem in theorems]
+        self.contents = []
+
+    def expanded(self, sections):
+        """`*` stands for all files of a crate, if there is such a crate."""
+        found = []
+        for crate, file, title in sections:
+            if file == "*":
+                files = [f for c, f in self.book.spec_files() if c == crate]
+                found += [(crate, f, title if len(files) == 1 else f"{title}: {f}") for f in files]
+            else:
+                found.append((crate, file, title))
+        return found
+
+    def theorem_named(self, name, path, section):
+        crate, part, file = path.split("/")
+        self.book.load(crate, part, file)
+        definition = self.book.definitions[crate, part, file].get(name)
+        if definition is None or definition.kind != "theorem" or not definition.item.public:
+            raise Missing(f"crates/{path}.antt has no public theorem `{name}`")
+        if tuple(section.split(".")) not in self.listed:
+            raise Missing(f"the theorem `{name}` is to stand in {section}, which is no section")
+        return definition, section
+
+    # ---- what a word between backquotes means
+
+    def resolver(self, crate, scope):
+        def resolve(word):
+            target = scope.names.get(word) if scope else None
+            if target is not None and target.place is not None and word not in ("in", "as"):
+                self.render.cited.setdefault(target.place, target)
+                return target.place
+            for definition, _ in self.theorems:
+                if definition.name == word:
+                    return definition.place
+            if word in self.functions:
+                return self.functions[word]
+            match = re.fullmatch(r"(?:specs/)?(\w+)\.antt", word)
+            if match and (crate, "specs", match.group(1)) in self.book.files:
+                return f"section-{crate}.{match.group(1)}"
+            found = [d for (c, part, f), ds in self.book.definitions.items() if part == "specs" for d in ds.values() if d.name == word]
+            return found[0].place if len(found) == 1 and len(word) > 3 else None
+
+        return resolve
+
+    # ---- sections
+
+    def show(self, place, what):
+        if place in self.shown:
+            raise Missing(f"{place} would stand twice on the page")
+        self.shown[place] = what
+
+    def definition(self, definition, resolve):
+        self.show(definition.place, definition)
+        for member in definition.members.values():
+            self.show(member.place, member)
+        self.counts["definitions"] += 1
+        proofs = [d for d, _ in self.theorems if statement_of(d) == definition.name and statement_target(d) == definition.place]
+        proved = ""
+        if proofs:
+            self.render.links += len(proofs)
+            proved = "".join(f'<p class="proved">Proved: {link(d.place, f"<code>{d.name}</code>")}</p>' for d in proofs)
+        prose = self.render.prose(definition.item.comment, resolve)
+        return f'<div class="d" id="{html.escape(definition.place)}">{prose}{self.render.code(definition)}{proved}</div>\n'
+
+    def theorem(self, definition, resolve):
+        self.show(definition.place, definition)
+        self.counts["theorems"] += 1
+        item = definition.item
+        place = f'{definition.path}, line {item.line}'
+        prose = self.render.prose(item.comment, resolve)
+        return (f'<div class="d t" id="{html.escape(definition.place)}"><b>Theorem</b>{prose}{self.render.code(definition)}'
+                f'<span class="place">Proved in {place}</span></div>\n')
+
+    def section(self, crate, file, title, level="h3"):
+        source = self.book.files[crate, "specs", file]
+        scope = self.book.scopes[crate, "specs", file]
+        resolve = self.resolver(crate, scope)
+        here = f"section-{crate}.{file}"
+        parts = [self.render.prose(source.intro, resolve)]
+        for item in source.items:
+            if item.kind == "heading":
+                parts.append(f"<h4>{self.render.words(item.comment[0], resolve)}</h4>\n")
+            elif item.kind == "text":
+                parts.append(self.render.prose(item.comment, resolve))
+            elif item.kind in ("definition", "record", "data"):
+                parts.append(self.definition(self.book.definitions[crate, "specs", file][item.name], resolve))
+            elif item.kind == "theorem":
+                parts.append(self.theorem(self.book.definitions[crate, "specs", file][item.name], resolve))
+        parts += self.proved(f"{crate}.{file}")
+        path = f"crates/{crate}/specs/{file}.antt"
+        self.contents[-1][2].append((here, title))
+        return here, title, path, "".join(parts)
+
+    def proved(self, section):
+        """The theorems about a section, and the definitions of proofs/ that their statements use."""
+        found = [d for d, s in self.theorems if s == section and "/proofs/" in d.path]
+        if not found:
+            return []
+        statements = []
+        for definition in found:
+            crate = definition.path.split("/")[1]
+            statements.append(self.theorem(definition, self.resolver(crate, definition.scope)))
+        used = self.used_in_proofs()
+        return ["<h4>what is proved of it</h4>\n", *statements, *used]
+
+    def used_in_proofs(self):
+        found = []
+        while True:
+            missing = [t for place, t in list(self.render.cited.items()) if ".proofs." in place and place not in self.shown]
+            missing = [t.definition for t in missing if t.definition is not None]
+            if not missing:
+                break
+            definition = missing[0]
+            if definition.kind == "theorem":
+                raise Missing(f"{definition.path}: `{definition.name}` is a lemma, and a statement on the page uses it")
+            found.append((definition, self.definition(definition, self.resolver(definition.path.split("/")[1], definition.scope))))
+        order = {}
+        found.sort(key=lambda pair: (order.setdefault(pair[0].path, len(order)), pair[0].item.line))
+        return ["<h4>what these statements use</h4>\n", *(text for _, text in found)] if found else []
+
+    def chapter(self, name, title, intro, body):
+        return f'<section><h2 id="chapter-{name}">{escaped(title)}</h2><p class="lead">{escaped(intro)}</p>\n{body()}</section>\n'
+
+    def begin(self, name, title):
+        self.contents.append((f"chapter-{name}", title, []))
+
+    def plain_chapter(self, name, title, intro, sections):
+        self.begin(name, title)
+        parts = []
+        for crate, file, heading in sections:
+            here, heading, path, text = self.section(crate, file, heading)
+            parts.append(f'<h3 id="{here}">{escaped(heading)} <small>{path}</small></h3>\n{text}')
+        return self.chapter(name, title, intro, lambda: "".join(parts))
+
+    def folded_chapter(self, name, title, intro, sections):
+        self.begin(name, title)
+        parts = []
+        for crate, file, heading in sections:
+            here, heading, path, text = self.section(crate, file, heading)
+            parts.append(f'<details class="fold" id="{here}"><summary>{escaped(heading)} <small>{path}</small></summary>\n{text}</details>\n')
+        return self.chapter(name, title, intro, lambda: "".join(parts))
+
+    def left_over(self):
+        order = re.findall(r"^(\w+):", self.book.text("crates.txt"), re.M)
+        left = [key for key in self.book.spec_files() if key not in self.listed]
+        left.sort(key=lambda key: (order.index(key[0]) if key[0] in order else len(order), key))
+        return [(crate, file, f"{crate}: {file}") for crate, file in left]
+
+    # ---- the public functions
+
+    def public_modules(self, crate):
+        for module in ("lib", *re.findall(r"^pub mod (\w+);", self.book.text(f"crates/{crate}/src/lib.rt"), re.M)):
+            yield module, self.book.code_files[crate, module]
+
+    def public_functions(self):
+        found = {}
+        for crate in self.contracts[3]:
+            if crate in self.book.crates:
+                for module, file in self.public_modules(crate):
+                    for item in file.items:
+                        if item.kind == "fn" and item.public:
+                            path = crate if module == "lib" else f"{crate}::{module}"
+                            found[f"{path}::{item.name}"] = f"call.{path.replace('::', '.')}.{item.name}"
+        return found
+
+    def contract_chapter(self):
+        name, title, intro, crates = self.contracts
+        self.begin(name, title)
+        parts = []
+        for crate in crates:
+            if crate not in self.book.crates:
+                continue
+            for module, file in self.public_modules(crate):
+                path = crate if module == "lib" else f"{crate}::{module}"
+                text = self.contracts_in(crate, module, file, path)
+                if text:
+                    here = f"section-call.{path.replace('::', '.')}"
+                    self.contents[-1][2].append((here, path))
+                    parts.append(f'<h3 id="{here}"><code>{path}</code> <small>crates/{crate}/src/{module}.rt</small></h3>\n{text}')
+        return self.chapter(name, title, intro, lambda: "".join(parts))
+
+    def contracts_in(self, crate, module, file, path):
+        scope = Scope(f"crates/{crate}/src/{module}.rt", lambda scope: self.fill_from_code(scope, crate, module))
+        resolve, parts, functions = self.resolver(crate, scope), [], 0
+        for item in file.items:
+            if item.kind == "heading":
+                parts.append(f"<h4>{self.render.words(item.comment[0], resolve)}</h4>\n")
+            elif item.kind == "text" and functions:
+                parts.append(self.render.prose(item.comment, resolve))
+            elif item.kind == "fn" and item.public:
+                place = self.functions[f"{path}::{item.name}"]
+                self.show(place, item)
+                functions += 1
+                code = self.render.contract(crate, module, item, scope)
+                parts.append(f'<div class="d c" id="{place}"><b>{escaped(path)}::{escaped(item.name)}</b>'
+                             f"{self.render.prose(item.comment, resolve)}{code}</div>\n")
+        self.counts["contracts"] += functions
+        return (self.render.prose(file.intro, resolve) + "".join(parts)) if functions else ""
+
+    def fill_from_code(self, scope, crate, module):
+        for used, name, here in self.book.code_files[crate, module].uses:
+            scope.add(here, self.book.target(used, name))
+
+    # ---- the values of the code
+
+    def value_chapter(self):
+        name, title, intro = self.values
+        self.begin(name, title)
+        texts = {}
+        while True:
+            cited = [getattr(t, "definition", None) or t for p, t in list(self.render.cited.items()) if p.startswith("code.")]
+            cited = [d for d in cited if isinstance(d, Definition) and d.place not in self.shown]
+            if not cited:
+                break
+            for definition in cited:
+                if definition.place not in self.shown:
+                    texts[definition.place] = definition, self.value(definition)
+        order = re.findall(r"^(\w+):", self.book.text("crates.txt"), re.M)
+        parts, last = [], None
+        for definition, text in sorted(texts.values(), key=lambda v: (order.index(v[0].scope[0]), v[0].scope[1] != "lib", v[0].item.line)):
+            crate, module = definition.scope
+            if (crate, module) != last:
+                last = crate, module
+                path = crate if module == "lib" else f"{crate}::{module}"
+                here = f"section-code.{path.replace('::', '.')}"
+                self.contents[-1][2].append((here, path))
+                parts.append(f'<h3 id="{here}"><code>{path}</code> <small>{definition.path}</small></h3>\n')
+            parts.append(text)
+        return self.chapter(name, title, intro, lambda: "".join(parts))
+
+    def value(self, definition):
+        self.show(definition.place, definition)
+        for member in definition.members.values():
+            self.show(member.place, member)
+        self.counts["values"] += 1
+        prose = self.render.prose(definition.item.comment, self.resolver(definition.scope[0], None))
+        return f'<div class="d" id="{definition.place}">{prose}{self.render.declaration(definition)}</div>\n'
+
+    # ---- the page
+
+    def text(self):
+        chapters = [self.plain_chapter(*chapter) for chapter in self.chapters]
+        contracts = self.contract_chapter()
+        later = self.contents
+        self.contents = []
+        examples = self.folded_chapter(*self.examples)
+        parts = self.plain_chapter(*self.parts, self.left_over())
+        last, self.contents = self.contents, later
+        values = self.value_chapter()
+        self.contents += last
+        self.check()
+        body = "".join([*chapters, contracts, values, examples, parts])
+        return self.frame(body)
+
+    def check(self):
+        problems = list(dict.fromkeys(self.book.names.problems))
+        problems += [f"{place} is cited and not on the page" for place in self.render.cited if place not in self.shown]
+        if problems:
+            raise Missing("\nspecification: ".join(problems))
+
+    def frame(self, body):
+        with open(os.path.join(HERE, "style.css"), encoding="utf-8") as file:
+            style = file.read()
+        version = self.version()
+        return f"""<!DOCTYPE html>
+<html lang="en">
+<head>
+<meta charset="utf-8">
+<meta name="viewport" content="width=device-width, initial-scale=1">
+<title>The plot hub: its specification</title>
+<style>
+{style}{indents()}</style>
+</head>
+<body>
+<header>
+<h1>The plot hub: its specification</h1>
+<p class="lead">Every definition that says what the hub, the routine book and the line program do, in reading order, and the theorems that are
+proved of them.{version}</p>
+<p>Each definition stands below its comment; each name leads to its own definition; a name of the kit’s libraries tells what it is when
+it is pointed at. A theorem is given by what it says and the place of its proof. No proof and no lemma is needed to know what is
+proved. “Document 01” and “document 02” are the scope document and the requests that came after it; their words stand in quotation
+marks. None of the files shown assumes anything.</p>
+</header>
+<nav aria-label="Contents"><details open><summary>Contents</summary>
+{self.table_of_contents()}</details></nav>
+<main>
+{self.how_to_read()}{body}</main>
+</body>
+</html>
+"""
+
+    def version(self):
+        path = os.path.join(self.book.root, "VERSION")
+        if not os.path.exists(path):
+            return ""
+        return f" Version {escaped(self.book.text('VERSION').strip())}."
+
+    def table_of_contents(self):
+        found = ['<ol><li value="0"><a href="#chapter-reading">How to read it</a></li>\n']
+        for place, title, sections in self.contents:
+            inner = "".join(f"<li>{link(here, escaped(name))}</li>" for here, name in sections)
+            found.append(f"<li>{link(place, escaped(title))}<ul>{inner}</ul></li>\n")
+        return "".join(found) + "</ol>"
+
+    def how_to_read(self):
+        signs = "".join(f"<tr><td><code>{escaped(sign)}</code></td><td>{code_words(text)}</td></tr>\n" for sign, text in SIGNS)
+        used = sorted(self.render.library_used.items(), key=lambda pair: (pair[0][0], pair[0][1]))
+        names = "".join(f"<tr><td><code>{escaped(word)}</code></td><td>{escaped(meaning)}</td><td class=\"place\">{escaped(module)}</td></tr>\n"
+                        for (module, word), meaning in used if module not in ("the language", "the logic of contracts"))
+        return (f'<section><h2 id="chapter-reading">How to read it</h2><p class="lead">The signs of the language, and the names that come '
+                f"from the kit’s libraries, in words.</p>\n<table>{signs}</table>\n"
+                f'<details class="fold"><summary>Names of the libraries</summary><table>{names}</table></details></section>\n')
+
+    def summary(self):
+        counts = ", ".join(f"{number} {name}" for name, number in self.counts.items())
+        untold = len(self.book.names.untold)
+        return f"specification: {counts}, {self.render.links} links; {untold} fields whose record is not told"
+
+
+def statement_of(theorem):
+    """The one name that a theorem's statement is, if it is one."""
+    text = theorem.item.entries()[0]
+    match = re.fullmatch(r"(?:pub )?\S+ : (\S+)", text.strip())
+    return match.group(1) if match else None
+
+
+def statement_target(theorem):
+    target = theorem.scope.names.get(statement_of(theorem))
+    return target.place if target else None
+
+
+def indents():
+    return "".join(f"pre .i{n} {{ --n: {n}; }}\n" for n in range(0, 41))

@@ -1,0 +1,560 @@
+"""What each name in a text means: a place on the page, a name of the kit's libraries, or a name that is bound there.
+
+Bound names shadow: parameters of clauses, names of `(x : A) →`, `λ x.` and `let x =`. Which record a field belongs to is told by the type
+of what stands before it, as far as the signatures tell that without a check; else by the fields that are asked of it.
+"""
+import re
+from dataclasses import dataclass, field
+
+from page.source import tokens_of
+
+# Words of the language, and what it has without a `use`.
+KEYWORDS = {"λ", "let", "in", "record", "where", "→", ":", "=", "_", "Type", "unfolding", "pub", "data", "infix", "infixl", "infixr",
+            "unfoldable", "abbrev", "⌜", "⌝", "×", "¬"}
+BUILT_IN = {"Unit", "tt", "⊥"}
+LIBRARY_CONSTRUCTORS = {"true", "false", "zero", "suc", "none", "some", "pos", "negsuc", "[]", "refl", "tt"}
+BREAKS = {"→", ":", "=", "where", "⌜", "⌝", "×", "in", "¬"}  # no argument goes on behind them
+
+
+@dataclass
+class Type:
+    """Explicit arguments; then a name, by its place (or, of a library, its word), with what it is applied to."""
+
+    arguments: list
+    head: str | None
+    parameters: list = field(default_factory=list)
+
+    def applied(self):
+        return Type(self.arguments[1:], self.head, self.parameters) if self.arguments else None
+
+
+@dataclass
+class Member:
+    """A field of a record or a constructor of a data type."""
+
+    name: str
+    place: str
+    type_text: str = ""
+    kind: str = "field"
+    type_given: Type | None = None
+
+
+@dataclass
+class Definition:
+    place: str
+    name: str
+    kind: str  # definition, theorem, record, data; of code struct, enum, const, fn
+    item: object
+    scope: "Scope"
+    path: str
+    members: dict = field(default_factory=dict)
+
+    def type_of(self):
+        if self.kind in ("definition", "theorem"):
+            return self.scope.signature_type(self.item.entries()[-1 if len(self.item.entries()) == 1 else self.first_entry()])
+        return None
+
+    def first_entry(self):
+        return 1 if self.item.entries()[0].startswith("infix") else 0
+
+
+@dataclass
+class Target:
+    place: str | None  # on the page
+    library: str | None = None  # or the module that it comes from
+    definition: Definition | None = None
+    member: Member | None = None
+    operator: bool = False
+    constructor: bool = False
+    word: str = ""
+
+
+@dataclass
+class Local:
+    type: Type | None = None
+    place: str | None = None  # of a field that stands for itself in later fields
+
+
+class Scope:
+    """What the words of one file mean."""
+
+    def __init__(self, path, fill):
+        self.path = path
+        self.fill = fill  # adds the names, when the first is asked for
+        self.known = {}
+        self.types = {}
+
+    @property
+    def names(self):
+        if self.fill is not None:
+            fill, self.fill = self.fill, None
+            fill(self)
+        return self.known
+
+    def add(self, name, target):
+        parts = [part for part in name.split("_") if part]
+        if "_" in name and parts and not name.startswith("«"):
+            self.known[name] = target
+            for part in parts:
+                self.known[part] = Target(target.place, target.library, target.definition, target.member, True, target.constructor, name)
+        else:
+            self.known[name.strip("«»")] = target
+
+    def has_record(self, definition):
+        target = self.names.get(definition.name)
+        return target is not None and target.definition is definition or definition.path == self.path
+
+    def signature_type(self, text):
+        """The type behind the first colon of a signature."""
+        if text not in self.types:
+            tokens = [t for t in tokens_of(text) if t.kind not in ("space", "comment")]
+            colon = next((n for n, t in enumerate(tokens) if t.text == ":" and depth_at(tokens, n) == 0), None)
+            self.types[text] = None if colon is None else self.type_in(tokens[colon + 1 :])
+        return self.types[text]
+
+    def type_in(self, tokens):
+        parts, arguments = split_at(tokens, "→"), []
+        for part in parts[:-1]:
+            groups = binder_groups(part)
+            if groups is None:
+                arguments.append(self.type_in(part))
+            else:
+                for explicit, names, inside in groups:
+                    if explicit:
+                        arguments += [self.type_in(inside)] * len(names)
+        result = self.plain_type(parts[-1])
+        if result is None:
+            return Type(arguments, None)
+        return Type(arguments + result.arguments, result.head, result.parameters)
+
+    def plain_type(self, tokens):
+        atoms = atoms_in(tokens)
+        if not atoms or any(len(a) == 1 and self.is_operator(a[0].text) for a in atoms):
+            return None
+        if len(atoms[0]) > 1:
+            return self.type_in(atoms[0][1:-1]) if len(atoms) == 1 else None
+        word = atoms[0][0].text
+        target = self.names.get(word)
+        head = target.place or word if target else word
+        return Type([], head, [self.type_in(a[1:-1] if len(a) > 1 else a) for a in atoms[1:]])
+
+    def is_operator(self, word):
+        return word in ("×", "¬", "let", "λ") or word in self.names and self.names[word].operator
+
+
+def depth_at(tokens, end):
+    return sum((t.text in "({") - (t.text in ")}") for t in tokens[:end] if t.kind == "mark")
+
+
+def split_at(tokens, word):
+    parts, depth = [[]], 0
+    for token in tokens:
+        if token.kind == "mark":
+            depth += (token.text in "({") - (token.text in ")}")
+        if token.text == word and depth == 0:
+            parts.append([])
+        else:
+            parts[-1].append(token)
+    return parts
+
+
+def atoms_in(tokens):
+    """Words and bracketed groups, each a list of tokens."""
+    atoms, depth = [], 0
+    for token in tokens:
+        opens = token.kind == "mark" and token.text in "({"
+        if depth == 0:
+            atoms.append([])
+        atoms[-1].append(token)
+        depth += opens - (token.kind == "mark" and token.text in ")}")
+    return atoms
+
+
+def binder_groups(tokens):
+    """`(x y : A) {z : B}` as (explicit, names, type); None if it is something else."""
+    groups = []
+    for atom in atoms_in(tokens):
+        colon = next((n for n, t in enumerate(atom) if t.text == ":" and depth_at(atom, n) == 1), None)
+        if len(atom) < 4 or colon is None or any(t.kind not in ("word", "escaped") for t in atom[1:colon]):
+            return None
+        groups.append((atom[0].text == "(", [t.text for t in atom[1:colon]], atom[colon + 1 : -1]))
+    return groups or None
+
+
+class Names:
+    """All records by their fields, to tell whose field a word is."""
+
+    def __init__(self):
+        self.owners = {}  # field: definitions that have it
+        self.problems = []
+        self.untold = []
+
+    def add(self, definition):
+        for member in definition.members.values():
+            if member.kind == "field":
+                self.owners.setdefault(member.name, []).append(definition)
+
+    def owner(self, fields, scope, exactly=False):
+        """The one record with these fields; of several, the one that the file has."""
+        found = None
+        for name in fields:
+            here = self.owners.get(name, [])
+            found = here if found is None else [d for d in found if any(d is e for e in here)]
+        found = found or []
+        if exactly:
+            found = [d for d in found if {m.name for m in d.members.values()} == set(fields)]
+        if len(found) > 1:
+            found = [d for d in found if scope.has_record(d)] or [d for d in found if "/proofs/" not in d.path]
+        return found[0] if len(found) == 1 else None
+
+
+class Walk:
+    """Marks the words of one text: `marks[n]` is what token n means."""
+
+    def __init__(self, text, scope, names, where, local=None):
+        self.tokens = tokens_of(text)
+        self.scope, self.names, self.where = scope, names, where
+        self.marks = {}
+        self.asked = self.fields_asked()
+        self.closing = self.brackets()
+        self.local = local or {}
+
+    def brackets(self):
+        closing, stack = {}, []
+        for n, token in enumerate(self.tokens):
+            if token.kind == "mark" and token.text in "({":
+                stack.append(n)
+            elif token.kind == "mark" and token.text in ")}":
+                closing[stack.pop()] = n
+        return closing
+
+    def solid(self, n, end):
+        """The next token that is neither space nor comment."""
+        while n < end and self.tokens[n].kind in ("space", "comment"):
+            n += 1
+        return n
+
+    def fields_asked(self):
+        """Of each word the fields that stand directly behind it."""
+        asked, last = {}, None
+        for token in self.tokens:
+            if token.kind == "field" and last is not None:
+                asked.setdefault(last, set()).add(field_name(token))
+                last = None
+            elif token.kind != "space":
+                last = token.text.strip("«»") if token.kind in ("word", "escaped") else None
+        return asked
+
+    # ---- types and terms
+
+    def term(self, n, end, local, keep=False):
+        """Marks from n to end; gives the type if it is one application. `keep`: what is bound stays bound behind it."""
+        begun, local, spine, fresh, single = dict(local), local if keep else dict(local), None, True, True
+        last = None  # the word in front, to tell whose fields are asked
+        while True:
+            n = self.solid(n, end)
+            if n >= end:
+                return spine if single else None
+            token = self.tokens[n]
+            if token.kind == "mark" and token.text in ";,":
+                local, fresh, single, n = dict(begun), True, False, n + 1
+            elif token.kind == "mark" and token.text in "({":
+                n, kind, found = self.group(n, local)
+                if kind == "binder":
+                    fresh, single = True, False
+                elif kind == "argument":
+                    spine, fresh = (found if fresh else spine and spine.applied()), False
+                last = None
+            elif token.kind == "field":
+                spine = self.field(n, spine, last)
+                n, fresh, last = n + 1, False, None
+            elif token.text == "λ":
+                n, fresh, single = self.binders(n + 1, end, local), True, False
+            elif token.text == "let":
+                n, fresh, single = self.let(n + 1, end, local), True, False
+            elif token.text == "record":
+                n, found = self.literal(n, end, local)
+                spine, fresh, last = (found if fresh else spine and spine.applied()), False, None
+            elif token.text in BREAKS or token.kind in ("dot", "mark"):
+                n, fresh, single = n + 1, True, False
+            else:
+                found, operator = self.word(n, local)
+                if operator:
+                    fresh, single, last = True, False, None
+                else:
+                    spine, fresh = (found if fresh else spine and spine.applied()), False
+                    last = token.text.strip("«»")
+                n += 1
+
+    def group(self, n, local):
+        end, inside = self.closing[n], n + 1
+        names, at = [], self.solid(inside, end)
+        while at < end and self.tokens[at].kind in ("word", "escaped") and self.tokens[at].text != ":":
+            names.append(at)
+            at = self.solid(at + 1, end)
+        if names and at < end and self.tokens[at].text == ":":
+            self.term(at + 1, end, local)
+            plain = [t for t in self.tokens[at + 1 : end] if t.kind not in ("space", "comment")]
+            kind = self.scope.type_in(plain)
+            for name in names:
+                local[self.tokens[name].text.strip("«»")] = Local(kind)
+            return end + 1, "binder", None
+        if self.tokens[n].text == "{":
+            if names and at < end and self.tokens[at].text == "=":
+                inside = at + 1
+            self.term(inside, end, local)
+            return end + 1, "implicit", None
+        return end + 1, "argument", self.term(inside, end, local)
+
+    def binders(self, n, end, local):
+        """The names behind a λ, up to the dot."""
+        while n < end and self.tokens[n].kind != "dot":
+            token = self.tokens[n]
+            if token.kind == "mark" and token.text == "(":
+                n = self.group(n, local)[0]
+                continue
+            if token.kind in ("word", "escaped"):
+                local[token.text.strip("«»")] = Local()
+            n += 1
+        return n + 1
+
+    def let(self, n, end, local):
+        n = self.solid(n, end)
+        name, at, depth = self.tokens[n].text.strip("«»"), n + 1, 0
+        close = equals = None
+        while at < end:  # the `in` that belongs to it
+            token = self.tokens[at]
+            if token.kind == "mark" and token.text in "({":
+                at = self.closing[at]
+            elif token.text == "=" and equals is None:
+                equals = at
+            elif token.text == "let":
+                depth += 1
+            elif token.text == "in" and token.kind == "word":
+                if depth == 0:
+                    close = at
+                    break
+                depth -= 1
+            at += 1
+        if close is None or equals is None:
+            self.problem(n, "a let that has no end")
+            return end
+        self.term(n + 1, equals, local)
+        local[name] = Local(self.term(equals + 1, close, local))
+        return close + 1
+
+    def literal(self, n, end, local):
+        """`record { a = x; b = y }`"""
+        n = self.solid(n + 1, end)
+        close = self.closing[n]
+        labels, at, begins = [], self.solid(n + 1, close), True
+        while at < close:
+            token = self.tokens[at]
+            if begins and token.kind in ("word", "escaped"):
+                labels.append(at)
+            begins = token.kind == "mark" and token.text == ";"
+            at = self.closing[at] + 1 if token.kind == "mark" and token.text in "({" else at + 1
+            at = self.solid(at, close)
+        fields = [self.tokens[label].text.strip("«»") for label in labels]
+        owner = self.names.owner(fields, self.scope, exactly=True)
+        for k, label in enumerate(labels):
+            if owner:
+                self.marks[label] = Target(owner.members[fields[k]].place)
+            else:
+                self.untold(label)
+            until = labels[k + 1] if k + 1 < len(labels) else close
+            self.term(label + 1, until, local)
+        return close + 1, Type([], owner.place) if owner else None
+
+    def word(self, n, local):
+        """Marks a word; gives its type, and whether it is an operator."""
+        token = self.tokens[n]
+        word = token.text.strip("«»")
+        if token.kind == "string" or re.fullmatch(r"\d[\d_]*", word) or word in KEYWORDS:
+            return None, False
+        if word in local:
+            if local[word].place:
+                self.marks[n] = Target(local[word].place)
+            return local[word].type, False
+        target = self.scope.names.get(token.text if token.kind == "word" else word)
+        if target is None:
+            if word in BUILT_IN:
+                self.marks[n] = Target(None, "the language", word=word)
+            elif word == "now" and self.where.endswith(".rt"):
+                self.marks[n] = Target(None, "the logic of contracts", word=word)
+            else:
+                self.problem(n, f"nothing is known of `{word}`")
+            return None, False
+        self.marks[n] = target
+        return self.type_of(target), target.operator
+
+    def type_of(self, target):
+        if target.member is not None:
+            return self.member_type(target.definition, target.member)
+        return target.definition.type_of() if target.definition is not None else None
+
+    def member_type(self, definition, member):
+        if isinstance(definition.scope, Scope):
+            return definition.scope.signature_type(member.type_text)
+        return member.type_given
+
+    def field(self, n, spine, last):
+        name = field_name(self.tokens[n])
+        if re.fullmatch(r"\d+", name):
+            return None
+        owner = None
+        if spine is not None and not spine.arguments and spine.head:
+            owner = next((d for d in self.names.owners.get(name, []) if d.place == spine.head), None)
+        if owner is None:
+            fields = (self.asked.get(last, set()) if last else set()) | {name}
+            owner = self.names.owner(fields, self.scope) or self.names.owner([name], self.scope)
+        if owner is None:
+            if name in ("entry", "exit"):
+                self.marks[n] = Target(None, "the logic of contracts", word=name)
+            else:
+                self.untold(n)
+            return None
+        self.marks[n] = Target(owner.members[name].place)
+        return self.member_type(owner, owner.members[name])
+
+    # ---- patterns
+
+    def pattern(self, n, end, kinds, local):
+        """Atoms in a row, each of the type given."""
+        kinds = list(kinds)
+        while True:
+            n = self.solid(n, end)
+            if n >= end:
+                return
+            token = self.tokens[n]
+            if token.kind == "mark" and token.text == "{":
+                inner = [t.text for t in self.tokens[n + 1 : self.closing[n]] if t.kind == "word"]
+                local[inner[-1]] = Local()
+                n = self.closing[n] + 1
+                continue
+            kind = kinds.pop(0) if kinds else None
+            if token.kind == "mark" and token.text == "(":
+                self.inner_pattern(n + 1, self.closing[n], kind, local)
+                n = self.closing[n] + 1
+                continue
+            if token.kind in ("word", "escaped"):
+                self.pattern_word(n, kind, local)
+            n += 1
+
+    def pattern_word(self, n, kind, local):
+        word = self.tokens[n].text
+        target = self.scope.names.get(word)
+        if target is not None and (target.constructor or word in LIBRARY_CONSTRUCTORS):
+            self.marks[n] = target
+        elif word != "_" and not re.fullmatch(r"\d+", word):
+            local[word.strip("«»")] = Local(kind)
+
+    def inner_pattern(self, n, end, kind, local):
+        """A constructor with its arguments, or parts around `∷`."""
+        n = self.solid(n, end)
+        cuts, at = [], n
+        while at < end:
+            token = self.tokens[at]
+            target = self.scope.names.get(token.text) if token.kind == "word" else None
+            if target is not None and target.operator:
+                cuts.append(at)
+                self.marks[at] = target
+            at = self.closing[at] + 1 if token.kind == "mark" and token.text == "(" else at + 1
+        element = kind.parameters[0] if kind and kind.parameters else None
+        if cuts:
+            for k, cut in enumerate(cuts):
+                self.inner_pattern(n if k == 0 else cuts[k - 1] + 1, cut, element, local)
+            self.inner_pattern(cuts[-1] + 1, end, kind, local)
+            return
+        target = self.scope.names.get(self.tokens[n].text) if n < end else None
+        if target is not None and (target.constructor or self.tokens[n].text in LIBRARY_CONSTRUCTORS):
+            self.marks[n] = target
+            found = self.member_type(target.definition, target.member) if target.member else None
+            kinds = found.arguments if found else [element] if self.tokens[n].text == "some" else []
+            self.pattern(n + 1, end, kinds, local)
+        else:
+            self.pattern(n, end, [kind], local)
+
+    # ---- declarations
+
+    def signature(self, name, local):
+        """`pub name {ℓ} (x : A) : type where`, or a member's `name : type`; what is bound by it stays in `local`."""
+        end = len(self.tokens)
+        n = next(k for k in range(end) if self.tokens[k].text.strip("«»") == name.strip("«»") and self.tokens[k].kind in ("word", "escaped"))
+        self.marks[n] = "head"
+        n = self.solid(n + 1, end)
+        if n < end and self.tokens[n].text == "{" and not any(t.text == ":" for t in self.tokens[n : self.closing[n]]):
+            for token in self.tokens[n + 1 : self.closing[n]]:
+                local[token.text] = Local()  # levels
+            n = self.closing[n] + 1
+        self.term(n, end, local, keep=True)
+        return n
+
+    def clause(self, definition, kind, head=None):
+        """`name patterns = term`, or with an operator between the patterns. `head`: where the name stands."""
+        end = len(self.tokens)
+        equals = self.top(0, end, "=")
+        where = self.top(0, end, "where")
+        local, n = dict(self.local), self.solid(0, end)
+        stop = equals if equals is not None else end
+        if self.tokens[n].text.strip("«»") == definition.strip("«»"):
+            self.marks[n] = "head"
+            self.pattern(n + 1, stop, kind.arguments if kind else [], local)
+        else:
+            for at in range(n, stop):  # the parts of an operator are no patterns
+                if self.tokens[at].text in definition.split("_"):
+                    self.marks[at] = "head"
+            at = n
+            while at < stop:
+                if at in self.marks:
+                    at += 1
+                    continue
+                until = next((k for k in range(at, stop) if self.marks.get(k) == "head"), stop)
+                self.inner_pattern(at, until, None, local)
+                at = until
+        if equals is None:
+            return
+        if where is not None:
+            local.update(self.helpers(where + 1, end, local))
+        self.term(equals + 1, where if where is not None else end, local)
+
+    def top(self, n, end, word):
+        while n < end:
+            if self.tokens[n].kind == "mark" and self.tokens[n].text in "({":
+                n = self.closing[n]
+            elif self.tokens[n].text == word:
+                return n
+            n += 1
+        return None
+
+    def helpers(self, n, end, local):
+        """The lines behind `where`: signatures and clauses of helpers, a line each."""
+        found, begins = {}, n
+        lines = []
+        for at in range(n, end + 1):
+            if at == end or self.tokens[at].kind == "space" and "\n" in self.tokens[at].text:
+                if self.solid(begins, at) < at:
+                    lines.append((self.solid(begins, at), at))
+                begins = at
+        kinds = {}
+        for begin, stop in lines:
+            name, colon = self.tokens[begin].text, self.solid(begin + 1, stop)
+            inner = dict(local) | found
+            if self.tokens[colon].text == ":":
+                found[name] = Local(self.scope.type_in([t for t in self.tokens[colon + 1 : stop] if t.kind != "space"]))
+                self.term(colon + 1, stop, inner)
+            else:
+                equals = self.top(begin, stop, "=")
+                self.pattern(begin + 1, equals, found[name].type.arguments, inner)
+                self.term(equals + 1, stop, inner)
+        return found
+
+    def problem(self, n, message):
+        self.names.problems.append(f"{self.where}: {message}")
+
+    def untold(self, n):
+        self.names.untold.append(f"{self.where}: {self.tokens[n].text}")
+
+
+def field_name(token):
+    return token.text[1:].strip("«»")
