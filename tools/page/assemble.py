@@ -32,7 +32,11 @@ class Page:
             if (crate, "specs", file) not in book.files:
                 raise Missing(f"there is no file crates/{crate}/specs/{file}.antt")
         self.shown = {}  # place: what it is
-        self.counts = {"definitions": 0, "theorems": 0, "contracts": 0, "values": 0}
+        self.counts = {"definitions": 0, "theorems": 0, "examples": 0, "contracts": 0, "values": 0}
+        self.by_name = {}
+        for (_, part, _), found in book.definitions.items():
+            for definition in found.values():
+                self.by_name.setdefault(definition.name, []).append(definition)
         self.functions = self.public_functions()
         self.theorems = [self.theorem_named(*theorem) for theorem in theorems]
         self.contents = []
@@ -60,24 +64,40 @@ class Page:
 
     # ---- what a word between backquotes means
 
-    def resolver(self, crate, scope):
-        def resolve(word):
+    def resolver(self, crate, scope, definition=None, path=None):
+        """Gives the place of a word, or None. A word that is bound in the definition that it is about has none."""
+        inside = set(re.findall(r"[^\s(){}.;,]+", " ".join(definition.item.lines))) if definition else set()
+
+        def resolve(word, behind):
+            if definition and word in definition.members:
+                return definition.members[word].place
+            if definition and word in self.render.plain:
+                return None
             target = scope.names.get(word) if scope else None
-            if target is not None and target.place is not None and word not in ("in", "as"):
+            if target is not None and target.place is not None:
                 self.render.cited.setdefault(target.place, target)
                 return target.place
-            for definition, _ in self.theorems:
-                if definition.name == word:
-                    return definition.place
-            if word in self.functions:
-                return self.functions[word]
-            match = re.fullmatch(r"(?:specs/)?(\w+)\.antt", word)
-            if match and (crate, "specs", match.group(1)) in self.book.files:
-                return f"section-{crate}.{match.group(1)}"
-            found = [d for (c, part, f), ds in self.book.definitions.items() if part == "specs" for d in ds.values() if d.name == word]
-            return found[0].place if len(found) == 1 and len(word) > 3 else None
+            return self.theorem_place(word) or self.functions.get(word) or self.functions.get(f"{path}::{word}") \
+                or self.section_place(crate, word, behind) or (self.only_place(word) if word not in inside else None)
 
         return resolve
+
+    def theorem_place(self, word):
+        return next((d.place for d, _ in self.theorems if d.name == word), None)
+
+    def section_place(self, crate, word, behind):
+        """Of a file's name; `of crate` behind it says of which crate."""
+        match = re.fullmatch(r"(?:specs/)?(\w+)\.antt", word)
+        if match and behind and behind[0] == " of crate " and len(behind) > 1:
+            crate = behind[1]
+        elif match and behind and behind[0].startswith(" of crates "):
+            return None
+        return f"section-{crate}.{match.group(1)}" if match and (crate, "specs", match.group(1)) in self.book.files else None
+
+    def only_place(self, word):
+        """Of a name with a capital or a hyphen that only one definition has."""
+        found = self.by_name.get(word, []) if re.search(r"[A-Z-]", word) else []
+        return found[0].place if len(found) == 1 else None
 
     # ---- sections
 
@@ -86,7 +106,7 @@ class Page:
             raise Missing(f"{place} would stand twice on the page")
         self.shown[place] = what
 
-    def definition(self, definition, resolve):
+    def definition(self, definition):
         self.show(definition.place, definition)
         for member in definition.members.values():
             self.show(member.place, member)
@@ -96,19 +116,37 @@ class Page:
         if proofs:
             self.render.links += len(proofs)
             proved = "".join(f'<p class="proved">Proved: {link(d.place, f"<code>{d.name}</code>")}</p>' for d in proofs)
-        prose = self.render.prose(definition.item.comment, resolve)
-        return f'<div class="d" id="{html.escape(definition.place)}">{prose}{self.render.code(definition)}{proved}</div>\n'
+        code, prose = self.code_and_prose(definition)
+        return f'<div class="d" id="{html.escape(definition.place)}">{prose}{code}{proved}</div>\n'
 
-    def theorem(self, definition, resolve):
+    def code_and_prose(self, definition):
+        code = self.render.code(definition)
+        crate = definition.path.split("/")[1]
+        return code, self.render.prose(definition.item.comment, self.resolver(crate, definition.scope, definition))
+
+    def theorem(self, definition):
         self.show(definition.place, definition)
-        self.counts["theorems"] += 1
-        item = definition.item
-        place = f'{definition.path}, line {item.line}'
-        prose = self.render.prose(item.comment, resolve)
-        return (f'<div class="d t" id="{html.escape(definition.place)}"><b>Theorem</b>{prose}{self.render.code(definition)}'
-                f'<span class="place">Proved in {place}</span></div>\n')
+        code, prose = self.code_and_prose(definition)
+        prose = prose or self.statement_prose(definition)
+        line = definition.item.line
+        if any(d is definition for d, _ in self.theorems):
+            self.counts["theorems"] += 1
+            kind, place = "Theorem", f"Proved in {definition.path}, line {line}"
+        else:
+            self.counts["examples"] += 1
+            kind, place = "By computation", f"Computed in {definition.path}, line {line}"
+        return (f'<div class="d t" id="{html.escape(definition.place)}"><b>{kind}</b>{prose}{code}'
+                f'<span class="place">{place}</span></div>\n')
 
-    def section(self, crate, file, title, level="h3"):
+    def statement_prose(self, theorem):
+        """Of a theorem without a comment: the comment of its statement."""
+        target = theorem.scope.names.get(statement_of(theorem))
+        if target is None or target.definition is None:
+            return ""
+        definition = target.definition
+        return self.render.prose(definition.item.comment, self.resolver(definition.path.split("/")[1], definition.scope, definition))
+
+    def section(self, crate, file, title):
         source = self.book.files[crate, "specs", file]
         scope = self.book.scopes[crate, "specs", file]
         resolve = self.resolver(crate, scope)
@@ -120,9 +158,9 @@ class Page:
             elif item.kind == "text":
                 parts.append(self.render.prose(item.comment, resolve))
             elif item.kind in ("definition", "record", "data"):
-                parts.append(self.definition(self.book.definitions[crate, "specs", file][item.name], resolve))
+                parts.append(self.definition(self.book.definitions[crate, "specs", file][item.name]))
             elif item.kind == "theorem":
-                parts.append(self.theorem(self.book.definitions[crate, "specs", file][item.name], resolve))
+                parts.append(self.theorem(self.book.definitions[crate, "specs", file][item.name]))
         parts += self.proved(f"{crate}.{file}")
         path = f"crates/{crate}/specs/{file}.antt"
         self.contents[-1][2].append((here, title))
@@ -133,10 +171,7 @@ class Page:
         found = [d for d, s in self.theorems if s == section and "/proofs/" in d.path]
         if not found:
             return []
-        statements = []
-        for definition in found:
-            crate = definition.path.split("/")[1]
-            statements.append(self.theorem(definition, self.resolver(crate, definition.scope)))
+        statements = [self.theorem(definition) for definition in found]
         used = self.used_in_proofs()
         return ["<h4>what is proved of it</h4>\n", *statements, *used]
 
@@ -150,13 +185,15 @@ class Page:
             definition = missing[0]
             if definition.kind == "theorem":
                 raise Missing(f"{definition.path}: `{definition.name}` is a lemma, and a statement on the page uses it")
-            found.append((definition, self.definition(definition, self.resolver(definition.path.split("/")[1], definition.scope))))
+            found.append((definition, self.definition(definition)))
         order = {}
         found.sort(key=lambda pair: (order.setdefault(pair[0].path, len(order)), pair[0].item.line))
         return ["<h4>what these statements use</h4>\n", *(text for _, text in found)] if found else []
 
     def chapter(self, name, title, intro, body):
-        return f'<section><h2 id="chapter-{name}">{escaped(title)}</h2><p class="lead">{escaped(intro)}</p>\n{body()}</section>\n'
+        sections = " · ".join(link(here, escaped(heading)) for here, heading in self.contents[-1][2])
+        return (f'<section><h2 id="chapter-{name}">{escaped(title)}</h2><p class="lead">{escaped(intro)}</p>\n'
+                f'<p class="sections">{sections}</p>\n{body}</section>\n')
 
     def begin(self, name, title):
         self.contents.append((f"chapter-{name}", title, []))
@@ -167,7 +204,7 @@ class Page:
         for crate, file, heading in sections:
             here, heading, path, text = self.section(crate, file, heading)
             parts.append(f'<h3 id="{here}">{escaped(heading)} <small>{path}</small></h3>\n{text}')
-        return self.chapter(name, title, intro, lambda: "".join(parts))
+        return self.chapter(name, title, intro, "".join(parts))
 
     def folded_chapter(self, name, title, intro, sections):
         self.begin(name, title)
@@ -175,7 +212,7 @@ class Page:
         for crate, file, heading in sections:
             here, heading, path, text = self.section(crate, file, heading)
             parts.append(f'<details class="fold" id="{here}"><summary>{escaped(heading)} <small>{path}</small></summary>\n{text}</details>\n')
-        return self.chapter(name, title, intro, lambda: "".join(parts))
+        return self.chapter(name, title, intro, "".join(parts))
 
     def left_over(self):
         order = re.findall(r"^(\w+):", self.book.text("crates.txt"), re.M)
@@ -214,11 +251,11 @@ class Page:
                     here = f"section-call.{path.replace('::', '.')}"
                     self.contents[-1][2].append((here, path))
                     parts.append(f'<h3 id="{here}"><code>{path}</code> <small>crates/{crate}/src/{module}.rt</small></h3>\n{text}')
-        return self.chapter(name, title, intro, lambda: "".join(parts))
+        return self.chapter(name, title, intro, "".join(parts))
 
     def contracts_in(self, crate, module, file, path):
         scope = Scope(f"crates/{crate}/src/{module}.rt", lambda scope: self.fill_from_code(scope, crate, module))
-        resolve, parts, functions = self.resolver(crate, scope), [], 0
+        resolve, parts, functions = self.resolver(crate, scope, path=path), [], 0
         for item in file.items:
             if item.kind == "heading":
                 parts.append(f"<h4>{self.render.words(item.comment[0], resolve)}</h4>\n")
@@ -263,7 +300,7 @@ class Page:
                 self.contents[-1][2].append((here, path))
                 parts.append(f'<h3 id="{here}"><code>{path}</code> <small>{definition.path}</small></h3>\n')
             parts.append(text)
-        return self.chapter(name, title, intro, lambda: "".join(parts))
+        return self.chapter(name, title, intro, "".join(parts))
 
     def value(self, definition):
         self.show(definition.place, definition)

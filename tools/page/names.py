@@ -186,6 +186,7 @@ class Names:
 
     def __init__(self):
         self.owners = {}  # field: definitions that have it
+        self.records = set()  # their places
         self.problems = []
         self.untold = []
 
@@ -193,9 +194,10 @@ class Names:
         for member in definition.members.values():
             if member.kind == "field":
                 self.owners.setdefault(member.name, []).append(definition)
+                self.records.add(definition.place)
 
-    def owner(self, fields, scope, exactly=False):
-        """The one record with these fields; of several, the one that the file has."""
+    def owner(self, fields, scope, exactly=False, place=None):
+        """The one record with these fields; of several, the one at the place given, or the one that the file has."""
         found = None
         for name in fields:
             here = self.owners.get(name, [])
@@ -203,6 +205,8 @@ class Names:
         found = found or []
         if exactly:
             found = [d for d in found if {m.name for m in d.members.values()} == set(fields)]
+        if len(found) > 1:
+            found = [d for d in found if d.place == place] or found
         if len(found) > 1:
             found = [d for d in found if scope.has_record(d)] or [d for d in found if "/proofs/" not in d.path]
         return found[0] if len(found) == 1 else None
@@ -247,8 +251,9 @@ class Walk:
 
     # ---- types and terms
 
-    def term(self, n, end, local, keep=False):
-        """Marks from n to end; gives the type if it is one application. `keep`: what is bound stays bound behind it."""
+    def term(self, n, end, local, keep=False, expected=None):
+        """Marks from n to end; gives the type if it is one application. `keep`: what is bound stays bound behind it; `expected`: its type, if
+        that is known from elsewhere."""
         begun, local, spine, fresh, single = dict(local), local if keep else dict(local), None, True, True
         last = None  # the word in front, to tell whose fields are asked
         while True:
@@ -259,7 +264,7 @@ class Walk:
             if token.kind == "mark" and token.text in ";,":
                 local, fresh, single, n = dict(begun), True, False, n + 1
             elif token.kind == "mark" and token.text in "({":
-                n, kind, found = self.group(n, local)
+                n, kind, found = self.group(n, local, self.argument_type(n, end, local, spine, fresh, expected))
                 if kind == "binder":
                     fresh, single = True, False
                 elif kind == "argument":
@@ -269,11 +274,12 @@ class Walk:
                 spine = self.field(n, spine, last)
                 n, fresh, last = n + 1, False, None
             elif token.text == "λ":
-                n, fresh, single = self.binders(n + 1, end, local), True, False
+                n = self.binders(n + 1, end, local, expected.arguments if expected and fresh and single else [])
+                fresh, single = True, False
             elif token.text == "let":
                 n, fresh, single = self.let(n + 1, end, local), True, False
             elif token.text == "record":
-                n, found = self.literal(n, end, local)
+                n, found = self.literal(n, end, local, expected if single else None)
                 spine, fresh, last = (found if fresh else spine and spine.applied()), False, None
             elif token.text in BREAKS or token.kind in ("dot", "mark"):
                 n, fresh, single = n + 1, True, False
@@ -286,7 +292,34 @@ class Walk:
                     last = token.text.strip("«»")
                 n += 1
 
-    def group(self, n, local):
+    def argument_type(self, n, end, local, spine, fresh, expected):
+        """What is known of a bracketed argument: by the function's type or, of a function over the entries of a list, by that list."""
+        if fresh:
+            return expected
+        known = spine.arguments[0] if spine and spine.arguments else None
+        if known is not None and known.arguments and known.arguments[0] and known.arguments[0].head in self.names.records:
+            return known
+        at, close = self.solid(n + 1, end), self.solid(self.closing[n] + 1, end)
+        if self.tokens[at].text != "λ":
+            return known
+        if close < end and (self.tokens[close].kind == "word" or self.tokens[close].text == "("):
+            over = self.aside(close, local)
+        else:
+            over = expected.arguments[-1] if expected and expected.arguments else None
+        return Type([over.parameters[0]], None) if over and over.head == "List" and over.parameters else known
+
+    def aside(self, n, local):
+        """The type of the atom at n; nothing is marked."""
+        marks, problems, untold = dict(self.marks), len(self.names.problems), len(self.names.untold)
+        if self.tokens[n].text == "(":
+            found = self.term(n + 1, self.closing[n], local)
+        else:
+            found = self.word(n, local)[0]
+        self.marks = marks
+        del self.names.problems[problems:], self.names.untold[untold:]
+        return found
+
+    def group(self, n, local, expected=None):
         end, inside = self.closing[n], n + 1
         names, at = [], self.solid(inside, end)
         while at < end and self.tokens[at].kind in ("word", "escaped") and self.tokens[at].text != ":":
@@ -304,17 +337,18 @@ class Walk:
                 inside = at + 1
             self.term(inside, end, local)
             return end + 1, "implicit", None
-        return end + 1, "argument", self.term(inside, end, local)
+        return end + 1, "argument", self.term(inside, end, local, expected=expected)
 
-    def binders(self, n, end, local):
+    def binders(self, n, end, local, kinds=()):
         """The names behind a λ, up to the dot."""
+        kinds = list(kinds)
         while n < end and self.tokens[n].kind != "dot":
             token = self.tokens[n]
             if token.kind == "mark" and token.text == "(":
                 n = self.group(n, local)[0]
                 continue
             if token.kind in ("word", "escaped"):
-                local[token.text.strip("«»")] = Local()
+                local[token.text.strip("«»")] = Local(kinds.pop(0) if kinds else None)
             n += 1
         return n + 1
 
@@ -343,7 +377,7 @@ class Walk:
         local[name] = Local(self.term(equals + 1, close, local))
         return close + 1
 
-    def literal(self, n, end, local):
+    def literal(self, n, end, local, expected):
         """`record { a = x; b = y }`"""
         n = self.solid(n + 1, end)
         close = self.closing[n]
@@ -356,7 +390,7 @@ class Walk:
             at = self.closing[at] + 1 if token.kind == "mark" and token.text in "({" else at + 1
             at = self.solid(at, close)
         fields = [self.tokens[label].text.strip("«»") for label in labels]
-        owner = self.names.owner(fields, self.scope, exactly=True)
+        owner = self.names.owner(fields, self.scope, exactly=True, place=expected.head if expected else None)
         for k, label in enumerate(labels):
             if owner:
                 self.marks[label] = Target(owner.members[fields[k]].place)
@@ -420,19 +454,19 @@ class Walk:
     # ---- patterns
 
     def pattern(self, n, end, kinds, local):
-        """Atoms in a row, each of the type given."""
-        kinds = list(kinds)
+        """Atoms in a row, each of the type given; gives how many there are."""
+        kinds, count = list(kinds), 0
         while True:
             n = self.solid(n, end)
             if n >= end:
-                return
+                return count
             token = self.tokens[n]
             if token.kind == "mark" and token.text == "{":
                 inner = [t.text for t in self.tokens[n + 1 : self.closing[n]] if t.kind == "word"]
                 local[inner[-1]] = Local()
                 n = self.closing[n] + 1
                 continue
-            kind = kinds.pop(0) if kinds else None
+            kind, count = kinds.pop(0) if kinds else None, count + 1
             if token.kind == "mark" and token.text == "(":
                 self.inner_pattern(n + 1, self.closing[n], kind, local)
                 n = self.closing[n] + 1
@@ -499,8 +533,9 @@ class Walk:
         stop = equals if equals is not None else end
         if self.tokens[n].text.strip("«»") == definition.strip("«»"):
             self.marks[n] = "head"
-            self.pattern(n + 1, stop, kind.arguments if kind else [], local)
+            count = self.pattern(n + 1, stop, kind.arguments if kind else [], local)
         else:
+            count = None
             for at in range(n, stop):  # the parts of an operator are no patterns
                 if self.tokens[at].text in definition.split("_"):
                     self.marks[at] = "head"
@@ -516,7 +551,8 @@ class Walk:
             return
         if where is not None:
             local.update(self.helpers(where + 1, end, local))
-        self.term(equals + 1, where if where is not None else end, local)
+        rest = Type(kind.arguments[count:], kind.head, kind.parameters) if kind and count is not None else None
+        self.term(equals + 1, where if where is not None else end, local, expected=rest)
 
     def top(self, n, end, word):
         while n < end:

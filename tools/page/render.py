@@ -6,6 +6,7 @@ from urllib.parse import quote
 from page.book import header_end, member_texts
 from page.names import Local, Scope, Walk
 
+QUIET = {"unfoldable", "abbrev", "pub", "record", "data", "where", "let", "in", "unfolding"}
 WORD = re.compile(r"(\w+)|(\W)")
 
 
@@ -19,8 +20,8 @@ def lines(code):
     for line in code.split("\n"):
         plain = re.sub(r"<[^>]*>", "", line)
         indent = len(plain) - len(plain.lstrip(" "))
-        found.append(f'<span class="i{indent}">{line or " "}</span>')
-    return '<pre><code>' + "\n".join(found) + "</code></pre>"
+        found.append(f'<span class="i{indent}">{line or " "}\n</span>')
+    return "<pre><code>" + "".join(found) + "</code></pre>"
 
 
 class Render:
@@ -30,6 +31,7 @@ class Render:
         self.library_used = {}
         self.cited = {}  # place: the definition or member that has to be on the page
         self.links = 0
+        self.plain = set()  # words of the text shown last that are bound there
 
     # ---- names
 
@@ -53,6 +55,10 @@ class Render:
         if mark == "head":
             return f'<dfn id="{html.escape(place)}">{text}</dfn>' if place else f"<b>{text}</b>"
         if mark is None:
+            if token.kind in ("word", "escaped"):
+                self.plain.add(token.text)
+                if token.text in QUIET:
+                    return f'<span class="m">{text}</span>'
             return text
         if token.kind == "field":
             return "." + self.anchor(mark, text[1:])
@@ -72,6 +78,7 @@ class Render:
 
     def code(self, definition):
         """The whole text of a definition; of a theorem what it says, and no proof."""
+        self.plain = set()
         if definition.kind in ("record", "data"):
             return lines(self.block(definition))
         parts, kind = [], definition.type_of()
@@ -180,12 +187,12 @@ class Render:
 
     def words(self, text, resolve):
         """Prose: what stands between backquotes is code, and a link if it is a name."""
-        parts = []
-        for n, part in enumerate(text.split("`")):
+        parts, pieces = [], text.split("`")
+        for n, part in enumerate(pieces):
             if n % 2 == 0:
                 parts.append(html.escape(part, quote=False))
                 continue
-            place = resolve(part) if resolve else None
+            place = resolve(part, pieces[n + 1 : n + 3]) if resolve else None
             code = f"<code>{html.escape(part, quote=False)}</code>"
             if place:
                 self.links += 1
