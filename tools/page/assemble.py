@@ -39,7 +39,10 @@ class Page:
                 self.by_name.setdefault(definition.name, []).append(definition)
         self.functions = self.public_functions()
         self.theorems = [self.theorem_named(*theorem) for theorem in theorems]
-        self.contents = []
+        self.proofs = {}  # of a statement, by its place
+        for theorem, _ in self.theorems:
+            self.proofs.setdefault(statement_place(theorem), []).append(theorem)
+        self.contents = []  # chapters: id, title, sections
 
     def expanded(self, sections):
         """`*` stands for all files of a crate, if there is such a crate."""
@@ -111,11 +114,9 @@ class Page:
         for member in definition.members.values():
             self.show(member.place, member)
         self.counts["definitions"] += 1
-        proofs = [d for d, _ in self.theorems if statement_of(d) == definition.name and statement_target(d) == definition.place]
-        proved = ""
-        if proofs:
-            self.render.links += len(proofs)
-            proved = "".join(f'<p class="proved">Proved: {link(d.place, f"<code>{d.name}</code>")}</p>' for d in proofs)
+        proofs = self.proofs.get(definition.place, [])
+        self.render.links += len(proofs)
+        proved = "".join(f'<p class="proved">Proved: {link(d.place, f"<code>{d.name}</code>")}</p>' for d in proofs)
         code, prose = self.code_and_prose(definition)
         return f'<div class="d" id="{html.escape(definition.place)}">{prose}{code}{proved}</div>\n'
 
@@ -398,7 +399,7 @@ def statement_of(theorem):
     return match.group(1) if match else None
 
 
-def statement_target(theorem):
+def statement_place(theorem):
     target = theorem.scope.names.get(statement_of(theorem))
     return target.place if target else None
 
