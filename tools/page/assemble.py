@@ -212,7 +212,8 @@ class Page:
         parts = []
         for crate, file, heading in sections:
             here, heading, path, text = self.section(crate, file, heading)
-            parts.append(f'<details class="fold" id="{here}"><summary>{escaped(heading)} <small>{path}</small></summary>\n{text}</details>\n')
+            proves = any(section == f"{crate}.{file}" for _, section in self.theorems)
+            parts.append(f'<details class="fold" id="{here}"{" open" if proves else ""}><summary>{escaped(heading)} <small>{path}</small></summary>\n{text}</details>\n')
         return self.chapter(name, title, intro, "".join(parts))
 
     def left_over(self):
@@ -308,7 +309,7 @@ class Page:
         for member in definition.members.values():
             self.show(member.place, member)
         self.counts["values"] += 1
-        prose = self.render.prose(definition.item.comment, self.resolver(definition.scope[0], None))
+        prose = self.render.prose(definition.item.comment, self.resolver(definition.scope[0], None, definition))
         return f'<div class="d" id="{definition.place}">{prose}{self.render.declaration(definition)}</div>\n'
 
     # ---- the page
@@ -354,7 +355,7 @@ proved of them.{version}</p>
 <p>Each definition stands below its comment; each name leads to its own definition; a name of the kit’s libraries tells what it is when
 it is pointed at. A theorem is given by what it says and the place of its proof. No proof and no lemma is needed to know what is
 proved. “Document 01” and “document 02” are the scope document and the requests that came after it; their words stand in quotation
-marks. None of the files shown assumes anything.</p>
+marks.{self.assumptions()}</p>
 </header>
 <nav aria-label="Contents"><details open><summary>Contents</summary>
 {self.table_of_contents()}</details></nav>
@@ -363,6 +364,11 @@ marks. None of the files shown assumes anything.</p>
 </body>
 </html>
 """
+
+    def assumptions(self):
+        """Each file says in its first comment what it assumes; where all say "nothing", that is said once."""
+        intros = [" ".join(self.book.files[crate, "specs", file].intro) for crate, file in self.book.spec_files()]
+        return " None of the files shown assumes anything." if all(i.endswith("Assumes nothing.") for i in intros) else ""
 
     def version(self):
         path = os.path.join(self.book.root, "VERSION")
