@@ -3,8 +3,8 @@ import html
 import re
 from urllib.parse import quote
 
-from page.book import header_end, member_texts
-from page.names import Local, Scope, Walk
+from specification_page.book import header_end, member_texts
+from specification_page.names import Local, Scope, Walk
 
 QUIET = {"unfoldable", "abbrev", "pub", "record", "data", "where", "let", "in", "unfolding"}
 WORD = re.compile(r"(\w+)|(\W)")
@@ -192,7 +192,7 @@ class Render:
             if n % 2 == 0:
                 parts.append(html.escape(part, quote=False))
                 continue
-            place = resolve(part, pieces[n + 1 : n + 3]) if resolve else None
+            place = resolve(pieces, n) if resolve else None
             code = f"<code>{html.escape(part, quote=False)}</code>"
             if place:
                 self.links += 1

@@ -2,8 +2,8 @@
 import os
 import re
 
-from page.names import Definition, Member, Names, Scope, Target, Type
-from page.source import read_antt, read_code
+from specification_page.names import Definition, Member, Names, Scope, Target, Type
+from specification_page.source import read_antt, read_code
 
 MODULE = re.compile(r"Rattle·([a-z_0-9]+)(?:·\w+)?\.(specs|proofs)\.(.+)")
 DECLARED = re.compile(r"declared\.((?:\w+\.)*?)(\w+)(\.the-variants)?$")

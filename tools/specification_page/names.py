@@ -6,7 +6,7 @@ of what stands before it, as far as the signatures tell that without a check; el
 import re
 from dataclasses import dataclass, field
 
-from page.source import tokens_of
+from specification_page.source import tokens_of
 
 # Words of the language, and what it has without a `use`.
 KEYWORDS = {"λ", "let", "in", "record", "where", "→", ":", "=", "_", "Type", "unfolding", "pub", "data", "infix", "infixl", "infixr",

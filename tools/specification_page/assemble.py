@@ -3,10 +3,10 @@ import html
 import os
 import re
 
-from page.book import Missing
-from page.library import LIBRARY, SIGNS
-from page.names import Definition, Scope
-from page.render import Render, lines, link
+from specification_page.book import Missing
+from specification_page.library import LIBRARY, SIGNS
+from specification_page.names import Definition, Scope
+from specification_page.render import Render, lines, link
 
 HERE = os.path.dirname(os.path.abspath(__file__))
 
@@ -24,8 +24,7 @@ class Page:
         self.book = book
         book.give_code_types()
         self.render = Render(book, LIBRARY)
-        self.chapters = [(*head, self.expanded(sections)) for *head, sections in chapters]
-        self.examples = examples
+        self.chapters, self.examples = chapters, examples
         self.parts, self.contracts, self.values = parts, contracts, values
         self.listed = {(crate, file) for *_, sections in [*self.chapters, examples] for crate, file, _ in sections}
         for crate, file in sorted(self.listed):
@@ -44,17 +43,6 @@ class Page:
             self.proofs.setdefault(statement_place(theorem), []).append(theorem)
         self.contents = []  # chapters: id, title, sections
 
-    def expanded(self, sections):
-        """`*` stands for all files of a crate, if there is such a crate."""
-        found = []
-        for crate, file, title in sections:
-            if file == "*":
-                files = [f for c, f in self.book.spec_files() if c == crate]
-                found += [(crate, f, title if len(files) == 1 else f"{title}: {f}") for f in files]
-            else:
-                found.append((crate, file, title))
-        return found
-
     def theorem_named(self, name, path, section):
         crate, part, file = path.split("/")
         self.book.load(crate, part, file)
@@ -71,19 +59,25 @@ class Page:
         """Gives the place of a word, or None. A word that is bound in the definition that it is about has none."""
         inside = set(re.findall(r"[^\s(){}.;,]+", " ".join(definition.item.lines))) if definition else set()
 
-        def resolve(word, behind):
+        def resolve(pieces, n):
+            word = pieces[n]
             if definition and word in definition.members:
                 return definition.members[word].place
             if definition and word in self.render.plain:
                 return None
+            called = [piece.rsplit("::", 1)[0] for piece in pieces[1 : n + 1 : 2] if piece in self.functions]
             target = scope.names.get(word) if scope else None
-            if target is not None and target.place is not None:
-                self.render.cited.setdefault(target.place, target)
-                return target.place
-            return self.theorem_place(word) or self.functions.get(word) or self.functions.get(f"{path}::{word}") \
-                or self.section_place(crate, word, behind) or (self.only_place(word) if word not in inside else None)
+            return (self.functions.get(word) or called and self.functions.get(f"{called[-1]}::{word}") or self.target_place(target)
+                    or self.theorem_place(word) or self.functions.get(f"{path}::{word}") or self.section_place(crate, word, pieces[n + 1 : n + 3])
+                    or (self.only_place(word) if word not in inside else None))
 
         return resolve
+
+    def target_place(self, target):
+        if target is None or target.place is None or ".proofs." in target.place:
+            return None
+        self.render.cited.setdefault(target.place, target)
+        return target.place
 
     def theorem_place(self, word):
         return next((d.place for d, _ in self.theorems if d.name == word), None)
