@@ -17,6 +17,7 @@ from urllib.parse import unquote
 
 ROOT = os.path.dirname(os.path.dirname(os.path.abspath(__file__)))
 CONTRACTS = ["routine", "layout", "book", "book_writer", "book_copy", "hub", "line", "line_parts", "hints"]
+USE = re.compile(r"^(?:ghost )?use Rattle·(\w+?)(?:·\w+)?\.(specs|proofs)\.([^\s{]+)\.\{([^}]*)\}", re.M)
 WORD = r"[^\s(){}.;,@\"«»]+"
 
 
@@ -25,17 +26,19 @@ def read(root, path):
         return file.read()
 
 
+SIGNS = {"i": ("-- ", "-- ", ""), "a": ("", "⟪", "⟫"), "b": ("", "⟪", "⟫")}  # a tag's sign in plain text, and in marked text
+
 # ---- the page
 
 
 class Page(HTMLParser):
-    """The page's tags, ids and links; for each block of class d its links and the text of its code."""
+    """The page's tags, ids and links; for each block of class d its links and the text of its code, once with links in ⟪⟫."""
 
     def __init__(self, text):
         super().__init__(convert_charrefs=True)
         self.problems, self.stack, self.ids, self.links, self.blocks, self.order = [], [], [], [], {}, []
-        self.problems += [f"not escaped: {text[m.start() : m.start() + 40]!r}" for m in re.finditer(r"&(?!(?:amp|lt|gt|quot|#x27);)", text)]
-        self.problems += [f"not escaped: {text[m.start() : m.start() + 40]!r}" for m in re.finditer(r"<(?!/?[a-z][a-z0-9]*[\s>]|!DOCTYPE)", text)]
+        for found in re.finditer(r"&(?!(?:amp|lt|gt|quot|#x27);)|<(?!/?[a-z][a-z0-9]*[\s>]|!DOCTYPE)", text):
+            self.problems.append(f"not escaped: {text[found.start() : found.start() + 40]!r}")
         self.feed(text)
         self.close()
         self.problems += [f"<{tag}> is not closed" for tag, _ in self.stack]
@@ -49,7 +52,7 @@ class Page(HTMLParser):
         if "id" in attrs:
             self.ids.append(attrs["id"])
         if "d" in attrs.get("class", "").split():
-            block = self.blocks[attrs["id"]] = {"classes": attrs["class"].split(), "links": set(), "code": "", "kind": ""}
+            block = self.blocks[attrs["id"]] = {"classes": attrs["class"].split(), "links": set(), "code": "", "marked": "", "kind": ""}
             self.order.append(attrs["id"])
         if "href" in attrs:
             self.links.append(attrs["href"])
@@ -59,13 +62,16 @@ class Page(HTMLParser):
             self.problems.append(f"the page has a <{tag}>")
         if tag not in ("meta",):
             self.stack.append((tag, block))
-        if tag == "i" and self.in_code():
-            self.block()["code"] += "-- "
+        if self.in_code() and tag in SIGNS:
+            self.block()["code"] += SIGNS[tag][0]
+            self.block()["marked"] += SIGNS[tag][1]
 
     def handle_endtag(self, tag):
         if not self.stack or self.stack[-1][0] != tag:
             self.problems.append(f"</{tag}> closes {self.stack[-1][0] if self.stack else 'nothing'}, line {self.getpos()[0]}")
         else:
+            if tag in SIGNS and self.in_code():
+                self.block()["marked"] += SIGNS[tag][2]
             self.stack.pop()
 
     def in_code(self):
@@ -74,6 +80,7 @@ class Page(HTMLParser):
     def handle_data(self, data):
         if self.in_code():
             self.block()["code"] += data
+            self.block()["marked"] += data
         elif self.block() is not None and self.stack[-1][0] == "b":
             self.block()["kind"] += data
 
@@ -82,8 +89,8 @@ class Page(HTMLParser):
         known = set(self.ids)
         found = list(self.problems)
         found += [f"{name}: the id stands twice" for name, count in Counter(self.ids).items() if count > 1]
-        found += [f"{href}: leads nowhere" for href in sorted(set(self.links)) if not href.startswith("#") or unquote(href[1:]) not in known]
-        return found
+        dead = [href for href in sorted(set(self.links)) if not href.startswith("#") or unquote(href[1:]) not in known]
+        return found + [f"{href}: leads nowhere" for href in dead]
 
 
 # ---- what definitions and code say
@@ -135,7 +142,7 @@ def own_names(prefix, text):
 def uses(text):
     """Names that a file brings in from definitions and declared values: the name here, and its id on the page."""
     found = {}
-    for crate, part, rest, names in re.findall(r"^(?:ghost )?use Rattle·(\w+?)(?:·\w+)?\.(specs|proofs)\.([^\s{]+)\.\{([^}]*)\}", text, re.M):
+    for crate, part, rest, names in USE.findall(text):
         for entry in names.split(","):
             name, _, other = entry.strip().partition(" as ")
             found[other or name] = crate, part, rest, name
@@ -194,7 +201,8 @@ def check_definitions(root, page):
     for crate, file in spec_files(root):
         text = read(root, f"crates/{crate}/specs/{file}.antt")
         used = {name: place(root, *target) for name, target in uses(text).items()}
-        found += [f"{crate}/{file} uses {name}, and {target} is not on the page" for name, target in used.items() if target not in page.known]
+        missing = {name: target for name, target in used.items() if target not in page.known}
+        found += [f"{crate}/{file} uses {name}, and {target} is not on the page" for name, target in missing.items()]
         own = own_names(f"{crate}.{file}", text)
         names = []
         for declaration in declarations(text):
@@ -207,7 +215,7 @@ def check_definitions(root, page):
             source = signature(declaration) if declaration["mark"] == "theorem" else "\n".join(declaration["lines"])
             found += compare(names[-1], source, block["code"])
             others = {name: target for name, target in own.items() if not target.startswith(names[-1])}
-            found += unlinked(names[-1], source, used | others, block)
+            found += unlinked(names[-1], source, used | others, block) + bound_and_linked(names[-1], block["marked"])
         shown = [name for name in page.order if name in set(names)]
         if shown != names:
             found.append(f"{crate}/{file}: the definitions stand in another order, or twice")
@@ -228,6 +236,22 @@ def unlinked(name, source, used, block):
     bound |= {here for here, target in used.items() if here in heads and target.count(".") == 2}
     return [f"{name}: no link to {target}" for here, target in used.items()
             if all(part in words for part in parts_of(here)) and here not in bound and target not in block["links"]]
+
+
+def bound_and_linked(name, marked):
+    """Names that a clause, a λ or `(x : A)` binds, and links on them all the same. A record's label may have the name of its value."""
+    found, clauses = [], [[]]
+    for line in re.sub(r"--[^\n]*", "", marked).split("\n"):
+        if line[:1].strip() and line[0] not in "})":
+            clauses.append([])
+        clauses[-1].append(line)
+    for clause in ("\n".join(lines) for lines in clauses):
+        head, _, body = clause.partition(" =") if not re.match(r"[^=]* :\s", clause) else ("", "", clause)
+        bound = words_in(re.sub(r"⟪[^⟫]*⟫", "", head))
+        for names, others in re.findall(rf"[({{]((?:{WORD} )+):|λ ([^.()]*)\.", body):
+            bound |= set(names.split() + others.split())
+        found += [f"{name}: a link on {word}, which is bound there" for word in re.findall(r"(?<!\.)⟪([^⟫]*)⟫(?! =)", body) if word in bound]
+    return found
 
 
 def check_theorems(root, page):
@@ -346,7 +370,8 @@ def must_fail(root, scratch):
     status, said = made(tree, out)
     assert status == 1 and "World" in said, f"without World.antt the tool ends with {status} and says {said}"
     os.rename(os.path.join(tree, "World"), os.path.join(tree, "crates/rules/specs/World.antt"))
-    restore(tree, "crates/rules/specs/Extra.antt", "-- A file in no list. Assumes nothing.\nuse Prim.Native.Nat.{ℕ}\n\nabbrev pub extra : ℕ\nextra = 7\n")
+    extra = "-- A file in no list. Assumes nothing.\nuse Prim.Native.Nat.{ℕ}\n\nabbrev pub extra : ℕ\nextra = 7\n"
+    restore(tree, "crates/rules/specs/Extra.antt", extra)
     status, said = made(tree, out)
     assert status == 0 and 'id="rules.Extra.extra"' in read("", out), f"a new file is not on the page: {said}"
 
@@ -367,6 +392,7 @@ HARM = [  # changes of the page, and what the test says of them
     (r'<a href="#rules\.Due\.due">due</a>', "due", "no link to rules.Due.due"),
     (r'(id="rules\.proofs\.Theorem\.replay"><b>)Theorem', r"\1Lemma", "replay is a lemma"),
     (r"(<dfn>|<b>)maxDevices(</dfn>|</b>) = 32", "maxDevices = 33", "another text than the file's"),
+    (r'(hasSet</b>.*?λ x\..*?</a> d )x ', r'\1<a href="#rules.State.Step">x</a> ', "a link on x, which is bound there"),
     (r'id="call\.hub\.submit"', 'id="call.hub.submits"', "call.hub.submit is not on the page"),
 ]
 

@@ -1,22 +1,12 @@
 """Puts the page together: chapters, sections, theorems, contracts, values."""
 import html
-import os
 import re
 
 from specification_page.book import Missing
-from specification_page.library import LIBRARY, SIGNS
-from specification_page.names import Definition, Scope
-from specification_page.render import Render, lines, link
-
-HERE = os.path.dirname(os.path.abspath(__file__))
-
-
-def escaped(text):
-    return html.escape(text, quote=False)
-
-
-def code_words(text):
-    return re.sub(r"`([^`]*)`", r"<code>\1</code>", escaped(text))
+from specification_page.frame import framed
+from specification_page.library import LIBRARY
+from specification_page.render import Render, escaped, link
+from specification_page.scope import Definition, Scope
 
 
 class Page:
@@ -67,9 +57,9 @@ class Page:
                 return None
             called = [piece.rsplit("::", 1)[0] for piece in pieces[1 : n + 1 : 2] if piece in self.functions]
             target = scope.names.get(word) if scope else None
-            return (self.functions.get(word) or called and self.functions.get(f"{called[-1]}::{word}") or self.target_place(target)
-                    or self.theorem_place(word) or self.functions.get(f"{path}::{word}") or self.section_place(crate, word, pieces[n + 1 : n + 3])
-                    or (self.only_place(word) if word not in inside else None))
+            return (self.functions.get(word) or called and self.functions.get(f"{called[-1]}::{word}")
+                    or self.target_place(target) or self.theorem_place(word) or self.functions.get(f"{path}::{word}")
+                    or self.section_place(crate, word, pieces[n + 1 : n + 3]) or (self.only_place(word) if word not in inside else None))
 
         return resolve
 
@@ -206,8 +196,9 @@ class Page:
         parts = []
         for crate, file, heading in sections:
             here, heading, path, text = self.section(crate, file, heading)
-            proves = any(section == f"{crate}.{file}" for _, section in self.theorems)
-            parts.append(f'<details class="fold" id="{here}"{" open" if proves else ""}><summary>{escaped(heading)} <small>{path}</small></summary>\n{text}</details>\n')
+            opens = " open" if any(section == f"{crate}.{file}" for _, section in self.theorems) else ""
+            heading = f"<summary>{escaped(heading)} <small>{path}</small></summary>"
+            parts.append(f'<details class="fold" id="{here}"{opens}>{heading}\n{text}</details>\n')
         return self.chapter(name, title, intro, "".join(parts))
 
     def left_over(self):
@@ -269,7 +260,7 @@ class Page:
 
     def fill_from_code(self, scope, crate, module):
         for used, name, here in self.book.code_files[crate, module].uses:
-            scope.add(here, self.book.target(used, name))
+            scope.add(here, self.book.target(used, name, here))
 
     # ---- the values of the code
 
@@ -320,71 +311,13 @@ class Page:
         self.contents += last
         self.check()
         body = "".join([*chapters, contracts, values, examples, parts])
-        return self.frame(body)
+        return framed(self, body)
 
     def check(self):
         problems = list(dict.fromkeys(self.book.names.problems))
         problems += [f"{place} is cited and not on the page" for place in self.render.cited if place not in self.shown]
         if problems:
             raise Missing("\nspecification: ".join(problems))
-
-    def frame(self, body):
-        with open(os.path.join(HERE, "style.css"), encoding="utf-8") as file:
-            style = file.read()
-        version = self.version()
-        return f"""<!DOCTYPE html>
-<html lang="en">
-<head>
-<meta charset="utf-8">
-<meta name="viewport" content="width=device-width, initial-scale=1">
-<title>The plot hub: its specification</title>
-<style>
-{style}{indents()}</style>
-</head>
-<body>
-<header>
-<h1>The plot hub: its specification</h1>
-<p class="lead">Every definition that says what the hub, the routine book and the line program do, in reading order, and the theorems that are
-proved of them.{version}</p>
-<p>Each definition stands below its comment; each name leads to its own definition; a name of the kit’s libraries tells what it is when
-it is pointed at. A theorem is given by what it says and the place of its proof. No proof and no lemma is needed to know what is
-proved. “Document 01” and “document 02” are the scope document and the requests that came after it; their words stand in quotation
-marks.{self.assumptions()}</p>
-</header>
-<nav aria-label="Contents"><details open><summary>Contents</summary>
-{self.table_of_contents()}</details></nav>
-<main>
-{self.how_to_read()}{body}</main>
-</body>
-</html>
-"""
-
-    def assumptions(self):
-        """Each file says in its first comment what it assumes; where all say "nothing", that is said once."""
-        intros = [" ".join(self.book.files[crate, "specs", file].intro) for crate, file in self.book.spec_files()]
-        return " None of the files shown assumes anything." if all(i.endswith("Assumes nothing.") for i in intros) else ""
-
-    def version(self):
-        path = os.path.join(self.book.root, "VERSION")
-        if not os.path.exists(path):
-            return ""
-        return f" Version {escaped(self.book.text('VERSION').strip())}."
-
-    def table_of_contents(self):
-        found = ['<ol><li value="0"><a href="#chapter-reading">How to read it</a></li>\n']
-        for place, title, sections in self.contents:
-            inner = "".join(f"<li>{link(here, escaped(name))}</li>" for here, name in sections)
-            found.append(f"<li>{link(place, escaped(title))}<ul>{inner}</ul></li>\n")
-        return "".join(found) + "</ol>"
-
-    def how_to_read(self):
-        signs = "".join(f"<tr><td><code>{escaped(sign)}</code></td><td>{code_words(text)}</td></tr>\n" for sign, text in SIGNS)
-        used = sorted(self.render.library_used.items(), key=lambda pair: (pair[0][0], pair[0][1]))
-        names = "".join(f"<tr><td><code>{escaped(word)}</code></td><td>{escaped(meaning)}</td><td class=\"place\">{escaped(module)}</td></tr>\n"
-                        for (module, word), meaning in used if module not in ("the language", "the logic of contracts"))
-        return (f'<section><h2 id="chapter-reading">How to read it</h2><p class="lead">The signs of the language, and the names that come '
-                f"from the kit’s libraries, in words.</p>\n<table>{signs}</table>\n"
-                f'<details class="fold"><summary>Names of the libraries</summary><table>{names}</table></details></section>\n')
 
     def summary(self):
         counts = ", ".join(f"{number} {name}" for name, number in self.counts.items())
@@ -402,7 +335,3 @@ def statement_of(theorem):
 def statement_place(theorem):
     target = theorem.scope.names.get(statement_of(theorem))
     return target.place if target else None
-
-
-def indents():
-    return "".join(f"pre .i{n} {{ --n: {n}; }}\n" for n in range(0, 41))

@@ -2,11 +2,13 @@
 import os
 import re
 
-from specification_page.names import Definition, Member, Names, Scope, Target, Type
+from specification_page.scope import Definition, Member, Scope, Target, Type
 from specification_page.source import read_antt, read_code
+from specification_page.walk import Names
 
 MODULE = re.compile(r"Rattle·([a-z_0-9]+)(?:·\w+)?\.(specs|proofs)\.(.+)")
 DECLARED = re.compile(r"declared\.((?:\w+\.)*?)(\w+)(\.the-variants)?$")
+LIBRARY_CONSTRUCTORS = {"true", "false", "zero", "suc", "none", "some", "pos", "negsuc", "[]", "_∷_", "refl"}
 
 
 class Missing(Exception):
@@ -76,18 +78,18 @@ class Book:
 
     def fill(self, scope, key):
         for module, name, here in self.files[key].uses:
-            scope.add(here, self.target(module, name))
+            scope.add(here, self.target(module, name, here))
         for definition in self.definitions[key].values():
             scope.add(definition.name, target_of(definition))
             if definition.kind == "data":
                 for member in definition.members.values():
                     scope.add(member.name, member_target(definition, member))
 
-    def target(self, module, name):
-        """What a name of a `use` list means."""
+    def target(self, module, name, here):
+        """What a name of a `use` list means, which the file may call otherwise."""
         match = MODULE.match(module)
         if not match:
-            return Target(None, module, operator="_" in name, word=name)
+            return Target(None, module, operator="_" in name, constructor=name in LIBRARY_CONSTRUCTORS, word=here)
         crate, part, rest = match.groups()
         declared = DECLARED.match(rest)
         if declared:
@@ -111,7 +113,8 @@ class Book:
         prefix = f"code.{crate}" if module in ("lib", "main") else f"code.{crate}.{module}"
         for item in file.items:
             if item.kind in ("struct", "enum", "const"):
-                definition = Definition(f"{prefix}.{item.name}", item.name, item.kind, item, (crate, module), f"crates/{crate}/src/{module}.rt")
+                path = f"crates/{crate}/src/{module}.rt"
+                definition = Definition(f"{prefix}.{item.name}", item.name, item.kind, item, (crate, module), path)
                 for line in item.lines[1:]:
                     match = re.match(r"    (?:pub )?(\w+)([:(,{]|$)", line)
                     if match and item.kind != "const":

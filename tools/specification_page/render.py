@@ -4,10 +4,15 @@ import re
 from urllib.parse import quote
 
 from specification_page.book import header_end, member_texts
-from specification_page.names import Local, Scope, Walk
+from specification_page.scope import Local
+from specification_page.walk import Walk
 
 QUIET = {"unfoldable", "abbrev", "pub", "record", "data", "where", "let", "in", "unfolding"}
 WORD = re.compile(r"(\w+)|(\W)")
+
+
+def escaped(text):
+    return html.escape(text, quote=False)
 
 
 def link(place, inside):
@@ -47,7 +52,7 @@ class Render:
         return f'<span class="k" title="{html.escape(title)}">{inside}</span>'
 
     def token(self, token, mark, place):
-        text = html.escape(token.text, quote=False)
+        text = escaped(token.text)
         if token.kind == "comment":
             return f'<i>{self.words(token.text[2:].strip(), None)}</i>'
         if token.kind == "string":
@@ -138,7 +143,7 @@ class Render:
                     self.links += 1
                     parts.append(link(found.place, word))
                 else:
-                    parts.append(html.escape(word or other, quote=False))
+                    parts.append(escaped(word or other))
             if comment >= 0:
                 parts.append(f'<i>{self.words(line[comment + 2 :].strip(), None)}</i>')
             parts.append("\n")
@@ -190,10 +195,10 @@ class Render:
         parts, pieces = [], text.split("`")
         for n, part in enumerate(pieces):
             if n % 2 == 0:
-                parts.append(html.escape(part, quote=False))
+                parts.append(escaped(part))
                 continue
             place = resolve(pieces, n) if resolve else None
-            code = f"<code>{html.escape(part, quote=False)}</code>"
+            code = f"<code>{escaped(part)}</code>"
             if place:
                 self.links += 1
                 code = link(place, code)
