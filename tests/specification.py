@@ -26,6 +26,7 @@ def read(root, path):
         return file.read()
 
 
+TEXTS = ("code", "marked", "kind", "said")
 SIGNS = {"i": ("-- ", "-- ", ""), "a": ("", "⟪", "⟫"), "b": ("", "⟪", "⟫")}  # a tag's sign in plain text, and in marked text
 
 # ---- the page
@@ -52,7 +53,7 @@ class Page(HTMLParser):
         if "id" in attrs:
             self.ids.append(attrs["id"])
         if "d" in attrs.get("class", "").split():
-            block = self.blocks[attrs["id"]] = {"classes": attrs["class"].split(), "links": set(), "code": "", "marked": "", "kind": ""}
+            block = self.blocks[attrs["id"]] = {"classes": attrs["class"].split(), "links": set()} | dict.fromkeys(TEXTS, "")
             self.order.append(attrs["id"])
         if "href" in attrs:
             self.links.append(attrs["href"])
@@ -81,8 +82,8 @@ class Page(HTMLParser):
         if self.in_code():
             self.block()["code"] += data
             self.block()["marked"] += data
-        elif self.block() is not None and self.stack[-1][0] == "b":
-            self.block()["kind"] += data
+        elif self.block() is not None and self.stack[-1][0] in ("b", "span"):
+            self.block()["kind" if self.stack[-1][0] == "b" else "said"] += data
 
     def faults(self):
         """What is wrong with tags, ids and links."""
@@ -186,9 +187,9 @@ def named_theorems(root):
             for name in [n for n in os.listdir(folder) if n.endswith(".antt")] if os.path.isdir(folder) else []:
                 for found, kind in re.findall(r"^pub (\S+) :[ \n]+(.*)$", read(root, f"crates/{crate}/{part}/{name}"), re.M):
                     proved.setdefault(found, set()).add(kind)
-    readme = read(root, "README.md")
-    text = readme[readme.index("### Where the statements are") : readme.index("### How to change a rule")] + read(root, "docs/TRUST.md")
-    words = set(re.findall(r"`([^`\n]+)`", text))
+    section = re.search(r"^#+ Where the statements are$(.*?)(?=^#+ |\Z)", read(root, "README.md"), re.M | re.S)
+    assert section, "README has no section `Where the statements are`"
+    words = set(re.findall(r"`([^`\n]+)`", section.group(1) + read(root, "docs/TRUST.md")))
     return {w for w in words if w in proved and ("-" in w or any(re.fullmatch(r"[A-Z]\w+", kind) for kind in proved[w]))}
 
 
@@ -250,7 +251,8 @@ def bound_and_linked(name, marked):
         bound = words_in(re.sub(r"⟪[^⟫]*⟫", "", head))
         for names, others in re.findall(rf"[({{]((?:{WORD} )+):|λ ([^.()]*)\.", body):
             bound |= set(names.split() + others.split())
-        found += [f"{name}: a link on {word}, which is bound there" for word in re.findall(r"(?<!\.)⟪([^⟫]*)⟫(?! =)", body) if word in bound]
+        linked = set(re.findall(r"(?<!\.)⟪([^⟫]*)⟫(?! =)", body))
+        found += [f"{name}: a link on {word}, which is bound there" for word in sorted(linked & bound)]
     return found
 
 
@@ -260,6 +262,7 @@ def check_theorems(root, page):
     for name, block in page.blocks.items():
         if block["kind"] == "Theorem":
             names.add(name.split(".")[-1])
+    found += [fault for name, block in page.blocks.items() if "t" in block["classes"] for fault in misplaced(root, name, block)]
     found += [f"README or TRUST names the theorem {name}, and it is not on the page" for name in sorted(named_theorems(root) - names)]
     for name, block in page.blocks.items():
         if ".proofs." not in name:
@@ -277,6 +280,27 @@ def check_theorems(root, page):
             cited = {n: t for n, t in uses(text).items() if all(part in words_in(source) for part in parts_of(n))}
             found += unlinked(name, source, {n: place(root, *t) for n, t in cited.items()}, block)
     return found, len(names)
+
+
+def misplaced(root, name, block):
+    """A theorem or example stands at the place that is told."""
+    file, line = re.fullmatch(r"(?:Proved|Computed) in (\S+), line (\d+)", block["said"]).groups()
+    there = read(root, file).split("\n")[int(line) - 1]
+    return [] if re.match(rf"(?:pub )?{re.escape(name.split('.')[-1])} :", there) else [f"{name} is not at {file}, line {line}"]
+
+
+def check_values(root, page):
+    """What is shown of the code stands in it."""
+    found = []
+    for name, block in page.blocks.items():
+        if name.startswith("code."):
+            crate = name.split(".")[1]
+            folder = os.path.join(root, "crates", crate, "src")
+            texts = [read(folder, file).replace("//", "-- ") for file in os.listdir(folder)]
+            shown = re.sub(r"\s+", " ", block["code"]).strip()
+            if not any(shown in re.sub(r"\s+", " ", text) for text in texts):
+                found.append(f"{name}: another text than the code's")
+    return found
 
 
 def contract_heads(text):
@@ -312,6 +336,7 @@ def check(root, text):
     definitions, count = check_definitions(root, page)
     theorems, proved = check_theorems(root, page)
     contracts, calls = check_contracts(root, page)
+    contracts += check_values(root, page)
     said = f"{count} definitions and examples, {proved} theorems, {calls} contracts, {len(page.links)} links, {len(page.ids)} places"
     return faults + definitions + theorems + contracts, said
 
@@ -393,6 +418,8 @@ HARM = [  # changes of the page, and what the test says of them
     (r'(id="rules\.proofs\.Theorem\.replay"><b>)Theorem', r"\1Lemma", "replay is a lemma"),
     (r"(<dfn>|<b>)maxDevices(</dfn>|</b>) = 32", "maxDevices = 33", "another text than the file's"),
     (r'(hasSet</b>.*?λ x\..*?</a> d )x ', r'\1<a href="#rules.State.Step">x</a> ', "a link on x, which is bound there"),
+    (r"(Proved in crates/rules/proofs/Theorem\.antt, line )\d+", r"\g<1>1", "is not at crates/rules/proofs/Theorem.antt, line 1"),
+    (r"enum <b>Verdict</b>", "enum <b>Verdicts</b>", "code.routine.Verdict: another text"),
     (r'id="call\.hub\.submit"', 'id="call.hub.submits"', "call.hub.submit is not on the page"),
 ]
 

@@ -327,8 +327,7 @@ class Page:
 
 def statement_of(theorem):
     """The one name that a theorem's statement is, if it is one."""
-    text = theorem.item.entries()[0]
-    match = re.fullmatch(r"(?:pub )?\S+ : (\S+)", text.strip())
+    match = re.fullmatch(r"(?:pub )?\S+ : (\S+)", theorem.signature().strip())
     return match.group(1) if match else None
 
 

@@ -23,8 +23,8 @@ def framed(page, body):
 <body>
 <header>
 <h1>The plot hub: its specification</h1>
-<p class="lead">Every definition that says what the hub, the routine book and the line program do, in reading order, and the theorems that are
-proved of them.{version(page.book)}</p>
+<p class="lead">Every definition that says what the hub, the routine book and the line program do, in reading order, and the theorems that
+are proved of them.{version(page.book)}</p>
 <p>Each definition stands below its comment; each name leads to its own definition; a name of the kit’s libraries tells what it is when
 it is pointed at. A theorem is given by what it says and the place of its proof. No proof and no lemma is needed to know what is
 proved. “Document 01” and “document 02” are the scope document and the requests that came after it; their words stand in quotation

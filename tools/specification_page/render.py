@@ -7,7 +7,7 @@ from specification_page.book import header_end, member_texts
 from specification_page.scope import Local
 from specification_page.walk import Walk
 
-QUIET = {"unfoldable", "abbrev", "pub", "record", "data", "where", "let", "in", "unfolding"}
+QUIET = {"infix", "infixl", "infixr", "unfoldable", "abbrev", "pub", "record", "data", "where", "let", "in", "unfolding"}
 WORD = re.compile(r"(\w+)|(\W)")
 
 
@@ -77,28 +77,24 @@ class Render:
 
     # ---- definitions
 
-    def entry(self, definition, text, local=None):
-        walk = Walk(text, definition.scope, self.book.names, definition.path, local)
-        return walk
+    def walk(self, definition, text):
+        return Walk(text, definition.scope, self.book.names, definition.path)
 
     def code(self, definition):
         """The whole text of a definition; of a theorem what it says, and no proof."""
         self.plain = set()
         if definition.kind in ("record", "data"):
             return lines(self.block(definition))
-        parts, kind = [], definition.type_of()
+        parts, kind, signature = [], definition.type_of(), definition.signature()
         for text in definition.item.entries():
-            walk = self.entry(definition, text)
-            if text.startswith("infix"):
-                parts.append(f'<span class="m">{html.escape(text)}</span>')
-                continue
-            if text.startswith("unfolding ") and definition.kind != "theorem":
-                walk.term(1, len(walk.tokens), {})
-            elif len(parts) == definition.first_entry():
+            walk = self.walk(definition, text)
+            if text == signature:
                 walk.signature(definition.name, {})
             elif definition.kind == "theorem":
                 break
-            else:
+            elif text.startswith("unfolding "):
+                walk.term(1, len(walk.tokens), {})
+            elif not text.startswith("infix"):
                 walk.clause(definition.name, kind)
             parts.append(self.walked(walk))
         return lines("\n".join(parts))
@@ -106,13 +102,13 @@ class Render:
     def block(self, definition):
         """A record or a data type: its header, then its members, each with a place of its own."""
         end = header_end(definition.item) + 1
-        walk = self.entry(definition, "\n".join(definition.item.lines[:end]))
+        walk = self.walk(definition, "\n".join(definition.item.lines[:end]))
         local = {}
         walk.signature(definition.name, local)
         parts = [self.walked(walk)]
         for text in member_texts(definition.item):
             match = re.match(r"\s*(?:pub )?([^\s(){}.;,@\"]+) :", text)
-            walk = self.entry(definition, text)
+            walk = self.walk(definition, text)
             member = definition.members[match.group(1)] if match else None
             if member:
                 walk.signature(member.name, dict(local))
@@ -168,7 +164,7 @@ class Render:
         parts = [self.rust(head, crate, module)]
         parts[0] = parts[0].replace(f"fn {item.name}", f"fn <b>{item.name}</b>", 1)
         if cut < len(text):
-            walk = Walk("\n".join(text[cut:]), scope, self.book.names, f"crates/{crate}/src/{module}.rt", local)
+            walk = Walk("\n".join(text[cut:]), scope, self.book.names, f"crates/{crate}/src/{module}.rt")
             self.facts(walk, local, result)
             parts.append(self.walked(walk))
         return lines("\n".join(parts))

@@ -37,13 +37,12 @@ class Definition:
     path: str
     members: dict = field(default_factory=dict)
 
-    def type_of(self):
-        if self.kind in ("definition", "theorem"):
-            return self.scope.signature_type(self.item.entries()[-1 if len(self.item.entries()) == 1 else self.first_entry()])
-        return None
+    def signature(self):
+        entries = self.item.entries()
+        return entries[1] if entries[0].startswith("infix") else entries[0]
 
-    def first_entry(self):
-        return 1 if self.item.entries()[0].startswith("infix") else 0
+    def type_of(self):
+        return self.scope.signature_type(self.signature()) if self.kind in ("definition", "theorem") else None
 
 
 @dataclass

@@ -48,13 +48,12 @@ class Names:
 class Walk:
     """Marks the words of one text: `marks[n]` is what token n means."""
 
-    def __init__(self, text, scope, names, where, local=None):
+    def __init__(self, text, scope, names, where):
         self.tokens = tokens_of(text)
         self.scope, self.names, self.where = scope, names, where
         self.marks = {}
         self.asked = self.fields_asked()
         self.closing = self.brackets()
-        self.local = local or {}
 
     def brackets(self):
         closing, stack = {}, []
@@ -204,7 +203,7 @@ class Walk:
                 depth -= 1
             at += 1
         if close is None or equals is None:
-            self.problem(n, "a let that has no end")
+            self.problem("a let that has no end")
             return end
         self.term(n + 1, equals, local)
         local[name] = Local(self.term(equals + 1, close, local))
@@ -250,7 +249,7 @@ class Walk:
             elif word == "now" and self.where.endswith(".rt"):
                 self.marks[n] = Target(None, "the logic of contracts", word=word)
             else:
-                self.problem(n, f"nothing is known of `{word}`")
+                self.problem(f"nothing is known of `{word}`")
             return None, False
         self.marks[n] = target
         return self.type_of(target), target.operator
@@ -357,12 +356,12 @@ class Walk:
         self.term(n, end, local, keep=True)
         return n
 
-    def clause(self, definition, kind, head=None):
-        """`name patterns = term`, or with an operator between the patterns. `head`: where the name stands."""
+    def clause(self, definition, kind):
+        """`name patterns = term`, or with an operator between the patterns."""
         end = len(self.tokens)
         equals = self.top(0, end, "=")
         where = self.top(0, end, "where")
-        local, n = dict(self.local), self.solid(0, end)
+        local, n = {}, self.solid(0, end)
         stop = equals if equals is not None else end
         if self.tokens[n].text.strip("«»") == definition.strip("«»"):
             self.marks[n] = "head"
@@ -397,28 +396,33 @@ class Walk:
         return None
 
     def helpers(self, n, end, local):
-        """The lines behind `where`: signatures and clauses of helpers, a line each."""
-        found, begins = {}, n
-        lines = []
-        for at in range(n, end + 1):
-            if at == end or self.tokens[at].kind == "space" and "\n" in self.tokens[at].text:
-                if self.solid(begins, at) < at:
-                    lines.append((self.solid(begins, at), at))
-                begins = at
-        kinds = {}
-        for begin, stop in lines:
+        """What stands behind `where`: signatures and clauses of helpers. Gives the helpers."""
+        found = {}
+        for begin, stop in self.helper_lines(n, end):
             name, colon = self.tokens[begin].text, self.solid(begin + 1, stop)
-            inner = dict(local) | found
+            inner = local | found
             if self.tokens[colon].text == ":":
-                found[name] = Local(self.scope.type_in([t for t in self.tokens[colon + 1 : stop] if t.kind != "space"]))
+                found[name] = Local(self.scope.type_in([t for t in self.tokens[colon + 1 : stop] if t.kind not in ("space", "comment")]))
                 self.term(colon + 1, stop, inner)
             else:
                 equals = self.top(begin, stop, "=")
-                self.pattern(begin + 1, equals, found[name].type.arguments, inner)
+                kind = found[name].type if name in found else None
+                self.pattern(begin + 1, equals, kind.arguments if kind else [], inner)
                 self.term(equals + 1, stop, inner)
         return found
 
-    def problem(self, n, message):
+    def helper_lines(self, n, end):
+        """Where each of these begins and ends; a line that is further in goes on with the one before."""
+        starts, edge = [], None
+        for at in range(n, end):
+            if self.tokens[at].kind == "space" and "\n" in self.tokens[at].text and self.solid(at, end) < end:
+                indent = len(self.tokens[at].text.rsplit("\n", 1)[1])
+                edge = indent if edge is None else edge
+                if indent <= edge:
+                    starts.append(self.solid(at, end))
+        return list(zip(starts, starts[1:] + [end]))
+
+    def problem(self, message):
         self.names.problems.append(f"{self.where}: {message}")
 
     def untold(self, n):
