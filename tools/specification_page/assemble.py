@@ -32,6 +32,7 @@ class Page:
         for theorem, _ in self.theorems:
             self.proofs.setdefault(statement_place(theorem), []).append(theorem)
         self.contents = []  # chapters: id, title, sections
+        self.glance = []  # theorems with what they say in words
 
     def theorem_named(self, name, path, section):
         crate, part, file = path.split("/")
@@ -116,6 +117,7 @@ class Page:
         line = definition.item.line
         if any(d is definition for d, _ in self.theorems):
             self.counts["theorems"] += 1
+            self.glance.append((definition, prose))
             kind, place = "Theorem", f"Proved in {definition.path}, line {line}"
         else:
             self.counts["examples"] += 1

@@ -33,7 +33,7 @@ marks.{assumptions(page.book)}</p>
 <nav aria-label="Contents"><details open><summary>Contents</summary>
 {table_of_contents(page.contents)}</details></nav>
 <main>
-{how_to_read(page.render.library_used)}{body}</main>
+{how_to_read(page)}{body}</main>
 </body>
 </html>
 """
@@ -70,10 +70,14 @@ def row(sign, *cells):
     return f"<tr><td><code>{escaped(sign)}</code></td>" + "".join(f"<td>{code_words(cell)}</td>" for cell in cells) + "</tr>\n"
 
 
-def how_to_read(library_used):
+def how_to_read(page):
     signs = "".join(row(*sign) for sign in SIGNS)
-    used = sorted((module, word, meaning) for (module, word), meaning in library_used.items() if " " not in module)
+    used = sorted((module, word, meaning) for (module, word), meaning in page.render.library_used.items() if " " not in module)
     names = "".join(row(word, meaning, module) for module, word, meaning in used)
-    return (f'<section><h2 id="chapter-reading">How to read it</h2><p class="lead">The signs of the language, and the names that come '
-            f"from the kit’s libraries, in words.</p>\n<table>{signs}</table>\n"
-            f'<details class="fold"><summary>Names of the libraries</summary><table>{names}</table></details></section>\n')
+    theorems = "".join(f"<tr><td>{link(d.place, f'<code>{escaped(d.name)}</code>')}</td><td>{prose}</td></tr>\n" for d, prose in page.glance)
+    return f"""<section><h2 id="chapter-reading">How to read it</h2>
+<p class="lead">The signs of the language, the names that come from the kit’s libraries, and the theorems, in words.</p>
+<table>{signs}</table>
+<details class="fold"><summary>Names of the libraries</summary><table>{names}</table></details>
+<details class="fold" id="section-theorems"><summary>The theorems at a glance</summary><table>{theorems}</table></details></section>
+"""
