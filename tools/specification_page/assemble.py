@@ -27,6 +27,7 @@ class Page:
             for definition in found.values():
                 self.by_name.setdefault(definition.name, []).append(definition)
         self.functions = self.public_functions()
+        self.in_words = {}  # what a theorem says, by its place
         self.theorems = [self.theorem_named(*theorem) for theorem in theorems]
         self.proofs = {}  # of a statement, by its place
         for theorem, _ in self.theorems:
@@ -34,7 +35,7 @@ class Page:
         self.contents = []  # chapters: id, title, sections
         self.glance = []  # theorems with what they say in words
 
-    def theorem_named(self, name, path, section):
+    def theorem_named(self, name, path, section, words):
         crate, part, file = path.split("/")
         self.book.load(crate, part, file)
         definition = self.book.definitions[crate, part, file].get(name)
@@ -42,6 +43,7 @@ class Page:
             raise Missing(f"crates/{path}.antt has no public theorem `{name}`")
         if tuple(section.split(".")) not in self.listed:
             raise Missing(f"the theorem `{name}` is to stand in {section}, which is no section")
+        self.in_words[definition.place] = words
         return definition, section
 
     # ---- what a word between backquotes means
@@ -113,25 +115,17 @@ class Page:
     def theorem(self, definition):
         self.show(definition.place, definition)
         code, prose = self.code_and_prose(definition)
-        prose = prose or self.statement_prose(definition)
         line = definition.item.line
         if any(d is definition for d, _ in self.theorems):
             self.counts["theorems"] += 1
-            self.glance.append((definition, prose))
+            self.glance.append((definition, self.in_words[definition.place]))
+            prose = f"<p>{self.render.words(self.in_words[definition.place], None)}</p>{prose}"
             kind, place = "Theorem", f"Proved in {definition.path}, line {line}"
         else:
             self.counts["examples"] += 1
             kind, place = "By computation", f"Computed in {definition.path}, line {line}"
         return (f'<div class="d t" id="{html.escape(definition.place)}"><b>{kind}</b>{prose}{code}'
                 f'<span class="place">{place}</span></div>\n')
-
-    def statement_prose(self, theorem):
-        """Of a theorem without a comment: the comment of its statement."""
-        target = theorem.scope.names.get(statement_of(theorem))
-        if target is None or target.definition is None:
-            return ""
-        definition = target.definition
-        return self.render.prose(definition.item.comment, self.resolver(definition.path.split("/")[1], definition.scope, definition))
 
     def section(self, crate, file, title):
         source = self.book.files[crate, "specs", file]

@@ -74,7 +74,8 @@ def how_to_read(page):
     signs = "".join(row(*sign) for sign in SIGNS)
     used = sorted((module, word, meaning) for (module, word), meaning in page.render.library_used.items() if " " not in module)
     names = "".join(row(word, meaning, module) for module, word, meaning in used)
-    theorems = "".join(f"<tr><td>{link(d.place, f'<code>{escaped(d.name)}</code>')}</td><td>{prose}</td></tr>\n" for d, prose in page.glance)
+    theorems = "".join(f"<tr><td>{link(d.place, f'<code>{escaped(d.name)}</code>')}</td><td>{code_words(words)}</td></tr>\n"
+                       for d, words in page.glance)
     return f"""<section><h2 id="chapter-reading">How to read it</h2>
 <p class="lead">The signs of the language, the names that come from the kit’s libraries, and the theorems, in words.</p>
 <table>{signs}</table>

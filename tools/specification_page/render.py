@@ -32,8 +32,8 @@ def lines(code):
 class Render:
     def __init__(self, book, library):
         self.book = book
-        self.library = library  # (module, name): what it means
-        self.library_used = {}
+        self.library = library  # names of the libraries in words
+        self.library_used = {}  # (module, name): what it means
         self.cited = {}  # place: the definition or member that has to be on the page
         self.links = 0
         self.plain = set()  # words of the text shown last that are bound there
