@@ -17,6 +17,10 @@ from urllib.parse import unquote
 
 ROOT = os.path.dirname(os.path.dirname(os.path.abspath(__file__)))
 CONTRACTS = ["routine", "layout", "book", "book_writer", "book_copy", "hub", "line", "line_parts", "hints"]
+CHAPTERS = ["reading", "refusals", "book", "rules", "order", "serial", "world", "demand-3", "waiting", "lines", "running", "contracts",
+            "values", "examples", "parts"]
+TEXTS = ("code", "marked", "kind", "said")
+SIGNS = {"i": ("-- ", "-- ", ""), "a": ("", "⟪", "⟫"), "b": ("", "⟪", "⟫")}  # a tag's sign in plain text, and in marked text
 USE = re.compile(r"^(?:ghost )?use Rattle·(\w+?)(?:·\w+)?\.(specs|proofs)\.([^\s{]+)\.\{([^}]*)\}", re.M)
 WORD = r"[^\s(){}.;,@\"«»]+"
 
@@ -26,14 +30,11 @@ def read(root, path):
         return file.read()
 
 
-TEXTS = ("code", "marked", "kind", "said")
-SIGNS = {"i": ("-- ", "-- ", ""), "a": ("", "⟪", "⟫"), "b": ("", "⟪", "⟫")}  # a tag's sign in plain text, and in marked text
-
 # ---- the page
 
 
 class Page(HTMLParser):
-    """The page's tags, ids and links; for each block of class d its links and the text of its code, once with links in ⟪⟫."""
+    """The page's tags, ids and links; for each block of class d the links of its code and its text, once with links in ⟪⟫."""
 
     def __init__(self, text):
         super().__init__(convert_charrefs=True)
@@ -57,7 +58,7 @@ class Page(HTMLParser):
             self.order.append(attrs["id"])
         if "href" in attrs:
             self.links.append(attrs["href"])
-            if self.block() is not None:
+            if self.in_code():
                 self.block()["links"].add(unquote(attrs["href"][1:]))
         if tag in ("script", "link", "img", "iframe"):
             self.problems.append(f"the page has a <{tag}>")
@@ -333,6 +334,8 @@ def check(root, text):
     page = Page(text)
     page.known = set(page.ids)
     faults = page.faults()
+    if [name[8:] for name in page.ids if name.startswith("chapter-")] != CHAPTERS:
+        faults.append("the chapters stand in another order")
     definitions, count = check_definitions(root, page)
     theorems, proved = check_theorems(root, page)
     contracts, calls = check_contracts(root, page)
@@ -420,6 +423,7 @@ HARM = [  # changes of the page, and what the test says of them
     (r'(hasSet</b>.*?λ x\..*?</a> d )x ', r'\1<a href="#rules.State.Step">x</a> ', "a link on x, which is bound there"),
     (r"(Proved in crates/rules/proofs/Theorem\.antt, line )\d+", r"\g<1>1", "is not at crates/rules/proofs/Theorem.antt, line 1"),
     (r"enum <b>Verdict</b>", "enum <b>Verdicts</b>", "code.routine.Verdict: another text"),
+    (r'id="chapter-(order|serial)"', lambda found: 'id="chapter-%s"' % {"order": "serial", "serial": "order"}[found[1]], "another order"),
     (r'id="call\.hub\.submit"', 'id="call.hub.submits"', "call.hub.submit is not on the page"),
 ]
 

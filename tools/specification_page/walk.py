@@ -60,8 +60,10 @@ class Walk:
         for n, token in enumerate(self.tokens):
             if token.kind == "mark" and token.text in "({":
                 stack.append(n)
-            elif token.kind == "mark" and token.text in ")}":
+            elif token.kind == "mark" and token.text in ")}" and stack:
                 closing[stack.pop()] = n
+        if stack:
+            raise ValueError(f"{self.where}: a bracket is not closed")
         return closing
 
     def solid(self, n, end):
