@@ -54,12 +54,13 @@ class Page(HTMLParser):
         if "id" in attrs:
             self.ids.append(attrs["id"])
         if "d" in attrs.get("class", "").split():
-            block = self.blocks[attrs["id"]] = {"classes": attrs["class"].split(), "links": set()} | dict.fromkeys(TEXTS, "")
+            block = self.blocks[attrs["id"]] = {"classes": attrs["class"].split(), "links": set(), "pairs": []} | dict.fromkeys(TEXTS, "")
             self.order.append(attrs["id"])
         if "href" in attrs:
             self.links.append(attrs["href"])
             if self.in_code():
                 self.block()["links"].add(unquote(attrs["href"][1:]))
+                self.block()["pairs"].append([unquote(attrs["href"][1:]), ""])
         if tag in ("script", "link", "img", "iframe"):
             self.problems.append(f"the page has a <{tag}>")
         if tag not in ("meta",):
@@ -83,6 +84,8 @@ class Page(HTMLParser):
         if self.in_code():
             self.block()["code"] += data
             self.block()["marked"] += data
+            if self.stack[-1][0] == "a":
+                self.block()["pairs"][-1][1] += data
         elif self.block() is not None and self.stack[-1][0] in ("b", "span"):
             self.block()["kind" if self.stack[-1][0] == "b" else "said"] += data
 
@@ -218,6 +221,7 @@ def check_definitions(root, page):
             found += compare(names[-1], source, block["code"])
             others = {name: target for name, target in own.items() if not target.startswith(names[-1])}
             found += unlinked(names[-1], source, used | others, block) + bound_and_linked(names[-1], block["marked"])
+            found += misled(names[-1], used, block)
         shown = [name for name in page.order if name in set(names)]
         if shown != names:
             found.append(f"{crate}/{file}: the definitions stand in another order, or twice")
@@ -238,6 +242,16 @@ def unlinked(name, source, used, block):
     bound |= {here for here, target in used.items() if here in heads and target.count(".") == 2}
     return [f"{name}: no link to {target}" for here, target in used.items()
             if all(part in words for part in parts_of(here)) and here not in bound and target not in block["links"]]
+
+
+def misled(name, used, block):
+    """Links that lead to a thing of another name than they show; `as` gives one."""
+    found = []
+    for target, word in block["pairs"]:
+        last = target.split(".")[-1]
+        if word.strip("«»") != last and word not in last.split("_") and target not in [t for n, t in used.items() if word in parts_of(n)]:
+            found.append(f"{name}: {word} leads to {target}")
+    return found
 
 
 def bound_and_linked(name, marked):
@@ -326,7 +340,7 @@ def check_contracts(root, page):
                     found.append(f"{here} is not on the page")
                 else:
                     found += compare(here, head, page.blocks[here]["code"])
-                    found += unlinked(here, head, used, page.blocks[here])
+                    found += unlinked(here, head, used, page.blocks[here]) + misled(here, used, page.blocks[here])
     return found, count
 
 
@@ -424,6 +438,7 @@ HARM = [  # changes of the page, and what the test says of them
     (r"(Proved in crates/rules/proofs/Theorem\.antt, line )\d+", r"\g<1>1", "is not at crates/rules/proofs/Theorem.antt, line 1"),
     (r"enum <b>Verdict</b>", "enum <b>Verdicts</b>", "code.routine.Verdict: another text"),
     (r'id="chapter-(order|serial)"', lambda found: 'id="chapter-%s"' % {"order": "serial", "serial": "order"}[found[1]], "another order"),
+    (r'href="#rules\.State\.Member\.steps"', 'href="#rules.State.Member.id"', "steps leads to rules.State.Member.id"),
     (r'id="call\.hub\.submit"', 'id="call.hub.submits"', "call.hub.submit is not on the page"),
 ]
 
