@@ -384,7 +384,7 @@ class Walk:
         if equals is None:
             return
         if where is not None:
-            local.update(self.helpers(where + 1, end, local))
+            local.update(self.inner_functions(where + 1, end, local))
         rest = Type(kind.arguments[count:], kind.head, kind.parameters) if kind and count is not None else None
         self.term(equals + 1, where if where is not None else end, local, expected=rest)
 
@@ -397,10 +397,10 @@ class Walk:
             n += 1
         return None
 
-    def helpers(self, n, end, local):
-        """What stands behind `where`: signatures and clauses of helpers. Gives the helpers."""
+    def inner_functions(self, n, end, local):
+        """What stands behind `where`: signatures and clauses of functions of its own. Gives these."""
         found = {}
-        for begin, stop in self.helper_lines(n, end):
+        for begin, stop in self.inner_lines(n, end):
             name, colon = self.tokens[begin].text, self.solid(begin + 1, stop)
             inner = local | found
             if self.tokens[colon].text == ":":
@@ -413,7 +413,7 @@ class Walk:
                 self.term(equals + 1, stop, inner)
         return found
 
-    def helper_lines(self, n, end):
+    def inner_lines(self, n, end):
         """Where each of these begins and ends; a line that is further in goes on with the one before."""
         starts, edge = [], None
         for at in range(n, end):
