@@ -39,6 +39,11 @@ reference_tests() {
     grep '^test result: ok. [1-9]' "$log/reference_tests" # none at all would show nothing
 }
 
+# The specification as one page: whole, no link dead; and it is refused where it would not be.
+specification() {
+    tests/specification.py "$scratch"
+}
+
 # ---- header and archive
 
 # The header by itself, in C and in C++.
