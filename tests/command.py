@@ -394,7 +394,7 @@ def refused_books(c):
 
 def same_bytes(commands):
     """Random and damaged sittings in every way, by each shell in turn: the program's own key, which is the reference's."""
-    for index in range(120):
+    for index in range(60):
         kind = 'damaged' if index % 3 else 'random'
         sitting = subprocess.run([HISTORY, kind, SEED, str(index)], stdout=subprocess.PIPE, check=True).stdout
         own = subprocess.run([os.path.join(TREE, 'target/bin/plot_hub')], input=sitting, stdout=subprocess.PIPE, check=True).stdout
