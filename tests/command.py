@@ -28,6 +28,7 @@ LISTING = b'O 3 2 1\nS 0 0 50 1 0 20\nS 0 0 70\nN 2\nD 2\nN 2\nN 1\nD 1\nF 0\nC 
 BOOK = model.laid_out([[(0, 0, 50), (1, 0, 20)], [(31, 1, -1000)]])
 INPUT = {'plot_hub': LISTING, 'show_book': BOOK}
 NOT_READ, NOT_WRITTEN = 'standard input cannot be read', 'standard output cannot be written'
+STRANGE_NAMES = ['with space', '-dash', '--help', '--', '-', 'line\nend', 'end\n', '*', "quote'\"$(x)`y`\\", 'é', '\x1b[31m', '(', '!']
 checked = 0
 
 
@@ -116,7 +117,7 @@ def ways_of_reading(c, name, *options):
     for words in ([], ['-'], ['--'], ['--', '-']):
         c.check(expected, name, *options, *words, text=text)
         c.check(expected, name, *options, *words, redirect='<plain', cwd=c.folder)
-    for file in ('with space', '-dash', '--help', '--', '-', 'line\nend', 'end\n', '*', "quote'\"$(x)`y`\\", 'é', '\x1b[31m', '(', '!', '='):
+    for file in STRANGE_NAMES:
         c.write(file, text)
         words = ['./-'] if file == '-' else ['--', file]
         c.check(expected, name, *options, *words, cwd=c.folder, redirect='</dev/null')
@@ -143,7 +144,8 @@ def cannot_be_opened(c, name, *options):
     os.makedirs(os.path.join(c.folder, 'a folder'), exist_ok=True)
     for file, shown in (('missing', None), ('', None), ('socket', None), ('loop', None), ('dangling', None), ('plain/x', None),
                         ('no\nsuch\tfile\x1b', 'no?such?file?'), ('x' * 5000, None), ('/dev/tcp/127.0.0.1/9', None), ('no such é', None)):
-        c.check(bad(name, f'{file if shown is None else shown}: cannot be opened'), name, *options, '--', file, cwd=c.folder, text=INPUT[name])
+        expected = bad(name, f'{file if shown is None else shown}: cannot be opened')
+        c.check(expected, name, *options, '--', file, cwd=c.folder, text=INPUT[name])
     for file, shown in (('/', None), ('.', None), ('a folder', None), ('a folder/', None), ('a folder\n', 'a folder?')):
         c.check(bad(name, f'{file if shown is None else shown}: is a directory'), name, *options, file, cwd=c.folder, text=INPUT[name])
     os.remove(os.path.join(c.folder, 'socket'))
@@ -239,10 +241,10 @@ def closed_streams(c, name):
 
 
 def wrong_words(c, name):
-    for word, shown in (('--nope', None), ('-x', None), ('-h', None), ('--hint', None), ('--hints=1', None), ('---', None), ('--a\nb', '--a?b'),
-                        ('-- ', None), ('--versions', None)):
-        c.check((2, b'', f'{name}: unknown option {shown or word}; try {name} --help\n'), name, word, text=INPUT[name])
-        c.check((2, b'', f'{name}: unknown option {shown or word}; try {name} --help\n'), name, '--hints', 'file', word, text=INPUT[name])
+    for word in ('--nope', '-x', '-h', '--hint', '--hints=1', '---', '--a\nb', '-- ', '--versions'):
+        shown = word.replace('\n', '?')
+        c.check((2, b'', f'{name}: unknown option {shown}; try {name} --help\n'), name, word, text=INPUT[name])
+        c.check((2, b'', f'{name}: unknown option {shown}; try {name} --help\n'), name, '--hints', 'file', word, text=INPUT[name])
     for words in (['a', 'b'], ['-', '-'], ['', ''], ['--', 'a', '--help'], ['--hints', 'a', '-'], ['a', '--', 'b']):
         c.check((2, b'', f'{name}: more than one file; try {name} --help\n'), name, *words, text=INPUT[name])
 
@@ -303,7 +305,8 @@ def hints_that_fail(c):
                 file.write('#!/bin/sh\necho some\nkill -KILL $$\n')
             os.chmod(path, 0o755)
     status, printed, said = c.run('plot_hub', '--hints', c.write('plain', LISTING))
-    assert (status, printed) == (0, key_of(LISTING)) and said.startswith(b'some\n') and said.endswith(b'plot_hub: the hints are not whole\n'), said
+    assert (status, printed) == (0, key_of(LISTING)), status
+    assert said.startswith(b'some\n') and said.endswith(b'plot_hub: the hints are not whole\n'), said
 
 
 def not_built(shell, folder):
@@ -313,7 +316,9 @@ def not_built(shell, folder):
         c, programs = Commands(root, folder), os.path.join(root, 'libexec/plot_hub' if release else 'target/bin')
 
         def message(program):
-            return f'this release is not whole: there is no {programs}/{program}' if release else f'not built yet; in {root} run: rt check {program}'
+            if release:
+                return f'this release is not whole: there is no {programs}/{program}'
+            return f'not built yet; in {root} run: rt check {program}'
         for name in NAMES:
             c.check(good(output_of(name, INPUT[name])), name, text=INPUT[name])
         os.remove(os.path.join(programs, 'plot_hub_hints'))
@@ -376,7 +381,8 @@ def refused_books(c):
     """Each refusal that a book can have, and what --hints says of it."""
     fine = (0, 0, 0)
     books = [b'', b'\0', b'\1\0', b'\x41\0' + bytes(520), b'\0\0\0', BOOK + b'\0', BOOK[:-1], BOOK[:2] + b'\xff' + BOOK[3:]]
-    books += [model.laid_out(routines) for wrong in ((32, 0, 0), (255, 0, 0), (0, 0, 1001), (0, 0, -1001), (0, 0, -32768), (0, 3, 0), (0, 2, 0))
+    commands = [(32, 0, 0), (255, 0, 0), (0, 0, 1001), (0, 0, -1001), (0, 0, -32768), (0, 3, 0), (0, 2, 0)]
+    books += [model.laid_out(routines) for wrong in commands
               for routines in ([[wrong]], [[fine] * 7 + [wrong]], [[fine], [fine, wrong]])]
     books += [model.laid_out([[fine, (0, 2, 0), (1, 2, 0), fine]]), model.laid_out([[]]), model.laid_out([[fine], [fine] * 9])]
     met = set()

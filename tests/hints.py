@@ -100,68 +100,58 @@ def hints(sitting, key):
 # ---- lines whose reason is written down here
 
 LONGEST = b'O 3 2 ' + b'0' * 121 + b'1'
-WORKED = [
-    (LONGEST, None), (LONGEST + b'0', 'TooLong'), (b' ' * 128, 'SpaceAtEnd'), (b' ' * 129, 'TooLong'), (b'\r' * 129, 'TooLong'),
-    (b'', 'Empty'), (b'\r', 'CarriageReturn'), (b'N 1\r', 'CarriageReturn'), (b'N\r1', 'CarriageReturn'), (b'\t\r ', 'CarriageReturn'),
-    (b'N\t1', 'OtherByte'), (b'\t', 'OtherByte'), (b'N 1\0', 'OtherByte'), (b'\0', 'OtherByte'), (b'N 1\x7f', 'OtherByte'),
-    (b'N 1\x1f', 'OtherByte'), (b'N 1\x80', 'OtherByte'), (b'N 1\xff', 'OtherByte'), (b'R 0 \xe2\x88\x9215', 'OtherByte'),
-    (b'\xef\xbb\xbfO 3 2 1', 'OtherByte'), (b'N 1\t ', 'OtherByte'), (b'\xc3\xa9', 'OtherByte'), (b'N 1\x0b', 'OtherByte'),
-    (b'N\xa01', 'OtherByte'), (b'N 1~', 'NoNumber'), (b'~', 'NoCall'), (b'!', 'NoCall'),
-    (b' ', 'SpaceAtEnd'), (b'N 1 ', 'SpaceAtEnd'), (b' N  1 ', 'SpaceAtEnd'), (b'S ', 'SpaceAtEnd'), (b'n ', 'SpaceAtEnd'),
-    (b' N 1', 'SpaceAtStart'), (b'  N 1', 'SpaceAtStart'), (b' n 1', 'SpaceAtStart'),
-    (b'N  1', 'SpacesTogether'), (b'n  1', 'SpacesTogether'), (b'R 0   1', 'SpacesTogether'),
-    *((letter, 'LowerCase') for letter in (b'o', b's', b'n', b'd', b'b', b'c', b'f', b'r')),
-    (b'o 1 1 1', 'LowerCase'), (b's 0 0 50', 'LowerCase'), (b'n x y', 'LowerCase'),
-    (b'x', 'NoCall'), (b'X 1', 'NoCall'), (b'NN 1', 'NoCall'), (b'nn 1', 'NoCall'), (b'N1', 'NoCall'), (b'on 1', 'NoCall'),
-    (b'7', 'NoCall'), (b'-', 'NoCall'), (b'# O 3 2 1', 'NoCall'), (b'Open 3 2 1', 'NoCall'), (b'\xc3', 'OtherByte'), (b'O,3,2,1', 'NoCall'),
-    (b'O', 'TooFew'), (b'O 1', 'TooFew'), (b'O 1 2', 'TooFew'), (b'N', 'TooFew'), (b'D', 'TooFew'), (b'B', 'TooFew'), (b'C', 'TooFew'),
-    (b'F', 'TooFew'), (b'R', 'TooFew'), (b'R 0', 'TooFew'), (b'S 0', 'TooFew'), (b'S 0 0', 'TooFew'), (b'S 0 0 5 0', 'TooFew'),
-    (b'S 0 0 5 0 0', 'TooFew'), (b'S x', 'TooFew'), (b'S 256 0', 'TooFew'), (b'O x y', 'TooFew'),
-    (b'O 1 2 3 4', 'TooMany'), (b'N 1 2', 'TooMany'), (b'D 1 2', 'TooMany'), (b'B 1 x', 'TooMany'), (b'C 1 2 3', 'TooMany'),
-    (b'F 0 0', 'TooMany'), (b'R 0 0 0', 'TooMany'), (b'O 256 2 3 4', 'TooMany'),
-    (b'N -', 'NoNumber'), (b'N --1', 'NoNumber'), (b'N +1', 'NoNumber'), (b'N x', 'NoNumber'), (b'N 1x', 'NoNumber'), (b'N x1', 'NoNumber'),
-    (b'N 1-', 'NoNumber'), (b'N 1.0', 'NoNumber'), (b'N 1,000', 'NoNumber'), (b'N 0x1', 'NoNumber'), (b'N /', 'NoNumber'), (b'N :', 'NoNumber'),
-    (b'R 0 -', 'NoNumber'), (b'R 0 --1', 'NoNumber'), (b'R 0 +1', 'NoNumber'), (b'R 0 1-1', 'NoNumber'), (b'S 0 0 x', 'NoNumber'),
-    (b'S 256 0 x', 'NoNumber'), (b'O 256 x 1', 'NoNumber'), (b'S 0 0 5 0 0 -', 'NoNumber'), (b'R - 0', 'NoNumber'),
-    (b'N -1', 'OutsideWidth'), (b'N -0', 'OutsideWidth'), (b'N 4294967296', 'OutsideWidth'), (b'N 99999999999999999999', 'OutsideWidth'),
-    (b'N ' + b'9' * 126, 'OutsideWidth'), (b'N -' + b'9' * 125, 'OutsideWidth'), (b'N 18446744073709551617', 'OutsideWidth'),
-    (b'D 4294967296', 'OutsideWidth'), (b'B 4294967296', 'OutsideWidth'), (b'C 4294967296', 'OutsideWidth'), (b'C -1', 'OutsideWidth'),
-    (b'F 256', 'OutsideWidth'), (b'F -1', 'OutsideWidth'), (b'F -0', 'OutsideWidth'), (b'F 65535', 'OutsideWidth'), (b'F 65536', 'OutsideWidth'),
-    (b'R 256 0', 'OutsideWidth'), (b'R 0 32768', 'OutsideWidth'), (b'R 0 -32769', 'OutsideWidth'), (b'R 0 65535', 'OutsideWidth'),
-    (b'R 0 65536', 'OutsideWidth'), (b'R -1 0', 'OutsideWidth'), (b'R 0 -99999999999999999999', 'OutsideWidth'),
-    (b'S 256 0 0', 'OutsideWidth'), (b'S 0 256 0', 'OutsideWidth'), (b'S 0 0 32768', 'OutsideWidth'), (b'S 0 0 -32769', 'OutsideWidth'),
-    (b'S 0 -1 0', 'OutsideWidth'), (b'S -0 0 0', 'OutsideWidth'), (b'S 0 0 0 0 0 32768', 'OutsideWidth'), (b'S 0 0 0 256 0 0', 'OutsideWidth'),
-    (b'O 256 0 1', 'OutsideWidth'), (b'O 1 256 1', 'OutsideWidth'), (b'O 1 0 4294967296', 'OutsideWidth'), (b'O -1 0 1', 'OutsideWidth'),
-    (b'O 1 -0 1', 'OutsideWidth'), (b'O 1 1 -1', 'OutsideWidth'),
-    *((line, None) for line in (
-        b'S', b'S 0 0 0', b'S 255 255 32767', b'S 255 255 -32768', b'S 0 0 -0', b'S 000 00 -0001', b'N 0', b'N 4294967295', b'D 4294967295',
-        b'B 00000000000000000001', b'C 4294967295', b'F 255', b'F 000255', b'R 255 32767', b'R 255 -32768', b'R 0 -' + b'0' * 123,
-        b'N ' + b'0' * 126, b'S' + b' 0 0 0' * 21, b'O 255 255 4294967295', b'O 0 0 0', b'O 33 0 1', b'O 1 9 1', b'O 1 0 0')),
-]
+WORKED = {  # for each reason lines that have it; for none lines that are calls
+    'TooLong': [LONGEST + b'0', b' ' * 129, b'\r' * 129],
+    'Empty': [b''],
+    'CarriageReturn': [b'\r', b'N 1\r', b'N\r1', b'\t\r '],
+    'OtherByte': [b'N\t1', b'\t', b'N 1\x00', b'\x00', b'N 1\x7f', b'N 1\x1f', b'N 1\x80', b'N 1\xff', b'R 0 \xe2\x88\x9215',
+        b'\xef\xbb\xbfO 3 2 1', b'N 1\t ', b'\xc3\xa9', b'N 1\x0b', b'N\xa01', b'\xc3'],
+    'SpaceAtEnd': [b' ' * 128, b' ', b'N 1 ', b' N  1 ', b'S ', b'n '],
+    'SpaceAtStart': [b' N 1', b'  N 1', b' n 1'],
+    'SpacesTogether': [b'N  1', b'n  1', b'R 0   1'],
+    'LowerCase': [b'o', b's', b'n', b'd', b'b', b'c', b'f', b'r', b'o 1 1 1', b's 0 0 50', b'n x y'],
+    'NoCall': [b'~', b'!', b'x', b'X 1', b'NN 1', b'nn 1', b'N1', b'on 1', b'7', b'-', b'# O 3 2 1', b'Open 3 2 1', b'O,3,2,1'],
+    'TooFew': [b'O', b'O 1', b'O 1 2', b'N', b'D', b'B', b'C', b'F', b'R', b'R 0', b'S 0', b'S 0 0', b'S 0 0 5 0', b'S 0 0 5 0 0', b'S x',
+        b'S 256 0', b'O x y'],
+    'TooMany': [b'O 1 2 3 4', b'N 1 2', b'D 1 2', b'B 1 x', b'C 1 2 3', b'F 0 0', b'R 0 0 0', b'O 256 2 3 4'],
+    'NoNumber': [b'N 1~', b'N -', b'N --1', b'N +1', b'N x', b'N 1x', b'N x1', b'N 1-', b'N 1.0', b'N 1,000', b'N 0x1', b'N /', b'N :',
+        b'R 0 -', b'R 0 --1', b'R 0 +1', b'R 0 1-1', b'S 0 0 x', b'S 256 0 x', b'O 256 x 1', b'S 0 0 5 0 0 -', b'R - 0'],
+    'OutsideWidth': [b'N -1', b'N -0', b'N 4294967296', b'N 99999999999999999999', b'N ' + b'9' * 126, b'N -' + b'9' * 125,
+        b'N 18446744073709551617', b'D 4294967296', b'B 4294967296', b'C 4294967296', b'C -1', b'F 256', b'F -1', b'F -0', b'F 65535',
+        b'F 65536', b'R 256 0', b'R 0 32768', b'R 0 -32769', b'R 0 65535', b'R 0 65536', b'R -1 0', b'R 0 -99999999999999999999',
+        b'S 256 0 0', b'S 0 256 0', b'S 0 0 32768', b'S 0 0 -32769', b'S 0 -1 0', b'S -0 0 0', b'S 0 0 0 0 0 32768', b'S 0 0 0 256 0 0',
+        b'O 256 0 1', b'O 1 256 1', b'O 1 0 4294967296', b'O -1 0 1', b'O 1 -0 1', b'O 1 1 -1'],
+    None: [LONGEST, b'S', b'S 0 0 0', b'S 255 255 32767', b'S 255 255 -32768', b'S 0 0 -0', b'S 000 00 -0001', b'N 0', b'N 4294967295',
+        b'D 4294967295', b'B 00000000000000000001', b'C 4294967295', b'F 255', b'F 000255', b'R 255 32767', b'R 255 -32768',
+        b'R 0 -' + b'0' * 123, b'N ' + b'0' * 126, b'S' + b' 0 0 0' * 21, b'O 255 255 4294967295', b'O 0 0 0', b'O 33 0 1', b'O 1 9 1',
+        b'O 1 0 0'],
+}
 
 
 def worked_sittings():
     """Sittings of worked lines, each with its reasons: all together, and each line by itself, with a hub and without, ended and not."""
-    lines = [line for line, _ in WORKED]
+    lines = [line for group in WORKED.values() for line in group]
     for before in ([], [b'O 3 2 1'], [b'O 0 0 0'], [b'O 3 2 1', b'O 33 0 1'], [b'', b'O 0 0 0', b'N 1', b'O 3 2 1', b'N 1']):
         yield b'\n'.join(before + lines) + b'\n'
         yield b'\n'.join(before + lines)
         yield b'\r\n'.join(before + lines) + b'\r\n'
         yield b'\n\n'.join(before + lines) + b'\n\n'
     for line in lines:
-        yield from (line, line + b'\n', b'O 3 2 1\n' + line, b'O 3 2 1\n' + line + b'\n')
+        yield from (line, line + b'\n', b'O 3 2 1\n' + line, b'O 3 2 1\n' + line + b'\n', b'O 0 0 0\n' + line)
 
 
 def check_worked():
-    """The table above says of each worked line what `shape` says, and of the first lines of a sitting that no hub is there."""
-    for line, reason in WORKED:
-        assert shape(line) == reason, (line, reason, shape(line))
-    assert {reason for _, reason in WORKED} | {'NoHub'} == set(TEXTS) | {None}
+    """Of each worked line `shape` says what the table above says, and the table has lines for every reason."""
+    for reason, lines in WORKED.items():
+        for line in lines:
+            assert shape(line) == reason, (line, reason, shape(line))
+    assert set(WORKED) | {'NoHub'} == set(TEXTS) | {None}
 
 
 # ---- random sittings
 
-SPOILED = [b' ', b'  ', b'\t', b'\r', b'\0', b'\x7f', b'\xe2\x88\x92', b'-', b'+', b'9', b'99999', b'x', b'\n', b'S', b'O 3 2 1\n', b'4294967296']
+SPOILED = [b' ', b'  ', b'\t', b'\r', b'\0', b'\x7f', b'\xe2\x88\x92', b'-', b'+', b'9', b'99999', b'4294967296', b'x', b'S', b'\n',
+           b'O 3 2 1\n']
 
 
 def spoiled(sitting, dice):

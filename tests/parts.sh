@@ -97,7 +97,8 @@ under_valgrind() {
 # A folder like the repository's: bin/, and the tested programs where bin/ looks for them.
 tree() { # FOLDER
     mkdir -p "$1/bin" "$1/target/bin" && cp bin/* "$1/bin/" && cp VERSION KIT "$1/" &&
-        ln -s "$program" "$1/target/bin/plot_hub" && ln -s "$show_book" "$1/target/bin/show_book" && ln -s "$hints" "$1/target/bin/plot_hub_hints"
+        ln -s "$program" "$1/target/bin/plot_hub" && ln -s "$show_book" "$1/target/bin/show_book" &&
+        ln -s "$hints" "$1/target/bin/plot_hub_hints"
 }
 
 # Words, files, exit status, messages, hints, of both commands and with each shell.
@@ -150,7 +151,8 @@ release() {
     cmp "$scratch/one/$file" "$scratch/two/$file" && (cd "$scratch/one" && sha256sum --strict -c "$file.sha256") || return 1
     unpacked=$scratch/"another place"/${file%-x86_64.tar.gz}
     mkdir "$scratch/another place" && tar -C "$scratch/another place" -xzf "$scratch/one/$file" && [ -d "$unpacked" ] || return 1
-    (cd "$unpacked" && sha256sum --strict --quiet -c SHA256SUMS) && release_is_whole && release_refuses && release_prints && release_is_called
+    (cd "$unpacked" && sha256sum --strict --quiet -c SHA256SUMS) && release_is_whole && release_refuses && release_prints &&
+        release_is_called
 }
 
 make_release() { # FOLDER
@@ -170,13 +172,14 @@ release_is_whole() {
         for sitting in examples/sittings/*; do echo "share/plot_hub/sittings/${sitting##*/}"; done
     } | sort | diff - "$scratch/files" || return 1
     cmp "$archive" "$unpacked/lib/libplot_hub.a" && cmp "$program" "$unpacked/libexec/plot_hub/plot_hub" || return 1
-    ! grep -rF -e "$PWD" -e "$scratch" -e /tmp/ -e /home/ -e /root/ "$unpacked" || { echo "these name a place of this machine" && return 1; }
+    ! grep -rF -e "$PWD" -e "$scratch" -e /tmp/ -e /home/ -e /root/ "$unpacked" ||
+        { echo "these name a place of this machine" && return 1; }
 }
 
 # Another kit, another version in the header, a key that is not the program's: no release.
 release_refuses() {
     local copy=$scratch/copy
-    mkdir "$copy" "$copy/docs" "$copy/kit" && cp -r bin tools include examples VERSION KIT CHANGELOG.md "$copy/" && cp docs/*.md "$copy/docs/" || return 1
+    mkdir "$copy" "$copy/kit" && cp -r bin tools include examples docs VERSION KIT CHANGELOG.md "$copy/" || return 1
     printf '#!/bin/sh\necho another-kit logic 0\n' >"$copy/kit/rt" && chmod +x "$copy/kit/rt"
     (cd "$copy" && PATH=$copy/kit:$PATH && refused_release "KIT says $(cat KIT), but here is another-kit logic 0") || return 1
     echo 9.9.9 >"$copy/VERSION"
@@ -189,7 +192,8 @@ release_refuses() {
 }
 
 refused_release() { # MESSAGE: in the folder that it is run in
-    ! make_release "$scratch/none" >"$scratch/said" 2>&1 && [ ! -e "$scratch/none" ] && [ "$(tail -n 1 "$scratch/said")" = "release: $1" ] && return 0
+    ! make_release "$scratch/none" >"$scratch/said" 2>&1 && [ ! -e "$scratch/none" ] &&
+        [ "$(tail -n 1 "$scratch/said")" = "release: $1" ] && return 0
     echo "expected: release: $1; it said:" && cat "$scratch/said"
     return 1
 }
@@ -214,7 +218,8 @@ release_prints() {
     ) && python3 tests/book/show.py <examples/three.book | cmp - "$scratch/book"
 }
 
-# A short caller in C and in C++, built as the release's README says; in a folder with a space in its name the words must be read as the shell reads them.
+# A short caller in C and in C++, built as the release's README says. Of a folder with a space in its name pkg-config prints words for a
+# shell to read, so there it takes `eval`.
 release_is_called() {
     local elsewhere=$scratch/elsewhere place language
     command -v pkg-config >/dev/null || { echo "there is no pkg-config; on Debian: apt-get install pkgconf" && return 77; }
