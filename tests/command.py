@@ -137,13 +137,14 @@ def ways_of_reading(c, name, *options):
 
 def cannot_be_opened(c, name, *options):
     plain = c.write('plain', INPUT[name])
-    listening = socket.socket(socket.AF_UNIX)
-    listening.bind(os.path.join(c.folder, 'socket'))
+    local, listening = socket.socket(socket.AF_UNIX), socket.create_server(('127.0.0.1', 0))
+    local.bind(os.path.join(c.folder, 'socket'))
+    port = f'/dev/tcp/127.0.0.1/{listening.getsockname()[1]}'  # no file, but bash would open it as a connection
     os.symlink('loop', os.path.join(c.folder, 'loop'))
     os.symlink('nowhere', os.path.join(c.folder, 'dangling'))
     os.makedirs(os.path.join(c.folder, 'a folder'), exist_ok=True)
     for file, shown in (('missing', None), ('', None), ('socket', None), ('loop', None), ('dangling', None), ('plain/x', None),
-                        ('no\nsuch\tfile\x1b', 'no?such?file?'), ('x' * 5000, None), ('/dev/tcp/127.0.0.1/9', None), ('no such é', None)):
+                        ('no\nsuch\tfile\x1b', 'no?such?file?'), ('x' * 5000, None), (port, None), ('no such é', None)):
         expected = bad(name, f'{file if shown is None else shown}: cannot be opened')
         c.check(expected, name, *options, '--', file, cwd=c.folder, text=INPUT[name])
     for file, shown in (('/', None), ('.', None), ('a folder', None), ('a folder/', None), ('a folder\n', 'a folder?')):
@@ -151,6 +152,7 @@ def cannot_be_opened(c, name, *options):
     os.remove(os.path.join(c.folder, 'socket'))
     os.remove(os.path.join(c.folder, 'loop'))
     os.remove(os.path.join(c.folder, 'dangling'))
+    local.close()
     listening.close()
     not_mine(c, name, plain, options)
 
@@ -286,6 +288,8 @@ def ended_otherwise(shell, folder):
             if expected[0] == 1:
                 c.check(expected, name, '--hints')
                 c.check(expected, name, '--hints', c.write('plain', INPUT[name]))
+            else:
+                c.check(good(expected[1], hints_of(name, b'')), name, '--hints')
         with open(path, 'wb') as file:
             file.write(b'\x7fELF no program')
         status, printed, said = c.run(name)

@@ -91,7 +91,10 @@ def reasons(sitting, key):
 
 
 def hints(sitting, key):
-    found, refused = reasons(sitting, key)
+    return told(*reasons(sitting, key))
+
+
+def told(found, refused):
     said = [f'line {number}: unread: {TEXTS[reason]}' for number, reason in enumerate(found, 1) if reason]
     count = 'line' if len(found) == 1 else 'lines'
     return '\n'.join(said + [f'{len(found)} {count}: {len(said)} unread, {refused} refused', '']).encode()
@@ -203,14 +206,14 @@ def compare(program, reference, history, seed):
     for make in (worked_sittings(), random_sittings(history, int(seed))):
         for sitting in make:
             key = run(reference, sitting)
-            expected, got = hints(sitting, key), run(program, sitting)
+            found, refused = reasons(sitting, key)
+            expected, got = told(found, refused), run(program, sitting)
             if got != expected:
                 print(f'a sitting of {len(sitting)} bytes: {sitting[:2000]!r}\nexpected: {expected[-2000:]!r}\n     got: {got[-2000:]!r}')
                 return 1
-            for reason in reasons(sitting, key)[0]:
-                lines += 1
-                if reason:
-                    reached[reason] += 1
+            for reason in filter(None, found):
+                reached[reason] += 1
+            lines += len(found)
             count += 1
     print(f'{count} inputs of {lines} lines; unread:', ', '.join(f'{name} {times}' for name, times in reached.items()))
     return 0 if min(reached.values()) >= 100 else 1
