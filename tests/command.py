@@ -4,7 +4,7 @@
     tests/command.py TREE REFERENCE HISTORY BENCH_INPUTS SEED
 
 TREE is a folder like the repository's, with bin/, VERSION, KIT and the programs in target/bin. Every case is run with each shell that the
-machine has of dash, bash and bash as a POSIX shell. Exit status 0: all is as expected.
+machine has of dash and bash, as POSIX shells. Exit status 0: all is as expected.
 """
 import os
 import shutil
@@ -23,7 +23,7 @@ import show  # noqa: E402
 
 TREE, REFERENCE, HISTORY, BENCH_INPUTS, SEED = sys.argv[1:]
 NAMES = ['plot_hub', 'show_book']
-SHELLS = [words for words in (['dash'], ['bash'], ['bash', '--posix']) if shutil.which(words[0])]
+SHELLS = [words for words in (['dash'], ['bash', '--posix']) if shutil.which(words[0])]
 LISTING = b'O 3 2 1\nS 0 0 50 1 0 20\nS 0 0 70\nN 2\nD 2\nN 2\nN 1\nD 1\nF 0\nC 1\nR 0 15\n'
 BOOK = model.laid_out([[(0, 0, 50), (1, 0, 20)], [(31, 1, -1000)]])
 INPUT = {'plot_hub': LISTING, 'show_book': BOOK}
