@@ -1,12 +1,18 @@
 /* The plot hub's line program as one call from C.
  *
- * Link with the archive libline.a; no further library is needed.
+ * Link with the archive libplot_hub.a (in the repository it is target/staticlib/libline.a); no further library is needed.
  */
 #ifndef PLOT_HUB_H
 #define PLOT_HUB_H
 
 #include <stddef.h>
 #include <stdint.h>
+
+/* The version of header and archive: as a text, and its three numbers. */
+#define PLOT_HUB_VERSION "1.0.0"
+#define PLOT_HUB_VERSION_MAJOR 1
+#define PLOT_HUB_VERSION_MINOR 0
+#define PLOT_HUB_VERSION_PATCH 0
 
 #ifdef __cplusplus
 extern "C" {

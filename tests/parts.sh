@@ -1,7 +1,7 @@
 # The parts of tests/run: a function each. tests/run has set
-#   $archive, $program, $show_book, $hub_vectors   what is tested, by its whole path
-#   $out, $bin, $log                               what is built for the tests, its programs, the logs
-#   $scratch                                       an empty folder for the part that runs
+#   $archive, $program, $show_book, $hub_vectors, $hints   what is tested, by its whole path
+#   $out, $bin, $log                                       what is built for the tests, its programs, the logs
+#   $scratch                                               an empty folder for the part that runs
 #   $seed
 # Status 0: passed. 77: it cannot run here, and the last line that it prints says why. Any other: failed.
 
@@ -46,10 +46,15 @@ specification() {
 
 # ---- header and archive
 
-# The header by itself, in C and in C++.
+# The header by itself, in C and in C++; its version is that of VERSION.
 header() {
+    local version macros
     gcc -std=c99 -Wall -Wextra -Wpedantic -Werror -fsyntax-only -x c include/plot_hub.h &&
-        gcc -std=c++11 -Wall -Wextra -Wpedantic -Werror -fsyntax-only -x c++ include/plot_hub.h
+        gcc -std=c++11 -Wall -Wextra -Wpedantic -Werror -fsyntax-only -x c++ include/plot_hub.h || return 1
+    version=$(cat VERSION)
+    macros=$(echo 'PLOT_HUB_VERSION PLOT_HUB_VERSION_MAJOR PLOT_HUB_VERSION_MINOR PLOT_HUB_VERSION_PATCH' |
+        gcc -E -P -include include/plot_hub.h - | tail -n 1)
+    [ "$macros" = "\"$version\" ${version//./ }" ] || { echo "VERSION is $version, but the header has $macros" && return 1; }
 }
 
 # The header says that the call allocates nothing and opens no file: then the archive names no function that does.
@@ -96,47 +101,25 @@ under_valgrind() {
 
 # A folder like the repository's: bin/, and the tested programs where bin/ looks for them.
 tree() { # FOLDER
-    mkdir -p "$1/bin" "$1/target/bin" && cp bin/* "$1/bin/" &&
-        ln -s "$program" "$1/target/bin/plot_hub" && ln -s "$show_book" "$1/target/bin/show_book"
+    mkdir -p "$1/bin" "$1/target/bin" && cp bin/* "$1/bin/" && cp VERSION KIT "$1/" &&
+        ln -s "$program" "$1/target/bin/plot_hub" && ln -s "$show_book" "$1/target/bin/show_book" &&
+        ln -s "$hints" "$1/target/bin/plot_hub_hints"
 }
 
-# Runs a program, with SIGPIPE as a shell has it, and notes how it ended and what it said on standard error.
-noting() { # PROGRAM
-    local status=0
-    env --default-signal=PIPE "$1" 2>"$scratch/said" || status=$?
-    echo $status >"$scratch/status"
+# Words, files, exit status, messages, hints, of both commands and with each shell.
+command_cases() {
+    tree "$scratch/tree" && python3 tests/command.py "$scratch/tree" "$bin/reference" "$bin/history" "$bin/bench_inputs" "$seed"
 }
 
-# The program that was run last ended by itself, and said this line and no more.
-has_said() { # LINE
-    [ "$(cat "$scratch/status")" -lt 126 ] && [ "$(cat "$scratch/said")" = "$1" ] && return 0
-    echo "expected: $1; it ended with status $(cat "$scratch/status") and said:" && cat "$scratch/said"
-    return 1
+# What the hints say of each line.
+hints_compare() {
+    python3 tests/hints.py --compare "$hints" "$bin/reference" "$bin/history" "$seed"
 }
 
-# Where it cannot read or write it says so. (A closed pipe: with SIGPIPE at its default, which bin/ changes, the system ends it.)
-ends_with_a_message() { # NAME INPUT
-    local start=$scratch/tree/bin/$1 input=$2 cannot_write="$1: standard output cannot be written"
-    noting "$start" </ >"$scratch/printed" && has_said "$1: standard input cannot be read" || return 1
-    [ ! -s "$scratch/printed" ] || { echo "told to read a folder, it prints:" && cat "$scratch/printed" && return 1; }
-    noting "$start" <"$input" >/dev/full && has_said "$cannot_write" || return 1
-    # A pipe that nobody reads: its other end is closed before the program starts.
-    mkfifo "$scratch/pipe" && exec 8<>"$scratch/pipe" 9>"$scratch/pipe" 8>&- || return 1
-    noting "$start" <"$input" >&9 && has_said "$cannot_write" || return 1
-    exec 9>&-
-}
-
-plot_hub_ends_with_a_message() {
-    local input=$scratch/input
-    tree "$scratch/tree" && "$bin/bench_inputs" refused 200000 >"$input" && ends_with_a_message plot_hub "$input" || return 1
-    # A pipe that closes after the first of many lines.
-    [ "$(noting "$scratch/tree/bin/plot_hub" <"$input" | head -n 1)" = opened ] && has_said 'plot_hub: standard output cannot be written'
-}
-
-show_book_prints_and_ends_with_a_message() {
+# Books, accepted and refused, against the model; the last is longer than any.
+show_book_prints() {
     local book
-    tree "$scratch/tree" && ends_with_a_message show_book examples/three.book || return 1
-    # Books, accepted and refused, against the model; the last is longer than any.
+    tree "$scratch/tree" || return 1
     : >"$scratch/nothing.book" && printf '\0' >"$scratch/short.book" && printf '\0\0' >"$scratch/empty.book"
     head -c 70000 /dev/zero >"$scratch/long.book"
     for book in examples/*.book "$scratch"/*.book; do
@@ -147,23 +130,124 @@ show_book_prints_and_ends_with_a_message() {
     python3 tests/book/settings.py "$scratch/tree/bin/show_book"
 }
 
-# bin/ works through a link, from another folder; before anything is built it says what to run.
+# bin/ works through a link and from another folder.
 starters() {
-    local name input expected links=$scratch/links bare=$scratch/bare
-    tree "$scratch/tree" && mkdir "$links" "$bare" && cp -r bin "$bare/" || return 1
+    local name input expected links=$scratch/links
+    tree "$scratch/tree" && mkdir "$links" || return 1
     for name in plot_hub show_book; do
         input=$PWD/crates/$name/stdin expected=$PWD/crates/$name/stdout
         ln -s "../tree/bin/$name" "$links/beside" && ln -s "$links/beside" "$links/$name" || return 1 # a link to a link
-        (cd / && "$links/$name" <"$input") | cmp - "$expected" || return 1
+        (cd / && "$links/$name" "$input") | cmp - "$expected" || return 1
         (cd "$links" && "./$name" <"$input") | cmp - "$expected" || return 1
         (cd "$links" && PATH=$links:$PATH && "$name" <"$input") | cmp - "$expected" || return 1
+        (cd "$scratch/tree" && sh "bin/$name" <"$input") | cmp - "$expected" || return 1
         rm "$links/beside"
-        if "$bare/bin/$name" <"$input" >"$scratch/printed" 2>"$scratch/said"; then
-            echo "bin/$name ends with status 0 where nothing is built"
-            return 1
-        fi
-        [ ! -s "$scratch/printed" ] && grep "rt check $name" "$scratch/said" || { echo "it says:" && cat "$scratch/said" && return 1; }
     done
+}
+
+# ---- the release
+
+# A release is made, checked, unpacked elsewhere and used there without the kit.
+release() {
+    local file
+    make_release "$scratch/one" && (umask 077 && make_release "$scratch/two") || return 1
+    file=$(cd "$scratch/one" && echo plot-hub-*.tar.gz)
+    [ "$file" = "plot-hub-$(cat VERSION)-x86_64.tar.gz" ] || { echo "it is called $file" && return 1; }
+    cmp "$scratch/one/$file" "$scratch/two/$file" && (cd "$scratch/one" && sha256sum --strict -c "$file.sha256") || return 1
+    unpacked=$scratch/"another place"/${file%-x86_64.tar.gz}
+    mkdir "$scratch/another place" && tar -C "$scratch/another place" -xzf "$scratch/one/$file" && [ -d "$unpacked" ] || return 1
+    (cd "$unpacked" && sha256sum --strict --quiet -c SHA256SUMS) && release_is_whole && release_refuses && release_prints &&
+        release_is_called
+}
+
+make_release() { # FOLDER
+    PLOT_HUB_ARCHIVE=$archive PLOT_HUB_PROGRAM=$program SHOW_BOOK_PROGRAM=$show_book PLOT_HUB_HINTS_PROGRAM=$hints tools/release --to "$1"
+}
+
+# Every file is there and in the sums, and none tells where it was made.
+release_is_whole() {
+    local sitting
+    (cd "$unpacked" && find . -type f ! -name SHA256SUMS | sed 's|^\./||' | sort) >"$scratch/files"
+    awk '{ print $2 }' "$unpacked/SHA256SUMS" | sort | cmp - "$scratch/files" || return 1
+    {
+        printf '%s\n' KIT VERSION bin/plot_hub bin/show_book include/plot_hub.h lib/libplot_hub.a lib/pkgconfig/plot_hub.pc
+        printf 'libexec/plot_hub/%s\n' start plot_hub plot_hub_hints show_book
+        printf 'share/doc/plot_hub/%s\n' HANDBOOK.md LAYOUT.md CHANGELOG.md README
+        printf 'share/plot_hub/%s\n' three.book
+        for sitting in examples/sittings/*; do echo "share/plot_hub/sittings/${sitting##*/}"; done
+    } | sort | diff - "$scratch/files" || return 1
+    cmp "$archive" "$unpacked/lib/libplot_hub.a" && cmp "$program" "$unpacked/libexec/plot_hub/plot_hub" || return 1
+    ! grep -rF -e "$PWD" -e "$scratch" -e /tmp/ -e /home/ -e /root/ "$unpacked" ||
+        { echo "these name a place of this machine" && return 1; }
+}
+
+# Another kit, another version in the header, a key that is not the program's: no release.
+release_refuses() {
+    local copy=$scratch/copy
+    mkdir "$copy" "$copy/kit" && cp -r bin tools include examples docs VERSION KIT CHANGELOG.md "$copy/" || return 1
+    printf '#!/bin/sh\necho another-kit logic 0\n' >"$copy/kit/rt" && chmod +x "$copy/kit/rt"
+    (cd "$copy" && PATH=$copy/kit:$PATH && refused_release "KIT says $(cat KIT), but here is another-kit logic 0") || return 1
+    echo 9.9.9 >"$copy/VERSION"
+    (cd "$copy" && refused_release 'include/plot_hub.h has another version than VERSION: 9.9.9') || return 1
+    cp VERSION "$copy/" && echo unread >>"$copy/examples/sittings/listing.key"
+    (cd "$copy" && refused_release 'examples/sittings/listing.key is not what the program prints') || return 1
+    cp examples/sittings/listing.key "$copy/examples/sittings/" && echo 'rattle-kit logic 0000' >"$copy/KIT"
+    printf '#!/bin/sh\ncat KIT\n' >"$copy/kit/rt"
+    (cd "$copy" && PATH=$copy/kit:$PATH && refused_release "$archive was not proved with the kit that KIT names: logic 0000")
+}
+
+refused_release() { # MESSAGE: in the folder that it is run in
+    ! make_release "$scratch/none" >"$scratch/said" 2>&1 && [ ! -e "$scratch/none" ] &&
+        [ "$(tail -n 1 "$scratch/said")" = "release: $1" ] && return 0
+    echo "expected: release: $1; it said:" && cat "$scratch/said"
+    return 1
+}
+
+# The commands of the release, where there is no kit and no tool but those that they use.
+release_prints() {
+    local plain=(env -i "PATH=$scratch/tools") tool sitting sittings=share/plot_hub/sittings
+    mkdir "$scratch/tools" || return 1
+    for tool in cat mktemp readlink rm tr; do
+        ln -s "$(command -v $tool)" "$scratch/tools/" || return 1
+    done
+    (
+        cd "$unpacked" || exit 1
+        for sitting in $sittings/*.txt; do
+            "${plain[@]}" bin/plot_hub "$sitting" 2>&1 | cmp - "${sitting%.txt}.key" || exit 1
+            "${plain[@]}" bin/plot_hub --hints <"$sitting" 2>"$scratch/said" | cmp - "${sitting%.txt}.key" || exit 1
+            python3 "$OLDPWD/tests/hints.py" "$sitting" "${sitting%.txt}.key" | cmp - "$scratch/said" || exit 1
+        done
+        "${plain[@]}" bin/show_book --hints share/plot_hub/three.book >"$scratch/book" 2>&1 || exit 1
+        [ "$("${plain[@]}" bin/plot_hub --version)" = "plot_hub $(cat VERSION)"$'\n'"proved with $(cat KIT)" ] || exit 1
+        "${plain[@]}" bin/plot_hub --help | grep -qxF "Handbook: $PWD/share/doc/plot_hub/HANDBOOK.md"
+    ) && python3 tests/book/show.py <examples/three.book | cmp - "$scratch/book"
+}
+
+# A short caller in C and in C++, built as the release's README says. Of a folder with a space in its name pkg-config prints words for a
+# shell to read, so there it takes `eval`.
+release_is_called() {
+    local elsewhere=$scratch/elsewhere place language
+    command -v pkg-config >/dev/null || { echo "there is no pkg-config; on Debian: apt-get install pkgconf" && return 77; }
+    cat >"$scratch/caller.c" <<'end'
+#include <plot_hub.h>
+#include <stdio.h>
+static uint8_t input[100000], output[100000];
+int main(void) {
+    int64_t length = plot_hub_run(input, fread(input, 1, sizeof input, stdin), output, sizeof output);
+    return length < 0 || fwrite(output, 1, (size_t)length, stdout) != (size_t)length;
+}
+end
+    cp "$scratch/caller.c" "$scratch/caller.cc" && cp -r "$unpacked" "$elsewhere" || return 1
+    for place in "$elsewhere" "$unpacked"; do
+        export PKG_CONFIG_PATH=$place/lib/pkgconfig
+        [ "$(pkg-config --modversion plot_hub)" = "$(cat VERSION)" ] || return 1
+        for language in c cc; do
+            eval "gcc -Wall -Wextra -Werror '$scratch/caller.$language' $(pkg-config --cflags --libs plot_hub)" -o '"$scratch/caller"' &&
+                "$scratch/caller" <examples/sittings/listing.txt | cmp - examples/sittings/listing.key && rm "$scratch/caller" || return 1
+        done
+    done
+    PKG_CONFIG_PATH=$elsewhere/lib/pkgconfig
+    gcc "$scratch/caller.c" $(pkg-config --cflags --libs plot_hub) -o "$scratch/caller" && "$scratch/caller" </dev/null
 }
 
 # ---- the hub's calls from Rattle
