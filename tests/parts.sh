@@ -266,5 +266,5 @@ readings() {
 
 # Every sitting, order, book and table of docs/HANDBOOK.md, and examples/sittings, run through the programs.
 handbook() {
-    python3 tests/handbook.py "$program" "$show_book"
+    python3 tests/handbook.py "$program" "$show_book" "$hints"
 }
