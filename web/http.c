@@ -30,7 +30,9 @@ static const struct refusal late = { 408, "the request took too long" };
 static const struct refusal bad_line = { 400, "the request's first line is not a method, an address and HTTP/1.1" };
 static const struct refusal bad_header = { 400, "a line of the request's head is no header" };
 static const struct refusal bad_host = { 400, "the request does not name exactly one Host" };
-static const struct refusal bad_length = { 400, "the body has no one length: one Content-Length in digits, or Transfer-Encoding: chunked alone" };
+static const struct refusal bad_length = {
+    400, "the body's length is not clear: send one Content-Length in digits, or Transfer-Encoding: chunked alone"
+};
 static const struct refusal bad_chunk = { 400, "the body's chunks can't be read" };
 static const struct refusal long_head = { 431, "the request's head is longer than 16 KiB" };
 static const struct refusal long_body = { 413, "the body is longer than 1 MiB" };
@@ -111,7 +113,8 @@ static const struct refusal *receive(struct connection *connection)
         const struct refusal *refusal = wait_for(connection, POLLIN);
         if (refusal != NULL)
             return refusal;
-        ssize_t count = recv(connection->socket, connection->buffer + connection->to, sizeof connection->buffer - connection->to, MSG_DONTWAIT);
+        size_t room = sizeof connection->buffer - connection->to;
+        ssize_t count = recv(connection->socket, connection->buffer + connection->to, room, MSG_DONTWAIT);
         if (count > 0) {
             connection->to += (size_t) count;
             return NULL;
@@ -455,9 +458,11 @@ bool send_answer(struct connection *connection, const struct request *request, c
     time_t seconds = time(NULL);
     gmtime_r(&seconds, &parted);
     strftime(date, sizeof date, "%a, %d %b %Y %H:%M:%S GMT", &parted);
-    int written = snprintf(head, sizeof head, "HTTP/1.1 %u %s\r\nDate: %s\r\nContent-Type: %s\r\nContent-Length: %zu\r\n%s%s%s%s%s\r\n",
-                           answer->status, phrase(answer->status), date, answer->type, length, FIXED_HEADERS,
-                           answer->allow == NULL ? "" : "Allow: ", answer->allow == NULL ? "" : answer->allow, answer->allow == NULL ? "" : "\r\n",
+    bool allow = answer->allow != NULL;
+    int written = snprintf(head, sizeof head,
+                           "HTTP/1.1 %u %s\r\nDate: %s\r\nContent-Type: %s\r\nContent-Length: %zu\r\n" FIXED_HEADERS "%s%s%s%s\r\n",
+                           answer->status, phrase(answer->status), date, answer->type, length,
+                           allow ? "Allow: " : "", allow ? answer->allow : "", allow ? "\r\n" : "",
                            request->closes ? "Connection: close\r\n" : "");
     if (written < 0 || (size_t) written >= sizeof head)
         return false;

@@ -306,8 +306,9 @@ static bool find_part(const char *type, const struct bytes *body, uint8_t **valu
 
     const char *start = (const char *) place(body), *end = start + body->length, *stop, *from;
     bool last, found = false;
-    bool first = body->length >= line_length - 2 && memcmp(start, line + 2, line_length - 2) == 0; /* no line end before it */
-    from = first ? pass_boundary(start, end, line + 2, line_length - 2, &stop, &last) : pass_boundary(start, end, line, line_length, &stop, &last);
+    bool at_start = body->length >= line_length - 2 && memcmp(start, line + 2, line_length - 2) == 0;
+    size_t skip = at_start ? 2 : 0; /* then no line end stands before it */
+    from = pass_boundary(start, end, line + skip, line_length - skip, &stop, &last);
     while (from != NULL && !last) {
         from += 2;
         bool named = names_field(&from, end);
@@ -324,8 +325,8 @@ static bool find_part(const char *type, const struct bytes *body, uint8_t **valu
     return from != NULL && found;
 }
 
-/* Browsers send every line end of a text area as CR LF. To the line program a line with a carriage return is of another shape and prints `unread`,
-   so the form's CR LF become LF again; a carriage return alone stays. The raw address converts nothing. */
+/* Browsers send every line end of a text area as CR LF. To the line program a line with a carriage return is of another shape and prints
+   `unread`, so the form's CR LF become LF again; a carriage return alone stays. The raw address converts nothing. */
 static size_t convert_line_ends(uint8_t *data, size_t length)
 {
     size_t to = 0;
@@ -386,7 +387,7 @@ static const struct refusal *make_key_page(const struct request *request, struct
     const struct refusal *refusal = make_key(sitting, length, &key);
     if (refusal != NULL)
         return refusal;
-    /* HTML drops a line end that directly follows <textarea> or <pre>; one is written here and one in page.html, so that the own one stays. */
+    /* HTML drops a line end directly behind <textarea> or <pre>: one stands in page.html and one here, so that the text's own stays. */
     bool whole = append_span(page, page_template.before)
         && append_escaped(page, sitting, length)
         && append_span(page, page_template.between)
@@ -402,13 +403,15 @@ static const struct refusal *make_key_page(const struct request *request, struct
 /* ---- Answers ---- */
 
 /* A page for people, a line of text for programs. It needs no memory. */
-static bool send_refusal(struct connection *connection, const struct request *request, const struct address *address, const struct refusal *refusal)
+static bool send_refusal(struct connection *connection, const struct request *request, const struct address *address,
+                         const struct refusal *refusal)
 {
     char status[64];
     bool text = address != NULL && address->kind == KEY_TEXT;
     snprintf(status, sizeof status, text ? "%u: " : "%u %s", refusal->status, phrase(refusal->status));
-    struct span page[] = { error_template.before, text_span(status), error_template.between, text_span(refusal->text), error_template.after };
-    struct span line[] = { text_span(status), text_span(refusal->text), text_span("\n") };
+    struct span says = text_span(refusal->text);
+    struct span page[] = { error_template.before, text_span(status), error_template.between, says, error_template.after };
+    struct span line[] = { text_span(status), says, text_span("\n") };
     struct answer answer = { refusal->status, text ? TEXT : HTML, NULL, text ? line : page, text ? 3 : 5 };
     if (refusal == &other_method)
         answer.allow = allowed(address);
@@ -565,6 +568,8 @@ static int run(uint16_t port, int seconds)
         fprintf(stderr, "server: can't start a thread\n");
         return 1;
     }
+    if (count < CONNECTIONS)
+        fprintf(stderr, "server: only %zu connections at a time: the system gives no more threads\n", count);
     printf("http://127.0.0.1:%u/\n", (unsigned) port);
     fflush(stdout);
 
