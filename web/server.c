@@ -10,6 +10,7 @@
 
 #include <arpa/inet.h>
 #include <errno.h>
+#include <malloc.h>
 #include <netinet/in.h>
 #include <netinet/tcp.h>
 #include <poll.h>
@@ -593,6 +594,9 @@ int main(int count, char **arguments)
                 REQUEST_SECONDS);
         return 2;
     }
+    /* Long blocks go back to the system as soon as they are freed; else the heaps of all the threads would keep some. */
+    mallopt(M_MMAP_THRESHOLD, 64 * 1024);
+    mallopt(M_ARENA_MAX, 4);
     if (!split(&page_template, page_html, page_html_end, "<!--SITTING-->", "<!--KEY-->")) {
         fprintf(stderr, "server: page.html does not have <!--SITTING--> and then <!--KEY-->, once each\n");
         return 1;
