@@ -5,7 +5,7 @@
 (() => {
     const LIMIT = 1 << 20;        // bytes that the server takes
     const MOST_ROWS = 20000;      // rows that the table gains at once; a button brings more
-    const CHUNK = 500;            // of these, rows between two pauses
+    const CHUNK = 200;            // rows that stand in one body of the table: one out of sight costs nothing
     const SETTLED_SHOWN = 30;     // items of a settled part that is longer
     const CHARACTERS_SHOWN = 200; // of a line
     const PAGE = 15;              // lines that Page Up and Page Down pass over
@@ -86,8 +86,7 @@
             chosen: 0, marked: null,  // the chosen line and its row
             order: null, stepped: 0,  // the order after so many lines
         };
-        at("lines").replaceChildren();
-        at("ends").replaceChildren();
+        table.querySelectorAll(".lines").forEach((body) => body.remove());
         at("result").hidden = false;
         at("calls").open = false;
         at("summary").textContent = summary();
@@ -122,20 +121,27 @@
     /* Rows come in chunks, with pauses between, so that the page goes on answering while a long sitting is put in. */
     function moreRows() {
         shown.wanted = Math.min(shown.lines.length, shown.rows + MOST_ROWS);
-        addChunk(shown, CHUNK);
         addEnds();
+        addChunk();
+        addChunksLater(shown);
     }
 
-    function addChunk(of, size) {
-        if (of !== shown) // another key is shown by now
-            return;
-        const end = Math.min(of.wanted, of.rows + size), rows = [];
-        while (of.rows < end)
-            rows.push(makeRow(of.rows++));
-        at("lines").append(...rows);
+    function addChunk() {
+        const end = Math.min(shown.wanted, shown.rows + CHUNK), body = make("tbody", shown.rows === 0 ? "lines" : "lines far");
+        body.setAttribute("role", "rowgroup");
+        while (shown.rows < end)
+            body.append(makeRow(shown.rows++));
+        at("ends").before(body);
         markChosen();
-        if (of.rows < of.wanted)
-            setTimeout(() => addChunk(of, CHUNK));
+    }
+
+    function addChunksLater(of) {
+        setTimeout(() => {
+            if (of !== shown || of.rows === of.wanted) // another key is shown by now, or all is there
+                return;
+            addChunk();
+            addChunksLater(of);
+        });
     }
 
     function addEnds() {
@@ -312,8 +318,8 @@
         at(`line-${shown.chosen}`)?.scrollIntoView({ block: "nearest" });
     });
 
-    at("lines").addEventListener("click", (event) => {
-        const row = event.target.closest("tr");
+    table.addEventListener("click", (event) => {
+        const row = event.target.closest(".lines tr");
         if (row)
             choose(Number(row.dataset.line));
     });
@@ -391,8 +397,8 @@
     /* ---- Printing: all rows that are wanted have to be there ---- */
 
     addEventListener("beforeprint", () => {
-        if (shown !== null)
-            addChunk(shown, Infinity);
+        while (shown !== null && shown.rows < shown.wanted)
+            addChunk();
     });
     at("print").addEventListener("click", () => print());
 

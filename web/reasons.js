@@ -98,7 +98,7 @@ const Reasons = (() => {
 
     /* ---- What the other answers say ---- */
 
-    const behind = (id) => (id === "0" ? "at the end of the settled part" : `behind routine ${id}`);
+    const behind = (id) => (id === "0" ? "in the settled part" : `behind routine ${id}`);
 
     /* `back`, a count, and then device and setting for each. */
     function putBack(words) {
@@ -110,12 +110,12 @@ const Reasons = (() => {
 
     const MEANINGS = {
         opened: () => "a new hub, all devices up at 0",
-        placed: ([id, , after]) => `routine ${id} is placed ` + (after === "0" ? "first behind the bar" : `directly after routine ${after}`),
+        placed: ([id, , after]) => `routine ${id} stands ` + (after === "0" ? "first behind the bar" : `directly after routine ${after}`),
         wait: ([id, , on]) => `routine ${id} waits for routine ${on}`,
-        send: ([id, device, setting]) => `routine ${id}: device ${device} is sent ${setting}`,
+        send: ([id, device, setting]) => `routine ${id} sends device ${device} = ${setting}`,
         held: ([id]) => `routine ${id}: the condition holds`,
         not: ([, id]) => `routine ${id}: the condition does not hold, its command will be skipped`,
-        done: ([id]) => `routine ${id}: the command sent last is done`,
+        done: ([id]) => `routine ${id}: what it sent is done`,
         skipped: ([id, ...back]) => `routine ${id}: a command is skipped` + (back.length > 0 ? "; " + putBack(back) : ""),
         committed: ([id]) => `routine ${id} has committed`,
         aborted: ([id, ...back]) => `routine ${id} is aborted; ` + putBack(back),
