@@ -11,9 +11,9 @@ import time
 NAMES = ("chromium", "chromium-browser", "google-chrome")
 PATIENCE = 60  # seconds for an answer
 
-OPTIONS = ["--headless=new", "--remote-debugging-pipe", "--disable-gpu", "--disable-dev-shm-usage", "--no-first-run", "--disable-extensions",
-           "--disable-background-networking", "--disable-component-update", "--disable-sync", "--disable-default-apps",
-           "--hide-scrollbars", "--force-color-profile=srgb", "--window-size=1366,900"]
+OPTIONS = ["--headless=new", "--remote-debugging-pipe", "--disable-gpu", "--disable-dev-shm-usage", "--no-first-run",
+           "--disable-extensions", "--disable-background-networking", "--disable-component-update", "--disable-sync",
+           "--disable-default-apps", "--hide-scrollbars", "--force-color-profile=srgb", "--window-size=1366,900"]
 
 
 def find():
@@ -160,8 +160,9 @@ class Chromium:
 
     def key(self, name, code, **more):
         """A key, pressed and let go; with `text` it also types that."""
-        self.call("Input.dispatchKeyEvent", type="keyDown" if "text" in more else "rawKeyDown", key=name, code=name, windowsVirtualKeyCode=code, **more)
-        self.call("Input.dispatchKeyEvent", type="keyUp", key=name, code=name, windowsVirtualKeyCode=code, **more)
+        down = "keyDown" if "text" in more else "rawKeyDown"
+        for kind in (down, "keyUp"):
+            self.call("Input.dispatchKeyEvent", type=kind, key=name, code=name, windowsVirtualKeyCode=code, **more)
 
     def picture(self, path):
         with open(path, "wb") as png:

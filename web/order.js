@@ -1,5 +1,5 @@
-/* The hub's order, built from the calls of a sitting and their answers alone, as document 01 builds it ("The hub's order"): a list, empty at
-   first, with a bar that ends the settled part. Nothing here touches the page.
+/* The hub's order, built from the calls of a sitting and their answers alone, as document 01 builds it ("The hub's order"): a list, empty
+   at first, with a bar that ends the settled part. Nothing here touches the page.
 
    An item of the list is a routine, { id, committed, done }, or an event, { device, up, setting }. Each rule changes the order that it is
    given; `orderAfter` and `step` are what callers use. */
@@ -58,7 +58,7 @@ const Order = (() => {
         order.sent.delete(id);
     }
 
-    /* Placed, or an event, after X: before the next routine behind X, or last; after 0, before the first routine behind the bar, or last. */
+    /* Placed, or an event, after X: before the next routine behind X, or last; after 0, before the first one behind the bar, or last. */
     function insert(order, item, after) {
         let place = after === 0 ? order.bar : placeOf(order, after) + 1;
         while (place < order.items.length && !isRoutine(order.items[place]))
@@ -82,7 +82,7 @@ const Order = (() => {
         order.sent.delete(id);
     }
 
-    /* At the call's end the bar goes before the first routine not committed, or to the end. It never goes back, so the search begins at it. */
+    /* At the call's end the bar goes before the first routine not committed, or to the end. It never goes back: the search begins there. */
     function moveBar(order) {
         while (order.bar < order.items.length && (!isRoutine(order.items[order.bar]) || order.items[order.bar].committed))
             order.bar++;

@@ -1,5 +1,5 @@
-/* The page: asks the server for the key of the text, shows it line by line, and at the chosen line the hub's order. What is shown goes in as
-   text, never as markup. Without scripts the form itself posts the text, and the server's page has the key alone. */
+/* The page: asks the server for the key of the text, shows it line by line, and at the chosen line the hub's order. What is shown goes in
+   as text, never as markup. Without scripts the form itself posts the text, and the server's page has the key alone. */
 "use strict";
 
 (() => {
@@ -76,8 +76,10 @@
         const lines = Order.linesOf(text), words = new TextDecoder().decode(key);
         const pairs = Order.pair(lines, Order.linesOf(words));
         showText(words);
-        if (pairs === null) {
-            complain("This key is not the text's, line by line. Ask for the key of the text as it stands.");
+        shown = null;
+        at("result").hidden = at("panel").hidden = pairs === null;
+        if (pairs === null) { // the server was sent what a text area can't hold
+            complain("This key cannot be set beside the text line by line. Show the key again for the text as it stands.");
             return;
         }
         shown = {
@@ -87,10 +89,9 @@
             order: null, stepped: 0,  // the order after so many lines
         };
         table.querySelectorAll(".lines").forEach((body) => body.remove());
-        at("result").hidden = false;
         at("calls").open = false;
         at("summary").textContent = summary();
-        table.setAttribute("aria-rowcount", lines.length + 1);
+        table.setAttribute("aria-rowcount", 1 + lines.length + shown.devices.length);
         markStale();
         moreRows();
         choose(Math.min(lines.length, shown.wanted));
@@ -148,13 +149,15 @@
         const left = shown.lines.length - shown.wanted;
         at("more").hidden = left === 0;
         at("left").textContent = `${counted(left, "more line")}; the key as text below has all of them.`;
-        at("ends").replaceChildren(...(left === 0 ? shown.devices : []).map((line) => makeCells("end", [""], [line], [])));
+        const first = shown.lines.length + 1;
+        at("ends").replaceChildren(...(left === 0 ? shown.devices : []).map((line, i) => makeCells(first + i, "end", [""], [line], [])));
     }
 
-    function makeCells(number, line, answers, notes) {
+    function makeCells(place, number, line, answers, notes) {
         const row = make("tr", "", make("td", "number", number), make("td", "line", ...line),
             make("td", "answers", ...answers.map((answer) => make("div", "", answer))), make("td", "notes", ...notes));
         row.setAttribute("role", "row");
+        row.setAttribute("aria-rowindex", place + 1); // the head is the first
         for (const cell of row.cells)
             cell.setAttribute("role", "gridcell");
         return row;
@@ -166,11 +169,10 @@
         const notes = answers.map((answer) => make("div", "", noteOf(index, answer)));
         if (marked)
             notes[0].prepend(make("strong", "", word === "unread" ? "Unread" : "Refused"), ": ");
-        const row = makeCells(String(index + 1), visible(line), answers, notes);
+        const row = makeCells(index + 1, String(index + 1), visible(line), answers, notes);
         row.id = `line-${index + 1}`;
         row.className = marked ? word : "";
         row.dataset.line = index + 1;
-        row.setAttribute("aria-rowindex", index + 2);
         row.setAttribute("aria-selected", "false");
         return row;
     }
@@ -250,7 +252,8 @@
         if (line === 0)
             return;
         at("panel-title").replaceChildren(`After line ${line} `, make("code", "", ...visible(shown.lines[line - 1])));
-        at("order").replaceChildren(...(order === null ? [make("p", "", "No hub has been opened yet.")] : orderNodes(order, SETTLED_SHOWN)));
+        const nodes = order === null ? [make("p", "", "No hub has been opened yet.")] : orderNodes(order, SETTLED_SHOWN);
+        at("order").replaceChildren(...nodes);
         at("devices").replaceChildren(...(order === null ? [] : deviceNodes(Order.devicesOf(order))));
     }
 
@@ -287,8 +290,10 @@
         make("li", up ? "event up" : "event down", up ? `▲ up device ${device} at ${setting}` : `▼ down device ${device}`);
 
     function deviceNodes(devices) {
-        const row = ({ up, setting }, device) =>
-            make("tr", up ? "" : "down", make("td", "", String(device)), make("td", "", up ? "up" : "down"), make("td", "", up ? String(setting) : "–"));
+        const row = ({ up, setting }, device) => {
+            const words = [String(device), up ? "up" : "down", up ? String(setting) : "–"];
+            return make("tr", up ? "" : "down", ...words.map((word) => make("td", "", word)));
+        };
         const head = make("tr", "", ...["Device", "State", "Setting"].map((name) => make("th", "", name)));
         for (const cell of head.cells)
             cell.scope = "col";
@@ -328,10 +333,12 @@
 
     /* ---- Editing again ---- */
 
+    const STALE = "The text has changed since: these are the lines and the key of the text before. Show the key again.";
+
     function markStale() {
-        const stale = shown !== null && sitting.value !== shown.text;
-        at("result").classList.toggle("stale", stale);
-        at("stale").textContent = stale ? "The text has changed since: these are the lines and the key of the text before. Show the key again." : "";
+        const note = shown !== null && sitting.value !== shown.text ? STALE : "";
+        if (at("stale").textContent !== note) // told once, not with every letter
+            at("stale").textContent = note;
     }
 
     sitting.addEventListener("input", markStale);
@@ -371,8 +378,8 @@
         sitting.value = new TextDecoder("utf-8", { ignoreBOM: true }).decode(bytes);
         file = chosen.name;
         if (!isSame(bytes, new TextEncoder().encode(sitting.value)))
-            at("notice").textContent = `${file} has ${unfaithful(bytes)}, which a text area cannot hold. `
-                + "The text here is without them, and the key shown is that of this text; the key of the file itself is what plot_hub FILE prints.";
+            at("notice").textContent = `${file} has ${unfaithful(bytes)}, which a text area cannot hold. The text here is without them, `
+                + "and the key shown is that of this text; the key of the file itself is what plot_hub FILE prints.";
         ask();
     }
 
