@@ -5,7 +5,7 @@ import sys
 
 sys.path.insert(0, os.path.join(os.path.dirname(os.path.dirname(os.path.abspath(__file__))), "hub"))
 
-from make_vectors import answer_text, device_lines  # noqa: E402
+from make_vectors import answer_text, device_lines, examples  # noqa: E402, F401
 from model import Refused  # noqa: E402
 from ordered import OrderedHub  # noqa: E402
 
