@@ -70,6 +70,15 @@ def random_sitting(rng):
     return "\n".join(mixed).encode() + rng.choice([b"\n", b"\n", b""])
 
 
+# Lines on both sides of each limit.
+EDGES = [line.encode() for line in (
+    "R 0 -32768", "R 0 -32769", "R 0 32767", "R 0 32768", "R 255 0", "R 256 0", "R -0 0", "R 0 -0", "R 0 -", "S 0 0 -32768", "S 0 0 32768",
+    "S 0 256 0", "S 256 0 0", "S 255 255 32767", "N 4294967295", "N 4294967296", "D -1", "B 00000000000000000000000000000004294967295",
+    "C 4294967296", "F 255", "F 256", "F 0 0", "F", "R 0", "R 0 0 0", "O 255 255 4294967295", "O 256 0 1", "O 0 256 1", "O 1 1 4294967296",
+    "O 1 1", "O 1 1 1 1", "S", "S 0", "S 0 0", "s", "o", "N", "n 1", "x", "NN 1", "N 1 ", " N 1", "N  1", "N\t1", "N 1\r", "\r", " ", "",
+    "N " + "0" * 126, "N " + "0" * 127, "x" * 128, "x" * 129, "N ~", "N \x7f", "N \x1f", "S" + " 0 0 1" * 21, "S" + " 0 0 1" * 22)]
+
+
 def damaged_bytes(rng):
     """A line of any bytes but byte 10, most of them near a call."""
     line = bytearray(rng.choice(["O 3 2 1", "S 0 0 50 1 0 20", "S", "N 12", "D 1", "B 4294967295", "C 7", "F 31", "R 0 -15"]).encode())
