@@ -27,9 +27,11 @@ stored_sittings() {
         cmp "$scratch/stdin" crates/sittings/stdin && cmp "$scratch/stdout" crates/sittings/stdout
 }
 
-# The output that `rt check` expects of plot_hub and show_book.
+# The output that `rt check` expects of plot_hub, plot_hub_hints and show_book.
 stored_output() {
+    local sitting=crates/plot_hub_hints/stdin
     "$bin/reference" <crates/plot_hub/stdin | cmp - crates/plot_hub/stdout &&
+        "$bin/reference" <$sitting >"$scratch/key" && python3 tests/hints.py $sitting "$scratch/key" | cmp - crates/plot_hub_hints/stdout &&
         python3 tests/book/show.py <crates/show_book/stdin | cmp - crates/show_book/stdout
 }
 
