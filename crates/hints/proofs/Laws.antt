@@ -229,33 +229,8 @@ module _ (n : ℕ) (ws : List (List ℕ)) where
 
 -- ---- letters
 
-pub letter-O : (b : ℕ) → b ≡ 79 → isLetter b ≡ true
-unfolding isLetter
-letter-O b e = rw e
-
-pub letter-S : (b : ℕ) → b ≡ 83 → isLetter b ≡ true
-unfolding isLetter
-letter-S b e = rw e
-
-pub letter-N : (b : ℕ) → b ≡ 78 → isLetter b ≡ true
-unfolding isLetter
-letter-N b e = rw e
-
-pub letter-D : (b : ℕ) → b ≡ 68 → isLetter b ≡ true
-unfolding isLetter
-letter-D b e = rw e
-
-pub letter-B : (b : ℕ) → b ≡ 66 → isLetter b ≡ true
-unfolding isLetter
-letter-B b e = rw e
-
-pub letter-C : (b : ℕ) → b ≡ 67 → isLetter b ≡ true
-unfolding isLetter
-letter-C b e = rw e
-
-pub letter-F : (b : ℕ) → b ≡ 70 → isLetter b ≡ true
-unfolding isLetter
-letter-F b e = rw e
+pub a-letter : (b k : ℕ) → isLetter k ≡ true → b ≡ k → isLetter b ≡ true
+a-letter b k h e = ap isLetter e ∙ h
 
 -- none of the first seven
 pub last-letter : (b : ℕ) → b ≢ 79 → b ≢ 83 → b ≢ 78 → b ≢ 68 → b ≢ 66 → b ≢ 67 → b ≢ 70 → isLetter b ≡ eqb b 82

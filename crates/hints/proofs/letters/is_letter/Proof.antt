@@ -1,29 +1,37 @@
 -- `hints::letters::is_letter` meets its contract. Assumes nothing.
-use mathlib.Core.Path.{sym}
-use Rattle.hints.proofs.Laws.{letter-O, letter-S, letter-N, letter-D, letter-B, letter-C, letter-F, last-letter}
+use mathlib.Core.Path.{refl, sym}
+use Rattle.hints.specs.Why.{isLetter}
+use Rattle.hints.proofs.Laws.{a-letter, last-letter}
 use Rattle.hints.proofs.letters.is_letter.Statement.{statement}
 use Rattle.hints.proofs.letters.is_letter.Tie as tie
 
 returns : tie.Need-returns
-returns c = sym (letter-O _ (c .if1 .taken))
+unfolding isLetter
+returns c = sym (a-letter _ 79 refl (c .if1 .taken))
 
 returns-2 : tie.Need-returns-2
-returns-2 c = sym (letter-S _ (c .if2 .taken))
+unfolding isLetter
+returns-2 c = sym (a-letter _ 83 refl (c .if2 .taken))
 
 returns-3 : tie.Need-returns-3
-returns-3 c = sym (letter-N _ (c .if3 .taken))
+unfolding isLetter
+returns-3 c = sym (a-letter _ 78 refl (c .if3 .taken))
 
 returns-4 : tie.Need-returns-4
-returns-4 c = sym (letter-D _ (c .if4 .taken))
+unfolding isLetter
+returns-4 c = sym (a-letter _ 68 refl (c .if4 .taken))
 
 returns-5 : tie.Need-returns-5
-returns-5 c = sym (letter-B _ (c .if5 .taken))
+unfolding isLetter
+returns-5 c = sym (a-letter _ 66 refl (c .if5 .taken))
 
 returns-6 : tie.Need-returns-6
-returns-6 c = sym (letter-C _ (c .if6 .taken))
+unfolding isLetter
+returns-6 c = sym (a-letter _ 67 refl (c .if6 .taken))
 
 returns-7 : tie.Need-returns-7
-returns-7 c = sym (letter-F _ (c .if7 .taken))
+unfolding isLetter
+returns-7 c = sym (a-letter _ 70 refl (c .if7 .taken))
 
 returns-8 : tie.Need-returns-8
 returns-8 c =
