@@ -18,7 +18,7 @@ use Rattle.rules.specs.Progress.{inFlightOn}
 use Rattle.rules.specs.Due.{afterRestart, afterMember, afterMembers, due}
 use Rattle.rules.specs.Attach.{later, attachTo, attachAt, settleRestarts, attach}
 use Rattle.rules.specs.Abort.{leave}
-use Rattle.rules.proofs.Runs.{members-after-++}
+use Rattle.rules.proofs.Lists.{members-after-++}
 use Rattle.sequence.specs.Lists.{count, upTo, rest, lastOr}
 use Rattle.sequence.specs.Links.{slotsOf, Stands}
 use Rattle.sequence.proofs.Lists.{same-self, count-append, slots-around, off-upTo, off-rest}

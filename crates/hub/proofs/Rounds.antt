@@ -9,8 +9,8 @@ use Rattle.rules.specs.Answers.{submit, placed, Result}
 use Rattle.rules.specs.Calls.{resultOf, stateAfter}
 use Rattle.rules.specs.History.{Told}
 use Rattle.rules.specs.Rounds.{callsTold, toldThen, Ended, limitTold, Schedule, enoughRounds}
-use Rattle.rules.proofs.Ready.{limit-kept}
-use Rattle.rules.proofs.Waiting.{ended-in-time}
+use Rattle.promises.proofs.Ready.{limit-kept}
+use Rattle.promises.proofs.Waiting.{ended-in-time}
 use Rattle.hub.specs.View.{view, answersIn}
 use Rattle.hub.specs.Demand3.{submits, callOf, HubAct, called, device-takes, Chain, hubAfter}
 use Rattle.hub.specs.Links.{callsIn}

@@ -14,7 +14,7 @@ use Rattle.rules.specs.World.{World, accounts, Act, calls, takes-one, afterCall
 use Rattle.rules.specs.Demand3.{orderIn, EndState, Begins, CommandsStand, Demand3}
 use Rattle.rules.specs.HubOrder.{IsHubs}
 use Rattle.rules.specs.Replay.{ConditionsReplay}
-use Rattle.rules.proofs.Theorem.{demand-3, hub-order, replay}
+use Rattle.promises.proofs.Theorem.{demand-3, hub-order, replay}
 use Rattle.rules.proofs.AllDue.{list-entry}
 use Rattle.hub.specs.View.{view, resultIn}
 use Rattle.hub.specs.Valid.{Valid}

@@ -9,7 +9,7 @@ use Rattle.rules.specs.State.{State}
 use Rattle.rules.specs.Answers.{Call}
 use Rattle.rules.specs.Calls.{resultOf, stateAfter}
 use Rattle.rules.specs.World.{World, Act, calls, takes-one, worldAfter, worldAfterAll, newWorld}
-use Rattle.rules.proofs.Theorem.{devices-kept}
+use Rattle.promises.proofs.Theorem.{devices-kept}
 use Rattle.line_rules.specs.Reading.{Line, opening, calling, unread, readLine}
 use Rattle.key.specs.Key.{repliesTo, toldBy, anyOpens, callBefore, callsBy, callsIn}
 use Rattle.key.proofs.Lines.{toldCalls, calls-told}

@@ -17,7 +17,7 @@ use Rattle.rules.specs.Demand3.{orderIn, committedPart, Begins, CommandsStand, 
 use Rattle.rules.specs.Replay.{Replays}
 use Rattle.rules.specs.Calls.{stateAfter}
 use Rattle.rules.proofs.Lists.{or-left, anyOf-++}
-use Rattle.rules.proofs.Theorem.{opening, demand-3, hub-order, replay, order-committed, working-up}
+use Rattle.promises.proofs.Theorem.{opening, demand-3, hub-order, replay, order-committed, working-up}
 use Rattle.line_rules.specs.Text.{bytes}
 use Rattle.line_rules.specs.Pieces.{linesOf}
 use Rattle.line_rules.specs.Reading.{readLine}

@@ -30,7 +30,7 @@ use Rattle.rules.specs.Submit.{blocks, upToLast, place, submitOf}
 use Rattle.rules.specs.Sequence.{lastIdOr}
 use Rattle.rules.specs.Calls.{resultOf}
 use Rattle.rules.proofs.Lists.{t≠f}
-use Rattle.rules.proofs.Theorem.{devices-kept}
+use Rattle.promises.proofs.Theorem.{devices-kept}
 use Rattle.submit.proofs.Laws.{check-routine}
 use Rattle.answers.specs.View.{changesNothing}
 use Rattle.state.specs.View.{firstCommitted}

@@ -27,8 +27,7 @@ use Rattle.rules.specs.Abort.{abort}
 use Rattle.rules.specs.Settle.{settling}
 use Rattle.rules.specs.Report.{codeDone, codeFailed, doneReport, backIfChanged, skippedState, skipReport}
 use Rattle.rules.specs.Report.{reported, reportFlight, reportFound, reportOf}
-use Rattle.rules.proofs.Lists.{byIf, t≠f, same-setting}
-use Rattle.rules.proofs.Runs.{members-after-++}
+use Rattle.rules.proofs.Lists.{byIf, t≠f, same-setting, members-after-++}
 use Rattle.sequence.specs.Links.{Stands}
 use Rattle.answers.specs.View.{oneOf}
 use Rattle.answers.specs.declared.Answer.the-variants.{Refused, Done, Skipped, Aborted}

@@ -10,6 +10,8 @@ use lib.Dec.{eqb}
 use lib.IntN.{ℤ, pos, negsuc}
 use Rattle.routine.specs.Choice.{if_then_else_}
 use Rattle.routine.proofs.Laws.{or-false, and-true}
+use Rattle.rules.specs.State.{Member}
+use Rattle.rules.specs.Due.{afterMembers}
 use Rattle.rules.specs.Tables.{anyOf, Each, put, sameSetting}
 
 -- ---- tests
@@ -75,6 +77,9 @@ pub fold-++ {ℓ κ} : {X : Type ℓ} {A : Type κ} (all : List X → A → A) �
     (k l : List X) (a : A) → all (k ++ l) a ≡ all l (all k a)
 fold-++ all n c [] l a = ap (all l) (sym (n a))
 fold-++ all n c (x ∷ k) l a = c x (k ++ l) a ∙ fold-++ all n c k l (all (x ∷ []) a) ∙ ap (all l) (sym (c x k a))
+
+pub members-after-++ : (d : ℕ) (a b : List Member) (v : ℤ) → afterMembers d (a ++ b) v ≡ afterMembers d b (afterMembers d a v)
+members-after-++ d = fold-++ (afterMembers d) (λ v. refl) (λ m l v. refl)
 
 -- ---- predicates over lists
 

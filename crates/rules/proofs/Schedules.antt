@@ -1,10 +1,11 @@
 -- Schedules, computed: one in which a routine needs almost all the rounds of the waiting promise, and one in which wrong rules show.
--- Nothing is proved of them here; that they are schedules is `is-schedule` of `RoundsExist.antt`. Assumes nothing.
+-- That they are schedules is `is-schedule` of `RoundsExist.antt` of crate `promises`. Assumes nothing.
 use mathlib.Core.Path.{_≡_, refl}
 use mathlib.Core.Bool.{Bool, true, false, not, _&&_}
 use mathlib.Core.List.{List, [], _∷_, _++_, map}
 use mathlib.Core.Option.{Option, none, some}
-use Prim.Native.Nat.{ℕ, zero, suc, _+_, _-_, _*_}
+use Prim.Native.Nat.{ℕ, zero, suc, _+_, _-_, _*_, _<_}
+use native.Mathlib.Omega.{arith}
 use lib.Dec.{eqb}
 use lib.IntN.{pos}
 use lib.ListN.{replicate}
@@ -19,7 +20,7 @@ use Rattle.rules.specs.Open.{opened, newHub, openOf}
 use Rattle.rules.specs.Report.{codeDone}
 use Rattle.rules.specs.Calls.{resultOf, stateAfter}
 use Rattle.rules.specs.History.{Told}
-use Rattle.rules.specs.Rounds.{callsTold, toldThen, Ended, limitTold, enoughRounds}
+use Rattle.rules.specs.Rounds.{callsTold, toldThen, Ended, limitTold, enoughRounds, EachOnce}
 use Rattle.rules.specs.Examples.{calc, must}
 
 -- ---- a round, from the state
@@ -131,6 +132,19 @@ crowded-placed = refl
 -- so many rounds are not enough: with `maxCommands` for `maxCommands + 1` the promise would be false
 abbrev pub tooFewRounds : ℕ
 tooFewRounds = maxCommands * (maxHeld + crowded .passLimit)
+
+-- more are promised; that it still runs after these is `needs-most` of crate `promises`
+pub more-promised : tooFewRounds < enoughRounds (crowded .passLimit)
+more-promised = omega arith
+
+-- ---- what is no round
+
+-- one that leaves out a routine, or asks it twice
+pub nobody-left-out : ¬ EachOnce (λ i. eqb i 1) []
+nobody-left-out each = let z : _≡_ {A = ℕ} 0 1 = each 1 in absurd (omega arith)
+
+pub nobody-twice : ¬ EachOnce (λ i. eqb i 1) (1 ∷ 1 ∷ [])
+nobody-twice each = let z : _≡_ {A = ℕ} 2 1 = each 1 in absurd (omega arith)
 
 -- ---- where wrong rules show
 
