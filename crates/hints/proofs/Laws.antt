@@ -23,7 +23,8 @@ use Rattle.line_reader.proofs.Line.{the-type as line-type}
 use Rattle.line_reader.specs.declared.Line.the-variants.{Calling, Unread}
 use Rattle.line_reader.specs.declared.LineRead.{LineRead}
 use Rattle.line_reader.proofs.Laws.{word-past, word-none, word-more, words-first, words-all}
-use Rattle.hints.specs.Why.{carriageReturn, hasByte, lastPrintable, hasOther, firstByte, lastByte, spacesTogether, allDigits, someDigits, isNumber, allNumbers}
+use Rattle.hints.specs.Why.{carriageReturn, hasByte, lastPrintable, hasOther, firstByte, lastByte, spacesTogether, allDigits}
+use Rattle.hints.specs.Why.{someDigits, isNumber, allNumbers}
 use Rattle.hints.specs.Why.{byNumbers, byCount, byCommands, isLetter, lowerCase, isLower, byLetter, byWords, why, hintBy, hintOf}
 use Rattle.hints.specs.declared.Hint.the-variants.{Nothing, TooLong, Empty, CarriageReturn, OtherByte, SpaceAtEnd, SpaceAtStart}
 use Rattle.hints.specs.declared.Hint.the-variants.{SpacesTogether, LowerCase, NoCall, TooFew, TooMany, NoNumber, OutsideWidth, NoHub}

@@ -64,7 +64,8 @@ first-so = refl
 -- By how many words there are.
 abbrev byWordsLeft : List Told
 byWordsLeft =
-    "O 3 2" is TooFew ∷ "O 3 2 1 1" is TooMany ∷ "N" is TooFew ∷ "N 1 2" is TooMany ∷ "R 0" is TooFew ∷ "R 0 5 5" is TooMany ∷ "S 0 0" is TooFew
+    "O 3 2" is TooFew ∷ "O 3 2 1 1" is TooMany ∷ "N" is TooFew ∷ "N 1 2" is TooMany ∷ "R 0" is TooFew ∷ "R 0 5 5" is TooMany ∷ "S 0 0" is
+    TooFew
     ∷ "S 0 0 5 1" is TooFew ∷ []
 
 pub words-so : told byWordsLeft ≡ expected byWordsLeft

@@ -1,5 +1,5 @@
--- Why a line prints `unread`: the first of these reasons that is so, in the order in which they are tested. Which lines print it is document
--- 01's ("The line program") and said in crate `line_rules`; which reason is told of one is said here. Assumes nothing.
+-- Why a line prints `unread`: the first of these reasons that is so, in the order in which they are tested. Which lines print it is
+-- document 01's ("The line program") and said in crate `line_rules`; which reason is told of one is said here. Assumes nothing.
 use mathlib.Core.Bool.{Bool, true, false, _&&_, _||_}
 use mathlib.Core.List.{List, [], _∷_}
 use Prim.Native.Nat.{ℕ, _-_, _%_}

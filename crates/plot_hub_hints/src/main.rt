@@ -1,5 +1,5 @@
-// For people who write sittings: of each line that prints `unread` its number and why, and at the end how many lines were unread and refused.
-// It reads what `plot_hub` reads and prints no key. What is said of a line is `hints::of_line`.
+// For people who write sittings: of each line that prints `unread` its number and why, and at the end how many lines were unread and
+// refused. It reads what `plot_hub` reads and prints no key. What is said of a line is `hints::of_line`.
 mod said;
 
 use hints::Hint;

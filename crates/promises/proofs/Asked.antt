@@ -25,7 +25,8 @@ use Rattle.rules.proofs.Lists.{byIf, t≠f, or-right, this-or-other, each-mid, 
 use Rattle.rules.proofs.Lists.{each-swap, each-map}
 use Rattle.promises.proofs.Groups.{Group, alone, with, stillHeld}
 use Rattle.promises.proofs.Same.{Pairwise, no-pair, pair, Same, same-placed, same-leaving, same-attached, same-each}
-use Rattle.promises.proofs.Steps.{flightIsSkipped, sent-skipped, grounded-skipped, left-skipped, InTurn, wasAsked, askedOn, send-step}
+use Rattle.promises.proofs.Steps.{flightIsSkipped, sent-skipped, grounded-skipped, left-skipped, InTurn, wasAsked, askedOn}
+use Rattle.promises.proofs.Steps.{send-step}
 use Rattle.promises.proofs.Steps.{skip-step, done-step, fail-step, fail-done, done-gains}
 use Rattle.promises.proofs.Steps.{skip-steps}
 use Rattle.promises.proofs.Steps.{unbegun-asked, Fresh, fresh-newcomer}

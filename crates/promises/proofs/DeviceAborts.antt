@@ -29,7 +29,8 @@ use Rattle.rules.proofs.Lists.{each-mid, each-drop, each-swap, NotIn}
 use Rattle.promises.proofs.Groups.{Group, members, ids, with, foundAt, leaving, attachEvent, other-ids}
 use Rattle.promises.proofs.Same.{Pairwise, Same, same-leaving, same-attached}
 use Rattle.promises.proofs.Steps.{LeftSkipped, flight-on, skip-steps}
-use Rattle.promises.proofs.Invariant.{NotBegun, HubOk, NotHalfway, EventsOk, CountedSend, CountedMessage, backTo, ReachesSetting, has}
+use Rattle.promises.proofs.Invariant.{NotBegun, HubOk, NotHalfway, EventsOk, CountedSend, CountedMessage, backTo, ReachesSetting}
+use Rattle.promises.proofs.Invariant.{has}
 use Rattle.promises.proofs.Invariant.{goes-back, NoFlightOn, OneFlightOn, first-has-it, later-has-it, DeviceAt, is-down, none-on-it}
 use Rattle.promises.proofs.Invariant.{one-on-it, DeviceOk, PremiseOnCall}
 use Rattle.promises.proofs.View.{skippedLeft, Aborts, by-turn, by-report, by-cancel, Gone, nobody, somebody, loses}

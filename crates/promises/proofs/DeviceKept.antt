@@ -17,7 +17,8 @@ use Rattle.rules.specs.Tables.{Each}
 use Rattle.rules.proofs.Lists.{each-mid}
 use Rattle.promises.proofs.Groups.{Group, with, foundAt}
 use Rattle.promises.proofs.Invariant.{HubOk, InFlightIsUp, EventsOk, AccountTells, DeviceOk, PremiseOnCall}
-use Rattle.promises.proofs.View.{passing, failedMember, Moves, places, commits, sends, passes, dones, misses, aborts, fails, restarts}
+use Rattle.promises.proofs.View.{passing, failedMember, Moves, places, commits, sends, passes, dones, misses, aborts, fails}
+use Rattle.promises.proofs.View.{restarts}
 use Rattle.promises.proofs.Marks.{in-turn}
 use Rattle.promises.proofs.Messages.{tookLast, flies-there, AfterCall}
 use Rattle.promises.proofs.Devices.{device-commits, device-passes, device-sends, device-dones, device-misses, device-places}

@@ -29,8 +29,10 @@ use Rattle.promises.proofs.Same.{same-placed}
 use Rattle.promises.proofs.Steps.{InTurn, Passing, send-step, skip-step, done-step, done-after, fail-step, fail-after, grounded}
 use Rattle.promises.proofs.Steps.{unbegun-after}
 use Rattle.promises.proofs.Steps.{fresh-newcomer}
-use Rattle.promises.proofs.Invariant.{NotBegun, HasFinished, HubOk, EventsOk, CountedSend, CountedMessage, backTo, ReachesSetting, has}
-use Rattle.promises.proofs.Invariant.{goes-back, flightOrigin, NotOrigin, OnItsWay, arrived, going, NoFlightOn, first-has-it, DeviceAt}
+use Rattle.promises.proofs.Invariant.{NotBegun, HasFinished, HubOk, EventsOk, CountedSend, CountedMessage, backTo, ReachesSetting}
+use Rattle.promises.proofs.Invariant.{has}
+use Rattle.promises.proofs.Invariant.{goes-back, flightOrigin, NotOrigin, OnItsWay, arrived, going, NoFlightOn, first-has-it}
+use Rattle.promises.proofs.Invariant.{DeviceAt}
 use Rattle.promises.proofs.Invariant.{is-down, none-on-it, one-on-it, DeviceOk}
 use Rattle.promises.proofs.View.{passAnswer, by-answer, passTurn, sentMember, passedMember, doneMember, failedMember}
 use Rattle.promises.proofs.Runs.{lastRestart-not-begun, not-begun-members}
@@ -39,7 +41,8 @@ use Rattle.promises.proofs.Running.{passOutcome, pass-noted}
 use Rattle.promises.proofs.Accounts.{put-answered}
 use Rattle.promises.proofs.Marks.{ClearOfDevice, in-turn, turn-clear, flight-clear}
 use Rattle.promises.proofs.Messages.{origin-self, fresh-origin, none-took, tookLast, ok-state, ok-same, flies-there}
-use Rattle.promises.proofs.Messages.{finished-it-no-flight-on, not-begun-no-flight-on, no-flights-on-any, one-any, one-this, this-one}
+use Rattle.promises.proofs.Messages.{finished-it-no-flight-on, not-begun-no-flight-on, no-flights-on-any, one-any, one-this}
+use Rattle.promises.proofs.Messages.{this-one}
 use Rattle.promises.proofs.Messages.{ok-insert, ok-drop, SameForOthers, alike-put, alike-ended, alike-answered, without-last}
 use Rattle.promises.proofs.Messages.{alike-drops, ok-alike, AfterCall}
 

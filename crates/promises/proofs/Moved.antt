@@ -29,7 +29,8 @@ use Rattle.rules.proofs.Lists.{byIf, t≠f, or-left, or-right, this-or-other, e
 use Rattle.rules.proofs.Lists.{each-insert, each-map, anyOf-++, IsNot, NotIn, IdsOk, ids-drop, ids-insert, ids-left, ids-other}
 use Rattle.rules.proofs.Lists.{ids-not-zero, in-other}
 use Rattle.promises.proofs.Groups.{Group, members, ids, alone, with, passAll, foundAt, addEvents, addToLast, leaving}
-use Rattle.promises.proofs.Groups.{addEvent, attachEvent, stillHeld, members-++, ids-++, members-pass, added-is, attach-miss, last-in}
+use Rattle.promises.proofs.Groups.{addEvent, attachEvent, stillHeld, members-++, ids-++, members-pass, added-is, attach-miss}
+use Rattle.promises.proofs.Groups.{last-in}
 use Rattle.promises.proofs.Groups.{last-not-zero}
 use Rattle.promises.proofs.Same.{Pairwise, pair, pairs-each, pairs-placed, pairs-last, pairs-attached, Same, same-refl, same-pass}
 use Rattle.promises.proofs.Same.{same-moved, same-added, same-placed, same-leaving, same-attached, same-each, same-ids}

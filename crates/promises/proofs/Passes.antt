@@ -22,11 +22,13 @@ use Rattle.rules.specs.Order.{Event, failure-of, restart-of}
 use Rattle.rules.specs.Calls.{resultOf, stateAfter}
 use Rattle.rules.specs.NewLimit.{PassedLessThan, PassedBelow, PassedInRange, PassesInRange}
 use Rattle.rules.proofs.Lists.{or-left, or-right, each-++, each-left, each-right, each-mid, each-drop, each-swap}
-use Rattle.promises.proofs.Groups.{Group, members, alone, with, passAll, leaving, attachEvent, addEvent, stillHeld, each-held, added-is}
+use Rattle.promises.proofs.Groups.{Group, members, alone, with, passAll, leaving, attachEvent, addEvent, stillHeld, each-held}
+use Rattle.promises.proofs.Groups.{added-is}
 use Rattle.promises.proofs.Same.{pairs-last, pairs-attached, pairs-each}
 use Rattle.promises.proofs.Invariant.{HubOk}
 use Rattle.promises.proofs.View.{sentMember, passedMember, doneMember, failedMember, skippedLeft, Gone, nobody, somebody, loses}
-use Rattle.promises.proofs.View.{Moves, places, commits, sends, passes, dones, misses, aborts, fails, restarts, Seen, is-refused, waits}
+use Rattle.promises.proofs.View.{Moves, places, commits, sends, passes, dones, misses, aborts, fails, restarts, Seen, is-refused}
+use Rattle.promises.proofs.View.{waits}
 use Rattle.promises.proofs.View.{limits, moves, see}
 use Rattle.promises.proofs.Fields.{Fixed, settle-fixed}
 use Rattle.promises.proofs.Moved.{hub-limit, hub-settles}

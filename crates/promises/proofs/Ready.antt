@@ -33,7 +33,8 @@ use Rattle.promises.proofs.Same.{Pairwise, no-pair, pair, Same, same-pl
 use Rattle.promises.proofs.Steps.{leftSteps, notOn, skip-left, send-step, skip-step, done-step, fail-step, fresh-newcomer}
 use Rattle.promises.proofs.Invariant.{unmarked, HubOk, FirstRuns, AccountTells}
 use Rattle.promises.proofs.View.{by-answer, passing, sentMember, passedMember, doneMember, failedMember, skippedLeft, Gone}
-use Rattle.promises.proofs.View.{nobody, somebody, loses, Moves, places, commits, sends, passes, dones, misses, aborts, fails, restarts}
+use Rattle.promises.proofs.View.{nobody, somebody, loses, Moves, places, commits, sends, passes, dones, misses, aborts, fails}
+use Rattle.promises.proofs.View.{restarts}
 use Rattle.promises.proofs.View.{Seen, is-refused, waits, limits, moves, see}
 use Rattle.promises.proofs.Fields.{Fixed, gone-fixed, attach-fixed, settle-fixed}
 use Rattle.promises.proofs.Marks.{in-turn}

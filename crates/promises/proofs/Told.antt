@@ -28,7 +28,8 @@ use Rattle.promises.proofs.View.{loses}
 use Rattle.promises.proofs.View.{Moves, places, commits, sends, passes, dones, misses, aborts, fails, restarts}
 use Rattle.promises.proofs.Marks.{in-turn, halfway-is}
 use Rattle.promises.proofs.Moved.{hub-up}
-use Rattle.promises.proofs.Running.{passOutcome, pass-noted, Tells, tells-put, tells-drop, tells-new, tells-held, tells-same, put-part}
+use Rattle.promises.proofs.Running.{passOutcome, pass-noted, Tells, tells-put, tells-drop, tells-new, tells-held, tells-same}
+use Rattle.promises.proofs.Running.{put-part}
 use Rattle.promises.proofs.Running.{RunsTold}
 use Rattle.promises.proofs.Accounts.{eventTold, gone-tells, TellsEvent, event-accounts}
 

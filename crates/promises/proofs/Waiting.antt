@@ -40,7 +40,8 @@ use Rattle.rules.proofs.Schedules.{hasFlight, isFlying}
 use Rattle.promises.proofs.Measure.{measure, Runs}
 use Rattle.promises.proofs.Measure.{settle-at-most, runs-positive, most-measure}
 use Rattle.promises.proofs.Theorem.{moves-same}
-use Rattle.promises.proofs.Ready.{fixed-moves, Ready, ready-moves, saying, untold, ready-limit, ready-seen, ready-opened, opened-limit}
+use Rattle.promises.proofs.Ready.{fixed-moves, Ready, ready-moves, saying, untold, ready-limit, ready-seen, ready-opened}
+use Rattle.promises.proofs.Ready.{opened-limit}
 use Rattle.promises.proofs.Ready.{limit-call, limit-kept}
 use Rattle.promises.proofs.Measured.{OfSchedule, NotRaised, not-raised-same, moves-at-most, HeadIs, head-is, head-held, IsTurn, Asks}
 use Rattle.promises.proofs.Measured.{asks-of-schedule}

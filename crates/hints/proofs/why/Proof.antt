@@ -91,4 +91,6 @@ returns-8 c =
     (sym (o .has-other .ensures) ∙ d .if4 .left) (l .if5 .left) (f .if6 .left) (sym (t .spaces-together .ensures) ∙ s .if7 .left))
 
 pub why-spec : {M : Type 1} → statement M
-why-spec = tie.close (tie.spec returns returns-2 has-carriage-return-requires returns-3 has-other-requires returns-4 sub-if5 shared-slice-read-if5 returns-5 shared-slice-read-if6 returns-6 spaces-together-requires returns-7 by-words-requires returns-8)
+why-spec = tie.close
+    (tie.spec returns returns-2 has-carriage-return-requires returns-3 has-other-requires returns-4 sub-if5 shared-slice-read-if5 returns-5
+    shared-slice-read-if6 returns-6 spaces-together-requires returns-7 by-words-requires returns-8)

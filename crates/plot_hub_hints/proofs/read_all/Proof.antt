@@ -60,4 +60,5 @@ returns-2 c = search needs
 pub read-all-spec : {M : Type 1} → statement M
 read-all-spec =
     tie.close
-    (tie.spec Inv-loop μ-loop no-hub-requires loop-holds read-behind-requires same-length same-length-2 returns add-take-piece take-piece-requires sub-turns loop-less loop-again same-length-3 same-length-4 returns-2)
+    (tie.spec Inv-loop μ-loop no-hub-requires loop-holds read-behind-requires same-length same-length-2 returns add-take-piece
+    take-piece-requires sub-turns loop-less loop-again same-length-3 same-length-4 returns-2)

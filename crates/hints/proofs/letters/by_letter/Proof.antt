@@ -45,7 +45,8 @@ returns-5 c =
     let l = c .before in
     let k = l .before .before in
     let e = k .before in
-    sym (by-lower _ _ (e .before .before .if1 .left) (e .before .if2 .left) (e .if3 .left) (sym (k .is-letter .ensures) ∙ l .before .if4 .left)
+    sym (by-lower _ _ (e .before .before .if1 .left) (e .before .if2 .left) (e .if3 .left)
+    (sym (k .is-letter .ensures) ∙ l .before .if4 .left)
     (sym (l .is-lower .ensures) ∙ c .if5 .taken))
 
 returns-6 : tie.Need-returns-6
@@ -53,8 +54,11 @@ returns-6 c =
     let l = c .before in
     let k = l .before .before in
     let e = k .before in
-    sym (by-none _ _ (e .before .before .if1 .left) (e .before .if2 .left) (e .if3 .left) (sym (k .is-letter .ensures) ∙ l .before .if4 .left)
+    sym (by-none _ _ (e .before .before .if1 .left) (e .before .if2 .left) (e .if3 .left)
+    (sym (k .is-letter .ensures) ∙ l .before .if4 .left)
     (sym (l .is-lower .ensures) ∙ c .if5 .left))
 
 pub by-letter-spec : {M : Type 1} → statement M
-by-letter-spec = tie.close (tie.spec by-count-requires returns by-count-requires-2 returns-2 by-commands-requires returns-3 is-letter-requires by-count-requires-3 returns-4 is-lower-requires returns-5 returns-6)
+by-letter-spec =
+    tie.close (tie.spec by-count-requires returns by-count-requires-2 returns-2 by-commands-requires returns-3 is-letter-requires
+    by-count-requires-3 returns-4 is-lower-requires returns-5 returns-6)

@@ -39,4 +39,5 @@ returns-2 : tie.Need-returns-2 Inv-loop μ-loop
 returns-2 c = sym (has-past _ _ _ (c .loop-test .left)) ∙ c .before .loop .inv
 
 pub has-carriage-return-spec : {M : Type 1} → statement M
-has-carriage-return-spec = tie.close (tie.spec Inv-loop μ-loop loop-holds shared-slice-read-if1 returns add-at loop-less loop-again returns-2)
+has-carriage-return-spec =
+    tie.close (tie.spec Inv-loop μ-loop loop-holds shared-slice-read-if1 returns add-at loop-less loop-again returns-2)

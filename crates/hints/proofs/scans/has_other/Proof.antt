@@ -38,10 +38,12 @@ loop-less c = search needs
 loop-again : tie.Need-loop-again Inv-loop μ-loop
 loop-again c =
     let i = c .before .before .before in
-    rw (add-one (i .before .loop .at)) (sym (other-on _ _ (i .loop-test .taken) (c .before .if1 .left) (c .if2 .left)) ∙ i .before .loop .inv)
+    rw (add-one (i .before .loop .at))
+    (sym (other-on _ _ (i .loop-test .taken) (c .before .if1 .left) (c .if2 .left)) ∙ i .before .loop .inv)
 
 returns-3 : tie.Need-returns-3 Inv-loop μ-loop
 returns-3 c = sym (other-past _ _ (c .loop-test .left)) ∙ c .before .loop .inv
 
 pub has-other-spec : {M : Type 1} → statement M
-has-other-spec = tie.close (tie.spec Inv-loop μ-loop loop-holds shared-slice-read-byte returns returns-2 add-at loop-less loop-again returns-3)
+has-other-spec =
+    tie.close (tie.spec Inv-loop μ-loop loop-holds shared-slice-read-byte returns returns-2 add-at loop-less loop-again returns-3)

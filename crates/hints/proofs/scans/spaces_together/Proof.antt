@@ -61,4 +61,6 @@ returns-2 c =
     sym (together-last _ _ past) ∙ l .inv .0
 
 pub spaces-together-spec : {M : Type 1} → statement M
-spaces-together-spec = tie.close (tie.spec Inv-loop μ-loop loop-holds sub-if1 shared-slice-read-if1 shared-slice-read-if2 returns add-at loop-less loop-again returns-2)
+spaces-together-spec =
+    tie.close (tie.spec Inv-loop μ-loop loop-holds sub-if1 shared-slice-read-if1 shared-slice-read-if2 returns add-at loop-less loop-again
+    returns-2)

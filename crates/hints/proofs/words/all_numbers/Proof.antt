@@ -68,4 +68,5 @@ returns-2 c =
     sym (numbers-none _ (words-none _ (l .loop .at) (omega (arith, c .loop-test .left)))) ∙ l .loop .inv
 
 pub all-numbers-spec : {M : Type 1} → statement M
-all-numbers-spec = tie.close (tie.spec Inv-loop μ-loop loop-holds number-at-requires returns word-end-requires add-at loop-less loop-again returns-2)
+all-numbers-spec =
+    tie.close (tie.spec Inv-loop μ-loop loop-holds number-at-requires returns word-end-requires add-at loop-less loop-again returns-2)

@@ -66,4 +66,5 @@ returns-4 : tie.Need-returns-4 Inv-loop μ-loop
 returns-4 c = sym (rest-ended _ _ (word-past _ _ (c .loop-test .left) .0)) ∙ c .before .loop .inv .0
 
 pub digits-at-spec : {M : Type 1} → statement M
-digits-at-spec = tie.close (tie.spec Inv-loop μ-loop loop-holds shared-slice-read-byte returns returns-2 returns-3 add-at loop-less loop-again returns-4)
+digits-at-spec =
+    tie.close (tie.spec Inv-loop μ-loop loop-holds shared-slice-read-byte returns returns-2 returns-3 add-at loop-less loop-again returns-4)
