@@ -1,17 +1,13 @@
 // The words behind a line's letter: how many there are, and whether each is a number.
+use line_reader::BEHIND_LETTER;
+use line_rules::DIGIT_0;
+use line_rules::DIGIT_9;
 use line_rules::MINUS;
 use line_rules::SPACE;
 ghost use mathlib.Core.Path.{_≡_};
 ghost use lib.ListN.{length};
 ghost use Rattle.line_reader.specs.Places.{behindLetter, wordAt, wordsFrom};
 ghost use Rattle.hints.specs.Why.{someDigits, isNumber, allNumbers};
-
-// Where they begin.
-const BEHIND_LETTER: usize = 2;
-
-const DIGIT_0: u8 = 48;
-
-const DIGIT_9: u8 = 57;
 
 pub fn count(line: &[u8]) -> usize
     ensures { λ r. ⌜ r ≡ length (wordsFrom (now (line .entry)) behindLetter) ⌝ }

@@ -1,5 +1,6 @@
 // The forms of lines, by their first letter. A place in a line is where a word begins; the words end at the line's end, so that the word
 // behind the last would begin past it.
+use crate::BEHIND_LETTER;
 use crate::Call;
 use crate::Line;
 use crate::LineRead;
@@ -30,9 +31,6 @@ ghost use Rattle.line_rules.specs.Reading.{highest8, unread as notRead, opening
 ghost use Rattle.line_rules.specs.Reading.{fails, lineWith, lineBy};
 ghost use Rattle.line_reader.specs.Held.{letterOf, idCall, idLine, heldLine};
 ghost use Rattle.line_reader.specs.Places.{behindLetter, wordsFrom, CommandAt};
-
-// Where the words behind the letter begin.
-const BEHIND_LETTER: usize = 2;
 
 const HIGHEST_8: u64 = 255;
 

@@ -18,6 +18,9 @@ ghost use Rattle.line_reader.specs.Places.{wordEnd};
 // Lines of up to this many bytes are read.
 pub const MAX_LINE: usize = 128;
 
+// Where the words behind a line's letter begin.
+pub const BEHIND_LETTER: usize = 2;
+
 // The calls that lines make. The commands of a submission stand beside it.
 pub enum Call {
     Submit,

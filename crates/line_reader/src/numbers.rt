@@ -1,14 +1,12 @@
 // Numbers at a place of a line: the word that begins there.
+use line_rules::DIGIT_0;
+use line_rules::DIGIT_9;
 use line_rules::MINUS;
 use line_rules::SPACE;
 ghost use mathlib.Core.Path.{_≡_};
 ghost use Prim.Native.Nat.{_≤_, _^_};
 ghost use Rattle.line_rules.specs.Reading.{lowest16, minusOf};
 ghost use Rattle.line_reader.specs.Places.{foundFrom, numberAt, settingAt};
-
-const DIGIT_0: u8 = 48;
-
-const DIGIT_9: u8 = 57;
 
 // The largest setting of 16 bits; the smallest is one further from 0.
 const HIGHEST_16: u64 = 32767;

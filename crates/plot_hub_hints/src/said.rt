@@ -1,6 +1,7 @@
 // What is said of an unread line, and at the end.
 use hints::Hint;
 use libc::STDOUT_FILENO;
+use line_reader::MAX_LINE;
 
 fn put(text: &[u8]) -> bool {
     io::write_all(STDOUT_FILENO, text)
@@ -10,10 +11,17 @@ fn put_number(number: u64) -> bool {
     io::print_decimal(STDOUT_FILENO, number)
 }
 
+fn put_too_long() -> bool {
+    let begun = put(b"longer than ");
+    let counted = put_number(MAX_LINE as u64);
+    let ended = put(b" bytes\n");
+    begun && counted && ended
+}
+
 fn put_reason(hint: Hint) -> bool {
     match hint {
         Hint::Nothing => true,
-        Hint::TooLong => put(b"longer than 128 bytes\n"),
+        Hint::TooLong => put_too_long(),
         Hint::Empty => put(b"an empty line\n"),
         Hint::CarriageReturn => put(b"a carriage return\n"),
         Hint::OtherByte => put(

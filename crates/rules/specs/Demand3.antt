@@ -1,4 +1,4 @@
--- Demand 3, its statement. The proof is `demand-3` of `proofs/Theorem.antt`; `docs/DEMAND-3.md` walks through it. Assumes nothing.
+-- Demand 3, its statement. The proof is `demand-3` of crate `promises`; `docs/DEMAND-3.md` walks through it. Assumes nothing.
 use mathlib.Core.Path.{_≡_}
 use mathlib.Core.Logic.{_⊎_}
 use mathlib.Core.Bool.{Bool, true, false, _&&_}

@@ -1,6 +1,6 @@
 -- Document 01: "The hub's order is the settled part, then each routine of the sequence followed by its events." The order is built from the
 -- answers; this says that it is the order of the routines that the hub holds, that its serial run gives what the hub has of each device,
--- and that the accounts have of each command what the hub has. The proof is `hub-order` of `proofs/Theorem.antt`. Assumes nothing.
+-- and that the accounts have of each command what the hub has. The proof is `hub-order` of crate `promises`. Assumes nothing.
 use mathlib.Core.Path.{_≡_}
 use mathlib.Core.List.{List, [], _∷_, map}
 use Prim.Native.Nat.{ℕ}

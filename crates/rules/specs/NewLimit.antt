@@ -1,6 +1,5 @@
 -- Document 02, item 13: what is claimed of new pass limits besides their refusal (`Causes.antt`), demand 3 and the waiting promise. The
--- proofs are `limit-tells-nothing` and `nothing-to-settle` of `proofs/Theorem.antt`, and `passed-below` and `passes-in-range` of
--- `proofs/Passes.antt`. Assumes nothing.
+-- proofs are `limit-tells-nothing`, `nothing-to-settle`, `passed-below` and `passes-in-range` of crate `promises`. Assumes nothing.
 use mathlib.Core.Path.{_≡_}
 use mathlib.Core.Bool.{true}
 use mathlib.Core.List.{List, _∷_, _++_, map}

@@ -1,5 +1,5 @@
 -- Document 02, item 4: "Running the committed routines and the accepted failures and restarts in the hub's order must give every condition
--- that was not skipped the same outcome that it had live." The proof is `replay` of `proofs/Theorem.antt`. Assumes nothing.
+-- that was not skipped the same outcome that it had live." The proof is `replay` of crate `promises`. Assumes nothing.
 use mathlib.Core.Path.{_≡_}
 use mathlib.Core.Bool.{Bool, true, false}
 use mathlib.Core.List.{List, [], _∷_}

@@ -1,6 +1,6 @@
 -- Document 02, item 1, "Nobody waits for ever", with the new pass limits of item 13: rounds, schedules and the waiting promise. Which
 -- routines run, what is in flight, what has ended and which K is in force is told by calls and answers, without a look at the hub. The
--- proof is `ended-in-time` of `proofs/Waiting.antt`; `docs/WAITING.md` walks through it. Assumes nothing.
+-- proof is `ended-in-time` of crate `promises`; `docs/WAITING.md` walks through it. Assumes nothing.
 use mathlib.Core.Path.{_≡_}
 use mathlib.Core.Bool.{Bool, false, not, _&&_}
 use mathlib.Core.List.{List, [], _∷_, _++_, map}
