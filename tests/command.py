@@ -45,6 +45,11 @@ def hints_of(name, text):
     return hints.hints(text, key_of(text)) if name == 'plot_hub' else b''
 
 
+def built(root, program):
+    """Where a tree like the repository's has a program."""
+    return os.path.join(root, 'target/bin', 'run_' + program)
+
+
 def tree(folder, shell, release=False):
     """A copy of TREE whose scripts are run by the shell; laid out as a release, if that is asked for."""
     start, programs = ('libexec/plot_hub', 'libexec/plot_hub') if release else ('bin', 'target/bin')
@@ -59,7 +64,7 @@ def tree(folder, shell, release=False):
             file.write('#!' + ' '.join([shutil.which(shell[0])] + shell[1:]) + '\n' + text[1])
         os.chmod(path, 0o755)
     for program in ('plot_hub', 'show_book', 'plot_hub_hints'):
-        os.symlink(os.path.realpath(os.path.join(TREE, 'target/bin', program)), os.path.join(folder, programs, program))
+        os.symlink(os.path.realpath(built(TREE, program)), os.path.join(folder, programs, program) if release else built(folder, program))
     for file in ('VERSION', 'KIT'):
         shutil.copy(os.path.join(TREE, file), folder)
 
@@ -269,7 +274,7 @@ def ended_otherwise(shell, folder):
     c = Commands(os.path.join(folder, 'other'), folder)
     tree(c.root, shell)
     for name in NAMES:
-        path = os.path.join(c.root, 'target/bin', name)
+        path = built(c.root, name)
         for script, expected in (
                 ('echo opened; kill -KILL $$', (1, 'opened\n', f'{name}: ended by signal 9; what it printed is not whole\n')),
                 ('kill -SEGV $$', bad(name, 'ended by signal 11; what it printed is not whole')),
@@ -299,8 +304,8 @@ def ended_otherwise(shell, folder):
 
 def hints_that_fail(c):
     """The status is about the key alone."""
-    for program, target in (('plot_hub', os.path.join(TREE, 'target/bin/plot_hub')), ('plot_hub_hints', None)):
-        path = os.path.join(c.root, 'target/bin', program)
+    for program, target in (('plot_hub', built(TREE, 'plot_hub')), ('plot_hub_hints', None)):
+        path = built(c.root, program)
         os.remove(path)
         if target:
             os.symlink(os.path.realpath(target), path)
@@ -317,20 +322,23 @@ def not_built(shell, folder):
     """Nothing is built; then all but the hints. A release that lacks a program."""
     for release, root in ((False, os.path.join(folder, 'bare')), (True, os.path.join(folder, 'bare release'))):
         tree(root, shell, release)
-        c, programs = Commands(root, folder), os.path.join(root, 'libexec/plot_hub' if release else 'target/bin')
+        c = Commands(root, folder)
+
+        def place(program):
+            return os.path.join(root, 'libexec/plot_hub', program) if release else built(root, program)
 
         def message(program):
             if release:
-                return f'this release is not whole: there is no {programs}/{program}'
-            return f'not built yet; in {root} run: rt check {program}'
+                return f'this release is not whole: there is no {place(program)}'
+            return f'not built yet; in {root} run: rt check run_{program}'
         for name in NAMES:
             c.check(good(output_of(name, INPUT[name])), name, text=INPUT[name])
-        os.remove(os.path.join(programs, 'plot_hub_hints'))
+        os.remove(place('plot_hub_hints'))
         c.check(bad('plot_hub', message('plot_hub_hints')), 'plot_hub', '--hints', text=LISTING)
         c.check(good(key_of(LISTING)), 'plot_hub', text=LISTING)
         c.check(good(output_of('show_book', BOOK)), 'show_book', '--hints', text=BOOK)
         for name in NAMES:
-            os.remove(os.path.join(programs, name))
+            os.remove(place(name))
             for options in ([], ['--hints']):
                 c.check(bad(name, message(name)), name, *options, text=INPUT[name])
             assert c.run(name, '--version')[0] == c.run(name, '--help')[0] == 0
@@ -407,7 +415,7 @@ def same_bytes(commands):
     for index in range(60):
         kind = 'damaged' if index % 3 else 'random'
         sitting = subprocess.run([HISTORY, kind, SEED, str(index)], stdout=subprocess.PIPE, check=True).stdout
-        own = subprocess.run([os.path.join(TREE, 'target/bin/plot_hub')], input=sitting, stdout=subprocess.PIPE, check=True).stdout
+        own = subprocess.run([built(TREE, 'plot_hub')], input=sitting, stdout=subprocess.PIPE, check=True).stdout
         assert own == key_of(sitting), f'{kind} {SEED} {index}'
         c = commands[index % len(commands)]
         plain = c.write('plain', sitting)

@@ -23,7 +23,7 @@ import sys
 ROOT = pathlib.Path(__file__).resolve().parents[1]
 PAGE = ROOT / 'docs' / 'HANDBOOK.md'
 SITTINGS = ROOT / 'examples' / 'sittings'
-TABLE_OF_REFUSALS = ROOT / 'crates' / 'routine' / 'specs' / 'Refusals.antt'
+TABLE_OF_REFUSALS = ROOT / 'crates' / 'rules_routine' / 'specs' / 'Refusals.antt'
 WORDS_PRINTED = ROOT / 'crates' / 'line_rules' / 'specs' / 'Printing.antt'
 MODEL = [sys.executable, str(ROOT / 'tests' / 'book' / 'show.py')]
 

@@ -24,15 +24,15 @@ stored() { # COMMAND...
 
 stored_sittings() {
     "$bin/make_sittings" 1 300 tests/hub/examples.txt "$scratch/stdin" "$scratch/stdout" &&
-        cmp "$scratch/stdin" crates/sittings/stdin && cmp "$scratch/stdout" crates/sittings/stdout
+        cmp "$scratch/stdin" crates/run_sittings/stdin && cmp "$scratch/stdout" crates/run_sittings/stdout
 }
 
 # The output that `rt check` expects of plot_hub, plot_hub_hints and show_book.
 stored_output() {
-    local sitting=crates/plot_hub_hints/stdin
-    "$bin/reference" <crates/plot_hub/stdin | cmp - crates/plot_hub/stdout &&
-        "$bin/reference" <$sitting >"$scratch/key" && python3 tests/hints.py $sitting "$scratch/key" | cmp - crates/plot_hub_hints/stdout &&
-        python3 tests/book/show.py <crates/show_book/stdin | cmp - crates/show_book/stdout
+    local sitting=crates/run_plot_hub_hints/stdin
+    "$bin/reference" <crates/run_plot_hub/stdin | cmp - crates/run_plot_hub/stdout &&
+        "$bin/reference" <$sitting >"$scratch/key" && python3 tests/hints.py $sitting "$scratch/key" | cmp - crates/run_plot_hub_hints/stdout &&
+        python3 tests/book/show.py <crates/run_show_book/stdin | cmp - crates/run_show_book/stdout
 }
 
 reference_tests() {
@@ -104,8 +104,8 @@ under_valgrind() {
 # A folder like the repository's: bin/, and the tested programs where bin/ looks for them.
 tree() { # FOLDER
     mkdir -p "$1/bin" "$1/target/bin" && cp bin/* "$1/bin/" && cp VERSION KIT "$1/" &&
-        ln -s "$program" "$1/target/bin/plot_hub" && ln -s "$show_book" "$1/target/bin/show_book" &&
-        ln -s "$hints" "$1/target/bin/plot_hub_hints"
+        ln -s "$program" "$1/target/bin/run_plot_hub" && ln -s "$show_book" "$1/target/bin/run_show_book" &&
+        ln -s "$hints" "$1/target/bin/run_plot_hub_hints"
 }
 
 # Words, files, exit status, messages, hints, of both commands and with each shell.
@@ -137,7 +137,7 @@ starters() {
     local name input expected links=$scratch/links
     tree "$scratch/tree" && mkdir "$links" || return 1
     for name in plot_hub show_book; do
-        input=$PWD/crates/$name/stdin expected=$PWD/crates/$name/stdout
+        input=$PWD/crates/run_$name/stdin expected=$PWD/crates/run_$name/stdout
         ln -s "../tree/bin/$name" "$links/beside" && ln -s "$links/beside" "$links/$name" || return 1 # a link to a link
         (cd / && "$links/$name" "$input") | cmp - "$expected" || return 1
         (cd "$links" && "./$name" <"$input") | cmp - "$expected" || return 1

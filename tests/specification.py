@@ -16,7 +16,7 @@ from html.parser import HTMLParser
 from urllib.parse import unquote
 
 ROOT = os.path.dirname(os.path.dirname(os.path.abspath(__file__)))
-CONTRACTS = ["routine", "layout", "book", "book_writer", "book_copy", "hub", "line", "line_parts", "hints"]
+CONTRACTS = ["rules_routine", "book_layout", "book_read", "book_write", "book_copy", "hub", "line", "line_parts", "line_hints"]
 CHAPTERS = ["reading", "refusals", "book", "rules", "order", "serial", "world", "demand-3", "waiting", "lines", "running", "contracts",
             "values", "examples", "parts"]
 TEXTS = ("code", "marked", "kind", "said")
@@ -393,9 +393,9 @@ def restore(tree, path, text):
 
 EDITS = [  # what is changed, and what the tool then says
     ("crates/rules/specs/State.antt", "abbrev pub maxHeld : ℕ\nmaxHeld = 16\n", "", "`maxHeld`"),
-    ("crates/promises/proofs/Theorem.antt", "pub demand-3 : Statement", "pub demand-three : Statement", "`demand-3`"),
+    ("crates/rules_promises/proofs/Theorem.antt", "pub demand-3 : Statement", "pub demand-three : Statement", "`demand-3`"),
     ("crates/rules/specs/Due.antt", "due s d = afterMembers d", "due s d = afterAll d", "`afterAll`"),
-    ("crates/routine/src/lib.rt", "pub struct Command {", "pub struct Order {", "`Command`"),
+    ("crates/rules_routine/src/lib.rt", "pub struct Command {", "pub struct Order {", "`Command`"),
 ]
 
 
@@ -430,13 +430,13 @@ WRONG = [  # small pages, and what the test says of them
 ]
 HARM = [  # changes of the page, and what the test says of them
     (r'id="rules\.State\.maxHeld"', 'id="rules.State.most"', "rules.State.maxHeld is not on the page"),
-    (r'<div class="d t" id="promises\.proofs\.Theorem\.demand-3">.*?</div>\n', "", "theorem demand-3, and it is not"),
+    (r'<div class="d t" id="rules_promises\.proofs\.Theorem\.demand-3">.*?</div>\n', "", "theorem demand-3, and it is not"),
     (r'<a href="#rules\.Due\.due">due</a>', "due", "no link to rules.Due.due"),
-    (r'(id="promises\.proofs\.Theorem\.replay"><b>)Theorem', r"\1Lemma", "replay is a lemma"),
+    (r'(id="rules_promises\.proofs\.Theorem\.replay"><b>)Theorem', r"\1Lemma", "replay is a lemma"),
     (r"(<dfn>|<b>)maxDevices(</dfn>|</b>) = 32", "maxDevices = 33", "another text than the file's"),
     (r'(hasSet</b>.*?λ x\..*?</a> d )x ', r'\1<a href="#rules.State.Step">x</a> ', "a link on x, which is bound there"),
-    (r"(Proved in crates/promises/proofs/Theorem\.antt, line )\d+", r"\g<1>1", "is not at crates/promises/proofs/Theorem.antt, line 1"),
-    (r"enum <b>Verdict</b>", "enum <b>Verdicts</b>", "code.routine.Verdict: another text"),
+    (r"(Proved in crates/rules_promises/proofs/Theorem\.antt, line )\d+", r"\g<1>1", "is not at crates/rules_promises/proofs/Theorem.antt, line 1"),
+    (r"enum <b>Verdict</b>", "enum <b>Verdicts</b>", "code.rules_routine.Verdict: another text"),
     (r'id="chapter-(order|serial)"', lambda found: 'id="chapter-%s"' % {"order": "serial", "serial": "order"}[found[1]], "another order"),
     (r'href="#rules\.State\.Member\.steps"', 'href="#rules.State.Member.id"', "steps leads to rules.State.Member.id"),
     (r'id="call\.hub\.submit"', 'id="call.hub.submits"', "call.hub.submit is not on the page"),

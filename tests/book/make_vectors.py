@@ -3,16 +3,16 @@
     python3 tests/book/make_vectors.py crates
 
 writes the stdin (records) and stdout (the lines expected for them) of the
-programs crates/read_vectors and crates/write_vectors. Every run makes the same
+programs crates/run_read_vectors and crates/run_write_vectors. Every run makes the same
 bytes. The answers come from model.py alone.
 
 A record is two bytes of length and that many bytes. All numbers are of two
 bytes, low byte first.
 
-read_vectors   The record is a book to read. Lines: `refused N` or
+run_read_vectors   The record is a book to read. Lines: `refused N` or
      `refused N I`; or `routine` with ` D T S` for each command, for each
      routine; `end`; and `same`, since the routines written again give the book.
-write_vectors  Routines to write: four parts, each its number of bytes and its
+run_write_vectors  Routines to write: four parts, each its number of bytes and its
      bytes: a count for each routine, devices, tags, settings of two bytes each;
      then r, the length of the lent buffer, and f, one byte: byte i of the
      buffer is (f + i) % 256 before. Each routine has the next `count` commands
@@ -1006,7 +1006,7 @@ def main():
     answers = [answer_of(record) for record in records]
     tally = outcomes(records, answers)
     check_coverage(tally)
-    for kind, name in [('R', 'read_vectors'), ('W', 'write_vectors')]:
+    for kind, name in [('R', 'run_read_vectors'), ('W', 'run_write_vectors')]:
         of_kind = [(record[1:], answer) for record, answer in zip(records, answers)
                    if record[0] == ord(kind)]
         bodies = [body for body, _ in of_kind]

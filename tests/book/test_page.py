@@ -8,8 +8,8 @@ import model
 
 ROOT = pathlib.Path(__file__).resolve().parents[2]
 PAGE = ROOT / 'docs' / 'LAYOUT.md'
-DEFINITION = ROOT / 'crates' / 'layout' / 'specs' / 'Numbers.antt'
-CODE = ROOT / 'crates' / 'layout' / 'src' / 'lib.rt'
+DEFINITION = ROOT / 'crates' / 'book_layout' / 'specs' / 'Numbers.antt'
+CODE = ROOT / 'crates' / 'book_layout' / 'src' / 'lib.rt'
 
 # The lines that page, definition and code have in common, reading and writing.
 READING = ["below 128: the two bytes' number;", '128 or above: that less 65,536.']

@@ -1,5 +1,5 @@
 #!/usr/bin/env python3
-"""Writes the test vectors of crate `hub_vectors`: its `stdin`, and in `stdout` what it must print.
+"""Writes the test vectors of crate `run_hub_vectors`: its `stdin`, and in `stdout` what it must print.
 
     tests/hub/make_vectors.py crates [COUNT] [SEED]    # the examples of examples.txt, and COUNT random histories
 
@@ -227,7 +227,7 @@ def main():
     seed = int(sys.argv[3]) if len(sys.argv) > 3 else 4
     given, expected = vectors(count, seed)
     check_reach(count, seed)
-    crate = os.path.join(sys.argv[1], "hub_vectors")
+    crate = os.path.join(sys.argv[1], "run_hub_vectors")
     os.makedirs(crate, exist_ok=True)
     for name, content in (("stdin", given), ("stdout", expected)):
         with open(os.path.join(crate, name), "wb") as f:

@@ -95,8 +95,8 @@ use mathlib.Core.List.{List, [], _∷_}
 use mathlib.Core.Option.{none, some}
 use lib.IntN.{pos, negsuc}
 use lib.ListN.{replicate}
-use Rattle.routine.specs.declared.Refusal.the-variants.{Number, Indexed}
-use Rattle.routine.specs.declared.Verdict.the-variants.{Accepted, Refused}
+use Rattle.rules_routine.specs.declared.Refusal.the-variants.{Number, Indexed}
+use Rattle.rules_routine.specs.declared.Verdict.the-variants.{Accepted, Refused}
 use Rattle.rules.specs.AllDue.{allDue, listCheck, listAfter}
 use Rattle.rules.specs.Open.{newHub}
 use Rattle.rules.specs.Calls.{stateAfter}
@@ -113,13 +113,13 @@ def main():
     rng = random.Random(seed)
     with tempfile.TemporaryDirectory() as folder:
         crates = os.path.join(folder, "crates")
-        for name in ("routine", "rules"):
+        for name in ("rules_routine", "rules"):
             shutil.copytree(os.path.join(ROOT, "crates", name), os.path.join(crates, name))
         rules = os.path.join(crates, "rules")
         shutil.rmtree(os.path.join(rules, "proofs"))
         shutil.rmtree(os.path.join(rules, "must-fail"))
         with open(os.path.join(folder, "crates.txt"), "w") as f:
-            f.write("routine:\nrules: routine\n")
+            f.write("rules_routine:\nrules: rules_routine\n")
         with open(os.path.join(rules, "specs", "Lib.antt"), "a") as f:
             f.write("mod Histories\n")
         with open(os.path.join(rules, "specs", "Histories.antt"), "w") as f:

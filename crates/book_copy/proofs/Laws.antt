@@ -11,24 +11,25 @@ use lib.Dec.{ltb}
 use lib.IntN.{pos}
 use lib.ListN.{length, take, drop, getD, set, replicate, length-append, length-map, length-take, length-drop}
 use lib.Seq.{set-at, slice, slice-cons, slice-empty, take-append-seam, take-suc}
-use Rattle.routine.specs.Choice.{if_then_else_}
-use Rattle.routine.specs.Routine.{maxCommands, zeroCommand, commandsOf, routineCheck}
-use Rattle.routine.specs.declared.Command.{Command}
-use Rattle.routine.specs.declared.Refusal.{Refusal}
-use Rattle.routine.specs.declared.Verdict.{Verdict}
-use Rattle.routine.specs.declared.Verdict.the-variants.{Accepted, Refused}
-use Rattle.routine.proofs.Laws.{both-accept, check-accepted}
-use Rattle.layout.specs.Claims.{Hands, ends, hands, Bytes}
-use Rattle.layout.specs.Layout.{maxRoutines, bookDevices}
-use Rattle.layout.specs.Reading.{bookCheck, nextOf}
-use Rattle.layout.specs.Writing.{routinesLent, rowOf, countsOf, routinesCheck, writeCheck, writtenWith, writtenOf, bufferWith, bufferAfter}
-use Rattle.layout.specs.declared.Item.{Item}
-use Rattle.layout.proofs.Item.{the-type as item-type}
-use Rattle.layout.specs.declared.Item.the-variants.{Handed, End, Refused as RefusedBook}
-use Rattle.layout.specs.declared.Written.the-variants.{Refused as NotWritten}
-use Rattle.layout.proofs.Lending.{first-there, rest-there}
-use Rattle.layout.proofs.RoundTrip.{Makes, hands-make}
-use Rattle.layout.proofs.Theorems.{read-then-write, lent-again}
+use Rattle.rules_routine.specs.Choice.{if_then_else_}
+use Rattle.rules_routine.specs.Routine.{maxCommands, zeroCommand, commandsOf, routineCheck}
+use Rattle.rules_routine.specs.declared.Command.{Command}
+use Rattle.rules_routine.specs.declared.Refusal.{Refusal}
+use Rattle.rules_routine.specs.declared.Verdict.{Verdict}
+use Rattle.rules_routine.specs.declared.Verdict.the-variants.{Accepted, Refused}
+use Rattle.rules_routine.proofs.Laws.{both-accept, check-accepted}
+use Rattle.book_layout.specs.Claims.{Hands, ends, hands, Bytes}
+use Rattle.book_layout.specs.Layout.{maxRoutines, bookDevices}
+use Rattle.book_layout.specs.Reading.{bookCheck, nextOf}
+use Rattle.book_layout.specs.Writing.{routinesLent, rowOf, countsOf, routinesCheck, writeCheck, writtenWith, writtenOf, bufferWith}
+use Rattle.book_layout.specs.Writing.{bufferAfter}
+use Rattle.book_layout.specs.declared.Item.{Item}
+use Rattle.book_layout.proofs.Item.{the-type as item-type}
+use Rattle.book_layout.specs.declared.Item.the-variants.{Handed, End, Refused as RefusedBook}
+use Rattle.book_layout.specs.declared.Written.the-variants.{Refused as NotWritten}
+use Rattle.book_layout.proofs.Lending.{first-there, rest-there}
+use Rattle.book_layout.proofs.RoundTrip.{Makes, hands-make}
+use Rattle.book_layout.proofs.Theorems.{read-then-write, lent-again}
 use Rattle.book_copy.specs.Copy.{copyCheck, copiedOf, copyAfter}
 use Rattle.book_copy.specs.Rows.{mostCommands, padded, rowsWith, rowsOf, RowsOfBook, withCommand, withCommands, withCount}
 use Rattle.book_copy.specs.Rows.{withRoutine}

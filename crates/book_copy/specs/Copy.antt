@@ -3,11 +3,11 @@ use mathlib.Core.List.{List}
 use Prim.Native.Nat.{ℕ}
 use lib.Dec.{ltb}
 use lib.ListN.{length}
-use Rattle.routine.specs.Refusals.{no-room, refuse_when_, _andThen_}
-use Rattle.routine.specs.declared.Verdict.{Verdict}
-use Rattle.layout.specs.Reading.{bookCheck}
-use Rattle.layout.specs.Writing.{writtenWith, bufferWith}
-use Rattle.layout.specs.declared.Written.{Written}
+use Rattle.rules_routine.specs.Refusals.{no-room, refuse_when_, _andThen_}
+use Rattle.rules_routine.specs.declared.Verdict.{Verdict}
+use Rattle.book_layout.specs.Reading.{bookCheck}
+use Rattle.book_layout.specs.Writing.{writtenWith, bufferWith}
+use Rattle.book_layout.specs.declared.Written.{Written}
 
 -- The book's refusal; then 21, for a buffer of so many bytes.
 unfoldable pub copyCheck : List ℕ → ℕ → Verdict

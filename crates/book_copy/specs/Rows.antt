@@ -5,15 +5,15 @@ use Prim.Native.Nat.{ℕ, _+_, _-_, _*_}
 use lib.Dec.{ltb}
 use lib.IntN.{pos}
 use lib.ListN.{length, set, replicate}
-use Rattle.routine.specs.Choice.{if_then_else_}
-use Rattle.routine.specs.Routine.{maxCommands}
-use Rattle.routine.specs.declared.Command.{Command}
-use Rattle.routine.specs.declared.Refusal.{Refusal}
-use Rattle.routine.specs.declared.Verdict.the-variants.{Accepted, Refused}
-use Rattle.layout.specs.Claims.{Hands}
-use Rattle.layout.specs.Layout.{maxRoutines}
-use Rattle.layout.specs.Reading.{bookCheck}
-use Rattle.layout.specs.Writing.{rowOf, countsOf}
+use Rattle.rules_routine.specs.Choice.{if_then_else_}
+use Rattle.rules_routine.specs.Routine.{maxCommands}
+use Rattle.rules_routine.specs.declared.Command.{Command}
+use Rattle.rules_routine.specs.declared.Refusal.{Refusal}
+use Rattle.rules_routine.specs.declared.Verdict.the-variants.{Accepted, Refused}
+use Rattle.book_layout.specs.Claims.{Hands}
+use Rattle.book_layout.specs.Layout.{maxRoutines}
+use Rattle.book_layout.specs.Reading.{bookCheck}
+use Rattle.book_layout.specs.Writing.{rowOf, countsOf}
 use Rattle.book_copy.specs.declared.Rows.{Rows}
 use Rattle.book_copy.specs.declared.RowsRead.{RowsRead}
 
@@ -36,7 +36,7 @@ rowsWith ns cs = record {
   commands = length cs;
 }
 
--- The rows of these routines: what is lent of them (crate `layout`, Writing.antt).
+-- The rows of these routines: what is lent of them (crate `book_layout`, Writing.antt).
 abbrev pub rowsOf : List (List Command) → Rows
 rowsOf rs = rowsWith (countsOf rs) (rowOf rs)
 

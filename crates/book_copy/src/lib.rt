@@ -1,16 +1,16 @@
-// A routine book that is read and written again: what crate `book` reads, lent to crate `book_writer` as it takes it. So that the two
+// A routine book that is read and written again: what crate `book_read` reads, lent to crate `book_write` as it takes it. So that the two
 // belong together is proved of the code: an accepted book gives the same bytes.
 mod reading;
 
-use layout::MAX_ROUTINES;
-use layout::Written;
-use routine::MAX_COMMANDS;
-use routine::Verdict;
+use book_layout::MAX_ROUTINES;
+use book_layout::Written;
+use rules_routine::MAX_COMMANDS;
+use rules_routine::Verdict;
 ghost use mathlib.Core.Path.{_≡_};
 ghost use Prim.Native.Nat.{_≤_};
 ghost use lib.ListN.{length, take};
-ghost use Rattle.layout.specs.Layout.{maxRoutines};
-ghost use Rattle.layout.specs.Writing.{routinesLent, writtenOf, bufferAfter};
+ghost use Rattle.book_layout.specs.Layout.{maxRoutines};
+ghost use Rattle.book_layout.specs.Writing.{routinesLent, writtenOf, bufferAfter};
 ghost use Rattle.book_copy.specs.Rows.{RowsOfBook};
 ghost use Rattle.book_copy.specs.Copy.{copiedOf, copyAfter};
 
@@ -37,7 +37,7 @@ pub struct RowsRead {
 pub fn rows_of(book: &[u8]) -> RowsRead
     ensures { λ r. ⌜ RowsOfBook (now (book .entry)) r ⌝ }
 {
-    let verdict = book::check(book);
+    let verdict = book_read::check(book);
     let Verdict::Accepted = verdict else {
         let none = reading::empty();
         return RowsRead {
@@ -67,7 +67,7 @@ fn write_rows(rows: Rows, out: &mut [u8]) -> Written
     let tags = rows.tags;
     let settings = rows.settings;
     let n = rows.routines;
-    book_writer::write(&counts[..n], &devices, &tags, &settings, out)
+    book_write::write(&counts[..n], &devices, &tags, &settings, out)
 }
 
 // A book read, and what was read written into a lent buffer: the same bytes, or 21 if it is too short; of a refused book its refusal.

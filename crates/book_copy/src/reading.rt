@@ -1,16 +1,16 @@
 // Rows, put together from what a reading hands out.
 use crate::MOST_COMMANDS;
 use crate::Rows;
-use layout::Item;
-use layout::MAX_ROUTINES;
-use routine::Command;
-use routine::Routine;
+use book_layout::Item;
+use book_layout::MAX_ROUTINES;
+use rules_routine::Command;
+use rules_routine::Routine;
 ghost use mathlib.Core.Path.{_≡_};
 ghost use mathlib.Core.List.{[]};
 ghost use Prim.Native.Nat.{_≤_};
-ghost use Rattle.routine.specs.Routine.{maxCommands, commandsOf};
-ghost use Rattle.routine.specs.declared.Verdict.the-variants.{Accepted};
-ghost use Rattle.layout.specs.Reading.{bookCheck};
+ghost use Rattle.rules_routine.specs.Routine.{maxCommands, commandsOf};
+ghost use Rattle.rules_routine.specs.declared.Verdict.the-variants.{Accepted};
+ghost use Rattle.book_layout.specs.Reading.{bookCheck};
 ghost use Rattle.book_copy.specs.Rows.{rowsOf, RowsHanded, withCommand, withCommands, withCount, withRoutine};
 
 // Rows of no routine.
@@ -95,7 +95,7 @@ pub fn read_all(book: &[u8]) -> Rows
     let mut position = 0;
     let mut i = 0;
     while i < MAX_ROUTINES {
-        let next = book::next(book, position);
+        let next = book_read::next(book, position);
         let item = next.item;
         let Item::Handed = item else {
             return rows;

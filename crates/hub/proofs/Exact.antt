@@ -4,21 +4,22 @@ use mathlib.Core.Logic.{inl, inr}
 use mathlib.Core.List.{List, [], _∷_, _++_}
 use Prim.Native.Nat.{ℕ}
 use native.Mathlib.Omega.{arith}
-use Rattle.routine.specs.Causes.{NoneOf}
-use Rattle.routine.specs.declared.Refusal.{Refusal}
-use Rattle.routine.specs.declared.Verdict.{Verdict}
+use Rattle.rules_routine.specs.Causes.{NoneOf}
+use Rattle.rules_routine.specs.declared.Refusal.{Refusal}
+use Rattle.rules_routine.specs.declared.Verdict.{Verdict}
 use Rattle.rules.specs.Answers.{Back, refused, Result}
 use Rattle.rules.specs.Open.{newHub, openIf}
 use Rattle.rules.specs.Calls.{resultOf}
 use Rattle.rules.specs.Causes.{IsRefusal}
-use Rattle.routine.proofs.Exact.{reworded}
+use Rattle.rules_routine.proofs.Exact.{reworded}
 use Rattle.rules.proofs.Exact.{exact-opening, exact-calls, refused-opening, accepted-opening, opened-new, RefusedOrNot, refused-or-not}
-use Rattle.answers.specs.View.{backsOf, answerOf, firstOf, changesNothing}
-use Rattle.answers.specs.declared.Answer.{Answer}
-use Rattle.answers.specs.declared.Answer.the-variants.{Refused, Placed, Wait, Sent, Done, Skipped, Committed, Aborted, Down, Up, Limited}
-use Rattle.answers.specs.declared.Answer.the-variants.{Held, NotHeld}
-use Rattle.answers.specs.declared.First.{First}
-use Rattle.answers.specs.declared.First.the-variants.{NoAbort, Abort}
+use Rattle.hub_answers.specs.View.{backsOf, answerOf, firstOf, changesNothing}
+use Rattle.hub_answers.specs.declared.Answer.{Answer}
+use Rattle.hub_answers.specs.declared.Answer.the-variants.{Refused, Placed, Wait, Sent, Done, Skipped, Committed, Aborted, Down, Up}
+use Rattle.hub_answers.specs.declared.Answer.the-variants.{Limited}
+use Rattle.hub_answers.specs.declared.Answer.the-variants.{Held, NotHeld}
+use Rattle.hub_answers.specs.declared.First.{First}
+use Rattle.hub_answers.specs.declared.First.the-variants.{NoAbort, Abort}
 use Rattle.hub.specs.View.{view, answersIn}
 use Rattle.hub.specs.Demand3.{HubCall, callOf, Meets}
 use Rattle.hub.specs.Exact.{HubOpeningExact, NotRefused, HubCallsExact}

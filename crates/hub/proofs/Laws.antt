@@ -6,30 +6,31 @@ use Prim.Native.Nat.{ℕ, _<_}
 use borrow.Author.Tests.{lt-ltb}
 use types.Run.{OneOf, miss}
 use denote.Enum.Declared.{tagOf}
-use Rattle.routine.specs.Choice.{if_then_else_}
-use Rattle.routine.specs.Routine.{maxDevices, commandsOf, routineOf, noRoutine}
-use Rattle.routine.specs.declared.Command.{Command}
-use Rattle.routine.specs.declared.Routine.{Routine}
-use Rattle.routine.proofs.Laws.{byTest}
+use Rattle.rules_routine.specs.Choice.{if_then_else_}
+use Rattle.rules_routine.specs.Routine.{maxDevices, commandsOf, routineOf, noRoutine}
+use Rattle.rules_routine.specs.declared.Command.{Command}
+use Rattle.rules_routine.specs.declared.Routine.{Routine}
+use Rattle.rules_routine.proofs.Laws.{byTest}
 use Rattle.rules.specs.State.{State}
 use Rattle.rules.specs.Answers.{Back, Result}
 use Rattle.rules.specs.Settle.{settle, settling}
 use Rattle.rules.proofs.Lists.{t≠f}
-use Rattle.answers.specs.View.{oneOf, firstOf, answerOf, backsOf, backsIn, BacksOk, changesNothing}
-use Rattle.answers.specs.declared.Answer.{Answer}
-use Rattle.answers.specs.declared.Answer.the-variants.{Refused, Placed, Wait, Sent, Done, Skipped, Committed, Aborted, Down, Up, Limited}
-use Rattle.answers.specs.declared.Answer.the-variants.{Held, NotHeld}
-use Rattle.answers.specs.declared.PutBacks.{PutBacks}
-use Rattle.answers.proofs.Answer.{the-type}
-use Rattle.state.specs.View.{stateOf, firstCommitted}
-use Rattle.abort.specs.PutBacks.{downIf}
-use Rattle.state.specs.Contract.{halfwayIn, backsStopped, downWith, appliedTo, backsBy, ChangeOk, backsOfDecision, toldBy}
-use Rattle.state.specs.Contract.{settledUnlessNothing, resultBy, Decides}
-use Rattle.state.specs.declared.HubState.{HubState}
-use Rattle.state.specs.declared.Change.{Change}
-use Rattle.state.specs.declared.Change.the-variants.{Nothing, Stage, Commit, Join, Abort, Fail, Restart}
-use Rattle.state.specs.declared.Decision.{Decision}
-use Rattle.state.proofs.Laws.{settle-idle}
+use Rattle.hub_answers.specs.View.{oneOf, firstOf, answerOf, backsOf, backsIn, BacksOk, changesNothing}
+use Rattle.hub_answers.specs.declared.Answer.{Answer}
+use Rattle.hub_answers.specs.declared.Answer.the-variants.{Refused, Placed, Wait, Sent, Done, Skipped, Committed, Aborted, Down, Up}
+use Rattle.hub_answers.specs.declared.Answer.the-variants.{Limited}
+use Rattle.hub_answers.specs.declared.Answer.the-variants.{Held, NotHeld}
+use Rattle.hub_answers.specs.declared.PutBacks.{PutBacks}
+use Rattle.hub_answers.proofs.Answer.{the-type}
+use Rattle.hub_state.specs.View.{stateOf, firstCommitted}
+use Rattle.hub_abort.specs.PutBacks.{downIf}
+use Rattle.hub_state.specs.Contract.{halfwayIn, backsStopped, downWith, appliedTo, backsBy, ChangeOk, backsOfDecision, toldBy}
+use Rattle.hub_state.specs.Contract.{settledUnlessNothing, resultBy, Decides}
+use Rattle.hub_state.specs.declared.HubState.{HubState}
+use Rattle.hub_state.specs.declared.Change.{Change}
+use Rattle.hub_state.specs.declared.Change.the-variants.{Nothing, Stage, Commit, Join, Abort, Fail, Restart}
+use Rattle.hub_state.specs.declared.Decision.{Decision}
+use Rattle.hub_state.proofs.Laws.{settle-idle}
 use Rattle.hub.specs.View.{view, answersIn}
 use Rattle.hub.specs.Valid.{Valid}
 use Rattle.hub.specs.Contract.{Gives}

@@ -4,14 +4,14 @@ use mathlib.Core.List.{List, [], _∷_}
 use Prim.Native.Nat.{ℕ}
 use native.Mathlib.Omega.{arith}
 use Rattle.rules.specs.Answers.{Back}
-use Rattle.answers.specs.View.{answerOf, backsOf, backsIn}
-use Rattle.answers.specs.declared.First.the-variants.{NoAbort}
-use Rattle.answers.specs.declared.PutBacks.{PutBacks}
-use Rattle.state.specs.View.{stateOf}
-use Rattle.state.specs.declared.HubState.{HubState}
-use Rattle.state.proofs.Laws.{no-backs}
-use Rattle.limit.specs.Contract.{Limits}
-use Rattle.limit.specs.declared.NewLimit.{NewLimit}
+use Rattle.hub_answers.specs.View.{answerOf, backsOf, backsIn}
+use Rattle.hub_answers.specs.declared.First.the-variants.{NoAbort}
+use Rattle.hub_answers.specs.declared.PutBacks.{PutBacks}
+use Rattle.hub_state.specs.View.{stateOf}
+use Rattle.hub_state.specs.declared.HubState.{HubState}
+use Rattle.hub_state.proofs.Laws.{no-backs}
+use Rattle.hub_limit.specs.Contract.{Limits}
+use Rattle.hub_limit.specs.declared.NewLimit.{NewLimit}
 use Rattle.hub.specs.Contract.{Limited}
 use Rattle.hub.specs.declared.Hub.{Hub}
 

@@ -3,17 +3,17 @@ use mathlib.Core.Path.{_≡_, refl, sym, ap, ap₂, _∙_}
 use mathlib.Core.List.{List, [], _∷_, map, reverse, reverseAux}
 use Prim.Native.Nat.{ℕ}
 use native.Mathlib.Omega.{arith}
-use Rattle.routine.specs.declared.Verdict.{Verdict}
-use Rattle.routine.specs.declared.Verdict.the-variants.{Accepted, Refused}
+use Rattle.rules_routine.specs.declared.Verdict.{Verdict}
+use Rattle.rules_routine.specs.declared.Verdict.the-variants.{Accepted, Refused}
 use Rattle.rules.specs.State.{Member, State}
 use Rattle.rules.specs.Answers.{Answer as Told, Result}
 use Rattle.rules.specs.Open.{opened, openCheck, newHub, openIf, openOf}
 use Rattle.rules.specs.Calls.{resultOf, stateAfter}
-use Rattle.sequence.specs.Lists.{count}
-use Rattle.sequence.specs.Links.{slotsOf}
-use Rattle.sequence.proofs.Lists.{count-reverse-onto}
-use Rattle.sequence.proofs.ReadLaws.{back-reversed}
-use Rattle.state.specs.View.{memberAt, membersOf, stateOf}
+use Rattle.hub_sequence.specs.Lists.{count}
+use Rattle.hub_sequence.specs.Links.{slotsOf}
+use Rattle.hub_sequence.proofs.Lists.{count-reverse-onto}
+use Rattle.hub_sequence.proofs.ReadLaws.{back-reversed}
+use Rattle.hub_state.specs.View.{memberAt, membersOf, stateOf}
 use Rattle.hub.specs.View.{view}
 use Rattle.hub.specs.Valid.{Valid}
 use Rattle.hub.specs.Demand3.{HubAct, called, device-takes, callOf, Chain, hubAfter}

@@ -8,23 +8,23 @@ use borrow.Author.Tests.{lt-ltb, le-ltb, ltb-false, eq-eqb, ne-eqb, eqb-false}
 use lib.Dec.{eqb, ltb}
 use lib.IntN.{pos}
 use lib.ListN.{replicate, getD}
-use Rattle.routine.specs.Refusals.{devices-out-of-range, first-id-0, refusalOf, refuse_when_, _andThen_}
-use Rattle.routine.specs.Routine.{maxDevices, maxCommands}
-use Rattle.routine.specs.declared.Refusal.{Refusal}
-use Rattle.routine.specs.declared.Verdict.{Verdict}
-use Rattle.routine.specs.declared.Verdict.the-variants.{Accepted, Refused as TurnedDown}
-use Rattle.routine.proofs.Laws.{both-accept, not-refused, or-false}
+use Rattle.rules_routine.specs.Refusals.{devices-out-of-range, first-id-0, refusalOf, refuse_when_, _andThen_}
+use Rattle.rules_routine.specs.Routine.{maxDevices, maxCommands}
+use Rattle.rules_routine.specs.declared.Refusal.{Refusal}
+use Rattle.rules_routine.specs.declared.Verdict.{Verdict}
+use Rattle.rules_routine.specs.declared.Verdict.the-variants.{Accepted, Refused as TurnedDown}
+use Rattle.rules_routine.proofs.Laws.{both-accept, not-refused, or-false}
 use Rattle.rules.specs.State.{highestId, maxHeld}
 use Rattle.rules.specs.Open.{limitCheck, openCheck, newHub, closedHub, openIf, openOf}
 use Rattle.rules.specs.Calls.{StaysClosed}
 use Rattle.rules.proofs.Closed.{closed-stays}
-use Rattle.sequence.specs.Lists.{count}
-use Rattle.sequence.specs.Links.{slotsOf}
-use Rattle.sequence.specs.Contract.{Empty}
-use Rattle.sequence.specs.declared.Links.{Links}
-use Rattle.state.specs.View.{memberAt, membersOf, stateOf}
-use Rattle.state.specs.Valid.{StateOk}
-use Rattle.state.specs.declared.HubState.{HubState}
+use Rattle.hub_sequence.specs.Lists.{count}
+use Rattle.hub_sequence.specs.Links.{slotsOf}
+use Rattle.hub_sequence.specs.Contract.{Empty}
+use Rattle.hub_sequence.specs.declared.Links.{Links}
+use Rattle.hub_state.specs.View.{memberAt, membersOf, stateOf}
+use Rattle.hub_state.specs.Valid.{StateOk}
+use Rattle.hub_state.specs.declared.HubState.{HubState}
 use Rattle.hub.specs.View.{view}
 use Rattle.hub.specs.Valid.{Valid}
 use Rattle.hub.specs.Contract.{Opens}

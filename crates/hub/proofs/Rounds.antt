@@ -2,15 +2,15 @@
 use mathlib.Core.Path.{_≡_, refl, sym, ap, _∙_, subst}
 use mathlib.Core.List.{List, [], _∷_, _++_, append-assoc}
 use Prim.Native.Nat.{_≤_}
-use Rattle.routine.specs.Routine.{commandsOf}
-use Rattle.routine.specs.declared.Command.{Command}
+use Rattle.rules_routine.specs.Routine.{commandsOf}
+use Rattle.rules_routine.specs.declared.Command.{Command}
 use Rattle.rules.specs.State.{State}
 use Rattle.rules.specs.Answers.{submit, placed, Result}
 use Rattle.rules.specs.Calls.{resultOf, stateAfter}
 use Rattle.rules.specs.History.{Told}
 use Rattle.rules.specs.Rounds.{callsTold, toldThen, Ended, limitTold, Schedule, enoughRounds}
-use Rattle.promises.proofs.Ready.{limit-kept}
-use Rattle.promises.proofs.Waiting.{ended-in-time}
+use Rattle.rules_promises.proofs.Ready.{limit-kept}
+use Rattle.rules_promises.proofs.Waiting.{ended-in-time}
 use Rattle.hub.specs.View.{view, answersIn}
 use Rattle.hub.specs.Demand3.{submits, callOf, HubAct, called, device-takes, Chain, hubAfter}
 use Rattle.hub.specs.Links.{callsIn}

@@ -2,7 +2,7 @@
 use mathlib.Core.Path.{_≡_, refl, sym, ap, _∙_, subst}
 use mathlib.Core.List.{List, [], _∷_, _++_, map, map-append}
 use Prim.Native.Nat.{ℕ}
-use Rattle.routine.specs.declared.Verdict.the-variants.{Accepted}
+use Rattle.rules_routine.specs.declared.Verdict.the-variants.{Accepted}
 use Rattle.rules.specs.State.{State}
 use Rattle.rules.specs.Answers.{Result}
 use Rattle.rules.specs.Due.{due}
@@ -14,7 +14,7 @@ use Rattle.rules.specs.World.{World, accounts, Act, calls, takes-one, afterCall
 use Rattle.rules.specs.Demand3.{orderIn, EndState, Begins, CommandsStand, Demand3}
 use Rattle.rules.specs.HubOrder.{IsHubs}
 use Rattle.rules.specs.Replay.{ConditionsReplay}
-use Rattle.promises.proofs.Theorem.{demand-3, hub-order, replay}
+use Rattle.rules_promises.proofs.Theorem.{demand-3, hub-order, replay}
 use Rattle.rules.proofs.AllDue.{list-entry}
 use Rattle.hub.specs.View.{view, resultIn}
 use Rattle.hub.specs.Valid.{Valid}

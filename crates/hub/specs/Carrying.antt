@@ -3,18 +3,18 @@ use mathlib.Core.Path.{_≡_}
 use mathlib.Core.Bool.{Bool, true, false}
 use mathlib.Core.List.{List}
 use Prim.Native.Nat.{_<_}
-use Rattle.routine.specs.Choice.{if_then_else_}
-use Rattle.routine.specs.Routine.{maxDevices}
-use Rattle.routine.specs.declared.Command.{Command}
+use Rattle.rules_routine.specs.Choice.{if_then_else_}
+use Rattle.rules_routine.specs.Routine.{maxDevices}
+use Rattle.rules_routine.specs.declared.Command.{Command}
 use Rattle.rules.specs.State.{State}
-use Rattle.answers.specs.View.{changesNothing}
-use Rattle.answers.specs.declared.Answer.{Answer}
-use Rattle.sequence.specs.Links.{Stands}
-use Rattle.state.specs.View.{isRestart, firstCommitted}
-use Rattle.state.specs.Contract.{appliedTo, StandsOrPast}
-use Rattle.state.specs.declared.HubState.{HubState}
-use Rattle.state.specs.declared.Change.{Change}
-use Rattle.state.specs.declared.Change.the-variants.{Nothing, Stage, Commit, Join, Abort, Fail, Restart}
+use Rattle.hub_answers.specs.View.{changesNothing}
+use Rattle.hub_answers.specs.declared.Answer.{Answer}
+use Rattle.hub_sequence.specs.Links.{Stands}
+use Rattle.hub_state.specs.View.{isRestart, firstCommitted}
+use Rattle.hub_state.specs.Contract.{appliedTo, StandsOrPast}
+use Rattle.hub_state.specs.declared.HubState.{HubState}
+use Rattle.hub_state.specs.declared.Change.{Change}
+use Rattle.hub_state.specs.declared.Change.the-variants.{Nothing, Stage, Commit, Join, Abort, Fail, Restart}
 use Rattle.hub.specs.View.{view}
 use Rattle.hub.specs.Valid.{Valid}
 use Rattle.hub.specs.declared.Hub.{Hub}

@@ -3,10 +3,10 @@ use mathlib.Core.Path.{_≡_}
 use mathlib.Core.Bool.{true}
 use Prim.Native.Nat.{ℕ}
 use lib.IntN.{ℤ}
-use Rattle.routine.specs.Routine.{commandsOf}
-use Rattle.routine.specs.declared.Refusal.{Refusal}
-use Rattle.routine.specs.declared.Routine.{Routine}
-use Rattle.routine.specs.declared.Verdict.the-variants.{Refused}
+use Rattle.rules_routine.specs.Routine.{commandsOf}
+use Rattle.rules_routine.specs.declared.Refusal.{Refusal}
+use Rattle.rules_routine.specs.declared.Routine.{Routine}
+use Rattle.rules_routine.specs.declared.Verdict.the-variants.{Refused}
 use Rattle.rules.specs.Answers.{Result}
 use Rattle.rules.specs.Open.{closedHub, openIf, openOf}
 use Rattle.rules.specs.Calls.{StaysClosed}
@@ -16,7 +16,7 @@ use Rattle.rules.specs.Report.{reportOf}
 use Rattle.rules.specs.Events.{failureOf, restartOf}
 use Rattle.rules.specs.Cancel.{cancelOf}
 use Rattle.rules.specs.Limit.{limitOf}
-use Rattle.answers.specs.View.{backsOf, backsIn, BacksOk, changesNothing}
+use Rattle.hub_answers.specs.View.{backsOf, backsIn, BacksOk, changesNothing}
 use Rattle.hub.specs.View.{view, answersIn, resultIn}
 use Rattle.hub.specs.Valid.{Valid}
 use Rattle.hub.specs.declared.Hub.{Hub}

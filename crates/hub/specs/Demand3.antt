@@ -6,9 +6,9 @@ use mathlib.Core.List.{List, [], _∷_, _++_}
 use Prim.Native.Nat.{ℕ, _<_, _≤_}
 use lib.IntN.{ℤ, pos}
 use lib.ListN.{length, getD}
-use Rattle.routine.specs.Routine.{commandsOf}
-use Rattle.routine.specs.declared.Routine.{Routine}
-use Rattle.routine.specs.declared.Verdict.the-variants.{Accepted}
+use Rattle.rules_routine.specs.Routine.{commandsOf}
+use Rattle.rules_routine.specs.declared.Routine.{Routine}
+use Rattle.rules_routine.specs.declared.Verdict.the-variants.{Accepted}
 use Rattle.rules.specs.Answers.{Call, submit, turn, report, failure, restart, cancel, limit}
 use Rattle.rules.specs.Due.{due}
 use Rattle.rules.specs.AllDue.{listAfter}

@@ -1,14 +1,14 @@
 -- Document 01, "When a call is turned down": each number under its cause alone, of the running hub: of every outcome that the contract of
--- `hub::open` or of a call gives. The causes and their order stand in `specs/Causes.antt` of crates `rules` and `routine`. The theorems are
--- `hub-opening-exact` and `hub-calls-exact` of `proofs/Exact.antt`. Assumes nothing.
+-- `hub::open` or of a call gives. The causes and their order stand in `specs/Causes.antt` of crates `rules` and `rules_routine`. The
+-- theorems are `hub-opening-exact` and `hub-calls-exact` of `proofs/Exact.antt`. Assumes nothing.
 use mathlib.Core.Path.{_≡_}
 use Prim.Native.Nat.{ℕ}
-use Rattle.routine.specs.Causes.{Exactly, itself}
-use Rattle.routine.specs.declared.Refusal.{Refusal}
-use Rattle.routine.specs.declared.Verdict.the-variants.{Accepted, Refused as TurnedDown}
+use Rattle.rules_routine.specs.Causes.{Exactly, itself}
+use Rattle.rules_routine.specs.declared.Refusal.{Refusal}
+use Rattle.rules_routine.specs.declared.Verdict.the-variants.{Accepted, Refused as TurnedDown}
 use Rattle.rules.specs.Causes.{OpeningCause, CallCause, openingCauses, callCauses}
-use Rattle.answers.specs.declared.Answer.{Answer}
-use Rattle.answers.specs.declared.Answer.the-variants.{Refused}
+use Rattle.hub_answers.specs.declared.Answer.{Answer}
+use Rattle.hub_answers.specs.declared.Answer.the-variants.{Refused}
 use Rattle.hub.specs.View.{view}
 use Rattle.hub.specs.Contract.{Opens}
 use Rattle.hub.specs.Demand3.{HubCall, callOf, Meets}

@@ -1,19 +1,19 @@
 -- Document 02, item 8, "Links for the sequence": from an opening on, along every chain of calls, the answers and the sequence read along
 -- the links are those of a packed list, which is how the rules keep it; along the other links it is the same list from its end; and the
 -- links run through each held routine a single time. What a single placement or leaving changes is a contract: `Joins` and `Leaves` of
--- crate `sequence`, `Places` of crate `apply`, `LeavesHub` of crate `leaving`. The proof is `links-are-the-sequence` of
+-- crate `hub_sequence`, `Places` of crate `hub_apply`, `LeavesHub` of crate `hub_settle`. The proof is `links-are-the-sequence` of
 -- `proofs/Links.antt`. Assumes nothing.
 use mathlib.Core.Path.{_≡_}
 use mathlib.Core.List.{List, [], _∷_, map, reverse}
 use Prim.Native.Nat.{ℕ, _+_}
-use Rattle.routine.specs.declared.Verdict.the-variants.{Accepted}
+use Rattle.rules_routine.specs.declared.Verdict.the-variants.{Accepted}
 use Rattle.rules.specs.State.{Member, State}
 use Rattle.rules.specs.Answers.{Call, Answer as Told}
 use Rattle.rules.specs.Open.{newHub}
 use Rattle.rules.specs.Calls.{resultOf, stateAfter}
-use Rattle.sequence.specs.Lists.{count}
-use Rattle.sequence.specs.Links.{slotsOf, backOf, freeOf, within}
-use Rattle.state.specs.View.{memberAt}
+use Rattle.hub_sequence.specs.Lists.{count}
+use Rattle.hub_sequence.specs.Links.{slotsOf, backOf, freeOf, within}
+use Rattle.hub_state.specs.View.{memberAt}
 use Rattle.hub.specs.View.{answersIn}
 use Rattle.hub.specs.Contract.{Opens}
 use Rattle.hub.specs.Demand3.{HubAct, called, device-takes, callOf, Chain, hubAfter}

@@ -5,8 +5,8 @@ use mathlib.Core.Path.{_≡_}
 use mathlib.Core.List.{List, [], _∷_, _++_}
 use Prim.Native.Nat.{ℕ, _≤_}
 use lib.IntN.{ℤ}
-use Rattle.routine.specs.declared.Routine.{Routine}
-use Rattle.routine.specs.declared.Verdict.the-variants.{Accepted}
+use Rattle.rules_routine.specs.declared.Routine.{Routine}
+use Rattle.rules_routine.specs.declared.Verdict.the-variants.{Accepted}
 use Rattle.rules.specs.Tables.{Each}
 use Rattle.rules.specs.Answers.{placed}
 use Rattle.rules.specs.History.{Told}

@@ -1,18 +1,18 @@
 // A decision carried out, as one outcome: what it puts back, the change, and settling.
 use crate::Hub;
 use crate::Outcome;
-use answers::Answer;
-use answers::PutBacks;
-use routine::MAX_DEVICES;
-use routine::Routine;
-use state::Change;
-use state::Decision;
-use state::HubState;
+use hub_answers::Answer;
+use hub_answers::PutBacks;
+use hub_state::Change;
+use hub_state::Decision;
+use hub_state::HubState;
+use rules_routine::MAX_DEVICES;
+use rules_routine::Routine;
 ghost use mathlib.Core.Path.{_≡_};
-ghost use Rattle.routine.specs.Routine.{commandsOf};
-ghost use Rattle.answers.specs.View.{backsOf, BacksOk};
-ghost use Rattle.state.specs.Valid.{StateOk};
-ghost use Rattle.state.specs.Contract.{ChangeOk, Decides, resultBy, backsOfDecision};
+ghost use Rattle.rules_routine.specs.Routine.{commandsOf};
+ghost use Rattle.hub_answers.specs.View.{backsOf, BacksOk};
+ghost use Rattle.hub_state.specs.Valid.{StateOk};
+ghost use Rattle.hub_state.specs.Contract.{ChangeOk, Decides, resultBy, backsOfDecision};
 ghost use Rattle.hub.specs.View.{view};
 ghost use Rattle.hub.specs.Valid.{Valid};
 ghost use Rattle.hub.specs.Contract.{Gives};
@@ -29,13 +29,13 @@ pub fn backs_of(state: HubState, decision: Decision) -> PutBacks
     let back = decision.back;
     let change = decision.change;
     match change {
-        Change::Nothing => answers::at_most_one(back),
-        Change::Stage(_) => answers::at_most_one(back),
-        Change::Commit(_) => answers::at_most_one(back),
-        Change::Join(_) => answers::at_most_one(back),
-        Change::Abort(at) => abort::backs_of(state, at, NO_DEVICE),
-        Change::Fail(device, slot) => events::backs_if(state, slot, device, device),
-        Change::Restart(device, _, slot) => events::backs_if(state, slot, device, NO_DEVICE),
+        Change::Nothing => hub_answers::at_most_one(back),
+        Change::Stage(_) => hub_answers::at_most_one(back),
+        Change::Commit(_) => hub_answers::at_most_one(back),
+        Change::Join(_) => hub_answers::at_most_one(back),
+        Change::Abort(at) => hub_abort::backs_of(state, at, NO_DEVICE),
+        Change::Fail(device, slot) => hub_events::backs_if(state, slot, device, device),
+        Change::Restart(device, _, slot) => hub_events::backs_if(state, slot, device, NO_DEVICE),
     }
 }
 

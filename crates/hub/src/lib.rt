@@ -1,26 +1,26 @@
 // The plot hub, by value: document 01, "The steps". Here stand the public calls with their contracts. A call decides, on a hub that stays
-// as it is, what it comes to (crates `submit`, `turn`, `report`, `events` and, the cancel, `abort`); an applier makes the next hub (crates
-// `apply`, `leaving`, `events`), which then settles. Only a new pass limit (crate `limit`) is made at once. `specs/` reads a hub as the
-// state of the rules, and an outcome as their answers.
+// as it is, what it comes to (crates `hub_submit`, `hub_turn`, `hub_report`, `hub_events` and, the cancel, `hub_abort`); an applier makes
+// the next hub (crates `hub_apply`, `hub_settle`, `hub_events`), which then settles. Only a new pass limit (crate `hub_limit`) is made at
+// once. `specs/` reads a hub as the state of the rules, and an outcome as their answers.
 mod carrying;
 mod opening;
 
-use answers::Answer;
-use answers::First;
-use answers::PutBacks;
-use leaving::settling;
-use routine::Routine;
-use routine::Verdict;
-use state::Decision;
-use state::HubState;
-use state::Staged;
-use state::readers;
+use hub_answers::Answer;
+use hub_answers::First;
+use hub_answers::PutBacks;
+use hub_settle::settling;
+use hub_state::Decision;
+use hub_state::HubState;
+use hub_state::Staged;
+use hub_state::readers;
+use rules_routine::Routine;
+use rules_routine::Verdict;
 ghost use mathlib.Core.Path.{_≡_};
 ghost use mathlib.Core.Bool.{true};
 ghost use mathlib.Core.List.{[]};
 ghost use Prim.Native.Nat.{_<_};
 ghost use lib.ListN.{length};
-ghost use Rattle.routine.specs.Routine.{maxDevices, commandsOf};
+ghost use Rattle.rules_routine.specs.Routine.{maxDevices, commandsOf};
 ghost use Rattle.rules.specs.Abort.{leave};
 ghost use Rattle.rules.specs.Cancel.{cancelOf};
 ghost use Rattle.rules.specs.Due.{due};
@@ -32,11 +32,12 @@ ghost use Rattle.rules.specs.Settle.{settle};
 ghost use Rattle.rules.specs.Submit.{submitOf};
 ghost use Rattle.rules.specs.Turn.{turnOf};
 ghost use Rattle.rules.specs.Calls.{StaysClosed};
-ghost use Rattle.sequence.specs.Links.{Stands};
-ghost use Rattle.answers.specs.View.{backsOf, BacksOk};
-ghost use Rattle.state.specs.View.{isRestart, there, firstCommitted};
-ghost use Rattle.state.specs.Contract.{staged, committedAt, joinedBehind, halfwayIn, stoppedBy, downWith, upWith, StandsOrPast, StageOk};
-ghost use Rattle.state.specs.Contract.{JoinOk, Decides, backsOfDecision};
+ghost use Rattle.hub_sequence.specs.Links.{Stands};
+ghost use Rattle.hub_answers.specs.View.{backsOf, BacksOk};
+ghost use Rattle.hub_state.specs.View.{isRestart, there, firstCommitted};
+ghost use Rattle.hub_state.specs.Contract.{staged, committedAt, joinedBehind, halfwayIn, stoppedBy, downWith, upWith, StandsOrPast};
+ghost use Rattle.hub_state.specs.Contract.{StageOk};
+ghost use Rattle.hub_state.specs.Contract.{JoinOk, Decides, backsOfDecision};
 ghost use Rattle.hub.specs.View.{view};
 ghost use Rattle.hub.specs.Valid.{Valid};
 ghost use Rattle.hub.specs.Contract.{Opens, Submitted, Turned, Reported, Cancelled, Failed, Restarted, Limited};
@@ -98,7 +99,7 @@ pub fn turn(hub: Hub, id: u32) -> Outcome
     ensures { λ r. ⌜ Turned hub id r ⌝ }
 {
     let decision = decide_turn(hub, id);
-    let routine = routine::empty();
+    let routine = rules_routine::empty();
     carrying::carried_out(hub, decision, routine)
 }
 
@@ -108,7 +109,7 @@ pub fn report(hub: Hub, id: u32, code: u8) -> Outcome
     ensures { λ r. ⌜ Reported hub id code r ⌝ }
 {
     let decision = decide_report(hub, id, code);
-    let routine = routine::empty();
+    let routine = rules_routine::empty();
     carrying::carried_out(hub, decision, routine)
 }
 
@@ -118,7 +119,7 @@ pub fn cancel(hub: Hub, id: u32) -> Outcome
     ensures { λ r. ⌜ Cancelled hub id r ⌝ }
 {
     let decision = decide_cancel(hub, id);
-    let routine = routine::empty();
+    let routine = rules_routine::empty();
     carrying::carried_out(hub, decision, routine)
 }
 
@@ -128,7 +129,7 @@ pub fn fail(hub: Hub, device: u8) -> Outcome
     ensures { λ r. ⌜ Failed hub device r ⌝ }
 {
     let decision = decide_failure(hub, device);
-    let routine = routine::empty();
+    let routine = rules_routine::empty();
     carrying::carried_out(hub, decision, routine)
 }
 
@@ -138,7 +139,7 @@ pub fn restart(hub: Hub, device: u8, setting: i16) -> Outcome
     ensures { λ r. ⌜ Restarted hub device setting r ⌝ }
 {
     let decision = decide_restart(hub, device, setting);
-    let routine = routine::empty();
+    let routine = rules_routine::empty();
     carrying::carried_out(hub, decision, routine)
 }
 
@@ -148,10 +149,10 @@ pub fn limit(hub: Hub, pass_limit: u8) -> Outcome
     ensures { λ r. ⌜ Limited hub «pass_limit» r ⌝ }
 {
     let state = hub.state;
-    let changed = limit::set_limit(state, pass_limit);
+    let changed = hub_limit::set_limit(state, pass_limit);
     let next = changed.state;
     let answer = changed.answer;
-    let backs = answers::no_backs();
+    let backs = hub_answers::no_backs();
     Outcome {
         hub: Hub { state: next },
         first: First::NoAbort,
@@ -185,7 +186,7 @@ pub fn due_setting(hub: Hub, device: u8) -> i16
     let devices = state.device;
     let stages = state.stage;
     let settings = state.setting;
-    due::due_setting(state, &devices, &stages, &settings, device)
+    hub_due::due_setting(state, &devices, &stages, &settings, device)
 }
 
 // The due settings of all devices, up or down, into a lent list, from one pass along the sequence: document 02, item 14. Entries past the
@@ -196,7 +197,7 @@ pub fn due_settings(hub: Hub, list: &mut [i16]) -> Verdict
     ensures leaves { λ _. ⌜ now (list .exit) ≡ listAfter (view hub) (now (list .entry)) ⌝ }
 {
     let state = hub.state;
-    all_due::put_settings(state, list)
+    hub_due_list::put_settings(state, list)
 }
 
 // A hub of no devices: one that is not opened. Every call on it is turned down, but a new pass limit, which leaves a hub of no devices.
@@ -215,7 +216,7 @@ pub fn decide_submit(hub: Hub, routine: Routine) -> Decision
     ensures { λ r. ⌜ Decides (hub .state) (commandsOf routine) r (submitOf (view hub) (commandsOf routine)) ⌝ }
 {
     let state = hub.state;
-    submit::decide(state, routine)
+    hub_submit::decide(state, routine)
 }
 
 // What a turn comes to.
@@ -224,7 +225,7 @@ pub fn decide_turn(hub: Hub, id: u32) -> Decision
     ensures { λ r. ⌜ Decides (hub .state) [] r (turnOf (view hub) id) ⌝ }
 {
     let state = hub.state;
-    turn::decide(state, id)
+    hub_turn::decide(state, id)
 }
 
 // What a report comes to.
@@ -233,7 +234,7 @@ pub fn decide_report(hub: Hub, id: u32, code: u8) -> Decision
     ensures { λ r. ⌜ Decides (hub .state) [] r (reportOf (view hub) id code) ⌝ }
 {
     let state = hub.state;
-    report::decide(state, id, code)
+    hub_report::decide(state, id, code)
 }
 
 // What a cancel comes to.
@@ -242,7 +243,7 @@ pub fn decide_cancel(hub: Hub, id: u32) -> Decision
     ensures { λ r. ⌜ Decides (hub .state) [] r (cancelOf (view hub) id) ⌝ }
 {
     let state = hub.state;
-    abort::decide_cancel(state, id)
+    hub_abort::decide_cancel(state, id)
 }
 
 // What a failure comes to.
@@ -251,7 +252,7 @@ pub fn decide_failure(hub: Hub, device: u8) -> Decision
     ensures { λ r. ⌜ Decides (hub .state) [] r (failureOf (view hub) device) ⌝ }
 {
     let state = hub.state;
-    events::decide_failure(state, device)
+    hub_events::decide_failure(state, device)
 }
 
 // What a restart comes to.
@@ -260,7 +261,7 @@ pub fn decide_restart(hub: Hub, device: u8, setting: i16) -> Decision
     ensures { λ r. ⌜ Decides (hub .state) [] r (restartOf (view hub) device setting) ⌝ }
 {
     let state = hub.state;
-    events::decide_restart(state, device, setting)
+    hub_events::decide_restart(state, device, setting)
 }
 
 // A command comes to a stage.
@@ -269,7 +270,7 @@ pub fn with_stage(hub: Hub, change: Staged) -> Hub
     ensures { λ r. ⌜ (Valid r) × (view r ≡ staged (hub .state) change) ⌝ }
 {
     let state = hub.state;
-    let next = apply::with_stage(state, change);
+    let next = hub_apply::with_stage(state, change);
     Hub { state: next }
 }
 
@@ -279,7 +280,7 @@ pub fn with_commit(hub: Hub, at: usize) -> Hub
     ensures { λ r. ⌜ (Valid r) × (view r ≡ committedAt (hub .state) at) ⌝ }
 {
     let state = hub.state;
-    let next = apply::with_commit(state, at);
+    let next = hub_apply::with_commit(state, at);
     Hub { state: next }
 }
 
@@ -289,7 +290,7 @@ pub fn with_routine(hub: Hub, after: u8, routine: Routine) -> Hub
     ensures { λ r. ⌜ (Valid r) × (view r ≡ joinedBehind (hub .state) (commandsOf routine) after) ⌝ }
 {
     let state = hub.state;
-    let next = apply::with_routine(state, after, routine);
+    let next = hub_apply::with_routine(state, after, routine);
     Hub { state: next }
 }
 
@@ -299,7 +300,7 @@ pub fn with_abort(hub: Hub, at: usize) -> Hub
     ensures { λ r. ⌜ (Valid r) × (view r ≡ leave (view hub) (there (hub .state) at)) ⌝ }
 {
     let state = hub.state;
-    let next = leaving::left(state, at);
+    let next = hub_settle::left(state, at);
     Hub { state: next }
 }
 
@@ -309,7 +310,7 @@ pub fn with_failure(hub: Hub, device: u8, slot: usize) -> Hub
     ensures { λ r. ⌜ (Valid r) × (view r ≡ stoppedBy device (downWith (view hub) device) (halfwayIn (hub .state) slot)) ⌝ }
 {
     let state = hub.state;
-    let next = events::with_failure(state, device, slot);
+    let next = hub_events::with_failure(state, device, slot);
     Hub { state: next }
 }
 
@@ -319,7 +320,7 @@ pub fn with_restart(hub: Hub, device: u8, setting: i16, slot: usize) -> Hub
     ensures { λ r. ⌜ (Valid r) × (view r ≡ upWith (stoppedBy device (view hub) (halfwayIn (hub .state) slot)) device setting) ⌝ }
 {
     let state = hub.state;
-    let next = events::with_restart(state, device, setting, slot);
+    let next = hub_events::with_restart(state, device, setting, slot);
     Hub { state: next }
 }
 

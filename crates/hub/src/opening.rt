@@ -1,18 +1,18 @@
 // The opening: document 01, "Things and ranges".
 use crate::Hub;
-use routine::MAX_DEVICES;
-use routine::Refusal;
-use routine::Verdict;
-use routine::refusals::DEVICES_OUT_OF_RANGE;
-use routine::refusals::FIRST_ID_0;
-use sequence::MAX_HELD;
-use sequence::keep;
-use state::HubState;
-use state::RESTARTS;
-use state::STEPS;
+use hub_sequence::MAX_HELD;
+use hub_sequence::keep;
+use hub_state::HubState;
+use hub_state::RESTARTS;
+use hub_state::STEPS;
+use rules_routine::MAX_DEVICES;
+use rules_routine::Refusal;
+use rules_routine::Verdict;
+use rules_routine::refusals::DEVICES_OUT_OF_RANGE;
+use rules_routine::refusals::FIRST_ID_0;
 ghost use mathlib.Core.Path.{_≡_};
 ghost use Prim.Native.Nat.{_<_, _≤_};
-ghost use Rattle.routine.specs.Routine.{maxDevices};
+ghost use Rattle.rules_routine.specs.Routine.{maxDevices};
 ghost use Rattle.rules.specs.Open.{openCheck, newHub};
 ghost use Rattle.hub.specs.View.{view};
 ghost use Rattle.hub.specs.Valid.{Valid};
@@ -27,7 +27,7 @@ pub fn check(devices: u8, pass_limit: u8, first_id: u32) -> Verdict
     if MAX_DEVICES < devices as usize {
         return Verdict::Refused(Refusal::Number(DEVICES_OUT_OF_RANGE));
     }
-    let limited = limit::check(pass_limit);
+    let limited = hub_limit::check(pass_limit);
     let Verdict::Accepted = limited else {
         return limited;
     };

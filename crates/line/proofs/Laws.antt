@@ -11,16 +11,16 @@ use types.Run.{OneOf, miss}
 use denote.Enum.Declared.{tagOf}
 use lib.Dec.{ltb, eqb}
 use lib.ListN.{length, length-append}
-use Rattle.routine.specs.Choice.{if_then_else_}
-use Rattle.routine.specs.Refusals.{command-count, devices-out-of-range, pass-limit-out-of-range, first-id-0, refusalOf, refuse_when_}
-use Rattle.routine.specs.Refusals.{_andThen_}
-use Rattle.routine.specs.Routine.{maxDevices, maxCommands, commandsOf, routineOf, noRoutine, withCommand}
-use Rattle.routine.specs.declared.Command.{Command}
-use Rattle.routine.specs.declared.Routine.{Routine}
-use Rattle.routine.specs.declared.Verdict.{Verdict}
-use Rattle.routine.specs.declared.Verdict.the-variants.{Accepted, Refused}
-use Rattle.routine.proofs.Laws.{byTest, both-accept, not-refused, or-false, length-commandsOf, routineOf-commands, routineOf-count}
-use Rattle.routine.proofs.Laws.{with-more, check-long}
+use Rattle.rules_routine.specs.Choice.{if_then_else_}
+use Rattle.rules_routine.specs.Refusals.{command-count, devices-out-of-range, pass-limit-out-of-range, first-id-0, refusalOf, refuse_when_}
+use Rattle.rules_routine.specs.Refusals.{_andThen_}
+use Rattle.rules_routine.specs.Routine.{maxDevices, maxCommands, commandsOf, routineOf, noRoutine, withCommand}
+use Rattle.rules_routine.specs.declared.Command.{Command}
+use Rattle.rules_routine.specs.declared.Routine.{Routine}
+use Rattle.rules_routine.specs.declared.Verdict.{Verdict}
+use Rattle.rules_routine.specs.declared.Verdict.the-variants.{Accepted, Refused}
+use Rattle.rules_routine.proofs.Laws.{byTest, both-accept, not-refused, or-false, length-commandsOf, routineOf-commands, routineOf-count}
+use Rattle.rules_routine.proofs.Laws.{with-more, check-long}
 use Rattle.rules.specs.State.{highestPassLimit, State}
 use Rattle.rules.specs.Answers.{Answer, placed, Result}
 use Rattle.rules.specs.Answers.{unlessRefused, turnedDown}
@@ -30,16 +30,16 @@ use Rattle.rules.specs.Submit.{blocks, upToLast, place, submitOf}
 use Rattle.rules.specs.Sequence.{lastIdOr}
 use Rattle.rules.specs.Calls.{resultOf}
 use Rattle.rules.proofs.Lists.{t≠f}
-use Rattle.promises.proofs.Theorem.{devices-kept}
-use Rattle.submit.proofs.Laws.{check-routine}
-use Rattle.answers.specs.View.{changesNothing}
-use Rattle.state.specs.View.{firstCommitted}
-use Rattle.state.specs.Contract.{appliedTo, ChangeOk, toldBy, settledUnlessNothing, Decides}
-use Rattle.state.specs.declared.HubState.{HubState}
-use Rattle.state.specs.declared.Change.{Change}
-use Rattle.state.specs.declared.Change.the-variants.{Nothing, Stage, Commit, Join, Abort, Fail, Restart}
-use Rattle.state.specs.declared.Decision.{Decision}
-use Rattle.state.proofs.Laws.{settle-idle}
+use Rattle.rules_promises.proofs.Theorem.{devices-kept}
+use Rattle.hub_submit.proofs.Laws.{check-routine}
+use Rattle.hub_answers.specs.View.{changesNothing}
+use Rattle.hub_state.specs.View.{firstCommitted}
+use Rattle.hub_state.specs.Contract.{appliedTo, ChangeOk, toldBy, settledUnlessNothing, Decides}
+use Rattle.hub_state.specs.declared.HubState.{HubState}
+use Rattle.hub_state.specs.declared.Change.{Change}
+use Rattle.hub_state.specs.declared.Change.the-variants.{Nothing, Stage, Commit, Join, Abort, Fail, Restart}
+use Rattle.hub_state.specs.declared.Decision.{Decision}
+use Rattle.hub_state.proofs.Laws.{settle-idle}
 use Rattle.hub.specs.View.{view}
 use Rattle.hub.specs.Valid.{Valid}
 use Rattle.hub.specs.Contract.{Opens}
@@ -51,11 +51,11 @@ use Rattle.line_rules.specs.Reading.{LineCall, submits, turns, reports, fails, 
 use Rattle.line_rules.specs.Reading.{unread}
 use Rattle.line_rules.specs.Printing.{asLine, answersText}
 use Rattle.line_rules.specs.Program.{printsUnread, printsOpening, printsResult, printsCall, step}
-use Rattle.line_reader.specs.Held.{together, heldCall, heldRoutine, heldLine}
-use Rattle.line_reader.specs.declared.Call.{Call}
-use Rattle.line_reader.specs.declared.Line.{Line}
-use Rattle.line_reader.specs.declared.Line.the-variants.{Open, Calling, Unread}
-use Rattle.line_reader.proofs.Line.{the-type as line-type}
+use Rattle.line_read.specs.Held.{together, heldCall, heldRoutine, heldLine}
+use Rattle.line_read.specs.declared.Call.{Call}
+use Rattle.line_read.specs.declared.Line.{Line}
+use Rattle.line_read.specs.declared.Line.the-variants.{Open, Calling, Unread}
+use Rattle.line_read.proofs.Line.{the-type as line-type}
 use Rattle.line.specs.View.{hubIn, heardOf, callIn, FitsCall}
 use Rattle.line.specs.Contract.{isAccepted, openingText}
 

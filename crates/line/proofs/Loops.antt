@@ -16,11 +16,11 @@ use mir.Val.{toZ}
 use mir.Facts.{toZ-pos}
 use lib.ListN.{length, take, drop, getD, length-append, length-drop, drop-of-length-le}
 use lib.Seq.{sets, sets-eq, length-sets, drop-cons, drop-drop, length-take-le}
-use Rattle.routine.specs.Choice.{if_then_else_}
-use Rattle.routine.proofs.Laws.{byTest}
+use Rattle.rules_routine.specs.Choice.{if_then_else_}
+use Rattle.rules_routine.proofs.Laws.{byTest}
 use Rattle.rules.specs.State.{State}
 use Rattle.rules.specs.Rounds.{times}
-use Rattle.state.specs.View.{stateOf}
+use Rattle.hub_state.specs.View.{stateOf}
 use Rattle.hub.specs.View.{view}
 use Rattle.hub.specs.Valid.{Valid}
 use Rattle.hub.specs.declared.Hub.{Hub}
@@ -30,8 +30,8 @@ use Rattle.line_rules.specs.Reading.{Line as Said, readLine}
 use Rattle.line_rules.specs.Printing.{asLine, deviceText, deviceLines}
 use Rattle.line_rules.specs.Program.{Printed, before, steps, endText, runFrom, lengthOr21, bufferWith, hubWith}
 use Rattle.line_rules.proofs.Laws.{reach-within, lines-first, lines-none}
-use Rattle.line_printer.specs.Put.{maxText, Put, PutShort}
-use Rattle.line_printer.proofs.Laws.{put-none, put-then}
+use Rattle.line_print.specs.Put.{maxText, Put, PutShort}
+use Rattle.line_print.proofs.Laws.{put-none, put-then}
 use Rattle.line.specs.View.{hubIn}
 use Rattle.line.specs.Contract.{maxEnd, Wrote, Ample, RunsLines, Measures}
 use Rattle.line.specs.declared.running.Lines.{Lines}

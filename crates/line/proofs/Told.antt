@@ -11,22 +11,23 @@ use lib.ListN.{length, take, drop}
 use lib.Seq.{sets-eq, length-sets, take-at}
 use Rattle.rules.specs.Answers.{Back, Answer as Said, aborted}
 use Rattle.rules.proofs.Lists.{t≠f}
-use Rattle.answers.specs.View.{backsOf, oneOf, firstOf, answerOf, answersOf, changesNothing}
-use Rattle.answers.specs.declared.Answer.{Answer}
-use Rattle.answers.specs.declared.Answer.the-variants.{Refused, Placed, Wait, Sent, Done, Skipped, Committed, Aborted, Down, Up, Limited}
-use Rattle.answers.specs.declared.Answer.the-variants.{Held, NotHeld}
-use Rattle.answers.specs.declared.First.{First}
-use Rattle.answers.specs.declared.First.the-variants.{NoAbort, Abort as AbortFirst}
-use Rattle.answers.specs.declared.PutBacks.{PutBacks}
-use Rattle.answers.proofs.Answer.{the-type as answer-type}
-use Rattle.state.specs.Contract.{backsBy, backsOfDecision, toldBy, WellTold}
-use Rattle.state.specs.declared.HubState.{HubState}
-use Rattle.state.specs.declared.Change.{Change}
-use Rattle.state.specs.declared.Change.the-variants.{Nothing, Stage, Commit, Join, Abort, Fail, Restart}
-use Rattle.state.specs.declared.Decision.{Decision}
+use Rattle.hub_answers.specs.View.{backsOf, oneOf, firstOf, answerOf, answersOf, changesNothing}
+use Rattle.hub_answers.specs.declared.Answer.{Answer}
+use Rattle.hub_answers.specs.declared.Answer.the-variants.{Refused, Placed, Wait, Sent, Done, Skipped, Committed, Aborted, Down, Up}
+use Rattle.hub_answers.specs.declared.Answer.the-variants.{Limited}
+use Rattle.hub_answers.specs.declared.Answer.the-variants.{Held, NotHeld}
+use Rattle.hub_answers.specs.declared.First.{First}
+use Rattle.hub_answers.specs.declared.First.the-variants.{NoAbort, Abort as AbortFirst}
+use Rattle.hub_answers.specs.declared.PutBacks.{PutBacks}
+use Rattle.hub_answers.proofs.Answer.{the-type as answer-type}
+use Rattle.hub_state.specs.Contract.{backsBy, backsOfDecision, toldBy, WellTold}
+use Rattle.hub_state.specs.declared.HubState.{HubState}
+use Rattle.hub_state.specs.declared.Change.{Change}
+use Rattle.hub_state.specs.declared.Change.the-variants.{Nothing, Stage, Commit, Join, Abort, Fail, Restart}
+use Rattle.hub_state.specs.declared.Decision.{Decision}
 use Rattle.line_rules.specs.Printing.{asLine, answerText, answersText}
-use Rattle.line_printer.specs.Put.{halfText, maxText, Put, PutShort}
-use Rattle.line_printer.proofs.Laws.{short-then, within, as-text, answers-one, answers-append}
+use Rattle.line_print.specs.Put.{halfText, maxText, Put, PutShort}
+use Rattle.line_print.proofs.Laws.{short-then, within, as-text, answers-one, answers-append}
 use Rattle.line.specs.Contract.{isAbort, BacksOnce}
 
 -- ---- a text in a buffer in which it fits

@@ -6,23 +6,24 @@ use mathlib.Core.Option.{none}
 use Prim.Native.Nat.{ℕ, suc, _+_, _-_, _*_, _<_, _≤_}
 use lib.IntN.{ℤ}
 use lib.ListN.{length, take, drop}
-use Rattle.routine.specs.Routine.{maxDevices}
-use Rattle.routine.specs.declared.Verdict.{Verdict}
-use Rattle.routine.specs.declared.Verdict.the-variants.{Accepted, Refused as TurnedDown}
+use Rattle.rules_routine.specs.Routine.{maxDevices}
+use Rattle.rules_routine.specs.declared.Verdict.{Verdict}
+use Rattle.rules_routine.specs.declared.Verdict.the-variants.{Accepted, Refused as TurnedDown}
 use Rattle.rules.specs.Answers.{Back}
-use Rattle.answers.specs.View.{answerOf}
-use Rattle.answers.specs.declared.Answer.{Answer}
-use Rattle.answers.specs.declared.Answer.the-variants.{Refused, Placed, Wait, Sent, Done, Skipped, Committed, Aborted, Down, Up, Limited}
-use Rattle.answers.specs.declared.Answer.the-variants.{Held, NotHeld}
-use Rattle.answers.specs.declared.First.{First}
-use Rattle.answers.specs.declared.First.the-variants.{NoAbort, Abort}
+use Rattle.hub_answers.specs.View.{answerOf}
+use Rattle.hub_answers.specs.declared.Answer.{Answer}
+use Rattle.hub_answers.specs.declared.Answer.the-variants.{Refused, Placed, Wait, Sent, Done, Skipped, Committed, Aborted, Down, Up}
+use Rattle.hub_answers.specs.declared.Answer.the-variants.{Limited}
+use Rattle.hub_answers.specs.declared.Answer.the-variants.{Held, NotHeld}
+use Rattle.hub_answers.specs.declared.First.{First}
+use Rattle.hub_answers.specs.declared.First.the-variants.{NoAbort, Abort}
 use Rattle.line_rules.specs.Text.{lineEnd, bytes}
 use Rattle.line_rules.specs.Pieces.{reach, linesOf}
 use Rattle.line_rules.specs.Reading.{readLine}
 use Rattle.line_rules.specs.Printing.{asLine, refusalText}
 use Rattle.line_rules.specs.Program.{Printed, steps, lengthOr21, bufferWith, hubWith}
-use Rattle.line_reader.specs.Held.{heldLine}
-use Rattle.line_printer.specs.Put.{maxText, maxDeviceLine, Put}
+use Rattle.line_read.specs.Held.{heldLine}
+use Rattle.line_print.specs.Put.{maxText, maxDeviceLine, Put}
 use Rattle.hub.specs.Valid.{Valid}
 use Rattle.hub.specs.declared.Hub.{Hub}
 use Rattle.line.specs.View.{hubIn, heardOf}

@@ -4,15 +4,15 @@ use mathlib.Core.List.{[]}
 use mathlib.Core.Option.{Option, none, some}
 use Prim.Native.Nat.{ℕ}
 use lib.Dec.{eqb}
-use Rattle.routine.specs.Choice.{if_then_else_}
-use Rattle.routine.specs.Routine.{commandsOf}
-use Rattle.routine.specs.declared.Routine.{Routine}
+use Rattle.rules_routine.specs.Choice.{if_then_else_}
+use Rattle.rules_routine.specs.Routine.{commandsOf}
+use Rattle.rules_routine.specs.declared.Routine.{Routine}
 use Rattle.rules.specs.State.{State}
 use Rattle.rules.specs.Answers.{Call as Told, submit, turn, report, failure, restart, cancel}
-use Rattle.line_reader.specs.declared.Line.{Line}
-use Rattle.line_reader.specs.declared.Line.the-variants.{Open, Calling, Unread}
-use Rattle.line_reader.specs.declared.Call.{Call}
-use Rattle.line_reader.specs.declared.Call.the-variants.{Submit, Turn, Report, Cancel, Fail, Restart}
+use Rattle.line_read.specs.declared.Line.{Line}
+use Rattle.line_read.specs.declared.Line.the-variants.{Open, Calling, Unread}
+use Rattle.line_read.specs.declared.Call.{Call}
+use Rattle.line_read.specs.declared.Call.the-variants.{Submit, Turn, Report, Cancel, Fail, Restart}
 use Rattle.hub.specs.View.{view}
 use Rattle.hub.specs.declared.Hub.{Hub}
 

@@ -1,26 +1,26 @@
 // What a line does, and the device lines at the end.
-use answers::Answer;
-use answers::First;
-use answers::OneBack;
-use answers::PutBacks;
 use hub::Hub;
-use line_printer::MAX_DEVICE_LINE;
-use line_reader::Call;
-use line_reader::Line;
-use routine::MAX_DEVICES;
-use routine::Routine;
-use routine::Verdict;
-use state::Decision;
+use hub_answers::Answer;
+use hub_answers::First;
+use hub_answers::OneBack;
+use hub_answers::PutBacks;
+use hub_state::Decision;
+use line_print::MAX_DEVICE_LINE;
+use line_read::Call;
+use line_read::Line;
+use rules_routine::MAX_DEVICES;
+use rules_routine::Routine;
+use rules_routine::Verdict;
 ghost use mathlib.Core.Path.{_≡_};
 ghost use Prim.Native.Nat.{_+_, _<_, _≤_, _^_};
 ghost use lib.ListN.{length};
-ghost use Rattle.routine.specs.Routine.{commandsOf};
+ghost use Rattle.rules_routine.specs.Routine.{commandsOf};
 ghost use Rattle.rules.specs.Calls.{resultOf};
-ghost use Rattle.answers.specs.View.{backsOf, answersOf, BacksOk, changesNothing};
-ghost use Rattle.state.specs.Contract.{toldBy, WellTold, Decides};
+ghost use Rattle.hub_answers.specs.View.{backsOf, answersOf, BacksOk, changesNothing};
+ghost use Rattle.hub_state.specs.Contract.{toldBy, WellTold, Decides};
 ghost use Rattle.line_rules.specs.Printing.{answersText};
 ghost use Rattle.line_rules.specs.Program.{endText};
-ghost use Rattle.line_printer.specs.Put.{maxText, PutShort};
+ghost use Rattle.line_print.specs.Put.{maxText, PutShort};
 ghost use Rattle.hub.specs.View.{view};
 ghost use Rattle.hub.specs.Valid.{Valid};
 ghost use Rattle.hub.specs.Carrying.{LeavingOk};
@@ -83,8 +83,8 @@ pub fn put_devices(hub: Hub, out: &mut [u8], at: usize) -> usize
         let d = device as usize;
         let due = table[d];
         let up = hub::is_up(hub, device);
-        let end = line_printer::put_device(&mut text, 0, device, up, due);
-        to = line_printer::put_text(out, to, &text[..end]);
+        let end = line_print::put_device(&mut text, 0, device, up, due);
+        to = line_print::put_text(out, to, &text[..end]);
         device += 1;
     }
     to
@@ -102,8 +102,8 @@ pub fn next_line(input: &[u8], from: usize, devices: u8) -> NextLine
     requires { ⌜ from < length (now input) ⌝ }
     ensures { λ r. ⌜ ReadsNext (now (input .entry)) from devices r ⌝ }
 {
-    let end = line_reader::line_end(input, from);
-    let read = line_reader::read_line(&input[from..end]);
+    let end = line_read::line_end(input, from);
+    let read = line_read::read_line(&input[from..end]);
     let line = read.line;
     let routine = read.routine;
     let said = heard(line, devices);
@@ -126,8 +126,8 @@ pub fn put_opening(text: &mut [u8], verdict: Verdict) -> usize
     ensures { λ r. ⌜ PutShort maxText (now (text .entry)) (now (text .exit)) 0 r (openingText verdict) ⌝ }
 {
     match verdict {
-        Verdict::Accepted => line_printer::put_opened(text, 0),
-        Verdict::Refused(refusal) => line_printer::put_refusal(text, 0, refusal),
+        Verdict::Accepted => line_print::put_opened(text, 0),
+        Verdict::Refused(refusal) => line_print::put_refusal(text, 0, refusal),
     }
 }
 
@@ -153,12 +153,12 @@ fn put_aborts(text: &mut [u8], first: First, answer: Answer, backs: PutBacks) ->
 {
     let First::Abort(id) = first else {
         let Answer::Aborted(own) = answer else {
-            return line_printer::put_answer(text, 0, answer, OneBack::Nothing);
+            return line_print::put_answer(text, 0, answer, OneBack::Nothing);
         };
-        return line_printer::put_abort(text, 0, own, backs);
+        return line_print::put_abort(text, 0, own, backs);
     };
-    let at = line_printer::put_abort(text, 0, id, backs);
-    line_printer::put_answer(text, at, answer, OneBack::Nothing)
+    let at = line_print::put_abort(text, 0, id, backs);
+    line_print::put_answer(text, at, answer, OneBack::Nothing)
 }
 
 // The answers of a call.
@@ -174,5 +174,5 @@ pub fn put_answers(text: &mut [u8], hub: Hub, decision: Decision) -> usize
         return put_aborts(text, first, answer, backs);
     }
     let back = decision.back;
-    line_printer::put_answer(text, 0, answer, back)
+    line_print::put_answer(text, 0, answer, back)
 }

@@ -4,10 +4,10 @@ use crate::TOO_SHORT;
 use crate::Written;
 use crate::lines;
 use hub::Hub;
-use line_printer::MAX_TEXT;
-use line_reader::Line;
+use hub_state::Change;
+use line_print::MAX_TEXT;
+use line_read::Line;
 use line_rules::LINE_END;
-use state::Change;
 ghost use mathlib.Core.Path.{_≡_};
 ghost use mathlib.Core.Bool.{true};
 ghost use Prim.Native.Nat.{_<_, _≤_, _^_};
@@ -47,7 +47,7 @@ pub fn run_lines(hub: Hub, input: &[u8], out: &mut [u8], room: usize) -> Lines
         let next = lines::next_line(input, from, hub::device_count(now));
         let routine = next.routine;
         let said = next.said;
-        let mut printed = line_printer::put_unread(&mut text, 0);
+        let mut printed = line_print::put_unread(&mut text, 0);
         match said {
             Line::Open(devices, pass_limit, first_id) => {
                 let verdict = hub::check_opening(devices, pass_limit, first_id);
@@ -82,7 +82,7 @@ pub fn run_lines(hub: Hub, input: &[u8], out: &mut [u8], room: usize) -> Lines
             }
             Line::Unread => {}
         }
-        at = line_printer::put_text(out, at, &text[..printed]);
+        at = line_print::put_text(out, at, &text[..printed]);
         from = next.end + 1;
     }
     Lines { hub: now, at }

@@ -10,8 +10,8 @@ use borrow.Author.Tests.{eqb-true, ltb-true, ltb-false}
 use lib.Dec.{eqb, ltb}
 use lib.ListN.{length, take, drop, length-append}
 use lib.Seq.{take-all, append-snoc, take-append-seam, drop-append-seam}
-use Rattle.routine.specs.Choice.{if_then_else_}
-use Rattle.routine.proofs.Laws.{byTest}
+use Rattle.rules_routine.specs.Choice.{if_then_else_}
+use Rattle.rules_routine.proofs.Laws.{byTest}
 use Rattle.rules.specs.State.{State}
 use Rattle.line_rules.specs.Text.{lineEnd}
 use Rattle.line_rules.specs.Pieces.{reach, piecesFrom, pieces, linesOf}

@@ -11,7 +11,7 @@ use lib.Dec.{ltb}
 use lib.ListN.{length, take, drop, getD, set, length-take, length-drop, take-append-drop}
 use lib.Seq.{length-take-le, take-all, take-nil, drop-length, take-suc, drop-cons}
 use lib.Seq.{drop-set-lt, take-suc-set, getD-drop, take-take, drop-drop}
-use Rattle.routine.proofs.Laws.{byTest}
+use Rattle.rules_routine.proofs.Laws.{byTest}
 use Rattle.line_rules.specs.Text.{lineEnd}
 use Rattle.line_rules.specs.Pieces.{reach}
 use Rattle.line_rules.specs.Reading.{maxLine}

@@ -6,7 +6,7 @@ use Prim.Native.Nat.{ℕ, suc, _+_, _*_, _≤_}
 use lib.ListN.{length, take, drop}
 use Rattle.line_rules.specs.Reading.{maxLine}
 use Rattle.line_rules.specs.Program.{programText}
-use Rattle.line_printer.specs.Put.{maxText}
+use Rattle.line_print.specs.Put.{maxText}
 use Rattle.hub.specs.Valid.{Valid}
 use Rattle.hub.specs.declared.Hub.{Hub}
 use Rattle.line.specs.View.{hubIn}

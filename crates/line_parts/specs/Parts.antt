@@ -5,7 +5,7 @@ use mathlib.Core.Option.{Option, none}
 use Prim.Native.Nat.{ℕ, _-_}
 use lib.Dec.{eqb}
 use lib.ListN.{length, take}
-use Rattle.routine.specs.Choice.{if_then_else_}
+use Rattle.rules_routine.specs.Choice.{if_then_else_}
 use Rattle.rules.specs.State.{State}
 use Rattle.line_rules.specs.Text.{lineEnd}
 use Rattle.line_rules.specs.Pieces.{linesOf}

@@ -3,8 +3,8 @@
 pub mod pieces;
 
 use hub::Hub;
-use line_printer::MAX_TEXT;
-use line_reader::MAX_LINE;
+use line_print::MAX_TEXT;
+use line_read::MAX_LINE;
 ghost use mathlib.Core.Path.{_≡_};
 ghost use Prim.Native.Nat.{_+_, _≤_};
 ghost use lib.ListN.{length};

@@ -1,5 +1,5 @@
 // Where the whole lines of some bytes end, and what is held of the line behind them.
-use line_reader::MAX_LINE;
+use line_read::MAX_LINE;
 use line_rules::LINE_END;
 ghost use Prim.Native.Nat.{_≤_, min};
 ghost use mathlib.Core.Path.{_≡_};

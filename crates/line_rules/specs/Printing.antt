@@ -4,12 +4,13 @@ use mathlib.Core.List.{List, [], _∷_, _++_}
 use Prim.Native.Nat.{ℕ, zero, suc}
 use lib.IntN.{ℤ}
 use lib.ListN.{length}
-use Rattle.routine.specs.Choice.{if_then_else_}
-use Rattle.routine.specs.declared.Refusal.{Refusal}
-use Rattle.routine.specs.declared.Refusal.the-variants.{Number, Indexed}
+use Rattle.rules_routine.specs.Choice.{if_then_else_}
+use Rattle.rules_routine.specs.declared.Refusal.{Refusal}
+use Rattle.rules_routine.specs.declared.Refusal.the-variants.{Number, Indexed}
 use Rattle.rules.specs.State.{State}
 use Rattle.rules.specs.Due.{due}
-use Rattle.rules.specs.Answers.{Back, Answer, refused, placed, wait, send, done, skipped, held, not-held, committed, aborted, down, up, limited}
+use Rattle.rules.specs.Answers.{Back, Answer, refused, placed, wait, send, done, skipped, held, not-held, committed, aborted, down, up}
+use Rattle.rules.specs.Answers.{limited}
 use Rattle.line_rules.specs.Text.{lineEnd, bytes, decimal, signed}
 
 -- "Refusals print `refused`, the number and the index if there is one."

@@ -9,11 +9,11 @@ use lib.Dec.{ltb}
 use lib.IntN.{ℤ, pos}
 use lib.ListN.{length, getD, set, drop, length-append, length-drop}
 use lib.Seq.{sets, sets-eq, getD-append-add, getD-drop}
-use Rattle.routine.specs.Refusals.{no-room, refusalOf, refuse_when_}
-use Rattle.routine.specs.Causes.{itself}
-use Rattle.routine.specs.declared.Refusal.{Refusal}
-use Rattle.routine.specs.declared.Verdict.the-variants.{Accepted, Refused}
-use Rattle.routine.proofs.Exact.{less, agree, Outcome, one, exactly}
+use Rattle.rules_routine.specs.Refusals.{no-room, refusalOf, refuse_when_}
+use Rattle.rules_routine.specs.Causes.{itself}
+use Rattle.rules_routine.specs.declared.Refusal.{Refusal}
+use Rattle.rules_routine.specs.declared.Verdict.the-variants.{Accepted, Refused}
+use Rattle.rules_routine.proofs.Exact.{less, agree, Outcome, one, exactly}
 use Rattle.rules.specs.State.{State}
 use Rattle.rules.specs.Due.{due}
 use Rattle.rules.specs.AllDue.{settingsFrom, allDue, listCheck, listAfter}

@@ -9,23 +9,23 @@ use native.Mathlib.Omega.{arith}
 use lib.Dec.{leb, ltb, eqb}
 use lib.IntN.{ℤ}
 use lib.ListN.{length}
-use Rattle.routine.specs.Range.{inRange}
-use Rattle.routine.specs.Refusals.{devices-out-of-range, pass-limit-out-of-range, first-id-0, command-count, device-not-below}
-use Rattle.routine.specs.Refusals.{setting-out-of-range}
-use Rattle.routine.specs.Refusals.{tag-out-of-range, condition-alone, sequence-full, ids-used-up, not-running, turn-in-flight}
-use Rattle.routine.specs.Refusals.{none-in-flight}
-use Rattle.routine.specs.Refusals.{report-code-out-of-range}
-use Rattle.routine.specs.Refusals.{event-device, failure-of-down, restart-of-up, restart-setting, refusalOf, refuse_when_, _andThen_}
-use Rattle.routine.specs.Routine.{maxCommands, maxDevices, isCondition}
-use Rattle.routine.specs.Causes.{NoneOf, FirstIn, itself, OutOfRange, RoutineCause, commandCauses, routineCauses}
-use Rattle.routine.specs.declared.Command.{Command}
-use Rattle.routine.specs.declared.Refusal.{Refusal}
-use Rattle.routine.specs.declared.Verdict.{Verdict}
-use Rattle.routine.specs.declared.Verdict.the-variants.{Accepted, Refused}
-use Rattle.routine.proofs.Exact.{Decides, less, at-most, same, flag, either, both, agree, out-of-range, Outcome, passed, broken, one}
-use Rattle.routine.proofs.Exact.{join, exactly}
-use Rattle.routine.proofs.Exact.{Covers, widened, routine-outcome}
-use Rattle.routine.proofs.Exact as Made
+use Rattle.rules_routine.specs.Range.{inRange}
+use Rattle.rules_routine.specs.Refusals.{devices-out-of-range, pass-limit-out-of-range, first-id-0, command-count, device-not-below}
+use Rattle.rules_routine.specs.Refusals.{setting-out-of-range}
+use Rattle.rules_routine.specs.Refusals.{tag-out-of-range, condition-alone, sequence-full, ids-used-up, not-running, turn-in-flight}
+use Rattle.rules_routine.specs.Refusals.{none-in-flight}
+use Rattle.rules_routine.specs.Refusals.{report-code-out-of-range}
+use Rattle.rules_routine.specs.Refusals.{event-device, failure-of-down, restart-of-up, restart-setting, refusalOf, refuse_when_, _andThen_}
+use Rattle.rules_routine.specs.Routine.{maxCommands, maxDevices, isCondition}
+use Rattle.rules_routine.specs.Causes.{NoneOf, FirstIn, itself, OutOfRange, RoutineCause, commandCauses, routineCauses}
+use Rattle.rules_routine.specs.declared.Command.{Command}
+use Rattle.rules_routine.specs.declared.Refusal.{Refusal}
+use Rattle.rules_routine.specs.declared.Verdict.{Verdict}
+use Rattle.rules_routine.specs.declared.Verdict.the-variants.{Accepted, Refused}
+use Rattle.rules_routine.proofs.Exact.{Decides, less, at-most, same, flag, either, both, agree, out-of-range, Outcome, passed, broken, one}
+use Rattle.rules_routine.proofs.Exact.{join, exactly}
+use Rattle.rules_routine.proofs.Exact.{Covers, widened, routine-outcome}
+use Rattle.rules_routine.proofs.Exact as Made
 use Rattle.rules.specs.Tables.{put}
 use Rattle.rules.specs.State.{highestPassLimit, maxHeld, highestId, Status, to-do, in-flight, was-done, was-skipped, was-held}
 use Rattle.rules.specs.State.{was-not-held}

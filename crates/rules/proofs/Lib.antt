@@ -1,5 +1,5 @@
 -- What is proved of the rules without walking through calls. Demand 3, the replay of conditions and the waiting promise are proved in crate
--- `promises`, which builds on this; here a wrong rule shows in seconds.
+-- `rules_promises`, which builds on this; here a wrong rule shows in seconds.
 
 -- Laws of lists and tables, which many crates use.
 pub mod Lists

@@ -1,5 +1,5 @@
 -- Schedules, computed: one in which a routine needs almost all the rounds of the waiting promise, and one in which wrong rules show.
--- That they are schedules is `is-schedule` of `RoundsExist.antt` of crate `promises`. Assumes nothing.
+-- That they are schedules is `is-schedule` of `RoundsExist.antt` of crate `rules_promises`. Assumes nothing.
 use mathlib.Core.Path.{_≡_, refl}
 use mathlib.Core.Bool.{Bool, true, false, not, _&&_}
 use mathlib.Core.List.{List, [], _∷_, _++_, map}
@@ -9,9 +9,9 @@ use native.Mathlib.Omega.{arith}
 use lib.Dec.{eqb}
 use lib.IntN.{pos}
 use lib.ListN.{replicate}
-use Rattle.routine.specs.Choice.{if_then_else_}
-use Rattle.routine.specs.Routine.{maxCommands}
-use Rattle.routine.specs.declared.Command.{Command}
+use Rattle.rules_routine.specs.Choice.{if_then_else_}
+use Rattle.rules_routine.specs.Routine.{maxCommands}
+use Rattle.rules_routine.specs.declared.Command.{Command}
 use Rattle.rules.specs.State.{highestPassLimit, maxHeld, Member, State}
 use Rattle.rules.specs.Answers.{Call, submit, turn, report, limit, placed}
 use Rattle.rules.specs.Progress.{Flight, flight}
@@ -133,7 +133,7 @@ crowded-placed = refl
 abbrev pub tooFewRounds : ℕ
 tooFewRounds = maxCommands * (maxHeld + crowded .passLimit)
 
--- more are promised; that it still runs after these is `needs-most` of crate `promises`
+-- more are promised; that it still runs after these is `needs-most` of crate `rules_promises`
 pub more-promised : tooFewRounds < enoughRounds (crowded .passLimit)
 more-promised = omega arith
 

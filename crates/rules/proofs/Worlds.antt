@@ -11,7 +11,7 @@ use lib.ListN.{take}
 use Rattle.rules.specs.Tables.{anyOf, Each}
 use Rattle.rules.specs.Answers.{Call, submit, turn, report, failure, restart, cancel, limit, Answer, refused, placed, wait, send}
 use Rattle.rules.specs.Answers.{done, skipped, held, not-held, committed, aborted, down, up, limited}
-use Rattle.routine.specs.declared.Refusal.the-variants.{Number}
+use Rattle.rules_routine.specs.declared.Refusal.the-variants.{Number}
 use Rattle.rules.specs.Open.{opened, newHub, openOf}
 use Rattle.rules.specs.History.{reported-done, found-held, found-not-held, Told, Account, skippedBy, sentAccount, answeredAccount}
 use Rattle.rules.specs.History.{hasBegun, noteAnswer, noteAnswers, accountsOf, workingOf}

@@ -4,9 +4,9 @@ use Prim.Native.Nat.{ℕ, zero, suc}
 use lib.Dec.{ltb}
 use lib.IntN.{ℤ}
 use lib.ListN.{length, drop}
-use Rattle.routine.specs.Choice.{if_then_else_}
-use Rattle.routine.specs.Refusals.{no-room, refuse_when_}
-use Rattle.routine.specs.declared.Verdict.{Verdict}
+use Rattle.rules_routine.specs.Choice.{if_then_else_}
+use Rattle.rules_routine.specs.Refusals.{no-room, refuse_when_}
+use Rattle.rules_routine.specs.declared.Verdict.{Verdict}
 use Rattle.rules.specs.State.{State}
 use Rattle.rules.specs.Due.{due}
 

@@ -4,11 +4,11 @@
 use mathlib.Core.List.{List, [], _∷_}
 use Prim.Native.Nat.{ℕ}
 use lib.IntN.{ℤ}
-use Rattle.routine.specs.Refusals.{Cause, refusalOf}
-use Rattle.routine.specs.declared.Command.{Command}
-use Rattle.routine.specs.declared.Refusal.{Refusal}
-use Rattle.routine.specs.declared.Verdict.{Verdict}
-use Rattle.routine.specs.declared.Verdict.the-variants.{Accepted, Refused}
+use Rattle.rules_routine.specs.Refusals.{Cause, refusalOf}
+use Rattle.rules_routine.specs.declared.Command.{Command}
+use Rattle.rules_routine.specs.declared.Refusal.{Refusal}
+use Rattle.rules_routine.specs.declared.Verdict.{Verdict}
+use Rattle.rules_routine.specs.declared.Verdict.the-variants.{Accepted, Refused}
 use Rattle.rules.specs.State.{State}
 
 pub data Call : Type 0 where

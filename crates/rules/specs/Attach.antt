@@ -5,7 +5,7 @@ use mathlib.Core.Option.{Option, none, some}
 use Prim.Native.Nat.{ℕ}
 use lib.Dec.{eqb}
 use lib.IntN.{ℤ}
-use Rattle.routine.specs.Choice.{if_then_else_}
+use Rattle.rules_routine.specs.Choice.{if_then_else_}
 use Rattle.rules.specs.Tables.{put}
 use Rattle.rules.specs.State.{Member, State}
 use Rattle.rules.specs.Due.{afterRestart}

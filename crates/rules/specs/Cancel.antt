@@ -1,7 +1,7 @@
 -- Document 01, "Cancel aborts R". Refusal: 10. Assumes nothing.
 use mathlib.Core.Option.{Option, none, some}
 use Prim.Native.Nat.{ℕ}
-use Rattle.routine.specs.Refusals.{not-running}
+use Rattle.rules_routine.specs.Refusals.{not-running}
 use Rattle.rules.specs.State.{State}
 use Rattle.rules.specs.Answers.{Result, refusedFor}
 use Rattle.rules.specs.Sequence.{Found, find, runs}

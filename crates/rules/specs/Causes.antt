@@ -1,7 +1,7 @@
 -- Document 01, "When a call is turned down": the causes of the opening and of the hub's calls, each said by itself in the table's words
 -- over the state and the call; the order in which they are tested; and what `exact-opening` .. `exact-limit` (proofs/Exact.antt) say: each
 -- number under its cause alone. The same of the reading of all due settings (`exact-list`). Causes 4 to 7 and 22, and what "each under its
--- cause alone" means, stand in `specs/Causes.antt` of crate `routine`. Assumes nothing.
+-- cause alone" means, stand in `specs/Causes.antt` of crate `rules_routine`. Assumes nothing.
 use mathlib.Core.Path.{_≡_}
 use mathlib.Core.Bool.{true, false}
 use mathlib.Core.Logic.{_⊎_}
@@ -9,16 +9,17 @@ use mathlib.Core.List.{List, [], _∷_, _++_}
 use Prim.Native.Nat.{ℕ, _<_, _≤_}
 use lib.IntN.{ℤ, pos}
 use lib.ListN.{length, getD}
-use Rattle.routine.specs.Refusals.{Cause, devices-out-of-range, pass-limit-out-of-range, first-id-0, sequence-full, ids-used-up}
-use Rattle.routine.specs.Refusals.{not-running}
-use Rattle.routine.specs.Refusals.{turn-in-flight, none-in-flight, report-code-out-of-range, event-device, failure-of-down, restart-of-up}
-use Rattle.routine.specs.Refusals.{restart-setting, no-room}
-use Rattle.routine.specs.Routine.{maxDevices}
-use Rattle.routine.specs.Causes.{NoneOf, FirstIn, Exactly, itself, OutOfRange, RoutineCause, routineCauses}
-use Rattle.routine.specs.declared.Command.{Command}
-use Rattle.routine.specs.declared.Refusal.{Refusal}
-use Rattle.routine.specs.declared.Verdict.{Verdict}
-use Rattle.routine.specs.declared.Verdict.the-variants.{Accepted, Refused}
+use Rattle.rules_routine.specs.Refusals.{Cause, devices-out-of-range, pass-limit-out-of-range, first-id-0, sequence-full, ids-used-up}
+use Rattle.rules_routine.specs.Refusals.{not-running}
+use Rattle.rules_routine.specs.Refusals.{turn-in-flight, none-in-flight, report-code-out-of-range, event-device, failure-of-down}
+use Rattle.rules_routine.specs.Refusals.{restart-of-up}
+use Rattle.rules_routine.specs.Refusals.{restart-setting, no-room}
+use Rattle.rules_routine.specs.Routine.{maxDevices}
+use Rattle.rules_routine.specs.Causes.{NoneOf, FirstIn, Exactly, itself, OutOfRange, RoutineCause, routineCauses}
+use Rattle.rules_routine.specs.declared.Command.{Command}
+use Rattle.rules_routine.specs.declared.Refusal.{Refusal}
+use Rattle.rules_routine.specs.declared.Verdict.{Verdict}
+use Rattle.rules_routine.specs.declared.Verdict.the-variants.{Accepted, Refused}
 use Rattle.rules.specs.State.{highestPassLimit, maxHeld, highestId, in-flight, Step, Member, State}
 use Rattle.rules.specs.Answers.{Call, submit, turn, report, failure, restart, cancel, limit, Answer, refused}
 use Rattle.rules.specs.Due.{due}

@@ -1,11 +1,11 @@
--- Demand 3, its statement. The proof is `demand-3` of crate `promises`; `docs/DEMAND-3.md` walks through it. Assumes nothing.
+-- Demand 3, its statement. The proof is `demand-3` of crate `rules_promises`; `docs/DEMAND-3.md` walks through it. Assumes nothing.
 use mathlib.Core.Path.{_≡_}
 use mathlib.Core.Logic.{_⊎_}
 use mathlib.Core.Bool.{Bool, true, false, _&&_}
 use mathlib.Core.List.{List, [], _∷_, _++_, map}
 use Prim.Native.Nat.{ℕ, _<_}
-use Rattle.routine.specs.Routine.{isCondition}
-use Rattle.routine.specs.declared.Command.{Command}
+use Rattle.rules_routine.specs.Routine.{isCondition}
+use Rattle.rules_routine.specs.declared.Command.{Command}
 use Rattle.rules.specs.Tables.{anyOf}
 use Rattle.rules.specs.State.{State}
 use Rattle.rules.specs.Progress.{countsAsMust}

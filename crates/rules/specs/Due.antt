@@ -5,7 +5,7 @@ use mathlib.Core.List.{List, [], _∷_}
 use mathlib.Core.Option.{Option, none, some}
 use Prim.Native.Nat.{ℕ}
 use lib.IntN.{ℤ}
-use Rattle.routine.specs.Choice.{if_then_else_}
+use Rattle.rules_routine.specs.Choice.{if_then_else_}
 use Rattle.rules.specs.State.{Step, Member, State}
 use Rattle.rules.specs.Progress.{isOn, isDone}
 

@@ -6,9 +6,9 @@ use mathlib.Core.Option.{Option, none, some}
 use Prim.Native.Nat.{ℕ}
 use lib.Dec.{leb}
 use lib.IntN.{ℤ}
-use Rattle.routine.specs.Choice.{if_then_else_}
-use Rattle.routine.specs.Range.{inRange}
-use Rattle.routine.specs.Refusals.{event-device, failure-of-down, restart-of-up, restart-setting, refuse_when_, _andThen_}
+use Rattle.rules_routine.specs.Choice.{if_then_else_}
+use Rattle.rules_routine.specs.Range.{inRange}
+use Rattle.rules_routine.specs.Refusals.{event-device, failure-of-down, restart-of-up, restart-setting, refuse_when_, _andThen_}
 use Rattle.rules.specs.Tables.{put}
 use Rattle.rules.specs.State.{was-skipped, Step, Member, State}
 use Rattle.rules.specs.Answers.{Result, down, up, unlessRefused}

@@ -1,18 +1,18 @@
 -- Document 01, "Examples from the exam hall": those that concern the hub, each through its last settings. (The ★ examples of hub and book
--- are one list in crate `starred`.) Assumes nothing.
+-- are one list in crate `rules_starred`.) Assumes nothing.
 use mathlib.Core.Path.{_≡_, refl}
 use mathlib.Core.List.{List, [], _∷_, _++_}
 use mathlib.Core.Option.{Option, none, some}
 use Prim.Native.Nat.{ℕ, zero, suc}
 use lib.IntN.{ℤ, pos, negsuc}
 use lib.ListN.{replicate}
-use Rattle.routine.specs.Choice.{if_then_else_}
-use Rattle.routine.specs.Range.{inRange}
-use Rattle.routine.specs.Refusals.{refusalOf}
-use Rattle.routine.specs.Routine.{commandCheck, standsAlone, commandsCheck, routineCheck}
-use Rattle.routine.specs.declared.Command.{Command}
-use Rattle.routine.specs.declared.Refusal.the-variants.{Number, Indexed}
-use Rattle.routine.specs.declared.Verdict.the-variants.{Accepted, Refused}
+use Rattle.rules_routine.specs.Choice.{if_then_else_}
+use Rattle.rules_routine.specs.Range.{inRange}
+use Rattle.rules_routine.specs.Refusals.{refusalOf}
+use Rattle.rules_routine.specs.Routine.{commandCheck, standsAlone, commandsCheck, routineCheck}
+use Rattle.rules_routine.specs.declared.Command.{Command}
+use Rattle.rules_routine.specs.declared.Refusal.the-variants.{Number, Indexed}
+use Rattle.rules_routine.specs.declared.Verdict.the-variants.{Accepted, Refused}
 use Rattle.rules.specs.State.{State}
 use Rattle.rules.specs.Answers.{Call, submit, turn, report, failure, restart, cancel, limit, Back, Answer, refused, placed, wait}
 use Rattle.rules.specs.Answers.{send}

@@ -1,12 +1,12 @@
 -- Document 01: "The hub's order is the settled part, then each routine of the sequence followed by its events." The order is built from the
 -- answers; this says that it is the order of the routines that the hub holds, that its serial run gives what the hub has of each device,
--- and that the accounts have of each command what the hub has. The proof is `hub-order` of crate `promises`. Assumes nothing.
+-- and that the accounts have of each command what the hub has. The proof is `hub-order` of crate `rules_promises`. Assumes nothing.
 use mathlib.Core.Path.{_≡_}
 use mathlib.Core.List.{List, [], _∷_, map}
 use Prim.Native.Nat.{ℕ}
 use lib.IntN.{ℤ}
-use Rattle.routine.specs.Choice.{if_then_else_}
-use Rattle.routine.specs.declared.Command.{Command}
+use Rattle.rules_routine.specs.Choice.{if_then_else_}
+use Rattle.rules_routine.specs.declared.Command.{Command}
 use Rattle.rules.specs.Tables.{Each}
 use Rattle.rules.specs.State.{Status, to-do, in-flight, was-done, was-skipped, was-held, was-not-held, Step, Member, State}
 use Rattle.rules.specs.Progress.{isDone}

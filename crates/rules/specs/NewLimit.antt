@@ -1,11 +1,11 @@
 -- Document 02, item 13: what is claimed of new pass limits besides their refusal (`Causes.antt`), demand 3 and the waiting promise. The
--- proofs are `limit-tells-nothing`, `nothing-to-settle`, `passed-below` and `passes-in-range` of crate `promises`. Assumes nothing.
+-- proofs are `limit-tells-nothing`, `nothing-to-settle`, `passed-below` and `passes-in-range` of crate `rules_promises`. Assumes nothing.
 use mathlib.Core.Path.{_≡_}
 use mathlib.Core.Bool.{true}
 use mathlib.Core.List.{List, _∷_, _++_, map}
 use Prim.Native.Nat.{ℕ, _<_, _≤_}
 use lib.IntN.{ℤ}
-use Rattle.routine.specs.declared.Command.{Command}
+use Rattle.rules_routine.specs.declared.Command.{Command}
 use Rattle.rules.specs.Tables.{Each}
 use Rattle.rules.specs.State.{highestPassLimit, Member, State}
 use Rattle.rules.specs.Answers.{Call, limit}

@@ -4,11 +4,11 @@ use mathlib.Core.List.{[]}
 use Prim.Native.Nat.{ℕ}
 use lib.Dec.{ltb, eqb}
 use lib.IntN.{pos}
-use Rattle.routine.specs.Routine.{maxDevices}
-use Rattle.routine.specs.Refusals.{devices-out-of-range, pass-limit-out-of-range, first-id-0, refuse_when_, _andThen_}
-use Rattle.routine.specs.declared.Refusal.{Refusal}
-use Rattle.routine.specs.declared.Verdict.{Verdict}
-use Rattle.routine.specs.declared.Verdict.the-variants.{Accepted, Refused}
+use Rattle.rules_routine.specs.Routine.{maxDevices}
+use Rattle.rules_routine.specs.Refusals.{devices-out-of-range, pass-limit-out-of-range, first-id-0, refuse_when_, _andThen_}
+use Rattle.rules_routine.specs.declared.Refusal.{Refusal}
+use Rattle.rules_routine.specs.declared.Verdict.{Verdict}
+use Rattle.rules_routine.specs.declared.Verdict.the-variants.{Accepted, Refused}
 use Rattle.rules.specs.State.{highestPassLimit, State}
 
 -- What an opening gives: a hub; or a refusal, and no hub is made.

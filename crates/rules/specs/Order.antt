@@ -5,8 +5,8 @@ use mathlib.Core.List.{List, [], _∷_, _++_}
 use Prim.Native.Nat.{ℕ}
 use lib.Dec.{eqb}
 use lib.IntN.{ℤ, pos}
-use Rattle.routine.specs.Choice.{if_then_else_}
-use Rattle.routine.specs.declared.Command.{Command}
+use Rattle.rules_routine.specs.Choice.{if_then_else_}
+use Rattle.rules_routine.specs.declared.Command.{Command}
 use Rattle.rules.specs.Answers.{Call, submit, turn, report, failure, restart, cancel, limit, Answer, refused, placed, wait, send}
 use Rattle.rules.specs.Answers.{done}
 use Rattle.rules.specs.Answers.{skipped, held, not-held, committed, aborted, down, up, limited}

@@ -1,12 +1,12 @@
 -- Document 02, item 4: "Running the committed routines and the accepted failures and restarts in the hub's order must give every condition
--- that was not skipped the same outcome that it had live." The proof is `replay` of crate `promises`. Assumes nothing.
+-- that was not skipped the same outcome that it had live." The proof is `replay` of crate `rules_promises`. Assumes nothing.
 use mathlib.Core.Path.{_≡_}
 use mathlib.Core.Bool.{Bool, true, false}
 use mathlib.Core.List.{List, [], _∷_}
 use Prim.Native.Nat.{ℕ}
 use lib.Signed.{ltZ}
-use Rattle.routine.specs.Routine.{isCondition}
-use Rattle.routine.specs.declared.Command.{Command}
+use Rattle.rules_routine.specs.Routine.{isCondition}
+use Rattle.rules_routine.specs.declared.Command.{Command}
 use Rattle.rules.specs.State.{State}
 use Rattle.rules.specs.Open.{opened, openOf}
 use Rattle.rules.specs.History.{Outcome, not-yet, reported-done, reported-failed, not-sent, by-event, found-held, found-not-held}

@@ -4,8 +4,8 @@ use mathlib.Core.Option.{Option, none, some}
 use Prim.Native.Nat.{ℕ}
 use lib.Dec.{ltb, eqb}
 use lib.IntN.{ℤ}
-use Rattle.routine.specs.Choice.{if_then_else_}
-use Rattle.routine.specs.Refusals.{not-running, none-in-flight, report-code-out-of-range, refuse_when_}
+use Rattle.rules_routine.specs.Choice.{if_then_else_}
+use Rattle.rules_routine.specs.Refusals.{not-running, none-in-flight, report-code-out-of-range, refuse_when_}
 use Rattle.rules.specs.Tables.{sameSetting}
 use Rattle.rules.specs.State.{was-done, was-skipped, State}
 use Rattle.rules.specs.Answers.{Back, Result, done, skipped, refusedFor, unlessRefused}

@@ -1,14 +1,14 @@
 -- Document 02, item 1, "Nobody waits for ever", with the new pass limits of item 13: rounds, schedules and the waiting promise. Which
 -- routines run, what is in flight, what has ended and which K is in force is told by calls and answers, without a look at the hub. The
--- proof is `ended-in-time` of crate `promises`; `docs/WAITING.md` walks through it. Assumes nothing.
+-- proof is `ended-in-time` of crate `rules_promises`; `docs/WAITING.md` walks through it. Assumes nothing.
 use mathlib.Core.Path.{_≡_}
 use mathlib.Core.Bool.{Bool, false, not, _&&_}
 use mathlib.Core.List.{List, [], _∷_, _++_, map}
 use Prim.Native.Nat.{ℕ, suc, _+_, _*_, _≤_}
 use lib.Dec.{eqb}
-use Rattle.routine.specs.Choice.{if_then_else_}
-use Rattle.routine.specs.Routine.{maxCommands}
-use Rattle.routine.specs.declared.Command.{Command}
+use Rattle.rules_routine.specs.Choice.{if_then_else_}
+use Rattle.rules_routine.specs.Routine.{maxCommands}
+use Rattle.rules_routine.specs.declared.Command.{Command}
 use Rattle.rules.specs.Tables.{anyOf, Each}
 use Rattle.rules.specs.State.{maxHeld, State}
 use Rattle.rules.specs.Answers.{Call, submit, turn, report, failure, restart, cancel, limit, Answer, refused, placed, wait, send}

@@ -4,7 +4,7 @@ use mathlib.Core.Bool.{Bool, true, false}
 use mathlib.Core.List.{List, [], _∷_}
 use Prim.Native.Nat.{ℕ}
 use lib.IntN.{ℤ, pos}
-use Rattle.routine.specs.declared.Command.{Command}
+use Rattle.rules_routine.specs.declared.Command.{Command}
 use Rattle.rules.specs.Tables.{put}
 use Rattle.rules.specs.Order.{failure-of, restart-of, Entry, routine, event}
 

@@ -1,6 +1,6 @@
 -- Document 01, "Settling". Assumes nothing.
 use mathlib.Core.List.{List, [], _∷_}
-use Rattle.routine.specs.Choice.{if_then_else_}
+use Rattle.rules_routine.specs.Choice.{if_then_else_}
 use Rattle.rules.specs.State.{Member, State}
 use Rattle.rules.specs.Answers.{Result}
 use Rattle.rules.specs.Sequence.{withSequence, withSettled, withMark, moveMarks}

@@ -4,7 +4,7 @@ use mathlib.Core.List.{List}
 use mathlib.Core.Option.{Option}
 use Prim.Native.Nat.{ℕ}
 use lib.IntN.{ℤ}
-use Rattle.routine.specs.declared.Command.{Command}
+use Rattle.rules_routine.specs.declared.Command.{Command}
 
 -- "Pass limit K, 0 to 8."
 abbrev pub highestPassLimit : ℕ

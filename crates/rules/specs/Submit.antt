@@ -5,11 +5,11 @@ use mathlib.Core.Option.{none}
 use Prim.Native.Nat.{ℕ, suc}
 use lib.Dec.{leb, ltb, eqb}
 use lib.ListN.{length}
-use Rattle.routine.specs.Choice.{if_then_else_}
-use Rattle.routine.specs.Refusals.{sequence-full, ids-used-up, refuse_when_, _andThen_}
-use Rattle.routine.specs.Routine.{routineCheck}
-use Rattle.routine.specs.declared.Command.{Command}
-use Rattle.routine.specs.declared.Verdict.{Verdict}
+use Rattle.rules_routine.specs.Choice.{if_then_else_}
+use Rattle.rules_routine.specs.Refusals.{sequence-full, ids-used-up, refuse_when_, _andThen_}
+use Rattle.rules_routine.specs.Routine.{routineCheck}
+use Rattle.rules_routine.specs.declared.Command.{Command}
+use Rattle.rules_routine.specs.declared.Verdict.{Verdict}
 use Rattle.rules.specs.Tables.{anyOf}
 use Rattle.rules.specs.State.{maxHeld, highestId, to-do, Step, Member, State}
 use Rattle.rules.specs.Answers.{Result, placed, unlessRefused}

@@ -4,7 +4,7 @@ use mathlib.Core.List.{List, [], _∷_}
 use Prim.Native.Nat.{ℕ}
 use lib.Dec.{eqb}
 use lib.IntN.{ℤ, pos, negsuc}
-use Rattle.routine.specs.Choice.{if_then_else_}
+use Rattle.rules_routine.specs.Choice.{if_then_else_}
 
 -- Does one of the list pass the test?
 abbrev pub anyOf {ℓ} : {A : Type ℓ} → (A → Bool) → List A → Bool

@@ -4,10 +4,10 @@ use mathlib.Core.List.{List, [], _∷_}
 use mathlib.Core.Option.{Option, none, some}
 use Prim.Native.Nat.{ℕ}
 use lib.Signed.{ltZ}
-use Rattle.routine.specs.Choice.{if_then_else_}
-use Rattle.routine.specs.Refusals.{not-running, turn-in-flight}
-use Rattle.routine.specs.Routine.{isCondition}
-use Rattle.routine.specs.declared.Command.{Command}
+use Rattle.rules_routine.specs.Choice.{if_then_else_}
+use Rattle.rules_routine.specs.Refusals.{not-running, turn-in-flight}
+use Rattle.rules_routine.specs.Routine.{isCondition}
+use Rattle.rules_routine.specs.declared.Command.{Command}
 use Rattle.rules.specs.Tables.{anyOf, put}
 use Rattle.rules.specs.State.{Status, in-flight, was-skipped, was-held, was-not-held, Member, State}
 use Rattle.rules.specs.Answers.{Result, wait, send, skipped, held, not-held, committed, refusedFor}

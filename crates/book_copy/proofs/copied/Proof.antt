@@ -3,9 +3,9 @@ use mathlib.Core.Path.{ap, _∙_}
 use mathlib.Core.List.{List}
 use native.Mathlib.Omega.{arith}
 use lib.ListN.{length}
-use Rattle.routine.specs.declared.Command.{Command}
-use Rattle.layout.specs.Claims.{Bytes}
-use Rattle.layout.specs.Writing.{writtenOf, bufferAfter}
+use Rattle.rules_routine.specs.declared.Command.{Command}
+use Rattle.book_layout.specs.Claims.{Bytes}
+use Rattle.book_layout.specs.Writing.{writtenOf, bufferAfter}
 use Rattle.book_copy.specs.declared.Rows.{Rows}
 use Rattle.book_copy.proofs.Laws.{rows-count, rows-lent, written-copied, after-copied, refused-copied, Read, read-refused}
 use Rattle.book_copy.proofs.Laws.{read-accepted}

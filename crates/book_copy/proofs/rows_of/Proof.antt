@@ -2,8 +2,8 @@
 use Prim.Native.Nat.{ℕ}
 use mathlib.Core.Path.{_≡_, sym, _∙_}
 use native.Mathlib.Omega.{arith}
-use Rattle.layout.specs.Reading.{bookCheck}
-use Rattle.layout.proofs.RoundTrip.{hands-accepted}
+use Rattle.book_layout.specs.Reading.{bookCheck}
+use Rattle.book_layout.proofs.RoundTrip.{hands-accepted}
 use borrow.Author.Needs.{needs}
 use Rattle.book_copy.proofs.rows_of.Statement.{statement}
 use Rattle.book_copy.proofs.rows_of.Tie as tie

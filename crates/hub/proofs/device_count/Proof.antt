@@ -1,6 +1,6 @@
 -- `hub::device_count` meets its contract. Assumes nothing.
 use mathlib.Core.Path.{refl}
-use Rattle.state.specs.View.{stateOf}
+use Rattle.hub_state.specs.View.{stateOf}
 use Rattle.hub.proofs.device_count.Statement.{statement}
 use Rattle.hub.proofs.device_count.Tie as tie
 

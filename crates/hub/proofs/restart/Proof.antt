@@ -6,7 +6,7 @@ use mir.Val.{toZ, ofZ}
 use mir.Syntax.{w16}
 use borrow.Author.Needs.{needs}
 use Rattle.rules.specs.Events.{restartOf}
-use Rattle.state.specs.Contract.{Decides}
+use Rattle.hub_state.specs.Contract.{Decides}
 use Rattle.hub.specs.View.{view}
 use Rattle.hub.proofs.Laws.{decides-none, gives-none}
 use Rattle.hub.proofs.restart.Statement.{statement}

@@ -4,9 +4,9 @@ use lib.IntN.{ℤ}
 use mir.Val.{toZ, ofZ}
 use mir.Syntax.{w16}
 use borrow.Author.Needs.{needs}
-use Rattle.state.specs.View.{stateOf}
-use Rattle.state.specs.Valid.{StateOk}
-use Rattle.state.specs.Contract.{halfwayIn, stoppedBy, upWith}
+use Rattle.hub_state.specs.View.{stateOf}
+use Rattle.hub_state.specs.Valid.{StateOk}
+use Rattle.hub_state.specs.Contract.{halfwayIn, stoppedBy, upWith}
 use Rattle.hub.proofs.with_restart.Statement.{statement}
 use Rattle.hub.proofs.with_restart.Tie as tie
 

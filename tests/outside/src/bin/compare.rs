@@ -218,7 +218,7 @@ fn write_in_pieces(to: &mut ChildStdin, input: &[u8], feed: Feed) -> std::io::Re
 }
 
 fn program() -> String {
-    setting("PLOT_HUB_PROGRAM", "target/bin/plot_hub")
+    setting("PLOT_HUB_PROGRAM", "target/bin/run_plot_hub")
 }
 
 /// What the program prints for this input. Err: it ended otherwise than it should.

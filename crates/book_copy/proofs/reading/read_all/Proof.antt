@@ -8,15 +8,15 @@ use mathlib.Core.List.{List}
 use native.Mathlib.Omega.{arith}
 use lib.ListN.{length, take, drop}
 use lib.Seq.{take-all}
-use Rattle.routine.specs.Routine.{commandsOf}
-use Rattle.routine.specs.declared.Command.{Command}
-use Rattle.routine.proofs.Laws.{length-commandsOf}
-use Rattle.layout.specs.Claims.{Hands, Bytes}
-use Rattle.layout.specs.Layout.{maxRoutines}
-use Rattle.layout.specs.Reading.{nextOf}
-use Rattle.layout.specs.declared.Next.{Next}
-use Rattle.layout.proofs.RoundTrip.{hands-make}
-use Rattle.layout.proofs.Theorems.{read-then-write}
+use Rattle.rules_routine.specs.Routine.{commandsOf}
+use Rattle.rules_routine.specs.declared.Command.{Command}
+use Rattle.rules_routine.proofs.Laws.{length-commandsOf}
+use Rattle.book_layout.specs.Claims.{Hands, Bytes}
+use Rattle.book_layout.specs.Layout.{maxRoutines}
+use Rattle.book_layout.specs.Reading.{nextOf}
+use Rattle.book_layout.specs.declared.Next.{Next}
+use Rattle.book_layout.proofs.RoundTrip.{hands-make}
+use Rattle.book_layout.proofs.Theorems.{read-then-write}
 use Rattle.book_copy.specs.Rows.{rowsOf, withRoutine}
 use Rattle.book_copy.proofs.Laws.{rows-more, routines-short, Step, step-handed, step-ended, not-handed}
 use Rattle.book_copy.proofs.reading.read_all.Statement.{statement}

@@ -7,8 +7,8 @@ use mathlib.Core.Path.{_≡_, refl, sym, ap, _∙_}
 use native.Mathlib.Omega.{arith}
 use lib.ListN.{length, take}
 use lib.Seq.{slice}
-use Rattle.routine.specs.Routine.{maxCommands}
-use Rattle.routine.proofs.Laws.{length-mapped, commandsOf-held}
+use Rattle.rules_routine.specs.Routine.{maxCommands}
+use Rattle.rules_routine.proofs.Laws.{length-mapped, commandsOf-held}
 use Rattle.book_copy.specs.Rows.{withCommands}
 use Rattle.book_copy.specs.declared.Rows.{Rows}
 use Rattle.book_copy.proofs.Laws.{commands-step, commands-over}

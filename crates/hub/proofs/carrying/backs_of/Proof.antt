@@ -2,8 +2,8 @@
 use borrow.Author.Needs.{needs}
 use mathlib.Core.Path.{subst}
 use Prim.Native.Nat.{_<_}
-use Rattle.routine.specs.Routine.{maxDevices}
-use Rattle.state.specs.Contract.{StandsOrPast}
+use Rattle.rules_routine.specs.Routine.{maxDevices}
+use Rattle.hub_state.specs.Contract.{StandsOrPast}
 use Rattle.hub.specs.Carrying.{LeavingOk}
 use Rattle.hub.proofs.Laws.{backs-as, backs-down}
 use Rattle.hub.proofs.carrying.backs_of.Statement.{statement}

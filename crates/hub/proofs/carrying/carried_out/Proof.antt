@@ -1,7 +1,7 @@
 -- `hub::carrying::carried_out` meets its contract. Assumes nothing.
 use borrow.Author.Needs.{needs}
 use mathlib.Core.Path.{sym, _∙_}
-use Rattle.routine.specs.Routine.{commandsOf}
+use Rattle.rules_routine.specs.Routine.{commandsOf}
 use Rattle.hub.proofs.Laws.{leaving-ok, settled-gives, stands-gives}
 use Rattle.hub.proofs.carrying.carried_out.Statement.{statement}
 use Rattle.hub.proofs.carrying.carried_out.Tie as tie

@@ -7,8 +7,8 @@ use mir.Syntax.{w16}
 use Prim.Native.Nat.{ℕ}
 use native.Mathlib.Omega.{arith}
 use borrow.Author.Needs.{needs}
-use Rattle.state.specs.View.{isRestart}
-use Rattle.state.specs.Contract.{halfwayIn, stoppedBy, upWith, ChangeOk}
+use Rattle.hub_state.specs.View.{isRestart}
+use Rattle.hub_state.specs.Contract.{halfwayIn, stoppedBy, upWith, ChangeOk}
 use Rattle.hub.specs.View.{view}
 use Rattle.hub.proofs.Laws.{carries-as, carries-nothing}
 use Rattle.hub.proofs.carrying.changed.Statement.{statement}

@@ -2,7 +2,7 @@
 use borrow.Author.Needs.{needs}
 use native.Mathlib.Omega.{arith}
 use mathlib.Core.Path.{sym, _∙_}
-use Rattle.routine.specs.Refusals.{refusalOf}
+use Rattle.rules_routine.specs.Refusals.{refusalOf}
 use Rattle.hub.proofs.OpenLaws.{open-no-devices, open-many-devices, open-pass-limit, open-first-id, open-fine}
 use Rattle.hub.proofs.opening.check.Statement.{statement}
 use Rattle.hub.proofs.opening.check.Tie as tie

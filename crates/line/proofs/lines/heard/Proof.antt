@@ -1,7 +1,7 @@
 -- `line::lines::heard` meets its contract. Assumes nothing.
 use mathlib.Core.Path.{refl, sym, ap, _∙_}
 use borrow.Author.Tests.{eq-eqb}
-use Rattle.line_reader.specs.declared.Line.{Line}
+use Rattle.line_read.specs.declared.Line.{Line}
 use Rattle.line.specs.View.{heardOf}
 use Rattle.line.proofs.Laws.{heard-none, heard-some}
 use borrow.Author.Needs.{needs}

@@ -3,7 +3,7 @@ use mathlib.Core.Path.{ap, _∙_}
 use Prim.Native.Nat.{_≤_}
 use native.Mathlib.Omega.{arith}
 use lib.ListN.{length}
-use Rattle.line_reader.specs.declared.LineRead.{LineRead}
+use Rattle.line_read.specs.declared.LineRead.{LineRead}
 use Rattle.line.specs.View.{heardOf}
 use Rattle.line.proofs.Loops.{end-within}
 use borrow.Author.Needs.{needs}

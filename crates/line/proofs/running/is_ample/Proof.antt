@@ -8,7 +8,7 @@ use borrow.Author.Tests.{ltb-true}
 use lib.ListN.{length, drop}
 use Rattle.line_rules.specs.Text.{lineEnd}
 use Rattle.line_rules.specs.Pieces.{pieces}
-use Rattle.line_printer.specs.Put.{maxText}
+use Rattle.line_print.specs.Put.{maxText}
 use Rattle.line.specs.Contract.{partLength}
 use Rattle.line.proofs.Loops.{part-length, count-part, count-last, lines-counted}
 use Rattle.line.proofs.running.is_ample.Statement.{statement}

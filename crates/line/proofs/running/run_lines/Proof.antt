@@ -9,18 +9,18 @@ use borrow.Author.Tests.{not-true, not-false}
 use mir.Syntax.{w16}
 use mir.Val.{toZ, ofZ}
 use lib.ListN.{length, take, drop}
-use Rattle.routine.specs.Routine.{commandsOf}
-use Rattle.routine.specs.declared.Command.{Command}
+use Rattle.rules_routine.specs.Routine.{commandsOf}
+use Rattle.rules_routine.specs.declared.Command.{Command}
 use Rattle.rules.specs.Settle.{settle}
-use Rattle.state.specs.View.{isRestart}
-use Rattle.state.specs.Contract.{ChangeOk, toldBy}
-use Rattle.state.specs.declared.Change.{Change}
-use Rattle.state.specs.declared.Change.the-variants.{Stage, Commit, Join, Abort, Fail, Restart}
+use Rattle.hub_state.specs.View.{isRestart}
+use Rattle.hub_state.specs.Contract.{ChangeOk, toldBy}
+use Rattle.hub_state.specs.declared.Change.{Change}
+use Rattle.hub_state.specs.declared.Change.the-variants.{Stage, Commit, Join, Abort, Fail, Restart}
 use Rattle.line_rules.specs.Reading.{Line as Said, readLine}
 use Rattle.line_rules.specs.Printing.{answersText}
-use Rattle.line_reader.specs.Held.{heldLine}
-use Rattle.line_reader.specs.declared.Line.the-variants.{Calling}
-use Rattle.line_printer.specs.Put.{maxText}
+use Rattle.line_read.specs.Held.{heldLine}
+use Rattle.line_read.specs.declared.Line.the-variants.{Calling}
+use Rattle.line_print.specs.Put.{maxText}
 use Rattle.hub.specs.View.{view}
 use Rattle.hub.specs.Valid.{Valid}
 use Rattle.hub.specs.Carrying.{Carries}

@@ -1,0 +1,71 @@
+-- `hub_abort::tables_of` meets its contract. Assumes nothing.
+use borrow.Author.Needs.{needs}
+use mathlib.Core.Path.{_≡_, _∙_}
+use lib.ListN.{length}
+use Rattle.rules_routine.specs.Routine.{maxDevices}
+use Rattle.rules_routine.proofs.Laws.{length-mapped}
+use Rattle.hub_abort.proofs.LeaveLaws.{left-flights, left-due}
+use Rattle.hub_abort.proofs.Laws.{up-fails, up-stays}
+use Rattle.hub_abort.proofs.tables_of.Statement.{statement}
+use Rattle.hub_abort.proofs.tables_of.Tie as tie
+
+due-settings-requires : tie.Need-due-settings-requires
+due-settings-requires c κs = search needs
+
+due-settings-but-requires : tie.Need-due-settings-but-requires
+due-settings-but-requires c κs = search needs
+
+in-flight-but-requires : tie.Need-in-flight-but-requires
+in-flight-but-requires c κs = search needs
+
+own-flights-requires : tie.Need-own-flights-requires
+own-flights-requires c κs = search needs
+
+array-write-up : tie.Need-array-write-up
+array-write-up c = search needs
+
+-- the length of the row of devices that are up
+long : (c : tie.Start) → length (c .args .state .up) ≡ maxDevices
+long c = search (needs, length-mapped)
+
+returns : tie.Need-returns
+returns c =
+    let o = c .before .before in
+    let f = o .before in
+    let d = f .before in
+    let s = d .before .before in
+    let a = s .args in
+    record {
+      up-is = up-fails (a .state) (a .down) (c .if1 .taken) (long s);
+      others-are = f .in-flight-but .ensures ∙ left-flights (a .state) (a .at) (s .pre .0) (s .pre .1);
+      own-are = o .own-flights .ensures;
+      before-is = d .before .due-settings .ensures;
+      after-is = d .due-settings-but .ensures ∙ left-due (a .state) (a .at) (s .pre .0) (s .pre .1);
+    }
+
+returns-2 : tie.Need-returns-2
+returns-2 c =
+    let o = c .before .before in
+    let f = o .before in
+    let d = f .before in
+    let s = d .before .before in
+    let a = s .args in
+    record {
+      up-is = up-stays (a .state) (a .down) (c .if1 .left);
+      others-are = f .in-flight-but .ensures ∙ left-flights (a .state) (a .at) (s .pre .0) (s .pre .1);
+      own-are = o .own-flights .ensures;
+      before-is = d .before .due-settings .ensures;
+      after-is = d .due-settings-but .ensures ∙ left-due (a .state) (a .at) (s .pre .0) (s .pre .1);
+    }
+
+pub tables-of-spec : {M : Type 1} → statement M
+tables-of-spec =
+    tie.close
+    (tie.spec
+    due-settings-requires
+    due-settings-but-requires
+    in-flight-but-requires
+    own-flights-requires
+    array-write-up
+    returns
+    returns-2)

@@ -1,0 +1,124 @@
+// The rows of a newcomer, filled in at its slot.
+use hub_sequence::Links;
+use hub_sequence::MAX_HELD;
+use hub_state::NO_RESTART;
+use hub_state::RESTARTS;
+use hub_state::STEPS;
+use hub_state::TO_DO;
+use rules_routine::MAX_COMMANDS;
+use rules_routine::MAX_DEVICES;
+use rules_routine::Routine;
+ghost use Prim.Native.Nat.{_*_, _<_};
+ghost use lib.IntN.{pos};
+ghost use Rattle.rules_routine.specs.Routine.{maxCommands, maxDevices};
+ghost use Rattle.rules.specs.State.{maxHeld};
+ghost use Rattle.hub_state.specs.View.{toDoCode, noRestart};
+ghost use Rattle.hub_apply.specs.Fill.{Fills, commandIn, CanFill, CanPassBehind, PassesBehind};
+
+// "Every running routine now behind it has been passed once more." The newcomer itself was not passed.
+pub fn passed_behind(
+    row: [u8; MAX_HELD],
+    links: Links,
+    committed: [bool; MAX_HELD],
+    slot: usize,
+) -> [u8; MAX_HELD]
+    requires { ⌜ CanPassBehind row links committed slot ⌝ }
+    ensures { λ r. ⌜ PassesBehind row links committed slot r ⌝ }
+{
+    let behind = links.behind;
+    let mut passed = row;
+    passed[slot] = 0;
+    let mut i = behind[slot] as usize;
+    while i < MAX_HELD {
+        if !committed[i] {
+            passed[i] = passed[i] + 1;
+        }
+        i = behind[i] as usize;
+    }
+    passed
+}
+
+// The commands of a newcomer: their devices, their tags, their settings, each in a row of its own.
+pub fn with_devices(row: [u8; STEPS], slot: usize, routine: Routine) -> [u8; STEPS]
+    requires { ⌜ CanFill slot routine ⌝ }
+    ensures { λ r. ⌜ Fills 0 row (slot * maxCommands) (routine .count) (λ j. commandIn routine j .device) r ⌝ }
+{
+    let commands = routine.commands;
+    let count = routine.count;
+    let from = slot * MAX_COMMANDS;
+    let mut filled = row;
+    let mut j: usize = 0;
+    while j < count {
+        let command = commands[j];
+        let value = command.device;
+        filled[from + j] = value;
+        j += 1;
+    }
+    filled
+}
+
+pub fn with_tags(row: [u8; STEPS], slot: usize, routine: Routine) -> [u8; STEPS]
+    requires { ⌜ CanFill slot routine ⌝ }
+    ensures { λ r. ⌜ Fills 0 row (slot * maxCommands) (routine .count) (λ j. commandIn routine j .tag) r ⌝ }
+{
+    let commands = routine.commands;
+    let count = routine.count;
+    let from = slot * MAX_COMMANDS;
+    let mut filled = row;
+    let mut j: usize = 0;
+    while j < count {
+        let command = commands[j];
+        let value = command.tag;
+        filled[from + j] = value;
+        j += 1;
+    }
+    filled
+}
+
+pub fn with_settings(row: [i16; STEPS], slot: usize, routine: Routine) -> [i16; STEPS]
+    requires { ⌜ CanFill slot routine ⌝ }
+    ensures { λ r. ⌜ Fills (pos 0) row (slot * maxCommands) (routine .count) (λ j. commandIn routine j .setting) r ⌝ }
+{
+    let commands = routine.commands;
+    let count = routine.count;
+    let from = slot * MAX_COMMANDS;
+    let mut filled = row;
+    let mut j: usize = 0;
+    while j < count {
+        let command = commands[j];
+        let value = command.setting;
+        filled[from + j] = value;
+        j += 1;
+    }
+    filled
+}
+
+// All commands of a newcomer are to do.
+pub fn with_to_do(row: [u8; STEPS], slot: usize) -> [u8; STEPS]
+    requires { ⌜ slot < maxHeld ⌝ }
+    ensures { λ r. ⌜ Fills 0 row (slot * maxCommands) maxCommands (λ j. toDoCode) r ⌝ }
+{
+    let from = slot * MAX_COMMANDS;
+    let mut filled = row;
+    let mut j: usize = 0;
+    while j < MAX_COMMANDS {
+        filled[from + j] = TO_DO;
+        j += 1;
+    }
+    filled
+}
+
+// A newcomer has no restarts.
+pub fn without_restarts(row: [i16; RESTARTS], slot: usize) -> [i16; RESTARTS]
+    requires { ⌜ slot < maxHeld ⌝ }
+    ensures { λ r. ⌜ Fills noRestart row (slot * maxDevices) maxDevices (λ d. noRestart) r ⌝ }
+{
+    let from = slot * MAX_DEVICES;
+    let mut filled = row;
+    let mut d: usize = 0;
+    while d < MAX_DEVICES {
+        filled[from + d] = NO_RESTART;
+        d += 1;
+    }
+    filled
+}

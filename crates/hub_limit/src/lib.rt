@@ -1,0 +1,58 @@
+// A new pass limit: document 02, item 13, "New pass limit without a stop".
+use hub_answers::Answer;
+use hub_state::HubState;
+use rules_routine::HIGHEST_PASS_LIMIT;
+use rules_routine::Refusal;
+use rules_routine::Verdict;
+use rules_routine::refusals::PASS_LIMIT_OUT_OF_RANGE;
+ghost use mathlib.Core.Path.{_≡_};
+ghost use Rattle.rules.specs.Open.{limitCheck};
+ghost use Rattle.rules.specs.Limit.{withPassLimit};
+ghost use Rattle.hub_state.specs.View.{stateOf};
+ghost use Rattle.hub_state.specs.Valid.{StateOk};
+ghost use Rattle.hub_limit.specs.Contract.{Limits};
+
+// What comes of it: the state, and the answer.
+pub struct NewLimit {
+    pub state: HubState,
+    pub answer: Answer,
+}
+
+// "K above 8": of an opening too.
+pub fn check(pass_limit: u8) -> Verdict
+    ensures { λ r. ⌜ r ≡ limitCheck «pass_limit» ⌝ }
+{
+    if HIGHEST_PASS_LIMIT < pass_limit {
+        return Verdict::Refused(Refusal::Number(PASS_LIMIT_OUT_OF_RANGE));
+    }
+    Verdict::Accepted
+}
+
+// "Every routine keeps its count": K alone changes.
+fn with_limit(state: HubState, pass_limit: u8) -> HubState
+    requires { ⌜ StateOk state ⌝ }
+    ensures { λ r. ⌜ (StateOk r) × (stateOf r ≡ withPassLimit (stateOf state) «pass_limit») ⌝ }
+{
+    let mut next = state;
+    next.pass_limit = pass_limit;
+    next
+}
+
+// The call: K becomes the new one, or it is turned down and the state is the same.
+pub fn set_limit(state: HubState, pass_limit: u8) -> NewLimit
+    requires { ⌜ StateOk state ⌝ }
+    ensures { λ r. ⌜ Limits state «pass_limit» r ⌝ }
+{
+    let next = with_limit(state, pass_limit);
+    let verdict = check(pass_limit);
+    match verdict {
+        Verdict::Accepted => NewLimit {
+            state: next,
+            answer: Answer::Limited(pass_limit),
+        },
+        Verdict::Refused(refusal) => NewLimit {
+            state,
+            answer: Answer::Refused(refusal),
+        },
+    }
+}

@@ -1,0 +1,64 @@
+-- `hub_search::with_id` meets its contract. The loop seeks along the links. Assumes nothing.
+use borrow.Author.Needs.{needs}
+use native.Mathlib.Omega.{arith}
+use lib.ListN.{length}
+use Rattle.hub_sequence.specs.Links.{along}
+use Rattle.hub_sequence.proofs.ReadLaws.{walks-behind}
+use Rattle.hub_search.proofs.Slots.{Seeks, seeks-start, seeks-on, seeks-less, seeks-spot}
+use Rattle.hub_search.proofs.Laws.{idIn, id-other, id-at, id-nowhere}
+use Rattle.hub_search.proofs.with_id.Statement.{statement}
+use Rattle.hub_search.proofs.with_id.Tie as tie
+
+abbrev Inv-loop : tie.InvT-loop
+Inv-loop id behind ids i₀ i = Seeks (idIn ids id) behind i₀ i
+
+abbrev μ-loop : tie.MeasureT-loop
+μ-loop id behind ids i₀ i = length (along behind i)
+
+cast-i : tie.Need-cast-i Inv-loop μ-loop
+cast-i c = search needs
+
+loop-holds : tie.Need-loop-holds Inv-loop μ-loop
+loop-holds c = seeks-start _ _ _ (walks-behind _ (c .before .before .before .before .pre .links-ok))
+
+mul-if1 : tie.Need-mul-if1 Inv-loop μ-loop
+mul-if1 c = search needs
+
+array-read-if1 : tie.Need-array-read-if1 Inv-loop μ-loop
+array-read-if1 c = search needs
+
+returns : tie.Need-returns Inv-loop μ-loop
+returns c = let l = c .before in
+    id-at _ (l .before .before .before .before .before .before .pre) _ (l .before .loop .inv) (l .loop-test .taken) (c .if1 .taken)
+
+array-read-i : tie.Need-array-read-i Inv-loop μ-loop
+array-read-i c = search needs
+
+cast-i-2 : tie.Need-cast-i-2 Inv-loop μ-loop
+cast-i-2 c = let s = seeks-spot (c .before .before .loop .inv) (c .before .loop-test .taken) in omega arith
+
+loop-less : tie.Need-loop-less Inv-loop μ-loop
+loop-less c = seeks-less (c .before .before .loop .inv) (c .before .loop-test .taken)
+
+loop-again : tie.Need-loop-again Inv-loop μ-loop
+loop-again c = seeks-on (c .before .before .loop .inv) (c .before .loop-test .taken) (id-other _ _ _ (c .if1 .left))
+
+returns-2 : tie.Need-returns-2 Inv-loop μ-loop
+returns-2 c = id-nowhere _ (c .before .before .before .before .before .before .pre) _ (c .before .loop .inv) (c .loop-test .left)
+
+pub with-id-spec : {M : Type 1} → statement M
+with-id-spec =
+    tie.close
+    (tie.spec
+    Inv-loop
+    μ-loop
+    cast-i
+    loop-holds
+    mul-if1
+    array-read-if1
+    returns
+    array-read-i
+    cast-i-2
+    loop-less
+    loop-again
+    returns-2)

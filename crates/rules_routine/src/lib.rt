@@ -1,0 +1,158 @@
+// Commands, routines, and what turns a call down: document 01, "Things and ranges" and "When a call is turned down"; conditions: document
+// 02, item 4.
+pub mod refusals;
+pub mod reports;
+pub mod tags;
+
+use refusals::COMMAND_COUNT;
+use refusals::CONDITION_ALONE;
+use refusals::DEVICE;
+use refusals::SETTING;
+use refusals::TAG;
+use tags::CONDITION;
+use tags::HIGHEST_TAG;
+ghost use mathlib.Core.Path.{_≡_};
+ghost use Prim.Native.Nat.{_+_, _<_, _≤_};
+ghost use lib.ListN.{getD};
+ghost use lib.Seq.{slice};
+ghost use Rattle.rules_routine.specs.Range.{inRange};
+ghost use Rattle.rules_routine.specs.Routine.{maxCommands, zeroCommand, commandsOf, noRoutine, withCommand, commandCheck};
+ghost use Rattle.rules_routine.specs.Routine.{standsAlone};
+ghost use Rattle.rules_routine.specs.Routine.{routineCheck};
+
+// A routine has at most this many commands.
+pub const MAX_COMMANDS: usize = 8;
+
+// Devices are below this number.
+pub const MAX_DEVICES: usize = 32;
+
+// Settings are from one to the other.
+pub const LOWEST_SETTING: i16 = -1000;
+
+pub const HIGHEST_SETTING: i16 = 1000;
+
+// Pass limit K, 0 to 8.
+pub const HIGHEST_PASS_LIMIT: u8 = 8;
+
+// The last id that can be given.
+pub const HIGHEST_ID: u64 = 4294967295;
+
+pub struct Command {
+    pub device: u8,
+    pub tag: u8,
+    pub setting: i16,
+}
+
+// The first `count` of the commands; a count above MAX_COMMANDS is a routine that is turned down.
+pub struct Routine {
+    pub commands: [Command; MAX_COMMANDS],
+    pub count: usize,
+}
+
+// What a refusal returns: its number in the table, some with an index.
+pub enum Refusal {
+    Number(u8),
+    Indexed(u8, usize),
+}
+
+pub enum Verdict {
+    Accepted,
+    Refused(Refusal),
+}
+
+// A routine of no commands.
+pub fn empty() -> Routine
+    ensures { λ r. ⌜ r ≡ noRoutine ⌝ }
+{
+    let none = Command {
+        device: 0,
+        tag: 0,
+        setting: 0,
+    };
+    let commands = [none; MAX_COMMANDS];
+    Routine { commands, count: 0 }
+}
+
+// A routine with one command more; past the eighth it is counted and not held.
+pub fn with_command(routine: Routine, command: Command) -> Routine
+    ensures { λ r. ⌜ r ≡ withCommand routine command ⌝ }
+{
+    let mut longer = routine;
+    let at = longer.count;
+    if at < MAX_COMMANDS {
+        longer.commands[at] = command;
+        longer.count = at + 1;
+        return longer;
+    }
+    if at < usize::MAX {
+        longer.count = at + 1;
+    }
+    longer
+}
+
+pub fn in_range(setting: i16) -> bool
+    ensures { λ r. ⌜ r ≡ inRange setting ⌝ }
+{
+    LOWEST_SETTING <= setting && setting <= HIGHEST_SETTING
+}
+
+// A command against a device limit: 5, 6, 7, with the command's index.
+fn check_command(command: Command, limit: u8, index: usize) -> Verdict
+    ensures { λ r. ⌜ r ≡ commandCheck limit index command ⌝ }
+{
+    if limit <= command.device {
+        return Verdict::Refused(Refusal::Indexed(DEVICE, index));
+    }
+    let setting = command.setting;
+    if !in_range(setting) {
+        return Verdict::Refused(Refusal::Indexed(SETTING, index));
+    }
+    if HIGHEST_TAG < command.tag {
+        return Verdict::Refused(Refusal::Indexed(TAG, index));
+    }
+    Verdict::Accepted
+}
+
+// Is the command at an index a condition that is last or is followed by another?
+fn stands_alone(routine: Routine, index: usize) -> bool
+    requires { ⌜ (index < routine .count) × (routine .count ≤ maxCommands) ⌝ }
+    ensures { λ r. ⌜ r ≡ standsAlone (getD (routine .commands) index zeroCommand)
+        (slice (index + 1) (routine .count) (routine .commands)) ⌝ }
+{
+    let command = routine.commands[index];
+    if command.tag != CONDITION {
+        return false;
+    }
+    let next = index + 1;
+    if routine.count <= next {
+        return true;
+    }
+    let after = routine.commands[next];
+    after.tag == CONDITION
+}
+
+// A routine against a device limit (N in the hub, 32 in a book): 4, then the commands in turn.
+pub fn check(routine: Routine, limit: u8) -> Verdict
+    ensures { λ r. ⌜ r ≡ routineCheck limit (commandsOf routine) ⌝ }
+{
+    let count = routine.count;
+    if count == 0 {
+        return Verdict::Refused(Refusal::Number(COMMAND_COUNT));
+    }
+    if MAX_COMMANDS < count {
+        return Verdict::Refused(Refusal::Number(COMMAND_COUNT));
+    }
+    let mut i = 0;
+    while i < count {
+        let command = routine.commands[i];
+        let verdict = check_command(command, limit, i);
+        let Verdict::Accepted = verdict else {
+            return verdict;
+        };
+        if stands_alone(routine, i) {
+            return Verdict::Refused(Refusal::Indexed(CONDITION_ALONE, i));
+        }
+        i += 1;
+    }
+    Verdict::Accepted
+}

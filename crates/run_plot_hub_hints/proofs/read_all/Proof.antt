@@ -1,0 +1,64 @@
+-- `run_plot_hub_hints::read_all` is safe and ends, by its turns, and leaves a valid hub. Assumes nothing.
+use Prim.Native.Nat.{_≤_, _<_}
+use mathlib.Core.Path.{_≡_}
+use native.Mathlib.Omega.{arith}
+use lib.ListN.{length}
+use Rattle.hub.specs.Valid.{Valid}
+use borrow.Author.Needs.{needs}
+use Rattle.run_plot_hub_hints.proofs.read_all.Statement.{statement}
+use Rattle.run_plot_hub_hints.proofs.read_all.Tie as tie
+
+abbrev Inv-loop : tie.InvT-loop
+Inv-loop input₀ out₀ tally₀ held₀ turns₀ input out tally held turns =
+    Valid (tally .hub) × (held ≤ length input) × (length input ≡ length input₀) × (length out ≡ length out₀) × (0 < length out)
+
+abbrev μ-loop : tie.MeasureT-loop
+μ-loop input₀ out₀ tally₀ held₀ turns₀ input out tally held turns = turns
+
+no-hub-requires : tie.Need-no-hub-requires Inv-loop μ-loop
+no-hub-requires c κs = search needs
+
+loop-holds : tie.Need-loop-holds Inv-loop μ-loop
+loop-holds c = search needs
+
+read-behind-requires : tie.Need-read-behind-requires Inv-loop μ-loop
+read-behind-requires c κs = search needs
+
+same-length : tie.Need-same-length Inv-loop μ-loop
+same-length c = search needs
+
+same-length-2 : tie.Need-same-length-2 Inv-loop μ-loop
+same-length-2 c = search needs
+
+returns : tie.Need-returns Inv-loop μ-loop
+returns c = search needs
+
+add-take-piece : tie.Need-add-take-piece Inv-loop μ-loop
+add-take-piece c = search needs
+
+take-piece-requires : tie.Need-take-piece-requires Inv-loop μ-loop
+take-piece-requires c κs = search needs
+
+sub-turns : tie.Need-sub-turns Inv-loop μ-loop
+sub-turns c = search needs
+
+loop-less : tie.Need-loop-less Inv-loop μ-loop
+loop-less c = search needs
+
+loop-again : tie.Need-loop-again Inv-loop μ-loop
+loop-again c = search needs
+
+same-length-3 : tie.Need-same-length-3 Inv-loop μ-loop
+same-length-3 c = search needs
+
+same-length-4 : tie.Need-same-length-4 Inv-loop μ-loop
+same-length-4 c = search needs
+
+returns-2 : tie.Need-returns-2 Inv-loop μ-loop
+returns-2 c = search needs
+
+pub read-all-spec : {M : Type 1} → statement M
+read-all-spec =
+    tie.close
+    (tie.spec Inv-loop μ-loop no-hub-requires loop-holds read-behind-requires same-length same-length-2 returns add-take-piece
+    take-piece-requires sub-turns loop-less loop-again same-length-3 same-length-4 returns-2)

@@ -1,0 +1,14 @@
+// Reads a routine book from standard input and prints its routines, or its refusal. A book is judged by its first 2,563 bytes
+// (theorem judged-by-first-bytes of crate layout), so what a longer input has behind the buffer changes nothing. Where the input
+// cannot be read or the output cannot be written, it says so on standard error; of an input that cannot be read it prints nothing.
+fn main() {
+    let mut buffer = io::buffer();
+    let got = run_streams::read_full(b"show_book", &mut buffer);
+    if !got.good {
+        return;
+    }
+    let n = got.count;
+    if !run_book_print::print_book(&buffer[..n]) {
+        run_streams::say_not_written(b"show_book");
+    }
+}
