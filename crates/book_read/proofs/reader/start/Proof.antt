@@ -38,7 +38,7 @@ use denote.Exit.{yes}
 use Rattle.book_read.specs.declared.reader.BookReader.{BookReader}
 use Rattle.book_read.proofs.reader.BookReader as T
 use Rattle.book_read.proofs.reader.BookReader.Laws as T′
-use Rattle.book_read.proofs.reader.start.Key.{name as #book_read·reader·start}
+use Rattle.book_read.proofs.reader.start.Key.{name as #book-read·reader·start}
 use Rattle.book_read.proofs.reader.start as f
 use Rattle.book_read.proofs.reader.start.Statement as stated
 use Rattle.book_read.proofs.reader.start.Code as code
@@ -108,5 +108,5 @@ pub start-spec : {M : Type 1} → stated.statement M
 unfolding code.routine tablesOf
 start-spec 𝓤 H 𝓜 𝓖 𝓡 =
     entered 𝓤 H (tripleOf 𝓤 H (𝓖 .A) f.signature (f.spec 𝓤 H (𝓖 .A) (𝓜 .mem) (𝓡 .run)))
-    (tables 𝓤 H 𝓜 𝓡 code.env .C) (tables 𝓤 H 𝓜 𝓡 code.env .Λ) #book_read·reader·start code.function (code.unfolded 𝓤 H 𝓜 𝓡)
+    (tables 𝓤 H 𝓜 𝓡 code.env .C) (tables 𝓤 H 𝓜 𝓡 code.env .Λ) #book-read·reader·start code.function (code.unfolded 𝓤 H 𝓜 𝓡)
     (start-meets 𝓤 H (𝓖 .A) (givenOf 𝓤 H 𝓜 𝓖) (𝓜 .mem) (𝓡 .run) (tablesOf 𝓤 H 𝓜 (tables 𝓤 H 𝓜 𝓡 code.env)))
