@@ -1,9 +1,10 @@
 -- Worked books, by computation. The first two are document 01's ★ examples. Assumes nothing.
 use mathlib.Core.Path.{_≡_, refl}
 use mathlib.Core.List.{List, [], _∷_, _++_}
-use Prim.Native.Nat.{ℕ}
+use Prim.Native.Nat.{ℕ, suc}
 use lib.IntN.{ℤ, pos, negsuc}
 use lib.ListN.{take}
+use Rattle.rules_routine.specs.Limits.{firstBytes}
 use Rattle.rules_routine.specs.Range.{inRange}
 use Rattle.rules_routine.specs.Refusals.{refusalOf}
 use Rattle.rules_routine.specs.Routine.{routineOf, commandCheck, standsAlone, commandsCheck, routineCheck}
@@ -14,6 +15,7 @@ use Rattle.rules_routine.specs.declared.Verdict.the-variants.{Accepted, Refused
 use Rattle.book_layout.specs.Numbers.{twoBytes, fourBytes, twoAt, fourAt, bitsOf, settingOf}
 use Rattle.book_layout.specs.Layout.{commandBytes, bookBytes, countOf, offsetAt, lengthAt, commandAt}
 use Rattle.book_layout.specs.Reading.{headCheck, lengthFits, placedCheck, placedChecks, bookCheck, pairNext, turnsDown, nextOf}
+use Rattle.book_layout.specs.Claims.{longestBook}
 use Rattle.book_layout.specs.Writing.{routinesLent, routinesCheck, writeCheck, writtenOf, bufferAfter}
 use Rattle.book_layout.specs.declared.Item.{Item}
 use Rattle.book_layout.specs.declared.Item.the-variants.{Handed, End, Refused as NotRead}
@@ -158,3 +160,7 @@ pub conditions : (bookCheck (oneRoutine 8 (3 ∷ 2 ∷ 20 ∷ 0 ∷ 4 ∷ 0 ∷ 
     × (writtenOf ((command 4 0 (pos 70) ∷ command 3 2 (pos 20) ∷ []) ∷ []) 100 ≡ NotWritten (Indexed 22 1))
 unfolding calc
 conditions = (refl, refl, refl, refl, refl, refl, refl, refl, refl)
+
+-- The number of bytes that judge a book, among the limits, is one more than the longest book has.
+pub first-bytes : suc longestBook ≡ firstBytes
+first-bytes = refl

@@ -27,7 +27,7 @@ set-put l i v z h d = go (eqb d i) refl
 
 -- ---- settings
 
-same-self : (u : ℤ) → sameSetting u u ≡ true
+pub same-self : (u : ℤ) → sameSetting u u ≡ true
 same-self (pos n) = eq-eqb n n refl
 same-self (negsuc n) = eq-eqb n n refl
 

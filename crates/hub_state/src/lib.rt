@@ -5,17 +5,17 @@ pub mod decisions;
 pub mod readers;
 
 use hub_answers::Answer;
-use hub_answers::First;
-use hub_answers::OneBack;
+use hub_answers::EventAbort;
+use hub_answers::MaybePutBack;
 use hub_sequence::Links;
-use hub_sequence::MAX_HELD;
-use rules_routine::MAX_COMMANDS;
-use rules_routine::MAX_DEVICES;
+use rules_routine::limits::MAX_COMMANDS;
+use rules_routine::limits::MAX_DEVICES;
+use rules_routine::limits::MAX_SEQUENCE;
 
 // The commands of a slot stand in their rows from `slot * MAX_COMMANDS` on, its restarts from `slot * MAX_DEVICES` on.
-pub const STEPS: usize = MAX_HELD * MAX_COMMANDS;
+pub const STEPS: usize = MAX_SEQUENCE * MAX_COMMANDS;
 
-pub const RESTARTS: usize = MAX_HELD * MAX_DEVICES;
+pub const RESTARTS: usize = MAX_SEQUENCE * MAX_DEVICES;
 
 // Where a command stands: its stage.
 pub const TO_DO: u8 = 0;
@@ -34,28 +34,43 @@ pub const NOT_HELD: u8 = 5;
 // In the row of restarts, what stands at a device that has none. No setting is that high.
 pub const NO_RESTART: i16 = 32767;
 
-// N; K; the id that the next routine gets, one past the last when all are used up; the links. For each slot the id, how often it was
-// passed, whether it is committed, how many commands it has, how many of them, from the first on, are answered, and the due setting of the
-// device of its command in flight when that was sent. For each command its device, tag, setting and stage. For each slot and device the
-// setting of the last restart attached to it. For each device what the settled part leaves it at, whether it is up, and its mark.
+// The hub: a row has an entry for each slot of the sequence, for each command of a slot, for each slot and device, or for each device.
 pub struct HubState {
+    // N.
     pub devices: u8,
+    // K, the pass limit in force.
     pub pass_limit: u8,
+    // The id that the next routine gets; one past the last id when all are used up.
     pub next_id: u64,
+    // The order of the sequence, and which slots are free.
     pub links: Links,
-    pub ids: [u32; MAX_HELD],
-    pub passed: [u8; MAX_HELD],
-    pub committed: [bool; MAX_HELD],
-    pub counts: [u8; MAX_HELD],
-    pub answered: [u8; MAX_HELD],
-    pub due_then: [i16; MAX_HELD],
+    // For each slot the routine's id.
+    pub ids: [u32; MAX_SEQUENCE],
+    // How often a newcomer was placed ahead of it while it ran.
+    pub passed: [u8; MAX_SEQUENCE],
+    // Is it committed? It stays in the sequence until it settles.
+    pub committed: [bool; MAX_SEQUENCE],
+    // How many commands it has.
+    pub counts: [u8; MAX_SEQUENCE],
+    // How many of them, from the first on, are answered.
+    pub answered: [u8; MAX_SEQUENCE],
+    // The due setting of the device of its command in flight, when that was sent.
+    pub due_then: [i16; MAX_SEQUENCE],
+    // For each command its device.
     pub device: [u8; STEPS],
+    // Its tag.
     pub tag: [u8; STEPS],
+    // Its setting.
     pub setting: [i16; STEPS],
+    // Its stage, one of the numbers above.
     pub stage: [u8; STEPS],
+    // For each slot and device the setting of the last restart attached to the routine, or NO_RESTART.
     pub restarts: [i16; RESTARTS],
-    pub settled: [i16; MAX_DEVICES],
+    // For each device the setting that the settled part leaves it at.
+    pub settled_at: [i16; MAX_DEVICES],
+    // Is it up?
     pub up: [bool; MAX_DEVICES],
+    // Its mark: the id of the routine that began it last, 0 for none.
     pub mark: [u32; MAX_DEVICES],
 }
 
@@ -72,7 +87,7 @@ pub enum Holder {
 }
 
 // The first command of a routine that is not answered, by its place in the rows.
-pub enum Open {
+pub enum Unanswered {
     Nothing,
     ToDo(usize),
     InFlight(usize),
@@ -105,8 +120,8 @@ pub enum Change {
 // What a call comes to: the abort that comes first, if there is one, the answer, what the answer puts back, and the change. What an abort
 // puts back is known once it is carried out.
 pub struct Decision {
-    pub first: First,
+    pub first: EventAbort,
     pub answer: Answer,
-    pub back: OneBack,
+    pub back: MaybePutBack,
     pub change: Change,
 }

@@ -1,16 +1,16 @@
 // Document 01, "Submit". Refusals: 4; then the commands in turn, each 5, 6, 7 and 22 (document 02, item 4); then 8, 9.
 use hub_answers::Answer;
 use hub_answers::Placed;
-use hub_sequence::MAX_HELD;
 use hub_sequence::NONE;
 use hub_state::Change;
 use hub_state::Decision;
 use hub_state::HubState;
 use hub_state::decisions;
-use rules_routine::HIGHEST_ID;
 use rules_routine::Refusal;
 use rules_routine::Routine;
 use rules_routine::Verdict;
+use rules_routine::limits::HIGHEST_ID;
+use rules_routine::limits::MAX_SEQUENCE;
 use rules_routine::refusals::IDS_USED_UP;
 use rules_routine::refusals::SEQUENCE_FULL;
 ghost use mathlib.Core.Path.{_≡_};
@@ -25,6 +25,7 @@ ghost use Rattle.hub_state.specs.View.{memberAt, stateOf};
 ghost use Rattle.hub_state.specs.Valid.{StateOk};
 ghost use Rattle.hub_state.specs.Contract.{Decides};
 
+// "4; then the commands in turn", then 8, 9.
 fn check(state: HubState, routine: Routine) -> Verdict
     requires { ⌜ StateOk state ⌝ }
     ensures { λ r. ⌜ r ≡ submitCheck (stateOf state) (commandsOf routine) ⌝ }
@@ -35,7 +36,7 @@ fn check(state: HubState, routine: Routine) -> Verdict
         return verdict;
     };
     let links = state.links;
-    if MAX_HELD <= links.held {
+    if MAX_SEQUENCE <= links.taken {
         return Verdict::Refused(Refusal::Number(SEQUENCE_FULL));
     }
     if HIGHEST_ID < state.next_id {
@@ -71,6 +72,7 @@ fn place(state: HubState, routine: Routine) -> Decision
     decisions::plain(Answer::Placed(answer), Change::Join(latest))
 }
 
+// What a submission comes to: its refusal, or the placement.
 pub fn decide(state: HubState, routine: Routine) -> Decision
     requires { ⌜ StateOk state ⌝ }
     ensures { λ r. ⌜ Decides state (commandsOf routine) r (submitOf (stateOf state) (commandsOf routine)) ⌝ }

@@ -1,8 +1,10 @@
-// Reads a routine book from standard input and prints its routines, or its refusal. A book is judged by its first 2,563 bytes
-// (theorem judged-by-first-bytes of crate layout), so what a longer input has behind the buffer changes nothing. Where the input
+// Reads a routine book from standard input and prints its routines, or its refusal. A book is judged by its first bytes (theorem
+// judged-by-first-bytes of crate book_layout), so what a longer input has behind the buffer changes nothing. Where the input
 // cannot be read or the output cannot be written, it says so on standard error; of an input that cannot be read it prints nothing.
+use rules_routine::limits::FIRST_BYTES;
+
 fn main() {
-    let mut buffer = io::buffer();
+    let mut buffer = [0u8; FIRST_BYTES];
     let got = run_streams::read_full(b"show_book", &mut buffer);
     if !got.good {
         return;

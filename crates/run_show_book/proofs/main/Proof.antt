@@ -5,9 +5,6 @@ use borrow.Author.Needs.{needs}
 use Rattle.run_show_book.proofs.main.Statement.{statement}
 use Rattle.run_show_book.proofs.main.Tie as tie
 
-buffer-requires : tie.Need-buffer-requires
-buffer-requires c κs = search needs
-
 slice-aggregate-read-full : tie.Need-slice-aggregate-read-full
 slice-aggregate-read-full c = search needs
 
@@ -45,7 +42,6 @@ pub main-spec : {M : Type 1} → statement M
 main-spec =
     tie.close
     (tie.spec
-    buffer-requires
     slice-aggregate-read-full
     slice-aggregate-read-full-2
     read-full-requires
