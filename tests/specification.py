@@ -353,6 +353,22 @@ def check_statements(root, page, text):
     return found + [f"{STATEMENTS} names {word}, which neither definitions nor code have" for word in unknown]
 
 
+def check_decisions(text):
+    """DECISIONS has each number once, under the subject that its last section names."""
+    body, _, index = text.partition("## Where a number stands\n")
+    stands = {}
+    for subject, part in re.findall(r"^## ([^\n(]*?)(?: \([^\n]*\))?\n(.*?)(?=^## |\Z)", body, re.M | re.S):
+        for number, other in re.findall(r"(?:^|; )(?:\*\*(\d+)\. |(\d+): (?:see|superseded by) )", part, re.M):
+            stands.setdefault(int(number or other), []).append(subject)
+    named = {}
+    for first, last, subject in re.findall(r"(\d+)(?:(?: to |, )(\d+))? \*([^*]*)\*", " ".join(index.split())):
+        named |= dict.fromkeys(range(int(first), int(last or first) + 1), subject)
+    found = [f"DECISIONS has {number} {len(subjects)} times" for number, subjects in stands.items() if len(subjects) > 1]
+    found += [f"DECISIONS has no {number}" for number in range(1, max(stands) + 1) if number not in stands]
+    return found + [f"DECISIONS has {number} under {subjects[0]}, and its last section says {named.get(number)}"
+                    for number, subjects in stands.items() if named.get(number) != subjects[0]]
+
+
 def check_values(root, page):
     """What is shown of the code stands in it."""
     found = []
@@ -393,7 +409,7 @@ def check_contracts(root, page):
     return found, count
 
 
-def check(root, text, statements=None):
+def check(root, text, statements=None, decisions=None):
     page = Page(text)
     page.known = set(page.ids)
     faults = page.faults()
@@ -403,6 +419,7 @@ def check(root, text, statements=None):
     theorems, proved = check_theorems(root, page)
     contracts, calls = check_contracts(root, page)
     contracts += check_values(root, page) + check_statements(root, page, statements or read(root, STATEMENTS))
+    contracts += check_decisions(decisions or read(root, "docs/DECISIONS.md"))
     said = f"{count} definitions and examples, {proved} theorems, {calls} contracts, {len(page.links)} links, {len(page.ids)} places"
     return faults + definitions + theorems + contracts, said
 
@@ -514,10 +531,13 @@ def must_be_seen(root, text):
     for old, new, _ in AMISS:
         assert statements.count(old) >= 1, f"{STATEMENTS}: {old}"
         statements = statements.replace(old, new)
-    faults, _ = check(root, text, statements)
-    for _, _, says in AMISS:
+    decisions = read(root, "docs/DECISIONS.md").replace("**5. ", "**4. ", 1).replace("15 to 19", "15 to 18", 1)
+    faults, _ = check(root, text, statements, decisions)
+    expected = [says for _, _, says in AMISS]
+    expected += ["DECISIONS has 4 2 times", "DECISIONS has no 5", "19 under The rules, and its last section says None"]
+    for says in expected:
         assert any(says in fault for fault in faults), f"the test does not say: {says}; it says {faults[:9]}"
-    return len(AMISS)
+    return len(expected)
 
 
 def must_show(root, text):
