@@ -24,7 +24,7 @@ TEXTS = ("code", "marked", "kind", "said", "first")
 SIGNS = {"i": ("-- ", "-- ", ""), "a": ("", "⟪", "⟫"), "b": ("", "⟪", "⟫")}  # a tag's sign in plain text, and in marked text
 USE = re.compile(r"^(?:ghost )?use Rattle·(\w+?)(?:·\w+)?\.(specs|proofs)\.([^\s{]+)\.\{([^}]*)\}", re.M)
 WORD = r"[^\s(){}.;,@\"«»]+"
-STATEMENTS = "docs/STATEMENTS.md"
+STATEMENTS, DECISIONS = "docs/STATEMENTS.md", "docs/DECISIONS.md"
 
 
 def read(root, path):
@@ -369,6 +369,17 @@ def check_decisions(text):
                     for number, subjects in stands.items() if named.get(number) != subjects[0]]
 
 
+def check_rooms(crates, text):
+    """ARCHITECTURE has a row for each crate, once, and no other; a crate's name begins with a layer's."""
+    crates = re.findall(r"^(\w+):", crates, re.M)
+    rows = Counter(name for first in re.findall(r"^\| (`[^|]*) \|", text.partition("## The way of a line")[0], re.M)
+                   for name in re.findall(r"`(\w+)`", first))
+    layers = re.findall(r"^\*\*(\w+)\*\*: ", text, re.M)
+    found = [f"ARCHITECTURE has {rows[crate]} rows for the crate {crate}" for crate in crates if rows[crate] != 1]
+    found += [f"ARCHITECTURE has a row for {crate}, which is no crate" for crate in rows if crate not in crates]
+    return found + [f"{crate} begins with no layer's name" for crate in crates if crate.split("_")[0] not in layers]
+
+
 def check_values(root, page):
     """What is shown of the code stands in it."""
     found = []
@@ -409,8 +420,10 @@ def check_contracts(root, page):
     return found, count
 
 
-def check(root, text, statements=None, decisions=None):
+def check(root, text, papers=None):
+    """What is wrong with the page and the papers, some of which may be given; and what was counted."""
     page = Page(text)
+    paper = lambda path: (papers or {}).get(path) or read(root, path)
     page.known = set(page.ids)
     faults = page.faults()
     if [name[8:] for name in page.ids if name.startswith("chapter-")] != CHAPTERS:
@@ -418,8 +431,8 @@ def check(root, text, statements=None, decisions=None):
     definitions, count = check_definitions(root, page)
     theorems, proved = check_theorems(root, page)
     contracts, calls = check_contracts(root, page)
-    contracts += check_values(root, page) + check_statements(root, page, statements or read(root, STATEMENTS))
-    contracts += check_decisions(decisions or read(root, "docs/DECISIONS.md"))
+    contracts += check_values(root, page) + check_statements(root, page, paper(STATEMENTS))
+    contracts += check_decisions(paper(DECISIONS)) + check_rooms(paper("crates.txt"), read(root, "docs/ARCHITECTURE.md"))
     said = f"{count} definitions and examples, {proved} theorems, {calls} contracts, {len(page.links)} links, {len(page.ids)} places"
     return faults + definitions + theorems + contracts, said
 
@@ -530,12 +543,14 @@ def must_be_seen(root, text):
     """Papers that say something else than the page."""
     statements = read(root, STATEMENTS)
     for old, new, _ in AMISS:
-        assert statements.count(old) >= 1, f"{STATEMENTS}: {old}"
+        assert old in statements, f"{STATEMENTS}: {old}"
         statements = statements.replace(old, new)
-    decisions = read(root, "docs/DECISIONS.md").replace("**5. ", "**4. ", 1).replace("15 to 19", "15 to 18", 1)
-    faults, _ = check(root, text, statements, decisions)
+    decisions = read(root, DECISIONS).replace("**5. ", "**4. ", 1).replace("15 to 19", "15 to 18", 1)
+    crates = read(root, "crates.txt") + "\nshed: hub\n"
+    faults, _ = check(root, text, {STATEMENTS: statements, DECISIONS: decisions, "crates.txt": crates})
     expected = [says for _, _, says in AMISS]
     expected += ["DECISIONS has 4 2 times", "DECISIONS has no 5", "19 under The rules, and its last section says None"]
+    expected += ["0 rows for the crate shed", "shed begins with no layer's name"]
     for says in expected:
         assert any(says in fault for fault in faults), f"the test does not say: {says}; it says {faults[:9]}"
     return len(expected)
