@@ -6,12 +6,11 @@ use lib.Dec.{ltb}
 use lib.IntN.{pos}
 use lib.ListN.{length, set, replicate}
 use Rattle.rules_routine.specs.Choice.{if_then_else_}
-use Rattle.rules_routine.specs.Routine.{maxCommands}
+use Rattle.rules_routine.specs.Limits.{maxCommands, maxRoutines}
 use Rattle.rules_routine.specs.declared.Command.{Command}
 use Rattle.rules_routine.specs.declared.Refusal.{Refusal}
 use Rattle.rules_routine.specs.declared.Verdict.the-variants.{Accepted, Refused}
 use Rattle.book_layout.specs.Claims.{Hands}
-use Rattle.book_layout.specs.Layout.{maxRoutines}
 use Rattle.book_layout.specs.Reading.{bookCheck}
 use Rattle.book_layout.specs.Writing.{rowOf, countsOf}
 use Rattle.book_copy.specs.declared.Rows.{Rows}

@@ -2,14 +2,14 @@
 // belong together is proved of the code: an accepted book gives the same bytes.
 mod reading;
 
-use book_layout::MAX_ROUTINES;
 use book_layout::Written;
-use rules_routine::MAX_COMMANDS;
 use rules_routine::Verdict;
+use rules_routine::limits::MAX_COMMANDS;
+use rules_routine::limits::MAX_ROUTINES;
 ghost use mathlib.Core.Path.{_≡_};
 ghost use Prim.Native.Nat.{_≤_};
 ghost use lib.ListN.{length, take};
-ghost use Rattle.book_layout.specs.Layout.{maxRoutines};
+ghost use Rattle.rules_routine.specs.Limits.{maxRoutines};
 ghost use Rattle.book_layout.specs.Writing.{routinesLent, writtenOf, bufferAfter};
 ghost use Rattle.book_copy.specs.Rows.{RowsOfBook};
 ghost use Rattle.book_copy.specs.Copy.{copiedOf, copyAfter};

@@ -2,13 +2,14 @@
 use crate::MOST_COMMANDS;
 use crate::Rows;
 use book_layout::Item;
-use book_layout::MAX_ROUTINES;
 use rules_routine::Command;
 use rules_routine::Routine;
+use rules_routine::limits::MAX_ROUTINES;
 ghost use mathlib.Core.Path.{_≡_};
 ghost use mathlib.Core.List.{[]};
 ghost use Prim.Native.Nat.{_≤_};
-ghost use Rattle.rules_routine.specs.Routine.{maxCommands, commandsOf};
+ghost use Rattle.rules_routine.specs.Limits.{maxCommands};
+ghost use Rattle.rules_routine.specs.Routine.{commandsOf};
 ghost use Rattle.rules_routine.specs.declared.Verdict.the-variants.{Accepted};
 ghost use Rattle.book_layout.specs.Reading.{bookCheck};
 ghost use Rattle.book_copy.specs.Rows.{rowsOf, RowsHanded, withCommand, withCommands, withCount, withRoutine};

@@ -12,16 +12,17 @@ use lib.IntN.{ℤ, pos, negsuc}
 use lib.Signed.{mag}
 use lib.ListN.{length, drop}
 use lib.Seq.{drop-at, drop-drop, drop-cons, getD-drop}
-use Rattle.rules_routine.specs.Range.{lowestSetting, highestSetting, inRange}
+use Rattle.rules_routine.specs.Limits.{lowestSetting, highestSetting}
+use Rattle.rules_routine.specs.Range.{inRange}
 use Rattle.rules_routine.specs.Routine.{commandsCheck}
 use Rattle.rules_routine.specs.declared.Command.{Command}
 use Rattle.rules_routine.specs.declared.Verdict.the-variants.{Accepted}
-use Rattle.rules_routine.proofs.Laws.{byTest, in-range-pos, in-range-negsuc, command-accepted, commands-accepted}
+use Rattle.rules_routine.proofs.RoutineLaws.{byTest, in-range-pos, in-range-negsuc, command-accepted, commands-accepted}
 use Rattle.book_layout.specs.Numbers.{twoBytes, fourBytes, byteAt, twoAt, fourAt, bitsOf, settingOf}
 use Rattle.book_layout.specs.Layout.{commandSize, commandBytes, commandsBytes, commandAt, commandsAt}
 use Rattle.book_layout.specs.Claims.{Bytes}
-use Rattle.book_layout.proofs.Laws.{setting-number, setting-low, setting-high, less-65536, bits-pos, bits-negsuc}
-use Rattle.book_layout.proofs.Laws.{length-twoBytes, length-commandBytes}
+use Rattle.book_layout.proofs.LayoutLaws.{setting-number, setting-low, setting-high, less-65536, bits-pos, bits-negsuc}
+use Rattle.book_layout.proofs.LayoutLaws.{length-twoBytes, length-commandBytes}
 
 -- ---- settings and their two bytes
 

@@ -10,24 +10,26 @@ use borrow.Author.Tests.{ltb-true, ltb-false, leb-true, leb-false, not-true, not
 use lib.Dec.{ltb, eqb}
 use lib.Signed.{mag}
 use lib.ListN.{length}
-use Rattle.rules_routine.specs.Range.{lowestSetting, highestSetting, inRange}
+use Rattle.rules_routine.specs.Limits.{lowestSetting, highestSetting, maxCommands, maxRoutines}
+use Rattle.rules_routine.specs.Range.{inRange}
 use Rattle.rules_routine.specs.Refusals.{refuse_when_, _andThen_}
-use Rattle.rules_routine.specs.Routine.{maxCommands, conditionTag, highestTag, commandCheck, standsAlone, commandsCheck}
+use Rattle.rules_routine.specs.Routine.{conditionTag, highestTag, commandCheck, standsAlone, commandsCheck}
 use Rattle.rules_routine.specs.declared.Verdict.{Verdict}
 use Rattle.rules_routine.specs.declared.Verdict.the-variants.{Accepted}
-use Rattle.rules_routine.proofs.Laws.{byTest, not-refused, in-range-pos, in-range-negsuc}
+use Rattle.rules_routine.proofs.RoutineLaws.{byTest, not-refused, in-range-pos, in-range-negsuc}
 use Rattle.rules_routine.proofs.Exact.{Decides, less, at-most, same, otherwise, either, both, second, agree, Outcome, none, passed, one}
 use Rattle.rules_routine.proofs.Exact.{join, accepted-passes, exactly}
 use Rattle.book_layout.specs.Numbers.{byteAt, twoAt, bitsOf, settingOf}
-use Rattle.book_layout.specs.Layout.{countSize, commandSize, maxRoutines, bookDevices, pairsEnd, countOf, offsetAt, lengthAt}
+use Rattle.book_layout.specs.Layout.{countSize, commandSize, bookDevices, pairsEnd, countOf, offsetAt, lengthAt}
 use Rattle.book_layout.specs.Layout.{commandAt}
 use Rattle.book_layout.specs.Layout.{commandsAt}
 use Rattle.book_layout.specs.Reading.{headCheck, lengthFits, placedCheck, placedChecks, bookCheck}
 use Rattle.book_layout.specs.Claims.{Bytes, Breaks, ExactRefusals, commandTests, routineTests, tests, causeOf, place}
 use Rattle.book_layout.specs.Claims.{Test, head, routine-length, routine-place, command-device, command-setting, command-tag}
 use Rattle.book_layout.specs.Claims.{command-alone, left-over}
-use Rattle.book_layout.proofs.Laws.{fits-in-fours, in-fours-fits, setting-number, setting-low, setting-high, less-65536, bits-pos}
-use Rattle.book_layout.proofs.Laws.{bits-negsuc}
+use Rattle.book_layout.proofs.LayoutLaws.{fits-in-fours, in-fours-fits, setting-number, setting-low, setting-high, less-65536}
+use Rattle.book_layout.proofs.LayoutLaws.{bits-pos}
+use Rattle.book_layout.proofs.LayoutLaws.{bits-negsuc}
 
 -- ---- what the tests of a book decide
 

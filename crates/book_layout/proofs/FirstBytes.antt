@@ -9,17 +9,17 @@ use lib.Dec.{ltb}
 use lib.ListN.{length, take}
 use lib.Seq.{length-take-le, take-all, getD-take}
 use Rattle.rules_routine.specs.Refusals.{book-length, refuse_when_, _andThen_}
-use Rattle.rules_routine.specs.Routine.{maxCommands}
+use Rattle.rules_routine.specs.Limits.{maxCommands, maxRoutines}
 use Rattle.rules_routine.specs.declared.Verdict.{Verdict}
 use Rattle.rules_routine.specs.declared.Verdict.the-variants.{Accepted, Refused}
-use Rattle.rules_routine.proofs.Laws.{byTest, not-refused}
+use Rattle.rules_routine.proofs.RoutineLaws.{byTest, not-refused}
 use Rattle.book_layout.specs.Numbers.{byteAt, twoAt, fourAt, settingOf}
-use Rattle.book_layout.specs.Layout.{offsetSize, commandSize, maxRoutines, pairsEnd, countOf, pairPlace, offsetAt, lengthAt}
+use Rattle.book_layout.specs.Layout.{offsetSize, commandSize, pairsEnd, countOf, pairPlace, offsetAt, lengthAt}
 use Rattle.book_layout.specs.Layout.{commandAt}
 use Rattle.book_layout.specs.Layout.{commandsAt}
 use Rattle.book_layout.specs.Reading.{lengthFits, placedCheck, placedChecks, bookCheck}
 use Rattle.book_layout.specs.Claims.{longestBook, JudgedByFirstBytes}
-use Rattle.book_layout.proofs.Laws.{fits-in-fours, placed, checks-left-over, head-many, head-fine, book-refused, book-placed}
+use Rattle.book_layout.proofs.LayoutLaws.{fits-in-fours, placed, checks-left-over, head-many, head-fine, book-refused, book-placed}
 
 -- what follows a verdict matters only where it accepts
 same-after : (v w x : Verdict) → (v ≡ Accepted → w ≡ x) → v andThen w ≡ v andThen x

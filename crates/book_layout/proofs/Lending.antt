@@ -10,11 +10,12 @@ use lib.IntN.{ℤ}
 use lib.Signed.{mag}
 use lib.ListN.{length, take, drop, getD, length-append, length-map, List·getD-eq-default}
 use lib.Seq.{drop-cons, take-at}
-use Rattle.rules_routine.specs.Range.{highestSetting, inRange}
+use Rattle.rules_routine.specs.Limits.{highestSetting}
+use Rattle.rules_routine.specs.Range.{inRange}
 use Rattle.rules_routine.specs.Routine.{commandCheck, commandsCheck, routineCheck}
 use Rattle.rules_routine.specs.declared.Command.{Command}
 use Rattle.rules_routine.specs.declared.Verdict.the-variants.{Accepted}
-use Rattle.rules_routine.proofs.Laws.{both-accept, byTest, in-range-pos, command-accepted, commands-accepted, check-accepted}
+use Rattle.rules_routine.proofs.RoutineLaws.{both-accept, byTest, in-range-pos, command-accepted, commands-accepted, check-accepted}
 use Rattle.book_layout.specs.Layout.{bookDevices, bookBytes}
 use Rattle.book_layout.specs.Writing.{missingDevice, missingTag, missingSetting, commandLent, commandsLent, routinesFrom}
 use Rattle.book_layout.specs.Writing.{rowOf, countsOf, devicesOf, tagsOf, settingsOf, routinesCheck, writeCheck, writtenOf}

@@ -10,14 +10,16 @@ use lib.Dec.{ltb}
 use lib.ListN.{length, take, drop, length-append, length-drop, drop-of-length-le}
 use lib.Seq.{take-append-seam}
 use Rattle.rules_routine.specs.Refusals.{book-cut-short, book-misplaced, no-room}
-use Rattle.rules_routine.specs.Routine.{maxCommands, commandsOf, routineOf, commandsCheck, routineCheck}
+use Rattle.rules_routine.specs.Limits.{maxCommands, maxRoutines}
+use Rattle.rules_routine.specs.Routine.{commandsOf, routineOf, commandsCheck, routineCheck}
 use Rattle.rules_routine.specs.declared.Command.{Command}
 use Rattle.rules_routine.specs.declared.Refusal.{Refusal}
 use Rattle.rules_routine.specs.declared.Verdict.{Verdict}
 use Rattle.rules_routine.specs.declared.Verdict.the-variants.{Accepted, Refused}
-use Rattle.rules_routine.proofs.Laws.{both-accept, accept-both, not-refused, or-false, check-counted, check-accepted, routineOf-commands}
+use Rattle.rules_routine.proofs.RoutineLaws.{both-accept, accept-both, not-refused, or-false, check-counted, check-accepted}
+use Rattle.rules_routine.proofs.RoutineLaws.{routineOf-commands}
 use Rattle.book_layout.specs.Numbers.{twoBytes, fourBytes}
-use Rattle.book_layout.specs.Layout.{maxRoutines, bookDevices, pairsEnd, commandsBytes, lengthIn, pairsBytes, bodyBytes, bookBytes}
+use Rattle.book_layout.specs.Layout.{bookDevices, pairsEnd, commandsBytes, lengthIn, pairsBytes, bodyBytes, bookBytes}
 use Rattle.book_layout.specs.Layout.{countSize, pairSize, offsetSize, commandSize, countOf, pairPlace, offsetAt, lengthAt, commandsAt}
 use Rattle.book_layout.specs.Reading.{headCheck, lengthFits, placedCheck, placedChecks, bookCheck, pairNext, nextWith, nextOf}
 use Rattle.book_layout.specs.Writing.{routinesCheck, writeCheck, writtenWith, writtenOf, bufferAfter}
@@ -25,9 +27,9 @@ use Rattle.book_layout.specs.Claims.{Hands, ends, hands, Bytes, WriteThe
 use Rattle.book_layout.specs.declared.Item.the-variants.{Handed, End, Refused as RefusedBook}
 use Rattle.book_layout.specs.declared.Next.{Next}
 use Rattle.book_layout.specs.declared.Written.the-variants.{Length}
-use Rattle.book_layout.proofs.Laws.{InFours, fits-in-fours, in-fours-fits, placed-commands, Placed, placed}
-use Rattle.book_layout.proofs.Laws.{head-fine, book-placed, pair-handed, pair-past, next-first, next-later}
-use Rattle.book_layout.proofs.Laws.{length-fourBytes, length-commandsBytes, length-pairsBytes, length-commandsAt}
+use Rattle.book_layout.proofs.LayoutLaws.{InFours, fits-in-fours, in-fours-fits, placed-commands, Placed, placed}
+use Rattle.book_layout.proofs.LayoutLaws.{head-fine, book-placed, pair-handed, pair-past, next-first, next-later}
+use Rattle.book_layout.proofs.LayoutLaws.{length-fourBytes, length-commandsBytes, length-pairsBytes, length-commandsAt}
 use Rattle.book_layout.proofs.Bytes.{behind, two-read, four-read, commands-read, two-written, four-written, commands-written}
 
 -- ---- a routine in a book

@@ -10,7 +10,8 @@ use Rattle.rules_routine.specs.declared.Refusal.{Refusal}
 use Rattle.rules_routine.specs.declared.Verdict.{Verdict}
 use Rattle.rules_routine.specs.declared.Verdict.the-variants.{Accepted, Refused}
 use Rattle.rules_routine.proofs.Exact.{less, either, Outcome, none, one, join, exactly, renamed, routine-outcome}
-use Rattle.book_layout.specs.Layout.{maxRoutines, bookDevices, bookBytes}
+use Rattle.rules_routine.specs.Limits.{maxRoutines}
+use Rattle.book_layout.specs.Layout.{bookDevices, bookBytes}
 use Rattle.book_layout.specs.Writing.{routinesCheck, writeCheck, writtenWith, writtenOf, bufferWith, bufferAfter}
 use Rattle.book_layout.specs.WritingCauses.{of-routine, of-room, writeCauseOf, routineNo, WritingCause, routinesTests}
 use Rattle.book_layout.specs.WritingCauses.{writeTests}

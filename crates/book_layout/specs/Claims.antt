@@ -9,12 +9,12 @@ use lib.ListN.{length, take}
 use Rattle.rules_routine.specs.Refusals.{Cause, device-not-below, setting-out-of-range, tag-out-of-range, book-cut-short, book-misplaced}
 use Rattle.rules_routine.specs.Refusals.{book-length, condition-alone}
 use Rattle.rules_routine.specs.Causes.{Exactly}
-use Rattle.rules_routine.specs.Routine.{maxCommands, highestTag, conditionTag, commandsOf}
+use Rattle.rules_routine.specs.Limits.{maxCommands, lowestSetting, highestSetting, maxRoutines}
+use Rattle.rules_routine.specs.Routine.{highestTag, conditionTag, commandsOf}
 use Rattle.rules_routine.specs.declared.Command.{Command}
 use Rattle.rules_routine.specs.declared.Verdict.the-variants.{Accepted, Refused}
-use Rattle.rules_routine.specs.Range.{lowestSetting, highestSetting}
 use Rattle.book_layout.specs.Numbers.{byteAt, twoAt, bitsOf}
-use Rattle.book_layout.specs.Layout.{countSize, commandSize, maxRoutines, bookDevices, pairsEnd, countOf, offsetAt, lengthAt}
+use Rattle.book_layout.specs.Layout.{countSize, commandSize, bookDevices, pairsEnd, countOf, offsetAt, lengthAt}
 use Rattle.book_layout.specs.Reading.{bookCheck, nextOf}
 use Rattle.book_layout.specs.Writing.{routinesLent, rowOf, countsOf, devicesOf, tagsOf, settingsOf, writtenOf, bufferAfter}
 use Rattle.book_layout.specs.declared.Item.the-variants.{Handed, End}

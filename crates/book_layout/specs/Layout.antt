@@ -5,7 +5,7 @@
 use mathlib.Core.List.{List, [], _∷_, _++_}
 use Prim.Native.Nat.{ℕ, zero, suc, _+_, _*_}
 use lib.ListN.{length}
-use Rattle.rules_routine.specs.Routine.{maxDevices}
+use Rattle.rules_routine.specs.Limits.{maxDevices}
 use Rattle.rules_routine.specs.declared.Command.{Command}
 use Rattle.book_layout.specs.Numbers.{twoBytes, fourBytes, byteAt, twoAt, fourAt, bitsOf, settingOf}
 
@@ -22,9 +22,6 @@ offsetSize = 4
 
 abbrev pub commandSize : ℕ
 commandSize = 4
-
-abbrev pub maxRoutines : ℕ
-maxRoutines = 64
 
 -- "Device 0 to 31 is accepted in a book."
 abbrev pub bookDevices : ℕ

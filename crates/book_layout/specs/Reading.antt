@@ -7,12 +7,13 @@ use lib.Dec.{leb, ltb, eqb}
 use lib.ListN.{length}
 use Rattle.rules_routine.specs.Choice.{if_then_else_}
 use Rattle.rules_routine.specs.Refusals.{book-cut-short, book-misplaced, book-length, refuse_when_, _andThen_}
-use Rattle.rules_routine.specs.Routine.{maxCommands, routineOf, noRoutine, commandsCheck}
+use Rattle.rules_routine.specs.Limits.{maxCommands, maxRoutines}
+use Rattle.rules_routine.specs.Routine.{routineOf, noRoutine, commandsCheck}
 use Rattle.rules_routine.specs.declared.Refusal.{Refusal}
 use Rattle.rules_routine.specs.declared.Verdict.{Verdict}
 use Rattle.rules_routine.specs.declared.Verdict.the-variants.{Accepted, Refused}
 use Rattle.book_layout.specs.Numbers.{fourAt}
-use Rattle.book_layout.specs.Layout.{countSize, pairSize, offsetSize, commandSize, maxRoutines, bookDevices}
+use Rattle.book_layout.specs.Layout.{countSize, pairSize, offsetSize, commandSize, bookDevices}
 use Rattle.book_layout.specs.Layout.{pairsEnd, countOf, offsetAt, lengthAt, commandsAt}
 use Rattle.book_layout.specs.declared.Item.the-variants.{Handed, End, Refused as RefusedBook}
 use Rattle.book_layout.specs.declared.Next.{Next}

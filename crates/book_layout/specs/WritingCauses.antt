@@ -11,7 +11,8 @@ use Rattle.rules_routine.specs.Refusals.{Cause, no-room}
 use Rattle.rules_routine.specs.Causes.{Exactly, RoutineCause, routineCauses}
 use Rattle.rules_routine.specs.declared.Command.{Command}
 use Rattle.rules_routine.specs.declared.Refusal.{Refusal}
-use Rattle.book_layout.specs.Layout.{maxRoutines, bookDevices, bookBytes}
+use Rattle.rules_routine.specs.Limits.{maxRoutines}
+use Rattle.book_layout.specs.Layout.{bookDevices, bookBytes}
 use Rattle.book_layout.specs.Writing.{writtenOf, bufferAfter}
 use Rattle.book_layout.specs.declared.Written.{Written}
 use Rattle.book_layout.specs.declared.Written.the-variants.{Length, Refused as NotWritten}

@@ -1,8 +1,8 @@
 // The routine book of document 01 as definitions, and the theorems about them: specs/ and proofs/. Here stand what
 // the code of reading and writing shares: the types of the answers, the layout's numbers, and two bytes as a setting, and back.
-use rules_routine::MAX_DEVICES;
 use rules_routine::Refusal;
 use rules_routine::Routine;
+use rules_routine::limits::MAX_DEVICES;
 ghost use mathlib.Core.Path.{_≡_};
 ghost use Rattle.book_layout.specs.Numbers.{bitsOf, settingOf};
 
@@ -16,9 +16,7 @@ pub const OFFSET_SIZE: usize = 4;
 
 pub const COMMAND_SIZE: usize = 4;
 
-// A book has at most this many routines, and devices below this number.
-pub const MAX_ROUTINES: usize = 64;
-
+// "Device 0 to 31 is accepted in a book."
 pub const BOOK_DEVICES: u8 = MAX_DEVICES as u8;
 
 // What a step of reading gives: a routine is handed out, or the end is reached, or the book is turned down.

@@ -19,7 +19,7 @@ use Rattle.book_layout.specs.Reading.{bookCheck, endAt, pairNext, turnsDown, ne
 use Rattle.book_layout.specs.declared.Item.{Item}
 use Rattle.book_layout.specs.declared.Item.the-variants.{Handed, End}
 use Rattle.book_layout.specs.declared.Next.{Next}
-use Rattle.book_layout.proofs.Laws.{next-first, next-later, next-refused}
+use Rattle.book_layout.proofs.LayoutLaws.{next-first, next-later, next-refused}
 use Rattle.book_read.specs.Reader.{Advanced, RoutineByRoutine}
 use Rattle.book_read.specs.declared.reader.BookReader.{BookReader}
 

@@ -5,11 +5,11 @@ mod reading;
 
 use book_layout::COUNT_SIZE;
 use book_layout::Item;
-use book_layout::MAX_ROUTINES;
 use book_layout::Next;
 use book_layout::PAIR_SIZE;
 use rules_routine::Refusal;
 use rules_routine::Verdict;
+use rules_routine::limits::MAX_ROUTINES;
 use rules_routine::refusals::CUT_SHORT;
 ghost use mathlib.Core.Path.{_≡_};
 ghost use Rattle.book_layout.specs.Reading.{bookCheck, nextOf};

@@ -14,15 +14,16 @@ use Rattle.rules_routine.specs.Routine.{routineCheck}
 use Rattle.rules_routine.specs.declared.Command.{Command}
 use Rattle.rules_routine.specs.declared.Refusal.{Refusal}
 use Rattle.rules_routine.specs.declared.Verdict.the-variants.{Accepted, Refused}
-use Rattle.rules_routine.proofs.Laws.{sets-append}
-use Rattle.book_layout.specs.Layout.{countSize, pairSize, offsetSize, commandSize, maxRoutines, bookDevices, pairsEnd}
+use Rattle.rules_routine.proofs.RoutineLaws.{sets-append}
+use Rattle.rules_routine.specs.Limits.{maxRoutines}
+use Rattle.book_layout.specs.Layout.{countSize, pairSize, offsetSize, commandSize, bookDevices, pairsEnd}
 use Rattle.book_layout.specs.Layout.{commandBytes, commandsBytes, pairsBytes, bodyBytes, bookBytes}
 use Rattle.book_layout.specs.Numbers.{twoBytes, fourBytes}
 use Rattle.book_layout.specs.Writing.{commandLent, commandsLent, routinesFrom, routinesLent}
 use Rattle.book_layout.specs.Writing.{routinesCheck, writeCheck, writtenOf, bufferAfter}
 use Rattle.book_layout.specs.declared.Written.the-variants.{Length, Refused as NotWritten}
 use Rattle.book_layout.proofs.Lending.{length-lent, routine-whole}
-use Rattle.book_layout.proofs.Laws.{length-twoBytes, length-fourBytes, length-commandBytes, length-commandsBytes, length-pairsBytes}
+use Rattle.book_layout.proofs.LayoutLaws.{length-twoBytes, length-fourBytes, length-commandBytes, length-commandsBytes, length-pairsBytes}
 use Rattle.book_write.specs.Count.{commandsCounted, pairsCounted}
 
 -- ---- counts: what is left from the i-th on

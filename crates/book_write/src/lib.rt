@@ -3,11 +3,11 @@ mod writing;
 
 use book_layout::COMMAND_SIZE;
 use book_layout::COUNT_SIZE;
-use book_layout::MAX_ROUTINES;
 use book_layout::PAIR_SIZE;
 use book_layout::Written;
 use rules_routine::Refusal;
 use rules_routine::Verdict;
+use rules_routine::limits::MAX_ROUTINES;
 use rules_routine::refusals::NO_ROOM;
 ghost use mathlib.Core.Path.{_≡_};
 ghost use lib.ListN.{length};

@@ -13,13 +13,13 @@ use Rattle.rules.specs.Calls.{resultOf}
 use Rattle.rules.specs.Causes.{IsRefusal}
 use Rattle.rules_routine.proofs.Exact.{reworded}
 use Rattle.rules.proofs.Exact.{exact-opening, exact-calls, refused-opening, accepted-opening, opened-new, RefusedOrNot, refused-or-not}
-use Rattle.hub_answers.specs.View.{backsOf, answerOf, firstOf, changesNothing}
+use Rattle.hub_answers.specs.View.{putBacksOf, answerOf, eventAbortOf, changesNothing}
 use Rattle.hub_answers.specs.declared.Answer.{Answer}
 use Rattle.hub_answers.specs.declared.Answer.the-variants.{Refused, Placed, Wait, Sent, Done, Skipped, Committed, Aborted, Down, Up}
 use Rattle.hub_answers.specs.declared.Answer.the-variants.{Limited}
 use Rattle.hub_answers.specs.declared.Answer.the-variants.{Held, NotHeld}
-use Rattle.hub_answers.specs.declared.First.{First}
-use Rattle.hub_answers.specs.declared.First.the-variants.{NoAbort, Abort}
+use Rattle.hub_answers.specs.declared.EventAbort.{EventAbort}
+use Rattle.hub_answers.specs.declared.EventAbort.the-variants.{NoAbort, Abort}
 use Rattle.hub.specs.View.{view, answersIn}
 use Rattle.hub.specs.Demand3.{HubCall, callOf, Meets}
 use Rattle.hub.specs.Exact.{HubOpeningExact, NotRefused, HubCallsExact}
@@ -57,14 +57,14 @@ refusal-read (Held i) l r e = let z : _≡_ {A = ℕ} 0 1 = cc in absurd (omega 
 refusal-read (NotHeld i) l r e = let z : _≡_ {A = ℕ} 0 1 = cc in absurd (omega arith)
 
 -- so if a refusal is all that the rules read, it is the answer
-alone-read : (first : First) (a : Answer) (l : List Back) (r : Refusal) →
-    firstOf first l ++ (answerOf a l ∷ []) ≡ refused r ∷ [] → a ≡ Refused r
+alone-read : (first : EventAbort) (a : Answer) (l : List Back) (r : Refusal) →
+    eventAbortOf first l ++ (answerOf a l ∷ []) ≡ refused r ∷ [] → a ≡ Refused r
 alone-read NoAbort a l r e = refusal-read a l r (let f : answerOf a l ≡ refused r = cc in f)
 alone-read (Abort i) a l r e = let z : _≡_ {A = ℕ} 0 1 = cc in absurd (omega arith)
 
 -- and if no refusal is among what they read, it is not
-none-read : (first : First) (a : Answer) (l : List Back) (r : Refusal) →
-    NoneOf IsRefusal (firstOf first l ++ (answerOf a l ∷ [])) → ¬ (a ≡ Refused r)
+none-read : (first : EventAbort) (a : Answer) (l : List Back) (r : Refusal) →
+    NoneOf IsRefusal (eventAbortOf first l ++ (answerOf a l ∷ [])) → ¬ (a ≡ Refused r)
 none-read NoAbort a l r n e = n .0 (r, ap (λ (x : Answer). answerOf x l) e)
 none-read (Abort i) a l r n e = n .1 .0 (r, ap (λ (x : Answer). answerOf x l) e)
 
@@ -73,10 +73,10 @@ module _ (h : Hub) (c : HubCall) (o : Outcome) (m : Meets h c o) where
   answers-are = ap (λ (r : Result). r .answers) (met h c o m .gives)
 
   answer-alone : (r : Refusal) → resultOf (view h) (callOf c) .answers ≡ refused r ∷ [] → o .answer ≡ Refused r
-  answer-alone r e = alone-read (o .first) (o .answer) (backsOf (o .backs)) r (answers-are ∙ e)
+  answer-alone r e = alone-read (o .first) (o .answer) (putBacksOf (o .«put_backs»)) r (answers-are ∙ e)
 
   answer-none : NoneOf IsRefusal (resultOf (view h) (callOf c) .answers) → NotRefused (o .answer)
-  answer-none n r = none-read (o .first) (o .answer) (backsOf (o .backs)) r (subst (NoneOf IsRefusal) (sym answers-are) n)
+  answer-none n r = none-read (o .first) (o .answer) (putBacksOf (o .«put_backs»)) r (subst (NoneOf IsRefusal) (sym answers-are) n)
 
   alone-answer : (r : Refusal) → o .answer ≡ Refused r → resultOf (view h) (callOf c) .answers ≡ refused r ∷ []
   alone-answer r e = go (refused-or-not (view h) (callOf c))

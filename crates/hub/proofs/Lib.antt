@@ -1,4 +1,4 @@
-pub mod Laws
+pub mod CallLaws
 pub mod LimitLaws
 pub mod OpenLaws
 pub mod Theorem

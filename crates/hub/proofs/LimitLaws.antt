@@ -4,23 +4,23 @@ use mathlib.Core.List.{List, [], _∷_}
 use Prim.Native.Nat.{ℕ}
 use native.Mathlib.Omega.{arith}
 use Rattle.rules.specs.Answers.{Back}
-use Rattle.hub_answers.specs.View.{answerOf, backsOf, backsIn}
-use Rattle.hub_answers.specs.declared.First.the-variants.{NoAbort}
+use Rattle.hub_answers.specs.View.{answerOf, putBacksOf, putBacksIn}
+use Rattle.hub_answers.specs.declared.EventAbort.the-variants.{NoAbort}
 use Rattle.hub_answers.specs.declared.PutBacks.{PutBacks}
 use Rattle.hub_state.specs.View.{stateOf}
 use Rattle.hub_state.specs.declared.HubState.{HubState}
-use Rattle.hub_state.proofs.Laws.{no-backs}
+use Rattle.hub_state.proofs.DecisionLaws.{no-put-backs}
 use Rattle.hub_limit.specs.Contract.{Limits}
 use Rattle.hub_limit.specs.declared.NewLimit.{NewLimit}
 use Rattle.hub.specs.Contract.{Limited}
 use Rattle.hub.specs.declared.Hub.{Hub}
 
-pub limits-hub : (h : Hub) (k : ℕ) (l : NewLimit) (b : PutBacks) → Limits (h .state) k l → b .count ≡ 0 → backsOf b ≡ [] →
-    Limited h k (record { hub = record { state = l .state }; first = NoAbort; answer = l .answer; backs = b })
+pub limits-hub : (h : Hub) (k : ℕ) (l : NewLimit) (b : PutBacks) → Limits (h .state) k l → b .count ≡ 0 → putBacksOf b ≡ [] →
+    Limited h k (record { hub = record { state = l .state }; first = NoAbort; answer = l .answer; «put_backs» = b })
 limits-hub h k l b g n e = record {
   valid = g .valid;
   gives = ap (λ (m : List Back). record { state = stateOf (l .state); answers = answerOf (l .answer) m ∷ [] }) e ∙ g .gives;
   backs-fit = omega arith;
-  backs-told = e ∙ no-backs (l .answer) ∙ sym (ap (λ (m : List Back). backsIn (answerOf (l .answer) m ∷ [])) e);
+  backs-told = e ∙ no-put-backs (l .answer) ∙ sym (ap (λ (m : List Back). putBacksIn (answerOf (l .answer) m ∷ [])) e);
   same-hub = λ z. ap (λ (s : HubState). record { state = s }) (g .same-state z);
 }

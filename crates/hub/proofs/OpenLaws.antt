@@ -9,12 +9,11 @@ use lib.Dec.{eqb, ltb}
 use lib.IntN.{pos}
 use lib.ListN.{replicate, getD}
 use Rattle.rules_routine.specs.Refusals.{devices-out-of-range, first-id-0, refusalOf, refuse_when_, _andThen_}
-use Rattle.rules_routine.specs.Routine.{maxDevices, maxCommands}
+use Rattle.rules_routine.specs.Limits.{maxDevices, maxCommands, highestId, maxSequence}
 use Rattle.rules_routine.specs.declared.Refusal.{Refusal}
 use Rattle.rules_routine.specs.declared.Verdict.{Verdict}
 use Rattle.rules_routine.specs.declared.Verdict.the-variants.{Accepted, Refused as TurnedDown}
-use Rattle.rules_routine.proofs.Laws.{both-accept, not-refused, or-false}
-use Rattle.rules.specs.State.{highestId, maxHeld}
+use Rattle.rules_routine.proofs.RoutineLaws.{both-accept, not-refused, or-false}
 use Rattle.rules.specs.Open.{limitCheck, openCheck, newHub, closedHub, openIf, openOf}
 use Rattle.rules.specs.Calls.{StaysClosed}
 use Rattle.rules.proofs.Closed.{closed-stays}
@@ -87,18 +86,18 @@ module _ (n k first : ℕ) where
     «pass_limit» = k;
     «next_id» = first;
     links = links;
-    ids = replicate maxHeld 0;
-    passed = replicate maxHeld 0;
-    committed = replicate maxHeld false;
-    counts = replicate maxHeld 0;
-    answered = replicate maxHeld 0;
-    «due_then» = replicate maxHeld (pos 0);
-    device = replicate (maxHeld * maxCommands) 0;
-    tag = replicate (maxHeld * maxCommands) 0;
-    setting = replicate (maxHeld * maxCommands) (pos 0);
-    stage = replicate (maxHeld * maxCommands) 0;
-    restarts = replicate (maxHeld * maxDevices) (pos 0);
-    settled = replicate maxDevices (pos 0);
+    ids = replicate maxSequence 0;
+    passed = replicate maxSequence 0;
+    committed = replicate maxSequence false;
+    counts = replicate maxSequence 0;
+    answered = replicate maxSequence 0;
+    «due_then» = replicate maxSequence (pos 0);
+    device = replicate (maxSequence * maxCommands) 0;
+    tag = replicate (maxSequence * maxCommands) 0;
+    setting = replicate (maxSequence * maxCommands) (pos 0);
+    stage = replicate (maxSequence * maxCommands) 0;
+    restarts = replicate (maxSequence * maxDevices) (pos 0);
+    «settled_at» = replicate maxDevices (pos 0);
     up = replicate maxDevices true;
     mark = replicate maxDevices 0;
   }
@@ -121,7 +120,7 @@ module _ (n k first : ℕ) where
     passLimit = k;
     nextId = first;
     sequence = map (memberAt (freshState links)) (e .slots i);
-    settled = λ d. all-same maxDevices (pos 0) d i;
+    settledAt = λ d. all-same maxDevices (pos 0) d i;
     up = λ d. all-same maxDevices true d i;
     mark = λ d. all-same maxDevices 0 d i;
   }

@@ -4,7 +4,7 @@ use mathlib.Core.Bool.{Bool, true, false}
 use mathlib.Core.List.{List}
 use Prim.Native.Nat.{_<_}
 use Rattle.rules_routine.specs.Choice.{if_then_else_}
-use Rattle.rules_routine.specs.Routine.{maxDevices}
+use Rattle.rules_routine.specs.Limits.{maxDevices}
 use Rattle.rules_routine.specs.declared.Command.{Command}
 use Rattle.rules.specs.State.{State}
 use Rattle.hub_answers.specs.View.{changesNothing}

@@ -16,7 +16,7 @@ use Rattle.rules.specs.Report.{reportOf}
 use Rattle.rules.specs.Events.{failureOf, restartOf}
 use Rattle.rules.specs.Cancel.{cancelOf}
 use Rattle.rules.specs.Limit.{limitOf}
-use Rattle.hub_answers.specs.View.{backsOf, backsIn, BacksOk, changesNothing}
+use Rattle.hub_answers.specs.View.{putBacksOf, putBacksIn, PutBacksOk, changesNothing}
 use Rattle.hub.specs.View.{view, answersIn, resultIn}
 use Rattle.hub.specs.Valid.{Valid}
 use Rattle.hub.specs.declared.Hub.{Hub}
@@ -35,8 +35,8 @@ pub record Opens (n k first : ℕ) (o : Opened) : Type 0 where
 pub record Gives (h : Hub) (o : Outcome) (result : Result) : Type 0 where
   pub valid : Valid (o .hub)
   pub gives : resultIn o ≡ result
-  pub backs-fit : BacksOk (o .backs)
-  pub backs-told : backsOf (o .backs) ≡ backsIn (answersIn o)
+  pub backs-fit : PutBacksOk (o .«put_backs»)
+  pub backs-told : putBacksOf (o .«put_backs») ≡ putBacksIn (answersIn o)
   pub same-hub : changesNothing (o .answer) ≡ true → o .hub ≡ h
 
 abbrev pub Submitted : Hub → Routine → Outcome → Type 0

@@ -12,7 +12,7 @@ abbrev pub view : Hub → State
 view h = stateOf (h .state)
 
 abbrev pub answersIn : Outcome → List Told
-answersIn o = answersOf (o .first) (o .answer) (o .backs)
+answersIn o = answersOf (o .first) (o .answer) (o .«put_backs»)
 
 abbrev pub resultIn : Outcome → Result
 resultIn o = record { state = view (o .hub); answers = answersIn o }

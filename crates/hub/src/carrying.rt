@@ -6,13 +6,13 @@ use hub_answers::PutBacks;
 use hub_state::Change;
 use hub_state::Decision;
 use hub_state::HubState;
-use rules_routine::MAX_DEVICES;
 use rules_routine::Routine;
+use rules_routine::limits::MAX_DEVICES;
 ghost use mathlib.Core.Path.{_≡_};
 ghost use Rattle.rules_routine.specs.Routine.{commandsOf};
-ghost use Rattle.hub_answers.specs.View.{backsOf, BacksOk};
+ghost use Rattle.hub_answers.specs.View.{putBacksOf, PutBacksOk};
 ghost use Rattle.hub_state.specs.Valid.{StateOk};
-ghost use Rattle.hub_state.specs.Contract.{ChangeOk, Decides, resultBy, backsOfDecision};
+ghost use Rattle.hub_state.specs.Contract.{ChangeOk, Decides, resultBy, putBacksOfDecision};
 ghost use Rattle.hub.specs.View.{view};
 ghost use Rattle.hub.specs.Valid.{Valid};
 ghost use Rattle.hub.specs.Contract.{Gives};
@@ -22,9 +22,9 @@ ghost use Rattle.hub.specs.Carrying.{LeavingOk, Carries, settlesAfter};
 const NO_DEVICE: u8 = MAX_DEVICES as u8;
 
 // What a decision puts back. What an abort does is read off the rows as they are.
-pub fn backs_of(state: HubState, decision: Decision) -> PutBacks
+pub fn put_backs_of(state: HubState, decision: Decision) -> PutBacks
     requires { ⌜ (StateOk state) × (LeavingOk state (decision .change)) ⌝ }
-    ensures { λ r. ⌜ (BacksOk r) × (backsOf r ≡ backsOfDecision state decision) ⌝ }
+    ensures { λ r. ⌜ (PutBacksOk r) × (putBacksOf r ≡ putBacksOfDecision state decision) ⌝ }
 {
     let back = decision.back;
     let change = decision.change;
@@ -33,9 +33,14 @@ pub fn backs_of(state: HubState, decision: Decision) -> PutBacks
         Change::Stage(_) => hub_answers::at_most_one(back),
         Change::Commit(_) => hub_answers::at_most_one(back),
         Change::Join(_) => hub_answers::at_most_one(back),
-        Change::Abort(at) => hub_abort::backs_of(state, at, NO_DEVICE),
-        Change::Fail(device, slot) => hub_events::backs_if(state, slot, device, device),
-        Change::Restart(device, _, slot) => hub_events::backs_if(state, slot, device, NO_DEVICE),
+        Change::Abort(at) => hub_abort::put_backs_of(state, at, NO_DEVICE),
+        Change::Fail(device, slot) => hub_events::put_backs_if(state, slot, device, device),
+        Change::Restart(device, _, slot) => hub_events::put_backs_if(
+            state,
+            slot,
+            device,
+            NO_DEVICE,
+        ),
     }
 }
 
@@ -71,7 +76,7 @@ fn is_due(hub: Hub, answer: Answer) -> bool
 
 // A hub with the answers of a decision.
 fn outcome_with(hub: Hub, decision: Decision, backs: PutBacks) -> Outcome
-    ensures { λ r. ⌜ (r .hub ≡ hub) × (r .first ≡ decision .first) × (r .answer ≡ decision .answer) × (r .backs ≡ backs) ⌝ }
+    ensures { λ r. ⌜ (r .hub ≡ hub) × (r .first ≡ decision .first) × (r .answer ≡ decision .answer) × (r .«put_backs» ≡ backs) ⌝ }
 {
     let first = decision.first;
     let answer = decision.answer;
@@ -79,7 +84,7 @@ fn outcome_with(hub: Hub, decision: Decision, backs: PutBacks) -> Outcome
         hub,
         first,
         answer,
-        backs,
+        put_backs: backs,
     }
 }
 
@@ -94,7 +99,7 @@ pub fn carried_out(hub: Hub, decision: Decision, routine: Routine) -> Outcome
     let next = changed(hub, change, routine);
     let answer = decision.answer;
     if is_due(next, answer) {
-        let after = crate::settled(next);
+        let after = crate::settle(next);
         return outcome_with(after, decision, backs);
     }
     outcome_with(next, decision, backs)

@@ -6,7 +6,7 @@ mod carrying;
 mod opening;
 
 use hub_answers::Answer;
-use hub_answers::First;
+use hub_answers::EventAbort;
 use hub_answers::PutBacks;
 use hub_settle::settling;
 use hub_state::Decision;
@@ -20,7 +20,8 @@ ghost use mathlib.Core.Bool.{true};
 ghost use mathlib.Core.List.{[]};
 ghost use Prim.Native.Nat.{_<_};
 ghost use lib.ListN.{length};
-ghost use Rattle.rules_routine.specs.Routine.{maxDevices, commandsOf};
+ghost use Rattle.rules_routine.specs.Limits.{maxDevices};
+ghost use Rattle.rules_routine.specs.Routine.{commandsOf};
 ghost use Rattle.rules.specs.Abort.{leave};
 ghost use Rattle.rules.specs.Cancel.{cancelOf};
 ghost use Rattle.rules.specs.Due.{due};
@@ -33,11 +34,11 @@ ghost use Rattle.rules.specs.Submit.{submitOf};
 ghost use Rattle.rules.specs.Turn.{turnOf};
 ghost use Rattle.rules.specs.Calls.{StaysClosed};
 ghost use Rattle.hub_sequence.specs.Links.{Stands};
-ghost use Rattle.hub_answers.specs.View.{backsOf, BacksOk};
+ghost use Rattle.hub_answers.specs.View.{putBacksOf, PutBacksOk};
 ghost use Rattle.hub_state.specs.View.{isRestart, there, firstCommitted};
 ghost use Rattle.hub_state.specs.Contract.{staged, committedAt, joinedBehind, halfwayIn, stoppedBy, downWith, upWith, StandsOrPast};
 ghost use Rattle.hub_state.specs.Contract.{StageOk};
-ghost use Rattle.hub_state.specs.Contract.{JoinOk, Decides, backsOfDecision};
+ghost use Rattle.hub_state.specs.Contract.{JoinOk, Decides, putBacksOfDecision};
 ghost use Rattle.hub.specs.View.{view};
 ghost use Rattle.hub.specs.Valid.{Valid};
 ghost use Rattle.hub.specs.Contract.{Opens, Submitted, Turned, Reported, Cancelled, Failed, Restarted, Limited};
@@ -59,9 +60,9 @@ pub struct Opened {
 // beside the answer that they belong to.
 pub struct Outcome {
     pub hub: Hub,
-    pub first: First,
+    pub first: EventAbort,
     pub answer: Answer,
-    pub backs: PutBacks,
+    pub put_backs: PutBacks,
 }
 
 // Is an opening accepted? A caller who has to print the refusal alone makes no hub for that.
@@ -152,12 +153,12 @@ pub fn limit(hub: Hub, pass_limit: u8) -> Outcome
     let changed = hub_limit::set_limit(state, pass_limit);
     let next = changed.state;
     let answer = changed.answer;
-    let backs = hub_answers::no_backs();
+    let backs = hub_answers::no_put_backs();
     Outcome {
         hub: Hub { state: next },
-        first: First::NoAbort,
+        first: EventAbort::NoAbort,
         answer,
-        backs,
+        put_backs: backs,
     }
 }
 
@@ -327,10 +328,10 @@ pub fn with_restart(hub: Hub, device: u8, setting: i16, slot: usize) -> Hub
 // What a decision puts back: by the abort that it brings, or by its answer.
 pub fn put_backs(hub: Hub, decision: Decision) -> PutBacks
     requires { ⌜ (Valid hub) × (LeavingOk (hub .state) (decision .change)) ⌝ }
-    ensures { λ r. ⌜ (BacksOk r) × (backsOf r ≡ backsOfDecision (hub .state) decision) ⌝ }
+    ensures { λ r. ⌜ (PutBacksOk r) × (putBacksOf r ≡ putBacksOfDecision (hub .state) decision) ⌝ }
 {
     let state = hub.state;
-    carrying::backs_of(state, decision)
+    carrying::put_backs_of(state, decision)
 }
 
 // Is the first in the sequence committed?
@@ -343,7 +344,7 @@ pub fn settles(hub: Hub) -> bool
 }
 
 // The committed routines at the front settle.
-pub fn settled(hub: Hub) -> Hub
+pub fn settle(hub: Hub) -> Hub
     requires { ⌜ Valid hub ⌝ }
     ensures { λ r. ⌜ (Valid r) × (view r ≡ settle (view hub)) ⌝ }
 {

@@ -10,7 +10,7 @@ use borrow.Author.Tests.{eq-eqb, ne-eqb}
 use lib.Dec.{eqb}
 use lib.IntN.{ℤ}
 use Rattle.rules_routine.specs.Choice.{if_then_else_}
-use Rattle.rules_routine.proofs.Laws.{byTest}
+use Rattle.rules_routine.proofs.RoutineLaws.{byTest}
 use Rattle.rules.specs.Tables.{anyOf}
 use Rattle.rules.specs.State.{Member, State}
 use Rattle.rules.specs.Sequence.{Found, lastIdOr}
@@ -22,12 +22,12 @@ use Rattle.rules.proofs.Lists.{members-after-++}
 use Rattle.hub_sequence.specs.Lists.{count, upTo, rest, lastOr}
 use Rattle.hub_sequence.specs.Links.{slotsOf, Stands}
 use Rattle.hub_sequence.proofs.Lists.{same-self, count-append, slots-around, off-upTo, off-rest}
-use Rattle.hub_sequence.proofs.ReadLaws.{once-held}
+use Rattle.hub_sequence.proofs.ReadLaws.{once-taken}
 use Rattle.hub_state.specs.View.{settingsOf, memberAt, stateOf, there}
 use Rattle.hub_state.specs.Valid.{StateOk}
 use Rattle.hub_state.specs.declared.HubState.{HubState}
 use Rattle.hub_state.proofs.Members.{state-settled, member-id, there-left, map-same, last-id, last-in}
-use Rattle.hub_due.specs.Contract.{membersBut, noneDone, dueBut}
+use Rattle.hub_due.specs.Contract.{membersWithout, noneDone, dueWithout}
 
 -- ---- commands in flight: attaching events changes no commands
 
@@ -51,8 +51,9 @@ flights-left s f d =
     (λ _. flights-attached d i (f .it .restarts) l)
 
 pub left-flights : (h : HubState) (x : ℕ) → StateOk h → Stands (h .links) x →
-    _≡_ {A = ℕ → Bool} (λ d. anyOf (inFlightOn d) (membersBut h x)) (λ d. anyOf (inFlightOn d) (leave (stateOf h) (there h x) .sequence))
-unfolding membersBut
+    _≡_ {A = ℕ → Bool} (λ d. anyOf (inFlightOn d) (membersWithout h x))
+    (λ d. anyOf (inFlightOn d) (leave (stateOf h) (there h x) .sequence))
+unfolding membersWithout
 left-flights h x v s =
     fun-ext (λ d. ap (anyOf (inFlightOn d)) (there-left h x v s) ∙ sym (flights-left (stateOf h) (there h x) d))
 
@@ -96,18 +97,18 @@ module _ (d : ℕ) (e : ℕ → Option ℤ) where
   due-attached (m ∷ l) b settled k = rw (ne-eqb (lastIdOr (m .id) l) 0 (k .0)) (due-last m l b (settled d) (k .1))
 
 due-left : (s : State) (f : Found) (d : ℕ) → AheadOk (f .ahead) →
-    due (leave s f) d ≡ afterMembers d (f .behind) (afterRestart (f .it .restarts d) (afterMembers d (f .ahead) (s .settled d)))
+    due (leave s f) d ≡ afterMembers d (f .behind) (afterRestart (f .it .restarts d) (afterMembers d (f .ahead) (s .settledAt d)))
 unfolding due leave attach
-due-left s f d k = due-attached d (f .it .restarts) (f .ahead) (f .behind) (s .settled) k
+due-left s f d k = due-attached d (f .it .restarts) (f .ahead) (f .behind) (s .settledAt) k
 
 -- ---- those ahead of it in their slots
 
 module _ (h : HubState) (v : StateOk h) where
-  -- held slots, each once
-  abbrev HeldOnce : List ℕ → Type 0
-  HeldOnce l = (w : ℕ) → (count w l ≤ 1) × (1 ≤ count w l → Stands (h .links) w)
+  -- taken slots, each once
+  abbrev TakenOnce : List ℕ → Type 0
+  TakenOnce l = (w : ℕ) → (count w l ≤ 1) × (1 ≤ count w l → Stands (h .links) w)
 
-  last-alone : (y : ℕ) (l : List ℕ) → HeldOnce (y ∷ l) → LastAlone (memberAt h y) (map (memberAt h) l)
+  last-alone : (y : ℕ) (l : List ℕ) → TakenOnce (y ∷ l) → LastAlone (memberAt h y) (map (memberAt h) l)
   last-alone y [] k = tt
   last-alone y (z ∷ l) k = (other, last-alone z l (λ w. (omega (arith, k w .0), λ i. k w .1 (omega (arith, i)))))
     where
@@ -121,7 +122,7 @@ module _ (h : HubState) (v : StateOk h) where
           let c : 1 ≤ count y (z ∷ l) = subst (λ (w : ℕ). 1 ≤ count w (z ∷ l)) (sym q) i in
           omega (arith, c, same-self y, k y .0)
 
-  ahead-ok : (l : List ℕ) → HeldOnce l → AheadOk (map (memberAt h) l)
+  ahead-ok : (l : List ℕ) → TakenOnce l → AheadOk (map (memberAt h) l)
   ahead-ok [] k = tt
   ahead-ok (y ∷ l) k = (some-id, last-alone y l k)
     where
@@ -137,11 +138,11 @@ module _ (h : HubState) (x : ℕ) (v : StateOk h) (s : Stands (h .links) x) wher
   abbrev slotsBehind : List ℕ
   slotsBehind = rest x (slotsOf (h .links))
 
-  ahead-held : HeldOnce h v slotsAhead
-  ahead-held w =
+  ahead-taken : TakenOnce h v slotsAhead
+  ahead-taken w =
       let e : count w (slotsOf (h .links)) ≡ count w slotsAhead + count w (x ∷ slotsBehind)
       = ap (count w) (slots-around x (slotsOf (h .links)) s) ∙ count-append w slotsAhead (x ∷ slotsBehind) in
-      (omega (arith, e, once-held (h .links) w (v .links-ok)), λ i. omega (arith, e, i))
+      (omega (arith, e, once-taken (h .links) w (v .links-ok)), λ i. omega (arith, e, i))
 
   -- each as it is, but the one in the slot without its commands
   abbrev but : ℕ → Member
@@ -159,7 +160,7 @@ module _ (h : HubState) (x : ℕ) (v : StateOk h) (s : Stands (h .links) x) wher
       ap (map but) (slots-around x (slotsOf (h .links)) s)
       ∙ map-append but slotsAhead (x ∷ slotsBehind)
       ∙ (λ i. but-off slotsAhead (off-upTo x (slotsOf (h .links))) i
-      ++ (but-here i ∷ but-off slotsBehind (off-rest x (slotsOf (h .links)) (once-held (h .links) x (v .links-ok))) i))
+      ++ (but-here i ∷ but-off slotsBehind (off-rest x (slotsOf (h .links)) (once-taken (h .links) x (v .links-ok))) i))
 
   -- what a device is due after those ahead of it, its events and those behind it, v before them
   abbrev dueAround : ℕ → ℤ → ℤ
@@ -167,17 +168,17 @@ module _ (h : HubState) (x : ℕ) (v : StateOk h) (s : Stands (h .links) x) wher
       afterMembers d (map (memberAt h) slotsBehind)
       (afterRestart (memberAt h x .restarts d) (afterMembers d (map (memberAt h) slotsAhead) v))
 
-  due-but : (d : ℕ) → dueBut h x d ≡ dueAround d (settingsOf (h .settled) d)
-  unfolding dueBut afterMember
+  due-but : (d : ℕ) → dueWithout h x d ≡ dueAround d (settingsOf (h .«settled_at») d)
+  unfolding dueWithout afterMember
   due-but d =
-      let v = settingsOf (h .settled) d in
+      let v = settingsOf (h .«settled_at») d in
       ap (λ (l : List Member). afterMembers d l v) but-whole
       ∙ members-after-++ d (map (memberAt h) slotsAhead) (noneDone (memberAt h x) ∷ map (memberAt h) slotsBehind) v
 
-  pub left-due : dueBut h x ≡ due (leave (stateOf h) (there h x))
+  pub left-due : dueWithout h x ≡ due (leave (stateOf h) (there h x))
   unfolding there
   left-due =
       fun-ext
       (λ d. due-but d
       ∙ ap (λ (t : ℕ → ℤ). dueAround d (t d)) (sym (state-settled h))
-      ∙ sym (due-left (stateOf h) (there h x) d (ahead-ok h v slotsAhead ahead-held)))
+      ∙ sym (due-left (stateOf h) (there h x) d (ahead-ok h v slotsAhead ahead-taken)))

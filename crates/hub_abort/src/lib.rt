@@ -6,25 +6,25 @@ use hub_answers::PutBacks;
 use hub_state::Change;
 use hub_state::Decision;
 use hub_state::HubState;
-use hub_state::Open;
 use hub_state::Place;
+use hub_state::Unanswered;
 use hub_state::decisions;
 use hub_state::readers;
-use rules_routine::MAX_DEVICES;
+use rules_routine::limits::MAX_DEVICES;
 use rules_routine::refusals::NOT_RUNNING;
 ghost use mathlib.Core.Path.{_≡_};
 ghost use mathlib.Core.Bool.{not, _&&_, _||_};
 ghost use mathlib.Core.List.{[]};
 ghost use Prim.Native.Nat.{_≤_};
-ghost use Rattle.rules_routine.specs.Routine.{maxDevices};
+ghost use Rattle.rules_routine.specs.Limits.{maxDevices};
 ghost use Rattle.rules.specs.Tables.{sameSetting};
 ghost use Rattle.rules.specs.Progress.{inFlightOn};
 ghost use Rattle.rules.specs.Cancel.{cancelOf};
 ghost use Rattle.hub_sequence.specs.Links.{Stands};
-ghost use Rattle.hub_answers.specs.View.{backsOf, BacksOk};
+ghost use Rattle.hub_answers.specs.View.{putBacksOf, PutBacksOk};
 ghost use Rattle.hub_state.specs.View.{settingsOf, flagsOf, memberAt, stateOf, there};
 ghost use Rattle.hub_state.specs.Valid.{StateOk};
-ghost use Rattle.hub_state.specs.Contract.{backsLeft, Decides};
+ghost use Rattle.hub_state.specs.Contract.{putBacksLeft, Decides};
 ghost use Rattle.hub_abort.specs.PutBacks.{downIf, isBackBy, backsBy, TablesAre};
 
 // The tables that tell which devices are put back: up; with a command in flight of those left, and of the one that left; and due before
@@ -57,9 +57,9 @@ fn is_put_back(up: bool, others: bool, own: bool, before: i16, after: i16) -> bo
 // "These go out by rising device."
 fn put_backs(devices: u8, tables: Tables) -> PutBacks
     requires { ⌜ devices ≤ maxDevices ⌝ }
-    ensures { λ r. ⌜ (BacksOk r) × (backsOf r ≡ backsBy (isBackBy tables) (settingsOf (tables .after)) 0 devices) ⌝ }
+    ensures { λ r. ⌜ (PutBacksOk r) × (putBacksOf r ≡ backsBy (isBackBy tables) (settingsOf (tables .after)) 0 devices) ⌝ }
 {
-    let mut backs = hub_answers::no_backs();
+    let mut backs = hub_answers::no_put_backs();
     let count = devices as usize;
     let mut d: usize = 0;
     while d < count {
@@ -73,7 +73,7 @@ fn put_backs(devices: u8, tables: Tables) -> PutBacks
                 device: d as u8,
                 setting: after,
             };
-            let more = hub_answers::with_back(backs, back);
+            let more = hub_answers::with_put_back(backs, back);
             backs = more;
         }
         d += 1;
@@ -88,8 +88,8 @@ fn own_flights(state: HubState, at: usize) -> [bool; MAX_DEVICES]
 {
     let mut own = [false; MAX_DEVICES];
     let stage = state.stage;
-    let open = readers::open_at(state, &stage, at);
-    let Open::InFlight(k) = open else {
+    let open = readers::unanswered_at(state, &stage, at);
+    let Unanswered::InFlight(k) = open else {
         return own;
     };
     let device = state.device;
@@ -105,8 +105,8 @@ fn tables_of(state: HubState, at: usize, down: u8) -> Tables
     ensures { λ r. ⌜ TablesAre state at down r ⌝ }
 {
     let before = hub_due::due_settings(state);
-    let after = hub_due::due_settings_but(state, at);
-    let others = hub_due::in_flight_but(state, at);
+    let after = hub_due::due_settings_without(state, at);
+    let others = hub_due::in_flight_without(state, at);
     let own = own_flights(state, at);
     let mut up = state.up;
     let d = down as usize;
@@ -123,9 +123,9 @@ fn tables_of(state: HubState, at: usize, down: u8) -> Tables
 }
 
 // What the abort of the routine in a slot puts back, while the device `down` fails.
-pub fn backs_of(state: HubState, at: usize, down: u8) -> PutBacks
+pub fn put_backs_of(state: HubState, at: usize, down: u8) -> PutBacks
     requires { ⌜ (StateOk state) × (Stands (state .links) at) ⌝ }
-    ensures { λ r. ⌜ (BacksOk r) × (backsOf r ≡ backsLeft (downIf (stateOf state) down) (there state at)) ⌝ }
+    ensures { λ r. ⌜ (PutBacksOk r) × (putBacksOf r ≡ putBacksLeft (downIf (stateOf state) down) (there state at)) ⌝ }
 {
     let tables = tables_of(state, at, down);
     let devices = state.devices;

@@ -5,33 +5,33 @@ use mathlib.Core.Bool.{Bool, true, false}
 use mathlib.Core.List.{List, [], _∷_, _++_, map}
 use Prim.Native.Nat.{_≤_}
 use lib.ListN.{take}
-use Rattle.rules_routine.specs.Routine.{maxDevices}
+use Rattle.rules_routine.specs.Limits.{maxDevices}
 use Rattle.rules.specs.Answers.{Back, Answer as Told, refused, placed, wait, send, done, skipped, held, not-held, committed, aborted, down}
 use Rattle.rules.specs.Answers.{up, limited}
 use Rattle.hub_answers.specs.declared.Answer.{Answer}
 use Rattle.hub_answers.specs.declared.Answer.the-variants.{Refused, Placed, Wait, Sent, Done, Skipped, Committed, Aborted, Down, Up}
 use Rattle.hub_answers.specs.declared.Answer.the-variants.{Limited, Held, NotHeld}
-use Rattle.hub_answers.specs.declared.First.{First}
-use Rattle.hub_answers.specs.declared.First.the-variants.{NoAbort, Abort}
-use Rattle.hub_answers.specs.declared.OneBack.{OneBack}
-use Rattle.hub_answers.specs.declared.OneBack.the-variants.{Nothing, One}
+use Rattle.hub_answers.specs.declared.EventAbort.{EventAbort}
+use Rattle.hub_answers.specs.declared.EventAbort.the-variants.{NoAbort, Abort}
+use Rattle.hub_answers.specs.declared.MaybePutBack.{MaybePutBack}
+use Rattle.hub_answers.specs.declared.MaybePutBack.the-variants.{Nothing, One}
 use Rattle.hub_answers.specs.declared.PutBack.{PutBack}
 use Rattle.hub_answers.specs.declared.PutBacks.{PutBacks}
 
 abbrev pub backOf : PutBack → Back
 backOf b = record { device = b .device; setting = b .setting }
 
-abbrev pub backsOf : PutBacks → List Back
-backsOf b = map backOf (take (b .count) (b .items))
+abbrev pub putBacksOf : PutBacks → List Back
+putBacksOf b = map backOf (take (b .count) (b .items))
 
 -- None or one.
-abbrev pub oneOf : OneBack → List Back
+abbrev pub oneOf : MaybePutBack → List Back
 oneOf Nothing = []
 oneOf (One b) = backOf b ∷ []
 
 -- The put-backs fit their array.
-abbrev pub BacksOk : PutBacks → Type 0
-BacksOk b = b .count ≤ maxDevices
+abbrev pub PutBacksOk : PutBacks → Type 0
+PutBacksOk b = b .count ≤ maxDevices
 
 -- A case of the answer, with what is put back.
 abbrev pub answerOf : Answer → List Back → Told
@@ -50,30 +50,30 @@ answerOf (Held i) l = held i
 answerOf (NotHeld i) l = not-held i
 
 -- The abort that a failure or a restart brings comes first.
-abbrev pub firstOf : First → List Back → List Told
-firstOf NoAbort l = []
-firstOf (Abort i) l = aborted i l ∷ []
+abbrev pub eventAbortOf : EventAbort → List Back → List Told
+eventAbortOf NoAbort l = []
+eventAbortOf (Abort i) l = aborted i l ∷ []
 
 -- What is answered, one for each line that document 01 prints.
-abbrev pub answersOf : First → Answer → PutBacks → List Told
-answersOf first answer backs = firstOf first (backsOf backs) ++ (answerOf answer (backsOf backs) ∷ [])
+abbrev pub answersOf : EventAbort → Answer → PutBacks → List Told
+answersOf first answer backs = eventAbortOf first (putBacksOf backs) ++ (answerOf answer (putBacksOf backs) ∷ [])
 
 -- What answers put back.
-abbrev pub backsIn : List Told → List Back
-backsIn [] = []
-backsIn (refused r ∷ l) = backsIn l
-backsIn (placed i j ∷ l) = backsIn l
-backsIn (wait i j ∷ l) = backsIn l
-backsIn (send i c ∷ l) = backsIn l
-backsIn (done i ∷ l) = backsIn l
-backsIn (skipped i b ∷ l) = b ++ backsIn l
-backsIn (committed i ∷ l) = backsIn l
-backsIn (aborted i b ∷ l) = b ++ backsIn l
-backsIn (down d i ∷ l) = backsIn l
-backsIn (up d i ∷ l) = backsIn l
-backsIn (limited k ∷ l) = backsIn l
-backsIn (held i ∷ l) = backsIn l
-backsIn (not-held i ∷ l) = backsIn l
+abbrev pub putBacksIn : List Told → List Back
+putBacksIn [] = []
+putBacksIn (refused r ∷ l) = putBacksIn l
+putBacksIn (placed i j ∷ l) = putBacksIn l
+putBacksIn (wait i j ∷ l) = putBacksIn l
+putBacksIn (send i c ∷ l) = putBacksIn l
+putBacksIn (done i ∷ l) = putBacksIn l
+putBacksIn (skipped i b ∷ l) = b ++ putBacksIn l
+putBacksIn (committed i ∷ l) = putBacksIn l
+putBacksIn (aborted i b ∷ l) = b ++ putBacksIn l
+putBacksIn (down d i ∷ l) = putBacksIn l
+putBacksIn (up d i ∷ l) = putBacksIn l
+putBacksIn (limited k ∷ l) = putBacksIn l
+putBacksIn (held i ∷ l) = putBacksIn l
+putBacksIn (not-held i ∷ l) = putBacksIn l
 
 -- A refusal and a wait change nothing.
 abbrev pub changesNothing : Answer → Bool

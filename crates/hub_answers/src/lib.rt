@@ -1,13 +1,13 @@
 // What the hub answers, as values: document 01, "Things and ranges" ("holds them as one record inside its case") and "The steps".
 // `specs/` sets out for each case of each enum which answer of document 01 it is, and with which values.
 use rules_routine::Command;
-use rules_routine::MAX_DEVICES;
 use rules_routine::Refusal;
+use rules_routine::limits::MAX_DEVICES;
 ghost use mathlib.Core.Path.{_≡_};
 ghost use mathlib.Core.List.{[], _∷_, _++_};
 ghost use Prim.Native.Nat.{suc, _<_};
-ghost use Rattle.rules_routine.specs.Routine.{maxDevices};
-ghost use Rattle.hub_answers.specs.View.{backsOf, backOf, oneOf, BacksOk};
+ghost use Rattle.rules_routine.specs.Limits.{maxDevices};
+ghost use Rattle.hub_answers.specs.View.{putBacksOf, backOf, oneOf, PutBacksOk};
 
 // A routine was placed: its id, and the id it follows, 0 for the settled part.
 pub struct Placed {
@@ -40,7 +40,7 @@ pub enum Answer {
 }
 
 // The routine that a failure or a restart aborted before its own answer.
-pub enum First {
+pub enum EventAbort {
     NoAbort,
     Abort(u32),
 }
@@ -52,7 +52,7 @@ pub struct PutBack {
 }
 
 // What an answer that is no abort puts back.
-pub enum OneBack {
+pub enum MaybePutBack {
     Nothing,
     One(PutBack),
 }
@@ -64,8 +64,8 @@ pub struct PutBacks {
 }
 
 // No device is put back.
-pub fn no_backs() -> PutBacks
-    ensures { λ r. ⌜ (r .count ≡ 0) × (backsOf r ≡ []) ⌝ }
+pub fn no_put_backs() -> PutBacks
+    ensures { λ r. ⌜ (r .count ≡ 0) × (putBacksOf r ≡ []) ⌝ }
 {
     let none = PutBack {
         device: 0,
@@ -76,9 +76,9 @@ pub fn no_backs() -> PutBacks
 }
 
 // One more device is put back.
-pub fn with_back(backs: PutBacks, back: PutBack) -> PutBacks
+pub fn with_put_back(backs: PutBacks, back: PutBack) -> PutBacks
     requires { ⌜ backs .count < maxDevices ⌝ }
-    ensures { λ r. ⌜ (r .count ≡ suc (backs .count)) × (backsOf r ≡ backsOf backs ++ (backOf back ∷ [])) ⌝ }
+    ensures { λ r. ⌜ (r .count ≡ suc (backs .count)) × (putBacksOf r ≡ putBacksOf backs ++ (backOf back ∷ [])) ⌝ }
 {
     let mut more = backs;
     let at = more.count;
@@ -88,12 +88,12 @@ pub fn with_back(backs: PutBacks, back: PutBack) -> PutBacks
 }
 
 // None or one, as a list.
-pub fn at_most_one(back: OneBack) -> PutBacks
-    ensures { λ r. ⌜ (BacksOk r) × (backsOf r ≡ oneOf back) ⌝ }
+pub fn at_most_one(back: MaybePutBack) -> PutBacks
+    ensures { λ r. ⌜ (PutBacksOk r) × (putBacksOf r ≡ oneOf back) ⌝ }
 {
-    let none = no_backs();
-    let OneBack::One(one) = back else {
+    let none = no_put_backs();
+    let MaybePutBack::One(one) = back else {
         return none;
     };
-    with_back(none, one)
+    with_put_back(none, one)
 }

@@ -11,7 +11,7 @@ use lib.IntN.{ℤ}
 use lib.ListN.{length, getD, set}
 use lib.Seq.{getD-set-same, getD-set-other}
 use Rattle.rules_routine.specs.Choice.{if_then_else_}
-use Rattle.rules_routine.proofs.Laws.{byTest}
+use Rattle.rules_routine.proofs.RoutineLaws.{byTest}
 use Rattle.rules.specs.State.{was-skipped, Step}
 use Rattle.rules.specs.Tables.{Each}
 use Rattle.rules.specs.Progress.{isLeftOn, withStatus}
@@ -21,7 +21,7 @@ use Rattle.hub_state.specs.View.{doneCode, skippedCode, statusOf, Rows, stepAt,
 use Rattle.hub_state.specs.Valid.{StepOk}
 use Rattle.hub_state.proofs.Rows.{withStages, status-answered, status-open}
 use Rattle.hub_state.proofs.Codes.{CodeBehind, CodesUpTo}
-use Rattle.hub_apply.specs.Stages.{FirstOpen, SkipsLeft}
+use Rattle.hub_apply.specs.Stages.{FirstUnanswered, SkipsLeft}
 
 -- ---- the walk to the first that is not answered
 
@@ -36,14 +36,14 @@ module _ (stage : List ℕ) (from k : ℕ) where
     (λ j i l. byEq j k (λ e. subst (λ (m : ℕ). doneCode ≤ getD stage m 0) (sym e) h) (λ n. a .1 j i (omega arith))),
   )
 
-  pub open-found : (end : ℕ) → AllAnswered stage from k → k < end → getD stage k 0 < doneCode → FirstOpen stage from end k
-  open-found end a i h = record { within = (a .0, omega arith); answered-before = a .1; open-there = λ _. h }
+  pub open-found : (end : ℕ) → AllAnswered stage from k → k < end → getD stage k 0 < doneCode → FirstUnanswered stage from end k
+  open-found end a i h = record { within = (a .0, omega arith); answered-before = a .1; unanswered-there = λ _. h }
 
-  pub none-found : (end : ℕ) → from ≤ end → end ≤ k → AllAnswered stage from k → FirstOpen stage from end end
+  pub none-found : (end : ℕ) → from ≤ end → end ≤ k → AllAnswered stage from k → FirstUnanswered stage from end end
   none-found end i l a = record {
     within = (i, omega arith);
     answered-before = λ j p q. a .1 j p (omega arith);
-    open-there = λ q. absurd (omega arith);
+    unanswered-there = λ q. absurd (omega arith);
   }
 
 -- ---- the walk that skips
@@ -102,7 +102,7 @@ module _ (stage device : List ℕ) (d from : ℕ) where
 
 module _ (stage : List ℕ) (from mid end : ℕ) (old : CodesUpTo stage from mid end) (r : ℕ) where
   -- the first that was not answered is now
-  pub codes-answered : (code : ℕ) → mid < length stage → doneCode ≤ code → FirstOpen (set stage mid code) (mid + 1) end r →
+  pub codes-answered : (code : ℕ) → mid < length stage → doneCode ≤ code → FirstUnanswered (set stage mid code) (mid + 1) end r →
       CodesUpTo (set stage mid code) from r end
   codes-answered code l h f = record {
     within = (omega (arith, old .within .0, f .within .0), f .within .1);
@@ -112,7 +112,7 @@ module _ (stage : List ℕ) (from mid end : ℕ) (old : CodesUpTo stage from mid
         (λ q. subst (λ (w : ℕ). doneCode ≤ getD (set stage mid code) w 0) (sym q)
         (subst (λ (c : ℕ). doneCode ≤ c) (sym (getD-set-same stage mid code 0 l)) h))
         (λ n. f .answered-before j (omega arith) m));
-    open-there = f .open-there;
+    unanswered-there = f .unanswered-there;
     behind = λ j i m. let p : mid < j = omega (arith, f .within .0) in
         subst CodeBehind (sym (getD-set-other stage mid j code 0 (λ q. omega arith))) (old .behind j p m);
   }
@@ -134,13 +134,13 @@ module _ (stage : List ℕ) (from mid end : ℕ) (old : CodesUpTo stage from mid
         (eqb (getD device j 0) d && ltb (getD stage j 0) doneCode)
         (λ _. refl) (λ _. h))
 
-    pub codes-skipped : FirstOpen now mid end r → CodesUpTo now from r end
+    pub codes-skipped : FirstUnanswered now mid end r → CodesUpTo now from r end
     codes-skipped f = record {
       within = (omega (arith, old .within .0, f .within .0), f .within .1);
       answered-before = λ j i m. byLess j mid
           (λ p. still-answered j i (omega (arith, f .within .1)) (old .answered-before j i p))
           (λ p. f .answered-before j p m);
-      open-there = f .open-there;
+      unanswered-there = f .unanswered-there;
       behind = λ j i m. let p : mid < j = omega (arith, f .within .0) in
           still-behind j (omega (arith, old .within .0)) m (old .behind j p m);
     }

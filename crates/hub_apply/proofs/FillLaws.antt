@@ -6,7 +6,7 @@ use mathlib.Core.Bool.{Bool, true, false}
 use mathlib.Core.List.{List, [], _∷_}
 use lib.ListN.{length, getD, set}
 use lib.Seq.{getD-set-same, getD-set-other}
-use Rattle.rules.specs.State.{maxHeld}
+use Rattle.rules_routine.specs.Limits.{maxSequence}
 use Rattle.hub_sequence.specs.Lists.{count}
 use Rattle.hub_sequence.specs.Links.{along, Walks}
 use Rattle.hub_sequence.specs.declared.Links.{Links}
@@ -64,7 +64,7 @@ module _ (committed : List Bool) (row : List ℕ) where
         others = λ x k. o x (λ q. let z : count i l ≡ 0 = rw (sym q) k in omega (arith, p .part i, same-self i)) ∙ p .others x k;
       }
 
-  module _ (behind : List ℕ) (l : List ℕ) (i : ℕ) (w : Walks behind i) (h : i < maxHeld) (now : List ℕ)
+  module _ (behind : List ℕ) (l : List ℕ) (i : ℕ) (w : Walks behind i) (h : i < maxSequence) (now : List ℕ)
       (p : PassedSoFar committed row l (along behind i) now)
     where
       here : PassedSoFar committed row l (i ∷ along behind (getD behind i 0)) now
@@ -85,7 +85,7 @@ module _ (committed : List Bool) (row : List ℕ) where
       pub still-there : 1 ≤ count i l
       still-there = omega (arith, here .part i, same-self i)
 
-      pub passes-running : getD committed i false ≡ false → length now ≡ maxHeld →
+      pub passes-running : getD committed i false ≡ false → length now ≡ maxSequence →
           PassedSoFar committed row l (along behind (getD behind i 0)) (set now i (getD now i 0 + 1))
       passes-running e n =
           passes-more l _ i now _ here once
@@ -102,7 +102,7 @@ module _ (row : List ℕ) (k : Links) (committed : List Bool) (slot : ℕ) (ok :
       let y : 1 ≤ count slot (behindSlot k slot) = subst (λ (y : ℕ). 1 ≤ count y (behindSlot k slot)) q m in omega (arith, ok .apart)
 
   -- a running slot at which the walk is can be passed
-  pub room-left : (i : ℕ) (now : List ℕ) → Walks (k .behind) i → i < maxHeld →
+  pub room-left : (i : ℕ) (now : List ℕ) → Walks (k .behind) i → i < maxSequence →
       PassedSoFar committed (set row slot 0) (behindSlot k slot) (along (k .behind) i) now → getD committed i false ≡ false →
       getD now i 0 < highestPassed
   room-left i now w h p e =
@@ -113,7 +113,7 @@ module _ (row : List ℕ) (k : Links) (committed : List Bool) (slot : ℕ) (ok :
       ) (ok .room i t e)
 
   -- the walk is at its end
-  pub passes-all : (i : ℕ) (r : List ℕ) → length row ≡ maxHeld → Walks (k .behind) i → maxHeld ≤ i →
+  pub passes-all : (i : ℕ) (r : List ℕ) → length row ≡ maxSequence → Walks (k .behind) i → maxSequence ≤ i →
       PassedSoFar committed (set row slot 0) (behindSlot k slot) (along (k .behind) i) r → PassesBehind row k committed slot r
   passes-all i r n w h p =
       let f = ok .slot-fits in

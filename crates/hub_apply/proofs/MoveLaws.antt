@@ -5,7 +5,7 @@ use mathlib.Core.Path.{_≡_, refl, sym, subst}
 use mathlib.Core.List.{List, _∷_, _++_}
 use lib.IntN.{ℤ, pos}
 use lib.ListN.{getD}
-use Rattle.rules_routine.specs.Routine.{maxCommands}
+use Rattle.rules_routine.specs.Limits.{maxCommands}
 use Rattle.rules.specs.State.{Step}
 use Rattle.rules.specs.Tables.{Each}
 use Rattle.rules.specs.Progress.{withSteps}
@@ -13,10 +13,10 @@ use Rattle.hub_sequence.specs.Links.{Stands}
 use Rattle.hub_sequence.proofs.Tables.{byEq}
 use Rattle.hub_state.specs.View.{rowsOf, stepsAt, memberAt, membersOf, there}
 use Rattle.hub_state.specs.Valid.{StepOk, AnsweredUpTo, SlotOk, StateOk}
-use Rattle.hub_state.specs.Open.{answeredAt}
+use Rattle.hub_state.specs.Unanswered.{answeredAt}
 use Rattle.hub_state.specs.declared.HubState.{HubState}
 use Rattle.hub_state.proofs.Codes.{CodesUpTo, upto-codes}
-use Rattle.hub_state.proofs.Members.{changed-held, counts-most}
+use Rattle.hub_state.proofs.Members.{changed-taken, counts-most}
 
 -- the rows with another number of answered commands, due settings of then, stages and marks
 abbrev pub movedRows : HubState → List ℕ → List ℤ → List ℕ → List ℕ → HubState
@@ -36,7 +36,7 @@ movedRows h answered due stage mark = record {
   setting = h .setting;
   stage = stage;
   restarts = h .restarts;
-  settled = h .settled;
+  «settled_at» = h .«settled_at»;
   up = h .up;
   mark = mark;
 }
@@ -93,7 +93,7 @@ module _ (h : HubState) (x : ℕ) (v : StateOk h) (s : Stands (h .links) x) {ans
         }
 
     pub move-sequence : membersOf nowMoved ≡ there h x .ahead ++ (withSteps (there h x .it) l ∷ there h x .behind)
-    move-sequence = changed-held h nowMoved x v s move-others _ refl move-it
+    move-sequence = changed-taken h nowMoved x v s move-others _ refl move-it
 
 -- ---- where a slot's commands stand
 

@@ -11,11 +11,12 @@ use lib.IntN.{ℤ, pos}
 use lib.ListN.{length, take, getD, set}
 use lib.Seq.{getD-set-same, getD-set-other}
 use Rattle.rules_routine.specs.Choice.{if_then_else_}
-use Rattle.rules_routine.specs.Routine.{maxDevices, maxCommands, zeroCommand, commandsOf}
+use Rattle.rules_routine.specs.Limits.{maxDevices, maxCommands, maxSequence}
+use Rattle.rules_routine.specs.Routine.{zeroCommand, commandsOf}
 use Rattle.rules_routine.specs.declared.Command.{Command}
 use Rattle.rules_routine.specs.declared.Routine.{Routine}
-use Rattle.rules_routine.proofs.Laws.{byTest, length-commandsOf, commandsOf-held}
-use Rattle.rules.specs.State.{maxHeld, Member}
+use Rattle.rules_routine.proofs.RoutineLaws.{byTest, length-commandsOf, commandsOf-held}
+use Rattle.rules.specs.State.{Member}
 use Rattle.rules.specs.Tables.{Each}
 use Rattle.rules.specs.Sequence.{isRunning}
 use Rattle.rules.specs.Submit.{pass, stepOf, newcomer}
@@ -25,7 +26,7 @@ use Rattle.hub_sequence.specs.Contract.{CanJoin, Joins}
 use Rattle.hub_sequence.specs.declared.Joined.{Joined}
 use Rattle.hub_sequence.proofs.Tables.{byEq}
 use Rattle.hub_sequence.proofs.Lists.{same-other, count-append, count-placed, placed-split, through-past}
-use Rattle.hub_sequence.proofs.ReadLaws.{once-held}
+use Rattle.hub_sequence.proofs.ReadLaws.{once-taken}
 use Rattle.hub_sequence.proofs.WalkLaws.{behind-joined}
 use Rattle.hub_state.specs.View.{noRestart, restartOf, toDoCode, statusOf, Rows, rowsOf, stepAt, stepsFrom, stepsAt, restartsAt, memberAt}
 use Rattle.hub_state.specs.View.{membersOf, stateOf}
@@ -107,7 +108,7 @@ joinedRows h q j new = record {
   setting = new .setting;
   stage = new .stage;
   restarts = new .restarts;
-  settled = h .settled;
+  «settled_at» = h .«settled_at»;
   up = h .up;
   mark = h .mark;
 }
@@ -123,10 +124,10 @@ pub record Filled (h : HubState) (q : Routine) (j : Joined) (new : NewRows) : Ty
 
 -- The lengths of the rows that are stored to here.
 pub record Long (h : HubState) (q : Routine) : Type 0 where
-  pub ids : length (h .ids) ≡ maxHeld
-  pub committed : length (h .committed) ≡ maxHeld
-  pub counts : length (h .counts) ≡ maxHeld
-  pub answered : length (h .answered) ≡ maxHeld
+  pub ids : length (h .ids) ≡ maxSequence
+  pub committed : length (h .committed) ≡ maxSequence
+  pub counts : length (h .counts) ≡ maxSequence
+  pub answered : length (h .answered) ≡ maxSequence
   pub commands : length (q .commands) ≡ maxCommands
 
 -- a routine passed
@@ -163,7 +164,7 @@ module _ (h : HubState) (q : Routine) (after : ℕ) (v : StateOk h) (ok : JoinOk
     abbrev slotsPast : List ℕ
     slotsPast = past after noSlot (slotsOf (h .links))
 
-    -- the held slots are those before the newcomer and those past it
+    -- the taken slots are those before the newcomer and those past it
     parts : (x : ℕ) → count x (slotsOf (h .links)) ≡ count x slotsBefore + count x slotsPast
     parts x = ap (count x) (sym (through-past after noSlot (slotsOf (h .links)))) ∙ count-append x slotsBefore slotsPast
 
@@ -183,7 +184,7 @@ module _ (h : HubState) (q : Routine) (after : ℕ) (v : StateOk h) (ok : JoinOk
           room = λ x i e. each-mapped CanPass (memberAt h) slotsPast x (ok .room-to-pass) (rw behind-it at i) (rw e);
         }
 
-    -- a held slot is not the newcomer's
+    -- a taken slot is not the newcomer's
     off-slot : (x : ℕ) → Stands (h .links) x → x ≡ j .slot → ⊥
     off-slot x t e =
         let i : 1 ≤ count (j .slot) (slotsOf (h .links)) = subst (λ (y : ℕ). 1 ≤ count y (slotsOf (h .links))) e t in
@@ -251,7 +252,7 @@ module _ (h : HubState) (q : Routine) (after : ℕ) (v : StateOk h) (ok : JoinOk
       member-before x i =
           let t : Stands (h .links) x = omega (arith, parts x) in
           let z : count x (behindSlot (j .links) (j .slot)) ≡ 0 =
-          rw behind-it (omega (arith, parts x, once-held (h .links) x (v .links-ok))) in
+          rw behind-it (omega (arith, parts x, once-taken (h .links) x (v .links-ok))) in
           member-stays x t ∙ ap (λ (n : ℕ). withPassed n (memberAt h x)) (f .passes .others x (off-slot x t) z)
 
       member-past : (x : ℕ) → 1 ≤ count x slotsPast → memberAt now x ≡ pass (memberAt h x)
@@ -282,7 +283,7 @@ module _ (h : HubState) (q : Routine) (after : ℕ) (v : StateOk h) (ok : JoinOk
             passLimit = h .«pass_limit»;
             nextId = e i;
             sequence = members-now i;
-            settled = stateOf h .settled;
+            settledAt = stateOf h .settledAt;
             up = stateOf h .up;
             mark = stateOf h .mark;
           }
@@ -311,7 +312,7 @@ module _ (h : HubState) (q : Routine) (after : ℕ) (v : StateOk h) (ok : JoinOk
             has-id = rw (getD-set-other (h .ids) (j .slot) x (h .«next_id») 0 n) (w .has-id);
           }
 
-      -- a slot that is held now was held, or is the newcomer's
+      -- a slot that is taken now was taken, or is the newcomer's
       stood : (x : ℕ) → Stands (j .links) x → (x ≡ j .slot → ⊥) → Stands (h .links) x
       stood x t n =
           let c : count x (slotsOf (j .links)) ≡ same x (j .slot) + count x (slotsOf (h .links))

@@ -5,7 +5,8 @@ use mathlib.Core.Path.{_≡_, refl, ap, subst}
 use mathlib.Core.List.{List, _∷_, _++_}
 use lib.ListN.{length, getD, set}
 use lib.Seq.{getD-set-same, getD-set-other}
-use Rattle.rules.specs.State.{maxHeld, Member}
+use Rattle.rules_routine.specs.Limits.{maxSequence}
+use Rattle.rules.specs.State.{Member}
 use Rattle.rules.specs.Progress.{withSteps}
 use Rattle.rules.specs.Sequence.{withSequence}
 use Rattle.rules.specs.Events.{skipLeft, skipRest}
@@ -16,13 +17,13 @@ use Rattle.hub_state.specs.declared.HubState.{HubState}
 use Rattle.hub_state.proofs.Rows.{withStages, step-same, steps-other}
 use Rattle.hub_state.proofs.Codes.{codes-upto}
 use Rattle.hub_state.proofs.Members.{stands-below}
-use Rattle.hub_apply.specs.Stages.{FirstOpen, SkipsLeft}
+use Rattle.hub_apply.specs.Stages.{FirstUnanswered, SkipsLeft}
 use Rattle.hub_apply.proofs.CodeLaws.{codes-skipped, steps-skipped, each-skipLeft}
 use Rattle.hub_apply.proofs.MoveLaws.{movedRows, Moved, move-valid, move-sequence, fromOf, openOf, endOf, come-codes, places-apart}
 
-module _ (h : HubState) (x d : ℕ) (v : StateOk h) (st : Stands (h .links) x) (long : length (h .answered) ≡ maxHeld)
+module _ (h : HubState) (x d : ℕ) (v : StateOk h) (st : Stands (h .links) x) (long : length (h .answered) ≡ maxSequence)
     (stage : List ℕ) (s : SkipsLeft (h .stage) (h .device) d (fromOf x) (endOf h x) stage) (r : ℕ)
-    (f : FirstOpen stage (openOf h x) (endOf h x) r)
+    (f : FirstUnanswered stage (openOf h x) (endOf h x) r)
   where
     abbrev newAnswered : List ℕ
     newAnswered = set (h .answered) x (r - fromOf x)

@@ -9,8 +9,8 @@ use lib.IntN.{ℤ, pos}
 use lib.ListN.{length, getD, set}
 use lib.Seq.{getD-set-same, getD-set-other}
 use Rattle.rules_routine.specs.Choice.{if_then_else_}
-use Rattle.rules_routine.specs.Routine.{maxCommands}
-use Rattle.rules.specs.State.{maxHeld, Status, Member}
+use Rattle.rules_routine.specs.Limits.{maxCommands, maxSequence}
+use Rattle.rules.specs.State.{Status, Member}
 use Rattle.rules.specs.Tables.{put}
 use Rattle.rules.specs.Progress.{isToDo, isAnswered, withSteps}
 use Rattle.rules.specs.Sequence.{withSequence, withMark}
@@ -23,14 +23,14 @@ use Rattle.hub_state.specs.View.{there}
 use Rattle.hub_state.specs.View.{marksOf}
 use Rattle.hub_state.specs.Valid.{AnsweredUpTo, StateOk}
 use Rattle.hub_state.specs.Contract.{setStatus, staged, committedAt, StageOk}
-use Rattle.hub_state.specs.Open.{answeredAt}
+use Rattle.hub_state.specs.Unanswered.{answeredAt}
 use Rattle.hub_state.specs.declared.HubState.{HubState}
 use Rattle.hub_state.specs.declared.Staged.{Staged}
 use Rattle.hub_state.proofs.Steps.{each-setStatus, sent-stays}
 use Rattle.hub_state.proofs.Rows.{status-to-do, status-sent, withStages, steps-outside, steps-staged}
 use Rattle.hub_state.proofs.Codes.{codes-upto}
-use Rattle.hub_state.proofs.Members.{changed-held, length-steps, stands-below, place-within}
-use Rattle.hub_apply.specs.Stages.{FirstOpen}
+use Rattle.hub_state.proofs.Members.{changed-taken, length-steps, stands-below, place-within}
+use Rattle.hub_apply.specs.Stages.{FirstUnanswered}
 use Rattle.hub_apply.proofs.CodeLaws.{codes-answered}
 use Rattle.hub_apply.proofs.MoveLaws.{movedRows, Moved, move-valid, move-sequence, fromOf, openOf, endOf, come-codes, places-apart}
 
@@ -53,12 +53,12 @@ committedRow h committed = record {
   setting = h .setting;
   stage = h .stage;
   restarts = h .restarts;
-  settled = h .settled;
+  «settled_at» = h .«settled_at»;
   up = h .up;
   mark = h .mark;
 }
 
-module _ (h : HubState) (x : ℕ) (v : StateOk h) (s : Stands (h .links) x) (n : length (h .committed) ≡ maxHeld) where
+module _ (h : HubState) (x : ℕ) (v : StateOk h) (s : Stands (h .links) x) (n : length (h .committed) ≡ maxSequence) where
   abbrev nowCommitted : HubState
   nowCommitted = committedRow h (set (h .committed) x true)
 
@@ -89,7 +89,7 @@ module _ (h : HubState) (x : ℕ) (v : StateOk h) (s : Stands (h .links) x) (n :
   unfolding stateOf committedAt
   commit-applied = (
     commit-valid,
-    ap (λ (l : List Member). withSequence (stateOf h) l) (changed-held h nowCommitted x v s commit-others _ refl commit-it),
+    ap (λ (l : List Member). withSequence (stateOf h) l) (changed-taken h nowCommitted x v s commit-others _ refl commit-it),
   )
 
 -- ---- a command comes to a stage
@@ -118,22 +118,23 @@ module _ (h : HubState) (c : Staged) (v : StateOk h) (ok : StageOk h c) where
   come : AnsweredUpTo (answeredAt h (c .at)) (stepsAt h (c .at))
   come = v .slots-ok (c .at) (ok .stands) .come-so-far
 
-  pub at-slot : c .at < maxHeld
+  pub at-slot : c .at < maxSequence
   at-slot = stands-below h (c .at) v (ok .stands)
 
   -- the place of the stage
-  pub at-place : openOf h (c .at) < maxHeld * maxCommands
+  pub at-place : openOf h (c .at) < maxSequence * maxCommands
   at-place = place-within h (c .at) v (ok .stands) (answeredAt h (c .at)) (ok .not-all)
 
-  new-steps : length (h .stage) ≡ maxHeld * maxCommands →
+  new-steps : length (h .stage) ≡ maxSequence * maxCommands →
       stepsFrom (withStages (rowsOf h) newStages) (c .«due_then») (fromOf (c .at)) (getD (h .counts) (c .at) 0)
       ≡ setStatus (answeredAt h (c .at)) newStatus (stepsAt h (c .at))
   unfolding stepsAt
   new-steps m = steps-staged (rowsOf h) _ _ _ _ _ (c .stage) come (ok .not-all) (omega (arith, at-place))
 
   -- those behind it that are answered already are passed over
-  pub next-open : (c .stage ≡ inFlightCode → ⊥) → length (h .answered) ≡ maxHeld → length (h .stage) ≡ maxHeld * maxCommands → (r : ℕ) →
-      FirstOpen newStages (openOf h (c .at) + 1) (endOf h (c .at)) r → AnsweredNow (set (h .answered) (c .at) (r - fromOf (c .at)))
+  pub next-open : (c .stage ≡ inFlightCode → ⊥) → length (h .answered) ≡ maxSequence → length (h .stage) ≡ maxSequence * maxCommands →
+      (r : ℕ) →
+      FirstUnanswered newStages (openOf h (c .at) + 1) (endOf h (c .at)) r → AnsweredNow (set (h .answered) (c .at) (r - fromOf (c .at)))
   next-open n l m r f =
       let i = at-slot in
       let j = at-place in
@@ -156,7 +157,7 @@ module _ (h : HubState) (c : Staged) (v : StateOk h) (ok : StageOk h c) where
       }
 
   module _ (answered mark : List ℕ) (a : AnsweredNow answered)
-      (stage-long : length (h .stage) ≡ maxHeld * maxCommands) (due-long : length (h .«due_then») ≡ maxHeld)
+      (stage-long : length (h .stage) ≡ maxSequence * maxCommands) (due-long : length (h .«due_then») ≡ maxSequence)
     where
       abbrev newDue : List ℤ
       newDue = set (h .«due_then») (c .at) (c .«due_then»)

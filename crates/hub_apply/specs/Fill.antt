@@ -5,10 +5,10 @@ use mathlib.Core.List.{List}
 use Prim.Native.Nat.{ℕ, suc, _+_, _≤_, _<_}
 use lib.ListN.{getD}
 use Rattle.rules_routine.specs.Choice.{if_then_else_}
-use Rattle.rules_routine.specs.Routine.{maxCommands, zeroCommand}
+use Rattle.rules_routine.specs.Limits.{maxCommands, maxSequence}
+use Rattle.rules_routine.specs.Routine.{zeroCommand}
 use Rattle.rules_routine.specs.declared.Command.{Command}
 use Rattle.rules_routine.specs.declared.Routine.{Routine}
-use Rattle.rules.specs.State.{maxHeld}
 use Rattle.hub_sequence.specs.Lists.{count}
 use Rattle.hub_sequence.specs.Links.{along, Walks}
 use Rattle.hub_sequence.specs.declared.Links.{Links}
@@ -26,7 +26,7 @@ commandIn q j = getD (q .commands) j zeroCommand
 
 -- The commands of the routine have places in the rows.
 pub record CanFill (slot : ℕ) (q : Routine) : Type 0 where
-  pub slot-fits : slot < maxHeld
+  pub slot-fits : slot < maxSequence
   pub few : q .count ≤ maxCommands
 
 -- ---- pass counts
@@ -37,7 +37,7 @@ behindSlot k slot = along (k .behind) (getD (k .behind) slot 0)
 
 -- The slots behind can be walked, the newcomer's is not among them, and each that runs can be passed once more.
 pub record CanPassBehind (row : List ℕ) (k : Links) (committed : List Bool) (slot : ℕ) : Type 0 where
-  pub slot-fits : slot < maxHeld
+  pub slot-fits : slot < maxSequence
   pub walks : Walks (k .behind) (getD (k .behind) slot 0)
   pub apart : count slot (behindSlot k slot) ≡ 0
   pub room : (x : ℕ) → 1 ≤ count x (behindSlot k slot) → getD committed x false ≡ false → getD row x 0 < highestPassed

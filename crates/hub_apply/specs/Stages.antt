@@ -9,10 +9,10 @@ use Rattle.rules_routine.specs.Choice.{if_then_else_}
 use Rattle.hub_state.specs.View.{doneCode, skippedCode}
 
 -- The first place from one to another whose command is not answered; the end if there is none.
-pub record FirstOpen (stage : List ℕ) (from end r : ℕ) : Type 0 where
+pub record FirstUnanswered (stage : List ℕ) (from end r : ℕ) : Type 0 where
   pub within : (from ≤ r) × (r ≤ end)
   pub answered-before : (k : ℕ) → from ≤ k → k < r → doneCode ≤ getD stage k 0
-  pub open-there : r < end → getD stage r 0 < doneCode
+  pub unanswered-there : r < end → getD stage r 0 < doneCode
 
 -- The commands from one place to another that are left on the device are skipped; all else is as it was.
 pub record SkipsLeft (stage device : List ℕ) (d from end : ℕ) (r : List ℕ) : Type 0 where

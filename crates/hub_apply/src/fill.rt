@@ -1,27 +1,26 @@
 // The rows of a newcomer, filled in at its slot.
 use hub_sequence::Links;
-use hub_sequence::MAX_HELD;
 use hub_state::NO_RESTART;
 use hub_state::RESTARTS;
 use hub_state::STEPS;
 use hub_state::TO_DO;
-use rules_routine::MAX_COMMANDS;
-use rules_routine::MAX_DEVICES;
 use rules_routine::Routine;
+use rules_routine::limits::MAX_COMMANDS;
+use rules_routine::limits::MAX_DEVICES;
+use rules_routine::limits::MAX_SEQUENCE;
 ghost use Prim.Native.Nat.{_*_, _<_};
 ghost use lib.IntN.{pos};
-ghost use Rattle.rules_routine.specs.Routine.{maxCommands, maxDevices};
-ghost use Rattle.rules.specs.State.{maxHeld};
+ghost use Rattle.rules_routine.specs.Limits.{maxCommands, maxDevices, maxSequence};
 ghost use Rattle.hub_state.specs.View.{toDoCode, noRestart};
 ghost use Rattle.hub_apply.specs.Fill.{Fills, commandIn, CanFill, CanPassBehind, PassesBehind};
 
 // "Every running routine now behind it has been passed once more." The newcomer itself was not passed.
 pub fn passed_behind(
-    row: [u8; MAX_HELD],
+    row: [u8; MAX_SEQUENCE],
     links: Links,
-    committed: [bool; MAX_HELD],
+    committed: [bool; MAX_SEQUENCE],
     slot: usize,
-) -> [u8; MAX_HELD]
+) -> [u8; MAX_SEQUENCE]
     requires { ⌜ CanPassBehind row links committed slot ⌝ }
     ensures { λ r. ⌜ PassesBehind row links committed slot r ⌝ }
 {
@@ -29,7 +28,7 @@ pub fn passed_behind(
     let mut passed = row;
     passed[slot] = 0;
     let mut i = behind[slot] as usize;
-    while i < MAX_HELD {
+    while i < MAX_SEQUENCE {
         if !committed[i] {
             passed[i] = passed[i] + 1;
         }
@@ -95,7 +94,7 @@ pub fn with_settings(row: [i16; STEPS], slot: usize, routine: Routine) -> [i16; 
 
 // All commands of a newcomer are to do.
 pub fn with_to_do(row: [u8; STEPS], slot: usize) -> [u8; STEPS]
-    requires { ⌜ slot < maxHeld ⌝ }
+    requires { ⌜ slot < maxSequence ⌝ }
     ensures { λ r. ⌜ Fills 0 row (slot * maxCommands) maxCommands (λ j. toDoCode) r ⌝ }
 {
     let from = slot * MAX_COMMANDS;
@@ -110,7 +109,7 @@ pub fn with_to_do(row: [u8; STEPS], slot: usize) -> [u8; STEPS]
 
 // A newcomer has no restarts.
 pub fn without_restarts(row: [i16; RESTARTS], slot: usize) -> [i16; RESTARTS]
-    requires { ⌜ slot < maxHeld ⌝ }
+    requires { ⌜ slot < maxSequence ⌝ }
     ensures { λ r. ⌜ Fills noRestart row (slot * maxDevices) maxDevices (λ d. noRestart) r ⌝ }
 {
     let from = slot * MAX_DEVICES;

@@ -3,31 +3,31 @@
 // stays is not copied.
 mod fill;
 
-use hub_sequence::keep;
+use hub_sequence::order;
 use hub_state::DONE;
 use hub_state::HubState;
 use hub_state::IN_FLIGHT;
 use hub_state::SKIPPED;
 use hub_state::STEPS;
 use hub_state::Staged;
-use rules_routine::MAX_COMMANDS;
 use rules_routine::Routine;
+use rules_routine::limits::MAX_COMMANDS;
 ghost use mathlib.Core.Path.{_≡_};
 ghost use Prim.Native.Nat.{_*_, _≤_};
-ghost use Rattle.rules_routine.specs.Routine.{maxCommands, commandsOf};
-ghost use Rattle.rules.specs.State.{maxHeld};
+ghost use Rattle.rules_routine.specs.Limits.{maxCommands, maxSequence};
+ghost use Rattle.rules_routine.specs.Routine.{commandsOf};
 ghost use Rattle.rules.specs.Events.{skipRest};
 ghost use Rattle.hub_sequence.specs.Links.{Stands};
 ghost use Rattle.hub_state.specs.View.{stateOf, there};
 ghost use Rattle.hub_state.specs.Valid.{StateOk};
 ghost use Rattle.hub_state.specs.Contract.{staged, committedAt, StageOk, JoinOk};
 ghost use Rattle.hub_apply.specs.Contract.{Places};
-ghost use Rattle.hub_apply.specs.Stages.{FirstOpen, SkipsLeft};
+ghost use Rattle.hub_apply.specs.Stages.{FirstUnanswered, SkipsLeft};
 
 // The first of these commands that is not answered; the end if there is none.
-fn first_open<'a>(stage: &'a [u8; STEPS], from: usize, end: usize) -> usize
-    requires { ⌜ (from ≤ end) × (end ≤ maxHeld * maxCommands) ⌝ }
-    ensures { λ r. ⌜ FirstOpen (now (stage .entry)) from end r ⌝ }
+fn first_unanswered<'a>(stage: &'a [u8; STEPS], from: usize, end: usize) -> usize
+    requires { ⌜ (from ≤ end) × (end ≤ maxSequence * maxCommands) ⌝ }
+    ensures { λ r. ⌜ FirstUnanswered (now (stage .entry)) from end r ⌝ }
 {
     let mut k = from;
     while k < end {
@@ -56,7 +56,7 @@ pub fn with_stage(state: HubState, change: Staged) -> HubState
     let tag = state.tag;
     let setting = state.setting;
     let restarts = state.restarts;
-    let settled = state.settled;
+    let settled = state.settled_at;
     let up = state.up;
     let mut stage = state.stage;
     let mut due_then = state.due_then;
@@ -70,7 +70,7 @@ pub fn with_stage(state: HubState, change: Staged) -> HubState
     let due = change.due_then;
     due_then[at] = due;
     if change.stage != IN_FLIGHT {
-        let next = first_open(&stage, open + 1, end);
+        let next = first_unanswered(&stage, open + 1, end);
         answered[at] = (next - from) as u8;
     }
     if change.begins {
@@ -93,7 +93,7 @@ pub fn with_stage(state: HubState, change: Staged) -> HubState
         setting,
         stage,
         restarts,
-        settled,
+        settled_at: settled,
         up,
         mark,
     }
@@ -107,7 +107,7 @@ fn skip_left<'a>(
     end: usize,
     wanted: u8,
 ) -> [u8; STEPS]
-    requires { ⌜ (from ≤ end) × (end ≤ maxHeld * maxCommands) ⌝ }
+    requires { ⌜ (from ≤ end) × (end ≤ maxSequence * maxCommands) ⌝ }
     ensures { λ r. ⌜ SkipsLeft stage (now (device .entry)) wanted from end r ⌝ }
 {
     let mut skipped = stage;
@@ -142,7 +142,7 @@ pub fn with_skips(state: HubState, at: usize, wanted: u8) -> HubState
     let setting = state.setting;
     let old_stage = state.stage;
     let restarts = state.restarts;
-    let settled = state.settled;
+    let settled = state.settled_at;
     let up = state.up;
     let mark = state.mark;
     let mut answered = state.answered;
@@ -150,7 +150,7 @@ pub fn with_skips(state: HubState, at: usize, wanted: u8) -> HubState
     let end = from + (counts[at] as usize);
     let open = from + (answered[at] as usize);
     let stage = skip_left(old_stage, &device, from, end, wanted);
-    let next = first_open(&stage, open, end);
+    let next = first_unanswered(&stage, open, end);
     answered[at] = (next - from) as u8;
     HubState {
         devices,
@@ -168,7 +168,7 @@ pub fn with_skips(state: HubState, at: usize, wanted: u8) -> HubState
         setting,
         stage,
         restarts,
-        settled,
+        settled_at: settled,
         up,
         mark,
     }
@@ -193,7 +193,7 @@ pub fn with_commit(state: HubState, at: usize) -> HubState
     let setting = state.setting;
     let stage = state.stage;
     let restarts = state.restarts;
-    let settled = state.settled;
+    let settled = state.settled_at;
     let up = state.up;
     let mark = state.mark;
     let mut committed = state.committed;
@@ -214,7 +214,7 @@ pub fn with_commit(state: HubState, at: usize) -> HubState
         setting,
         stage,
         restarts,
-        settled,
+        settled_at: settled,
         up,
         mark,
     }
@@ -229,11 +229,11 @@ pub fn with_routine(state: HubState, after: u8, routine: Routine) -> HubState
     let pass_limit = state.pass_limit;
     let next_id = state.next_id;
     let due_then = state.due_then;
-    let settled = state.settled;
+    let settled = state.settled_at;
     let up = state.up;
     let mark = state.mark;
     let links_before = state.links;
-    let joined = keep::join(links_before, after);
+    let joined = order::join(links_before, after);
     let links = joined.links;
     let slot = joined.slot as usize;
     let mut ids = state.ids;
@@ -272,7 +272,7 @@ pub fn with_routine(state: HubState, after: u8, routine: Routine) -> HubState
         setting,
         stage,
         restarts,
-        settled,
+        settled_at: settled,
         up,
         mark,
     }

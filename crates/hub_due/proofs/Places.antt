@@ -10,12 +10,12 @@ use lib.Dec.{eqb}
 use lib.IntN.{ℤ, pos}
 use lib.ListN.{length, getD, set, length-set}
 use Rattle.rules_routine.specs.Choice.{if_then_else_}
-use Rattle.rules_routine.specs.Routine.{maxDevices}
+use Rattle.rules_routine.specs.Limits.{maxDevices}
 use Rattle.rules.specs.Due.{afterSteps}
 use Rattle.rules.proofs.Lists.{eqb-sym}
 use Rattle.hub_state.specs.View.{settingsOf, Rows, stepAt, stepsFrom, doneCode}
 use Rattle.hub_state.proofs.Rows.{done-code}
-use Rattle.hub_due.specs.Contract.{LastDone, AfterDone}
+use Rattle.hub_due.specs.Contract.{BehindLastDone, AfterDone}
 use Rattle.hub_due.proofs.Tables.{set-put}
 
 -- ---- what a device is due
@@ -107,7 +107,8 @@ module _ {device stage : List ℕ} {from end d : ℕ} where
     not-done-more h m = none-more h (place-not-done device stage d (k - 1) m)
 
     -- it is done on the device
-    pub last-found : from < k → k ≤ end → getD device (k - 1) 0 ≡ d → getD stage (k - 1) 0 ≡ doneCode → LastDone device stage from end d k
+    pub last-found : from < k → k ≤ end → getD device (k - 1) 0 ≡ d → getD stage (k - 1) 0 ≡ doneCode →
+        BehindLastDone device stage from end d k
     last-found h i p q =
         record {
           within = (omega arith, i);
@@ -121,7 +122,7 @@ module _ {device stage : List ℕ} {from end d : ℕ} where
         }
 
     -- no command is left
-    pub last-none : from ≤ end → k ≤ from → LastDone device stage from end d from
+    pub last-none : from ≤ end → k ≤ from → BehindLastDone device stage from end d from
     last-none h i =
         record {
           within = (omega arith, h);

@@ -8,8 +8,7 @@ use mir.Val.{toZ, ofZ}
 use mir.Syntax.{w16}
 use lib.IntN.{ℤ, pos}
 use lib.ListN.{length, getD, set, length-set}
-use Rattle.rules_routine.specs.Routine.{maxDevices}
-use Rattle.rules.specs.State.{maxHeld}
+use Rattle.rules_routine.specs.Limits.{maxDevices, maxSequence}
 use Rattle.rules.specs.Due.{afterRestart}
 use Rattle.rules.specs.Attach.{settleRestarts}
 use Rattle.hub_state.specs.View.{settingsOf, noRestart, restartsAt}
@@ -19,7 +18,7 @@ use Rattle.hub_due.proofs.Tables.{below-all}
 
 -- ---- the entry of a device in a slot
 
-module _ (row : List ℤ) (x d : ℕ) (l : length row ≡ maxHeld * maxDevices) (h : x < maxHeld) (i : d < maxDevices) where
+module _ (row : List ℤ) (x d : ℕ) (l : length row ≡ maxSequence * maxDevices) (h : x < maxSequence) (i : d < maxDevices) where
   pub restart-there : (ofZ w16 (getD row (x * maxDevices + d) (pos 0)) ≡ ofZ w16 noRestart → ⊥) →
       restartsAt row x d ≡ some (getD row (x * maxDevices + d) (pos 0))
   restart-there n = restarts-read row x d (pos 0) l h i

@@ -11,9 +11,9 @@ use lib.Dec.{eqb, ltb}
 use lib.IntN.{ℤ, pos}
 use lib.ListN.{length, take, drop, getD, set, replicate, length-set, List·getD-eq-default}
 use Rattle.rules_routine.specs.Choice.{if_then_else_}
-use Rattle.rules_routine.specs.Routine.{maxDevices, maxCommands}
+use Rattle.rules_routine.specs.Limits.{maxDevices, maxCommands, maxSequence}
 use Rattle.rules.specs.Tables.{anyOf}
-use Rattle.rules.specs.State.{maxHeld, Step, Member}
+use Rattle.rules.specs.State.{Step, Member}
 use Rattle.rules.specs.Progress.{inFlightOn}
 use Rattle.rules.specs.Due.{afterSteps, afterRestart, afterMember, afterMembers, due}
 use Rattle.rules.specs.Attach.{settleRestarts}
@@ -21,7 +21,7 @@ use Rattle.hub_sequence.specs.Lists.{count, without}
 use Rattle.hub_sequence.specs.Links.{along, slotsOf, backOf, Walks, Stands}
 use Rattle.hub_sequence.proofs.Tables.{byEq, byLess}
 use Rattle.hub_sequence.proofs.Lists.{same-self, same-eq, same-apart, count-reverse-onto}
-use Rattle.hub_sequence.proofs.ReadLaws.{back-reversed, once-held}
+use Rattle.hub_sequence.proofs.ReadLaws.{back-reversed, once-taken}
 use Rattle.hub_sequence.proofs.WalkLaws.{walks-next, walks-end}
 use Rattle.rules.proofs.Lists.{eqb-sym}
 use Rattle.hub_state.specs.View.{settingsOf, flagsOf, rowsOf, stepAt, stepsFrom, stepsAt, restartsAt, memberAt, membersOf, stateOf}
@@ -31,7 +31,7 @@ use Rattle.hub_state.specs.declared.HubState.{HubState}
 use Rattle.hub_state.proofs.Steps.{done-upto, flights-all, flights-open}
 use Rattle.hub_state.proofs.Rows.{flight-code, take-stepsFrom, steps-open}
 use Rattle.hub_state.proofs.Members.{steps-are, length-steps, stands-below, answered-most, counts-most, device-within}
-use Rattle.hub_due.specs.Contract.{LastDone, AfterDone, DevicesFit, membersBut, noneDone, dueBut}
+use Rattle.hub_due.specs.Contract.{BehindLastDone, AfterDone, DevicesFit, membersWithout, noneDone, dueWithout}
 use Rattle.hub_due.proofs.Tables.{set-put}
 use Rattle.hub_due.proofs.Places.{rowsWith, afterPlaces, after-places}
 
@@ -65,10 +65,10 @@ module _ (device stage : List ℕ) (setting restarts : List ℤ) (answered : Lis
 
 -- a walk, of which x is the next slot
 module _ (f : ℕ → ℤ → ℤ) {row : List ℕ} {x : ℕ} (t : Walks row x) (v : ℤ) where
-  walk-after : x < maxHeld → inTurn f (along row (getD row x 0)) (f x v) ≡ inTurn f (along row x) v
+  walk-after : x < maxSequence → inTurn f (along row (getD row x 0)) (f x v) ≡ inTurn f (along row x) v
   walk-after h = sym (ap (λ (l : List ℕ). inTurn f l v) (walks-next t h .0))
 
-  walk-done : maxHeld ≤ x → inTurn f (along row x) v ≡ v
+  walk-done : maxSequence ≤ x → inTurn f (along row x) v ≡ v
   walk-done h = ap (λ (l : List ℕ). inTurn f l v) (walks-end t h)
 
 -- ---- one device, from the last slot on
@@ -85,10 +85,10 @@ back-yet row device stage setting restarts answered d last v = record { same = r
 module _ {row device stage : List ℕ} {setting restarts : List ℤ} {answered : List ℕ} {d last : ℕ} {v : ℤ} {x : ℕ} (t : Walks row x)
     (f : BackTo row device stage setting restarts answered d last v x) where
   -- no slot is left
-  pub back-done : maxHeld ≤ x → v ≡ backSlots device stage setting restarts answered d (along row last) v
+  pub back-done : maxSequence ≤ x → v ≡ backSlots device stage setting restarts answered d (along row last) v
   back-done h = sym (ap (λ (l : List ℕ). backSlots device stage setting restarts answered d l v) (walks-end t h)) ∙ f .same
 
-  module _ (h : x < maxHeld) where
+  module _ (h : x < maxSequence) where
     -- what the slots ahead leave the device at
     abbrev ahead : ℤ
     ahead = backSlots device stage setting restarts answered d (along row (getD row x 0)) v
@@ -105,7 +105,7 @@ module _ {row device stage : List ℕ} {setting restarts : List ℤ} {answered :
     back-restart r e = sym (ap after e) ∙ back-next
 
     module _ (e : restartsAt restarts x d ≡ none) {k : ℕ}
-        (i : LastDone device stage (x * maxCommands) (x * maxCommands + getD answered x 0) d k) where
+        (i : BehindLastDone device stage (x * maxCommands) (x * maxCommands + getD answered x 0) d k) where
       back-places : (w : ℤ) →
           afterSteps d (stepsFrom (rowsWith device stage setting []) (pos 0) (x * maxCommands)
           (x * maxCommands + getD answered x 0 - x * maxCommands)) ahead ≡ w →
@@ -144,7 +144,7 @@ module _ (h : HubState) (ok : StateOk h) (d : ℕ) where
       (ap (take n) (steps-are h x) ∙ take-stepsFrom (rowsOf h) u (x * maxCommands) n (getD (h .counts) x 0) (answered-most h x ok s))
       ∙ after-places (h .device) (h .stage) (h .setting) (h .tag) u d (x * maxCommands) n v)
 
-  -- the routines of held slots, as f reads them
+  -- the routines of taken slots, as f reads them
   slots-due : (f : ℕ → Member) (g : ℕ → ℤ → ℤ) → ((x : ℕ) (v : ℤ) → Stands (h .links) x → afterMember d (f x) v ≡ g x v) →
       (l : List ℕ) (v : ℤ) → ((x : ℕ) → 1 ≤ count x l → Stands (h .links) x) → afterMembers d (map f l) v ≡ inTurn g l v
   slots-due f g e [] v s = refl
@@ -167,13 +167,13 @@ module _ (h : HubState) (ok : StateOk h) (d : ℕ) where
 
   pub due-but : (but : ℕ) →
       inTurn (afterBut (h .device) (h .stage) (h .setting) (h .restarts) (h .answered) d but) (slotsOf (h .links))
-      (settingsOf (h .settled) d)
-      ≡ dueBut h but d
-  unfolding dueBut
+      (settingsOf (h .«settled_at») d)
+      ≡ dueWithout h but d
+  unfolding dueWithout
   due-but but =
       sym
       (slots-due (λ x. if eqb x but then noneDone (memberAt h x) else memberAt h x) _ (slot-but but) (slotsOf (h .links))
-      (settingsOf (h .settled) d) (λ x i. i))
+      (settingsOf (h .«settled_at») d) (λ x i. i))
 
   -- and from the last on; the rows that are lent are those of the state
   due-back : (v : ℤ) →
@@ -196,7 +196,7 @@ module _ (h : HubState) (ok : StateOk h) (d : ℕ) where
 
 -- the answered commands of a slot are in the rows, on devices that there can be
 module _ (h : HubState) (x : ℕ) (ok : StateOk h) (s : Stands (h .links) x) where
-  pub answered-end : x * maxCommands + getD (h .answered) x 0 ≤ maxHeld * maxCommands
+  pub answered-end : x * maxCommands + getD (h .answered) x 0 ≤ maxSequence * maxCommands
   answered-end = omega (arith, stands-below h x ok s, answered-most h x ok s, counts-most h x ok s)
 
   pub answered-devices : DevicesFit (h .device) (x * maxCommands) (x * maxCommands + getD (h .answered) x 0)
@@ -205,7 +205,7 @@ module _ (h : HubState) (x : ℕ) (ok : StateOk h) (s : Stands (h .links) x) whe
       subst (λ (n : ℕ). getD (h .device) n 0 < maxDevices) e
       (device-within h x ok s (k - x * maxCommands) (omega (arith, answered-most h x ok s)))
 
--- a slot that a walk back comes to is held
+-- a slot that a walk back comes to is taken
 pub back-stands : (h : HubState) → StateOk h → (x : ℕ) → 1 ≤ count x (backOf (h .links)) → Stands (h .links) x
 back-stands h ok x i =
     let e : count x (backOf (h .links)) ≡ count x (slotsOf (h .links)) + 0 =
@@ -230,7 +230,7 @@ module _ {row device stage : List ℕ} {setting restarts : List ℤ} {answered :
     (t : Walks row x)
     (f : DueTo row device stage setting restarts answered but first settled x table) where
   -- one slot more
-  due-next : x < maxHeld → {after : List ℤ} →
+  due-next : x < maxSequence → {after : List ℤ} →
       ((d : ℕ) → settingsOf after d ≡ afterBut device stage setting restarts answered d but x (settingsOf table d)) →
       DueTo row device stage setting restarts answered but first settled (getD row x 0) after
   due-next h e =
@@ -242,7 +242,7 @@ module _ {row device stage : List ℕ} {setting restarts : List ℤ} {answered :
       }
 
   -- its commands count
-  pub due-more : x < maxHeld → (x ≡ but → ⊥) → {done mid after : List ℤ} → mid ≡ done →
+  pub due-more : x < maxSequence → (x ≡ but → ⊥) → {done mid after : List ℤ} → mid ≡ done →
       AfterDone table device stage setting (x * maxCommands) (x * maxCommands + getD answered x 0) done →
       settingsOf after ≡ settleRestarts (restartsAt restarts x) (settingsOf mid) →
       DueTo row device stage setting restarts answered but first settled (getD row x 0) after
@@ -260,7 +260,7 @@ module _ {row device stage : List ℕ} {setting restarts : List ℤ} {answered :
       ∙ ap (λ (m : ℕ). afterPlaces device stage setting d (x * maxCommands) m (settingsOf table d)) n)))
 
   -- they do not
-  pub due-left-out : x < maxHeld → x ≡ but → {mid after : List ℤ} → mid ≡ table →
+  pub due-left-out : x < maxSequence → x ≡ but → {mid after : List ℤ} → mid ≡ table →
       settingsOf after ≡ settleRestarts (restartsAt restarts x) (settingsOf mid) →
       DueTo row device stage setting restarts answered but first settled (getD row x 0) after
   unfolding settleRestarts
@@ -269,35 +269,36 @@ module _ {row device stage : List ℕ} {setting restarts : List ℤ} {answered :
       (λ d. rw (eq-eqb x but b) ((λ i. e i d) ∙ ap (λ (l : List ℤ). afterRestart (restartsAt restarts x d) (settingsOf l d)) q))
 
   -- no slot is left
-  pub due-end : maxHeld ≤ x → (d : ℕ) →
+  pub due-end : maxSequence ≤ x → (d : ℕ) →
       settingsOf table d ≡ inTurn (afterBut device stage setting restarts answered d but) (along row first) (settingsOf settled d)
   due-end h d = sym (walk-done (afterBut device stage setting restarts answered d but) t (settingsOf table d) h) ∙ f .same d
 
 -- the table is what the rules have
 module _ (h : HubState) (ok : StateOk h) where
   -- of one device
-  pub due-is : (d : ℕ) → afterMembers d (membersOf h) (settingsOf (h .settled) d) ≡ due (stateOf h) d
+  pub due-is : (d : ℕ) → afterMembers d (membersOf h) (settingsOf (h .«settled_at») d) ≡ due (stateOf h) d
   unfolding due stateOf
   due-is d = refl
 
   -- one that the hub cannot have is at 0
-  pub due-past : (d : ℕ) → length (h .settled) ≤ d → afterMembers d (membersOf h) (pos 0) ≡ due (stateOf h) d
-  due-past d l = ap (afterMembers d (membersOf h)) (sym (List·getD-eq-default (h .settled) (pos 0) l)) ∙ due-is d
+  pub due-past : (d : ℕ) → length (h .«settled_at») ≤ d → afterMembers d (membersOf h) (pos 0) ≡ due (stateOf h) d
+  due-past d l = ap (afterMembers d (membersOf h)) (sym (List·getD-eq-default (h .«settled_at») (pos 0) l)) ∙ due-is d
 
   -- the number past the slots leaves none out
   none-out : (l : List ℕ) → ((x : ℕ) → 1 ≤ count x l → Stands (h .links) x) →
-      map (λ y. if eqb y maxHeld then noneDone (memberAt h y) else memberAt h y) l ≡ map (memberAt h) l
+      map (λ y. if eqb y maxSequence then noneDone (memberAt h y) else memberAt h y) l ≡ map (memberAt h) l
   none-out [] s = refl
   none-out (x ∷ l) s =
       let i = stands-below h x ok (s x (omega (arith, same-self x))) in
-      let n : x ≡ maxHeld → ⊥ = λ e. absurd (omega arith) in
-      rw (ne-eqb x maxHeld n, none-out l (λ y i. s y (omega arith)))
+      let n : x ≡ maxSequence → ⊥ = λ e. absurd (omega arith) in
+      rw (ne-eqb x maxSequence n, none-out l (λ y i. s y (omega arith)))
 
-  pub due-whole : dueBut h maxHeld ≡ due (stateOf h)
-  unfolding dueBut membersOf
+  pub due-whole : dueWithout h maxSequence ≡ due (stateOf h)
+  unfolding dueWithout membersOf
   due-whole =
       fun-ext
-      (λ d. ap (λ (l : List Member). afterMembers d l (settingsOf (h .settled) d)) (none-out (slotsOf (h .links)) (λ x i. i)) ∙ due-is d)
+      (λ d. ap (λ (l : List Member). afterMembers d l (settingsOf (h .«settled_at») d)) (none-out (slotsOf (h .links)) (λ x i. i))
+      ∙ due-is d)
 
 -- ---- a walk stays on the slots where it began
 
@@ -308,7 +309,7 @@ pub record Within (l m : List ℕ) : Type 0 where
 pub within-self : (l : List ℕ) → Within l l
 within-self l = record { most = λ w. omega arith }
 
-module _ {row l : List ℕ} {x : ℕ} (t : Walks row x) (s : Within (along row x) l) (h : x < maxHeld) where
+module _ {row l : List ℕ} {x : ℕ} (t : Walks row x) (s : Within (along row x) l) (h : x < maxSequence) where
   pub walk-within : Within (along row (getD row x 0)) l
   walk-within =
       record {
@@ -376,9 +377,10 @@ module _ (h : HubState) (ok : StateOk h) (d : ℕ) where
       ))
 
   pub flights-along : (but : ℕ) →
-      anyOf (fliesBut (h .counts) (h .answered) (h .device) (h .stage) but d) (slotsOf (h .links)) ≡ anyOf (inFlightOn d) (membersBut h but)
-  unfolding membersBut
-  flights-along but = sym (slots-fly but (slotsOf (h .links)) (λ x i. i) (once-held (h .links) but (ok .links-ok)))
+      anyOf (fliesBut (h .counts) (h .answered) (h .device) (h .stage) but d) (slotsOf (h .links)) ≡ anyOf (inFlightOn d)
+      (membersWithout h but)
+  unfolding membersWithout
+  flights-along but = sym (slots-fly but (slotsOf (h .links)) (λ x i. i) (once-taken (h .links) but (ok .links-ok)))
 
 -- A row of flags to which the slots before x have given their devices: with the slots from x on it has all of them.
 pub record FlightsTo (row counts answered device stage : List ℕ) (but first x : ℕ) (busy : List Bool) : Type 0 where
@@ -403,13 +405,13 @@ flights-yet row counts answered device stage but first =
 module _ {row counts answered device stage : List ℕ} {but first x : ℕ} {busy : List Bool} (t : Walks row x)
     (f : FlightsTo row counts answered device stage but first x busy) where
   -- no slot is left
-  pub flights-end : maxHeld ≤ x → (d : ℕ) → flagsOf busy d ≡ anyOf (fliesBut counts answered device stage but d) (along row first)
+  pub flights-end : maxSequence ≤ x → (d : ℕ) → flagsOf busy d ≡ anyOf (fliesBut counts answered device stage but d) (along row first)
   flights-end h d =
       sym (or-false (flagsOf busy d))
       ∙ sym (ap (λ (l : List ℕ). flagsOf busy d || anyOf (fliesBut counts answered device stage but d) l) (walks-end t h))
       ∙ f .same d
 
-  module _ (h : x < maxHeld) where
+  module _ (h : x < maxSequence) where
     flights-more : (next : List Bool) → length next ≡ length busy →
         ((d : ℕ) → flagsOf next d ≡ flagsOf busy d || fliesBut counts answered device stage but d x) →
         FlightsTo row counts answered device stage but first (getD row x 0) next

@@ -6,7 +6,7 @@ use lib.Dec.{eqb}
 use lib.IntN.{ℤ, pos}
 use lib.ListN.{getD}
 use Rattle.rules_routine.specs.Choice.{if_then_else_}
-use Rattle.rules_routine.specs.Routine.{maxDevices}
+use Rattle.rules_routine.specs.Limits.{maxDevices}
 use Rattle.rules.specs.State.{Member}
 use Rattle.rules.specs.Progress.{withSteps}
 use Rattle.rules.specs.Due.{afterSteps, afterMembers}
@@ -29,7 +29,7 @@ DevicesFit device from end = (k : ℕ) → from ≤ k → k < end → getD devic
 
 -- One past the last done command on the device; the first place if there is none. What the device is due after the commands is that one's
 -- setting, or what it was.
-pub record LastDone (device stage : List ℕ) (from end d r : ℕ) : Type 0 where
+pub record BehindLastDone (device stage : List ℕ) (from end d r : ℕ) : Type 0 where
   pub within : (from ≤ r) × (r ≤ end)
   pub none-left :
       r ≡ from → (tags : List ℕ) (settings : List ℤ) (u v : ℤ) →
@@ -40,14 +40,15 @@ pub record LastDone (device stage : List ℕ) (from end d r : ℕ) : Type 0 wher
       ≡ getD settings k (pos 0)
 
 -- The routines of the sequence but the one in a slot.
-unfoldable pub membersBut : HubState → ℕ → List Member
-membersBut h x = map (memberAt h) (without x (slotsOf (h .links)))
+unfoldable pub membersWithout : HubState → ℕ → List Member
+membersWithout h x = map (memberAt h) (without x (slotsOf (h .links)))
 
 -- A routine of which no command was done: the events attached to it are left.
 abbrev pub noneDone : Member → Member
 noneDone m = withSteps m []
 
 -- The due settings with the commands of the routine in a slot left out, and its events not.
-unfoldable pub dueBut : HubState → ℕ → ℕ → ℤ
-dueBut h x d =
-    afterMembers d (map (λ y. if eqb y x then noneDone (memberAt h y) else memberAt h y) (slotsOf (h .links))) (settingsOf (h .settled) d)
+unfoldable pub dueWithout : HubState → ℕ → ℕ → ℤ
+dueWithout h x d =
+    afterMembers d (map (λ y. if eqb y x then noneDone (memberAt h y) else memberAt h y) (slotsOf (h .links)))
+    (settingsOf (h .«settled_at») d)

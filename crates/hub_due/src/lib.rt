@@ -1,37 +1,36 @@
 // What devices are due after the settled part and the sequence: document 01, "Abort of R". One device, from the last routine on; and all,
-// in one pass (`due_settings_but`), which is the only one.
-use hub_sequence::MAX_HELD;
+// in one pass (`due_settings_without`), which is the only one.
 use hub_state::DONE;
 use hub_state::HubState;
 use hub_state::IN_FLIGHT;
 use hub_state::NO_RESTART;
 use hub_state::RESTARTS;
 use hub_state::STEPS;
-use rules_routine::MAX_COMMANDS;
-use rules_routine::MAX_DEVICES;
+use rules_routine::limits::MAX_COMMANDS;
+use rules_routine::limits::MAX_DEVICES;
+use rules_routine::limits::MAX_SEQUENCE;
 ghost use mathlib.Core.Path.{_≡_};
 ghost use Prim.Native.Nat.{_*_, _≤_, _<_};
 ghost use lib.ListN.{length};
-ghost use Rattle.rules_routine.specs.Routine.{maxCommands, maxDevices};
-ghost use Rattle.rules.specs.State.{maxHeld};
+ghost use Rattle.rules_routine.specs.Limits.{maxCommands, maxDevices, maxSequence};
 ghost use Rattle.rules.specs.Tables.{anyOf};
 ghost use Rattle.rules.specs.Progress.{inFlightOn};
 ghost use Rattle.rules.specs.Due.{afterMembers, due};
 ghost use Rattle.rules.specs.Attach.{settleRestarts};
 ghost use Rattle.hub_state.specs.View.{settingsOf, flagsOf, restartsAt, stateOf, membersOf};
 ghost use Rattle.hub_state.specs.Valid.{StateOk};
-ghost use Rattle.hub_due.specs.Contract.{AfterDone, LastDone, DevicesFit, dueBut, membersBut};
+ghost use Rattle.hub_due.specs.Contract.{AfterDone, BehindLastDone, DevicesFit, dueWithout, membersWithout};
 
 // The last done command on a device among these; the first place if there is none.
-fn last_done<'a>(
+fn behind_last_done<'a>(
     device: &'a [u8; STEPS],
     stage: &'a [u8; STEPS],
     from: usize,
     end: usize,
     wanted: u8,
 ) -> usize
-    requires { ⌜ (from ≤ end) × (end ≤ maxHeld * maxCommands) ⌝ }
-    ensures { λ r. ⌜ LastDone (now (device .entry)) (now (stage .entry)) from end wanted r ⌝ }
+    requires { ⌜ (from ≤ end) × (end ≤ maxSequence * maxCommands) ⌝ }
+    ensures { λ r. ⌜ BehindLastDone (now (device .entry)) (now (stage .entry)) from end wanted r ⌝ }
 {
     let mut k = end;
     while from < k {
@@ -64,7 +63,7 @@ pub fn due_on<'a>(
     let restarts = state.restarts;
     let d = wanted as usize;
     let mut i = links.last as usize;
-    while i < MAX_HELD {
+    while i < MAX_SEQUENCE {
         if d < MAX_DEVICES {
             let restart = restarts[i * MAX_DEVICES + d];
             if restart != NO_RESTART {
@@ -73,7 +72,7 @@ pub fn due_on<'a>(
         }
         let from = i * MAX_COMMANDS;
         let end = from + (answered[i] as usize);
-        let k = last_done(device, stage, from, end, wanted);
+        let k = behind_last_done(device, stage, from, end, wanted);
         if from < k {
             return setting[k - 1];
         }
@@ -91,7 +90,7 @@ pub fn after_done<'a>(
     from: usize,
     end: usize,
 ) -> [i16; MAX_DEVICES]
-    requires { ⌜ (from ≤ end) × (end ≤ maxHeld * maxCommands) × DevicesFit (now device) from end ⌝ }
+    requires { ⌜ (from ≤ end) × (end ≤ maxSequence * maxCommands) × DevicesFit (now device) from end ⌝ }
     ensures { λ r. ⌜ AfterDone table (now (device .entry)) (now (stage .entry)) (now (setting .entry)) from end r ⌝ }
 {
     let mut after = table;
@@ -114,7 +113,7 @@ pub fn after_restarts<'a>(
     restarts: &'a [i16; RESTARTS],
     at: usize,
 ) -> [i16; MAX_DEVICES]
-    requires { ⌜ (at < maxHeld) × (length (now restarts) ≡ maxHeld * maxDevices) ⌝ }
+    requires { ⌜ (at < maxSequence) × (length (now restarts) ≡ maxSequence * maxDevices) ⌝ }
     ensures { λ r. ⌜ settingsOf r ≡ settleRestarts (restartsAt (now (restarts .entry)) at) (settingsOf table) ⌝ }
 {
     let from = at * MAX_DEVICES;
@@ -132,9 +131,9 @@ pub fn after_restarts<'a>(
 
 // What all devices are due, in one pass. The commands of the routine in the slot `but` do not count, the events attached to it do; a number
 // past the slots is no routine.
-pub fn due_settings_but(state: HubState, but: usize) -> [i16; MAX_DEVICES]
+pub fn due_settings_without(state: HubState, but: usize) -> [i16; MAX_DEVICES]
     requires { ⌜ StateOk state ⌝ }
-    ensures { λ r. ⌜ settingsOf r ≡ dueBut state but ⌝ }
+    ensures { λ r. ⌜ settingsOf r ≡ dueWithout state but ⌝ }
 {
     let links = state.links;
     let behind = links.behind;
@@ -143,9 +142,9 @@ pub fn due_settings_but(state: HubState, but: usize) -> [i16; MAX_DEVICES]
     let stage = state.stage;
     let setting = state.setting;
     let restarts = state.restarts;
-    let mut table = state.settled;
+    let mut table = state.settled_at;
     let mut i = links.first as usize;
-    while i < MAX_HELD {
+    while i < MAX_SEQUENCE {
         if i != but {
             let from = i * MAX_COMMANDS;
             let end = from + (answered[i] as usize);
@@ -164,13 +163,13 @@ pub fn due_settings(state: HubState) -> [i16; MAX_DEVICES]
     requires { ⌜ StateOk state ⌝ }
     ensures { λ r. ⌜ settingsOf r ≡ due (stateOf state) ⌝ }
 {
-    due_settings_but(state, MAX_HELD)
+    due_settings_without(state, MAX_SEQUENCE)
 }
 
 // The devices with a command in flight of a routine that is not in the slot `but`.
-pub fn in_flight_but(state: HubState, but: usize) -> [bool; MAX_DEVICES]
+pub fn in_flight_without(state: HubState, but: usize) -> [bool; MAX_DEVICES]
     requires { ⌜ StateOk state ⌝ }
-    ensures { λ r. ⌜ flagsOf r ≡ (λ d. anyOf (inFlightOn d) (membersBut state but)) ⌝ }
+    ensures { λ r. ⌜ flagsOf r ≡ (λ d. anyOf (inFlightOn d) (membersWithout state but)) ⌝ }
 {
     let links = state.links;
     let behind = links.behind;
@@ -180,7 +179,7 @@ pub fn in_flight_but(state: HubState, but: usize) -> [bool; MAX_DEVICES]
     let stage = state.stage;
     let mut busy = [false; MAX_DEVICES];
     let mut i = links.first as usize;
-    while i < MAX_HELD {
+    while i < MAX_SEQUENCE {
         if i != but {
             if answered[i] < counts[i] {
                 let k = i * MAX_COMMANDS + (answered[i] as usize);
@@ -211,7 +210,7 @@ pub fn due_setting<'a>(
     if MAX_DEVICES <= at {
         return due_on(state, device, stage, setting, wanted, 0);
     }
-    let table = state.settled;
+    let table = state.settled_at;
     let settled = table[at];
     due_on(state, device, stage, setting, wanted, settled)
 }

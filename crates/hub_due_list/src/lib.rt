@@ -1,4 +1,4 @@
-// All due settings in one reading: document 02, item 14. The pass along the sequence is `due_settings_but` of crate `hub_due`.
+// All due settings in one reading: document 02, item 14. The pass along the sequence is `due_settings_without` of crate `hub_due`.
 use hub_state::HubState;
 use rules_routine::Refusal;
 use rules_routine::Verdict;

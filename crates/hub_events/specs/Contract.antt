@@ -7,7 +7,7 @@ use Rattle.rules_routine.specs.Choice.{if_then_else_}
 use Rattle.rules.specs.Answers.{Back, Answer as Told, aborted}
 use Rattle.rules.specs.Sequence.{Found, find}
 use Rattle.rules.specs.Events.{isHalfway, mustLeft}
-use Rattle.hub_answers.specs.View.{firstOf}
+use Rattle.hub_answers.specs.View.{eventAbortOf}
 use Rattle.hub_state.specs.View.{stateOf}
 use Rattle.hub_state.specs.Contract.{halfwayIn, stoppedBy, StandsOrPast}
 use Rattle.hub_state.specs.declared.HubState.{HubState}
@@ -22,5 +22,5 @@ abortTold d (some f) l = if mustLeft d (f .it) then aborted (f .it .id) l ∷ []
 pub record IsHalfway (h : HubState) (device : ℕ) (r : Affected) : Type 0 where
   pub place-ok : StandsOrPast h (r .slot)
   pub slot-is : halfwayIn h (r .slot) ≡ find (isHalfway device) (stateOf h .sequence)
-  pub first-is : (l : List Back) → firstOf (r .first) l ≡ abortTold device (halfwayIn h (r .slot)) l
+  pub first-is : (l : List Back) → eventAbortOf (r .first) l ≡ abortTold device (halfwayIn h (r .slot)) l
   pub mark-is : r .mark ≡ stoppedBy device (stateOf h) (halfwayIn h (r .slot)) .mark device

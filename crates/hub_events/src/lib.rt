@@ -1,15 +1,15 @@
 // Document 01, "Failure or restart of D", with document 02, item 3. Refusals: failure 14, 15; restart 14, 16, 17.
 use hub_answers::Answer;
-use hub_answers::First;
-use hub_answers::OneBack;
+use hub_answers::EventAbort;
+use hub_answers::MaybePutBack;
 use hub_answers::PutBacks;
-use hub_sequence::MAX_HELD;
 use hub_state::Change;
 use hub_state::Decision;
 use hub_state::HubState;
 use hub_state::Place;
 use hub_state::decisions;
 use hub_state::readers;
+use rules_routine::limits::MAX_SEQUENCE;
 use rules_routine::refusals::EVENT_DEVICE;
 use rules_routine::refusals::FAILURE_OF_DOWN;
 use rules_routine::refusals::RESTART_OF_UP;
@@ -18,20 +18,20 @@ ghost use mathlib.Core.Path.{_≡_};
 ghost use mathlib.Core.Bool.{true};
 ghost use mathlib.Core.List.{[]};
 ghost use Prim.Native.Nat.{_<_};
-ghost use Rattle.rules_routine.specs.Routine.{maxDevices};
+ghost use Rattle.rules_routine.specs.Limits.{maxDevices};
 ghost use Rattle.rules.specs.Events.{failureOf, restartOf};
-ghost use Rattle.hub_answers.specs.View.{backsOf, BacksOk};
+ghost use Rattle.hub_answers.specs.View.{putBacksOf, PutBacksOk};
 ghost use Rattle.hub_state.specs.View.{isRestart, stateOf};
 ghost use Rattle.hub_state.specs.Valid.{StateOk};
-ghost use Rattle.hub_state.specs.Contract.{halfwayIn, stoppedBy, backsStopped, downWith, upWith, StandsOrPast, Decides};
+ghost use Rattle.hub_state.specs.Contract.{halfwayIn, stoppedBy, putBacksStopped, downWith, upWith, StandsOrPast, Decides};
 ghost use Rattle.hub_abort.specs.PutBacks.{downIf};
 ghost use Rattle.hub_events.specs.Contract.{IsHalfway};
 
-// The routine that is halfway with an event's device, by its slot, MAX_HELD if there is none; its abort as it is told, if it aborts; and
-// the device's mark after that.
+// The routine that is halfway with an event's device, by its slot, MAX_SEQUENCE if there is none; its abort as it is told, if it aborts;
+// and the device's mark after that.
 pub struct Affected {
     pub slot: usize,
-    pub first: First,
+    pub first: EventAbort,
     pub mark: u32,
 }
 
@@ -47,21 +47,21 @@ fn halfway(state: HubState, device: u8) -> Affected
     let place = hub_search::halfway(state, device);
     let Place::At(slot) = place else {
         return Affected {
-            slot: MAX_HELD,
-            first: First::NoAbort,
+            slot: MAX_SEQUENCE,
+            first: EventAbort::NoAbort,
             mark,
         };
     };
     if !hub_search::must_left(state, slot, device) {
         return Affected {
             slot,
-            first: First::NoAbort,
+            first: EventAbort::NoAbort,
             mark,
         };
     }
     let ids = state.ids;
     let id = ids[slot];
-    let first = First::Abort(id);
+    let first = EventAbort::Abort(id);
     if mark != id {
         return Affected { slot, first, mark };
     }
@@ -89,7 +89,7 @@ pub fn decide_failure(state: HubState, device: u8) -> Decision
     Decision {
         first,
         answer: Answer::Down(device, half.mark),
-        back: OneBack::Nothing,
+        back: MaybePutBack::Nothing,
         change: Change::Fail(device, half.slot),
     }
 }
@@ -113,22 +113,22 @@ pub fn decide_restart(state: HubState, device: u8, setting: i16) -> Decision
     Decision {
         first,
         answer: Answer::Up(device, half.mark),
-        back: OneBack::Nothing,
+        back: MaybePutBack::Nothing,
         change: Change::Restart(device, setting, half.slot),
     }
 }
 
 // What the abort that comes first puts back, if there is one, while the device `down` fails; a number past the devices is none.
-pub fn backs_if(state: HubState, slot: usize, device: u8, down: u8) -> PutBacks
+pub fn put_backs_if(state: HubState, slot: usize, device: u8, down: u8) -> PutBacks
     requires { ⌜ (StateOk state) × (StandsOrPast state slot) ⌝ }
-    ensures { λ r. ⌜ (BacksOk r) × (backsOf r ≡ backsStopped device (downIf (stateOf state) down) (halfwayIn state slot)) ⌝ }
+    ensures { λ r. ⌜ (PutBacksOk r) × (putBacksOf r ≡ putBacksStopped device (downIf (stateOf state) down) (halfwayIn state slot)) ⌝ }
 {
-    if slot < MAX_HELD {
+    if slot < MAX_SEQUENCE {
         if hub_search::must_left(state, slot, device) {
-            return hub_abort::backs_of(state, slot, down);
+            return hub_abort::put_backs_of(state, slot, down);
         }
     }
-    hub_answers::no_backs()
+    hub_answers::no_put_backs()
 }
 
 // "On a failure D first becomes down." Then the abort, or the skips. (That both events have this in their own text, and not in a function
@@ -138,7 +138,7 @@ pub fn with_failure(state: HubState, device: u8, slot: usize) -> HubState
     ensures { λ r. ⌜ (StateOk r) × (stateOf r ≡ stoppedBy device (downWith (stateOf state) device) (halfwayIn state slot)) ⌝ }
 {
     let mut next = hub_settle::with_up(state, device, false);
-    if slot < MAX_HELD {
+    if slot < MAX_SEQUENCE {
         if hub_search::must_left(next, slot, device) {
             let left = hub_settle::left(next, slot);
             next = left;
@@ -156,7 +156,7 @@ pub fn with_restart(state: HubState, device: u8, setting: i16, slot: usize) -> H
     ensures { λ r. ⌜ (StateOk r) × (stateOf r ≡ upWith (stoppedBy device (stateOf state) (halfwayIn state slot)) device setting) ⌝ }
 {
     let mut next = state;
-    if slot < MAX_HELD {
+    if slot < MAX_SEQUENCE {
         if hub_search::must_left(state, slot, device) {
             let left = hub_settle::left(next, slot);
             next = left;

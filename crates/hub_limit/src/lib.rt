@@ -1,9 +1,9 @@
 // A new pass limit: document 02, item 13, "New pass limit without a stop".
 use hub_answers::Answer;
 use hub_state::HubState;
-use rules_routine::HIGHEST_PASS_LIMIT;
 use rules_routine::Refusal;
 use rules_routine::Verdict;
+use rules_routine::limits::HIGHEST_PASS_LIMIT;
 use rules_routine::refusals::PASS_LIMIT_OUT_OF_RANGE;
 ghost use mathlib.Core.Path.{_≡_};
 ghost use Rattle.rules.specs.Open.{limitCheck};

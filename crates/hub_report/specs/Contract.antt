@@ -3,7 +3,7 @@ use mathlib.Core.Bool.{false}
 use Prim.Native.Nat.{ℕ}
 use lib.IntN.{pos}
 use Rattle.rules.specs.Progress.{Flight}
-use Rattle.hub_state.specs.Open.{commandAt, dueThenAt}
+use Rattle.hub_state.specs.Unanswered.{commandAt, dueThenAt}
 use Rattle.hub_state.specs.declared.HubState.{HubState}
 use Rattle.hub_state.specs.declared.Change.{Change}
 use Rattle.hub_state.specs.declared.Change.the-variants.{Stage}

@@ -1,16 +1,16 @@
 // Document 01, "Report on R". Refusals: 10, 12, 13.
 use hub_answers::Answer;
-use hub_answers::First;
-use hub_answers::OneBack;
+use hub_answers::EventAbort;
+use hub_answers::MaybePutBack;
 use hub_answers::PutBack;
 use hub_state::Change;
 use hub_state::DONE;
 use hub_state::Decision;
 use hub_state::HubState;
-use hub_state::Open;
 use hub_state::Place;
 use hub_state::SKIPPED;
 use hub_state::Staged;
+use hub_state::Unanswered;
 use hub_state::decisions;
 use hub_state::readers;
 use rules_routine::refusals::NONE_IN_FLIGHT;
@@ -30,7 +30,7 @@ ghost use Rattle.hub_sequence.specs.Links.{Stands};
 ghost use Rattle.hub_answers.specs.View.{oneOf};
 ghost use Rattle.hub_state.specs.View.{memberAt, stateOf, there};
 ghost use Rattle.hub_state.specs.Valid.{StateOk};
-ghost use Rattle.hub_state.specs.Open.{commandAt, OpenInFlight};
+ghost use Rattle.hub_state.specs.Unanswered.{commandAt, NextInFlight};
 ghost use Rattle.hub_state.specs.Contract.{Decides};
 ghost use Rattle.hub_report.specs.Contract.{answeredBy, flightAt};
 
@@ -50,22 +50,22 @@ fn answered(at: usize, stage: u8, id: u32) -> Change
 }
 
 // "its device is then sent its due setting if that is another than when the command was sent"
-fn back_if_changed(device: u8, due: i16, before: i16) -> OneBack
+fn back_if_changed(device: u8, due: i16, before: i16) -> MaybePutBack
     ensures { λ r. ⌜ oneOf r ≡ backIfChanged device due before ⌝ }
 {
     if due == before {
-        return OneBack::Nothing;
+        return MaybePutBack::Nothing;
     }
     let back = PutBack {
         device,
         setting: due,
     };
-    OneBack::One(back)
+    MaybePutBack::One(back)
 }
 
 // "a best-effort is skipped". No due setting changes by that: the command was not done.
 fn skip(state: HubState, at: usize, k: usize, id: u32) -> Decision
-    requires { ⌜ (StateOk state) × (Stands (state .links) at) × (OpenInFlight state at k) × (id ≡ memberAt state at .id) ⌝ }
+    requires { ⌜ (StateOk state) × (Stands (state .links) at) × (NextInFlight state at k) × (id ≡ memberAt state at .id) ⌝ }
     ensures { λ r. ⌜ Decides state [] r (settling (skipReport (stateOf state) (there state at) (flightAt state at k))) ⌝ }
 {
     let device = state.device;
@@ -78,7 +78,7 @@ fn skip(state: HubState, at: usize, k: usize, id: u32) -> Decision
     let back = back_if_changed(wanted, due, before);
     let change = answered(at, SKIPPED, id);
     Decision {
-        first: First::NoAbort,
+        first: EventAbort::NoAbort,
         answer: Answer::Skipped(id),
         back,
         change,
@@ -87,7 +87,7 @@ fn skip(state: HubState, at: usize, k: usize, id: u32) -> Decision
 
 // "Code 1, failed: a must aborts R, a best-effort is skipped"
 fn failed(state: HubState, at: usize, k: usize, id: u32) -> Decision
-    requires { ⌜ (StateOk state) × (Stands (state .links) at) × (OpenInFlight state at k) × (id ≡ memberAt state at .id) ⌝ }
+    requires { ⌜ (StateOk state) × (Stands (state .links) at) × (NextInFlight state at k) × (id ≡ memberAt state at .id) ⌝ }
     ensures { λ r. ⌜ Decides state [] r (if isMust (commandAt state k) then settling (abort (stateOf state) (there state at))
         else settling (skipReport (stateOf state) (there state at) (flightAt state at k))) ⌝ }
 {
@@ -107,8 +107,8 @@ pub fn decide(state: HubState, id: u32, code: u8) -> Decision
         return decisions::refused(NOT_RUNNING);
     };
     let stage = state.stage;
-    let open = readers::open_at(state, &stage, at);
-    let Open::InFlight(k) = open else {
+    let open = readers::unanswered_at(state, &stage, at);
+    let Unanswered::InFlight(k) = open else {
         return decisions::refused(NONE_IN_FLIGHT);
     };
     if CODE_FAILED < code {

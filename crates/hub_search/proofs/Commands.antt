@@ -9,8 +9,9 @@ use lib.Dec.{eqb, ltb, leb}
 use lib.IntN.{ℤ, pos}
 use lib.ListN.{length, take, getD}
 use Rattle.rules_routine.specs.Choice.{if_then_else_}
-use Rattle.rules_routine.specs.Routine.{maxCommands, mustTag, conditionTag}
-use Rattle.rules_routine.proofs.Laws.{byTest}
+use Rattle.rules_routine.specs.Limits.{maxCommands}
+use Rattle.rules_routine.specs.Routine.{mustTag, conditionTag}
+use Rattle.rules_routine.proofs.RoutineLaws.{byTest}
 use Rattle.rules.specs.Tables.{anyOf}
 use Rattle.rules.specs.State.{Step}
 use Rattle.rules.specs.Sequence.{isRunning}
@@ -70,7 +71,7 @@ at-same q r k (suc n) h = rw (h k, at-same q r (suc k) n h)
 
 -- the stage from which on a command holds nobody up: none but those left hold up a command; those done hold up a condition, too
 abbrev pub pastOf : Bool → ℕ
-pastOf asks = if asks then skippedCode else doneCode
+pastOf condition = if condition then skippedCode else doneCode
 
 -- the test of `hasSet`
 abbrev sets : ℕ → Step → Bool
@@ -228,8 +229,8 @@ steps-at q rows u k (suc n) = rw (steps-at q rows u (suc k) n)
 
 module _ (rows : Rows) (u : ℤ) (d k n : ℕ) where
   -- not answered; or done
-  steps-below : (asks : Bool) → (anyOf (isLeftOn d) (stepsFrom rows u k n) || (asks && anyOf (sets d) (stepsFrom rows u k n)))
-      ≡ anyAt (belowAt (rows .devices) (rows .stages) (pastOf asks) d) k n
+  steps-below : (condition : Bool) → (anyOf (isLeftOn d) (stepsFrom rows u k n) || (condition && anyOf (sets d) (stepsFrom rows u k n)))
+      ≡ anyAt (belowAt (rows .devices) (rows .stages) (pastOf condition) d) k n
   unfolding stepAt belowAt
   steps-below false =
       or-false (anyOf (isLeftOn d) (stepsFrom rows u k n))
@@ -285,22 +286,22 @@ steps-must rows u d k (suc n) = rw (counts-must rows u k n, code-left (getD (row
 -- ---- the routine in a slot
 
 -- it runs, and the one or the other
-running-either : (runs a b asks : Bool) → ((runs && not (not a)) || (asks && (runs && b))) ≡ (runs && (a || (asks && b)))
-running-either true a b asks = ap (λ (t : Bool). t || (asks && b)) (Bool·not-not a)
-running-either false a b asks = and-false asks
+running-either : (runs a b condition : Bool) → ((runs && not (not a)) || (condition && (runs && b))) ≡ (runs && (a || (condition && b)))
+running-either true a b condition = ap (λ (t : Bool). t || (condition && b)) (Bool·not-not a)
+running-either false a b condition = and-false condition
 
 module _ (h : HubState) (x d : ℕ) where
   -- a command of it on the device is not answered; or done, which holds up a condition
-  pub holds-up-slot : (asks : Bool) → holdsUp d asks (memberAt h x)
-      ≡ (not (getD (h .committed) x false) && anyAt (belowAt (h .device) (h .stage) (pastOf asks) d) (x * maxCommands)
+  pub holds-up-slot : (condition : Bool) → holdsUp d condition (memberAt h x)
+      ≡ (not (getD (h .committed) x false) && anyAt (belowAt (h .device) (h .stage) (pastOf condition) d) (x * maxCommands)
       (getD (h .counts) x 0))
   unfolding holdsUp holds hasSet isRunning finished memberAt stepsAt
-  holds-up-slot asks =
+  holds-up-slot condition =
       let u = getD (h .«due_then») x (pos 0) in
       let l = stepsFrom (rowsOf h) u (x * maxCommands) (getD (h .counts) x 0) in
-      running-either (not (getD (h .committed) x false)) (anyOf (isLeftOn d) l) (anyOf (sets d) l) asks
+      running-either (not (getD (h .committed) x false)) (anyOf (isLeftOn d) l) (anyOf (sets d) l) condition
       ∙ ap (λ (t : Bool). not (getD (h .committed) x false) && t)
-      (steps-below (rowsOf h) u d (x * maxCommands) (getD (h .counts) x 0) asks)
+      (steps-below (rowsOf h) u d (x * maxCommands) (getD (h .counts) x 0) condition)
 
   pub begun-slot : ((j : ℕ) → getD (h .stage) j 0 ≤ highestStage) →
       begun d (memberAt h x)

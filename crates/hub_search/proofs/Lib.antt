@@ -1,5 +1,5 @@
 pub mod Slots
 pub mod Back
 pub mod Commands
-pub mod Laws
+pub mod SearchLaws
 pub mod Found

@@ -9,8 +9,9 @@ use mathlib.Core.Option.{none as nothing, some}
 use lib.Dec.{eqb}
 use lib.ListN.{length, getD}
 use Rattle.rules_routine.specs.Choice.{if_then_else_}
-use Rattle.rules_routine.proofs.Laws.{byTest}
-use Rattle.rules.specs.State.{maxHeld, Member}
+use Rattle.rules_routine.proofs.RoutineLaws.{byTest}
+use Rattle.rules_routine.specs.Limits.{maxSequence}
+use Rattle.rules.specs.State.{Member}
 use Rattle.rules.specs.Sequence.{find, onto}
 use Rattle.rules.specs.Turn.{holdsUp, firstHolding}
 use Rattle.rules.proofs.Lists.{t≠f}
@@ -37,11 +38,11 @@ pub seeks-start : (t : ℕ → Bool) (row : List ℕ) (x : ℕ) → Walks row x 
 seeks-start t row x w = record { walks = w; inside = λ y. omega arith; left = refl }
 
 module _ {t : ℕ → Bool} {row : List ℕ} {first x : ℕ} (s : Seeks t row first x) where
-  pub seeks-end : maxHeld ≤ x → firstSlot t (along row first) ≡ none
+  pub seeks-end : maxSequence ≤ x → firstSlot t (along row first) ≡ none
   unfolding firstSlot
   seeks-end h = sym (s .left) ∙ ap (firstSlot t) (walks-end (s .walks) h)
 
-  module _ (h : x < maxHeld) where
+  module _ (h : x < maxSequence) where
     pub seeks-there : 1 ≤ count x (along row first)
     seeks-there =
         let e : count x (along row x) ≡ count x (x ∷ along row (getD row x 0)) = ap (count x) (walks-next (s .walks) h .0) in
@@ -132,35 +133,35 @@ module _ (p : Member → Bool) (f : ℕ → Member) where
 unfoldable pub stopAt : ℕ → (ℕ → Bool) → ℕ → Bool
 stopAt at t x = eqb x at || t x
 
-module _ (d : ℕ) (asks : Bool) (f : ℕ → Member) (at : ℕ) where
+module _ (d : ℕ) (condition : Bool) (f : ℕ → Member) (at : ℕ) where
   abbrev stops : ℕ → Bool
-  stops x = stopAt at (λ y. holdsUp d asks (f y)) x
+  stops x = stopAt at (λ y. holdsUp d condition (f y)) x
 
-  pub holding-none : (l : List ℕ) → firstSlot stops l ≡ at → firstHolding d asks (map f (upTo at l)) ≡ nothing
+  pub holding-none : (l : List ℕ) → firstSlot stops l ≡ at → firstHolding d condition (map f (upTo at l)) ≡ nothing
   unfolding firstSlot stopAt
   holding-none [] e = refl
   holding-none (y ∷ l) e =
       byEq y at
       (λ q. rw (eq-eqb y at q))
       (λ m.
-      let g : (if holdsUp d asks (f y) then y else firstSlot stops l) ≡ at = rw (ne-eqb y at m) at e in
+      let g : (if holdsUp d condition (f y) then y else firstSlot stops l) ≡ at = rw (ne-eqb y at m) at e in
       rw (ne-eqb y at m)
       (byTest (λ (u : Bool). (if u then y else firstSlot stops l) ≡ at →
-      (if u then some (f y .id) else firstHolding d asks (map f (upTo at l))) ≡ nothing) (holdsUp d asks (f y))
+      (if u then some (f y .id) else firstHolding d condition (map f (upTo at l))) ≡ nothing) (holdsUp d condition (f y))
       (λ _ b. absurd (m b))
       (λ _ b. holding-none l b) g))
 
   pub holding-some : (l : List ℕ) (x : ℕ) → firstSlot stops l ≡ x → (x ≡ at → ⊥) → (x ≡ none → ⊥) →
-      firstHolding d asks (map f (upTo at l)) ≡ some (f x .id)
+      firstHolding d condition (map f (upTo at l)) ≡ some (f x .id)
   unfolding firstSlot stopAt
   holding-some [] x e k n = absurd (n (sym e))
   holding-some (y ∷ l) x e k n =
       byEq y at
       (λ q. absurd (k (sym (rw (eq-eqb y at q) at e) ∙ q)))
       (λ m.
-      let g : (if holdsUp d asks (f y) then y else firstSlot stops l) ≡ x = rw (ne-eqb y at m) at e in
+      let g : (if holdsUp d condition (f y) then y else firstSlot stops l) ≡ x = rw (ne-eqb y at m) at e in
       rw (ne-eqb y at m)
       (byTest (λ (u : Bool). (if u then y else firstSlot stops l) ≡ x →
-      (if u then some (f y .id) else firstHolding d asks (map f (upTo at l))) ≡ some (f x .id)) (holdsUp d asks (f y))
+      (if u then some (f y .id) else firstHolding d condition (map f (upTo at l))) ≡ some (f x .id)) (holdsUp d condition (f y))
       (λ _ b. ap (λ (z : ℕ). some (f z .id)) b)
       (λ _ b. holding-some l x b k n) g))

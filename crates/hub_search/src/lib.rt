@@ -1,6 +1,5 @@
 // Searches along the links: for a routine, for the one to wait for, for the one that is halfway with a device, and for the one that a
 // newcomer follows. They take the rows that they read out of the state; the long rows of a call are lent to them.
-use hub_sequence::MAX_HELD;
 use hub_sequence::NONE;
 use hub_state::DONE;
 use hub_state::Holder;
@@ -10,16 +9,17 @@ use hub_state::Place;
 use hub_state::SKIPPED;
 use hub_state::STEPS;
 use hub_state::TO_DO;
-use rules_routine::MAX_COMMANDS;
-use rules_routine::MAX_DEVICES;
 use rules_routine::Routine;
+use rules_routine::limits::MAX_COMMANDS;
+use rules_routine::limits::MAX_DEVICES;
+use rules_routine::limits::MAX_SEQUENCE;
 use rules_routine::tags::CONDITION;
 use rules_routine::tags::MUST;
 ghost use mathlib.Core.Path.{_≡_};
 ghost use Prim.Native.Nat.{_-_, _*_, _<_, _≤_};
 ghost use lib.ListN.{take};
-ghost use Rattle.rules_routine.specs.Routine.{maxCommands, commandsOf};
-ghost use Rattle.rules.specs.State.{maxHeld};
+ghost use Rattle.rules_routine.specs.Limits.{maxCommands, maxSequence};
+ghost use Rattle.rules_routine.specs.Routine.{commandsOf};
 ghost use Rattle.rules.specs.Sequence.{runs};
 ghost use Rattle.rules.specs.Progress.{begun};
 ghost use Rattle.rules.specs.Turn.{firstHolding};
@@ -42,7 +42,7 @@ pub fn running(state: HubState, id: u32) -> Place
     let ids = state.ids;
     let committed = state.committed;
     let mut i = links.first as usize;
-    while i < MAX_HELD {
+    while i < MAX_SEQUENCE {
         if ids[i] == id {
             if !committed[i] {
                 return Place::At(i);
@@ -62,7 +62,7 @@ pub fn with_id(state: HubState, id: u32) -> Place
     let behind = links.behind;
     let ids = state.ids;
     let mut i = links.first as usize;
-    while i < MAX_HELD {
+    while i < MAX_SEQUENCE {
         if ids[i] == id {
             return Place::At(i);
         }
@@ -80,10 +80,10 @@ pub fn first_holder<'a>(
     stage: &'a [u8; STEPS],
     at: usize,
     wanted: u8,
-    asks: bool,
+    condition: bool,
 ) -> Holder
     requires { ⌜ (StateOk state) × (Stands (state .links) at) × (now device ≡ state .device) × (now stage ≡ state .stage) ⌝ }
-    ensures { λ r. ⌜ holderOf r ≡ firstHolding wanted asks (there state at .ahead) ⌝ }
+    ensures { λ r. ⌜ holderOf r ≡ firstHolding wanted condition (there state at .ahead) ⌝ }
 {
     let links = state.links;
     let behind = links.behind;
@@ -91,17 +91,17 @@ pub fn first_holder<'a>(
     let committed = state.committed;
     let counts = state.counts;
     let answered = state.answered;
-    let past = if asks { SKIPPED } else { DONE };
+    let bound = if condition { SKIPPED } else { DONE };
     let mut holder = Holder::Nobody;
     let mut i = links.first as usize;
     'ahead: while i != at {
         if !committed[i] {
             let end = i * MAX_COMMANDS + (counts[i] as usize);
-            let from = if asks { 0 } else { answered[i] as usize };
+            let from = if condition { 0 } else { answered[i] as usize };
             let mut k = i * MAX_COMMANDS + from;
             while k < end {
                 if device[k] == wanted {
-                    if stage[k] < past {
+                    if stage[k] < bound {
                         holder = Holder::Routine(ids[i]);
                         break 'ahead;
                     }
@@ -124,7 +124,7 @@ fn is_staged<'a>(
     low: u8,
     high: u8,
 ) -> bool
-    requires { ⌜ (from ≤ end) × (end ≤ maxHeld * maxCommands) ⌝ }
+    requires { ⌜ (from ≤ end) × (end ≤ maxSequence * maxCommands) ⌝ }
     ensures { λ r. ⌜ r ≡ anyStaged (now (device .entry)) (now (stage .entry)) wanted low high from (end - from) ⌝ }
 {
     let mut k = from;
@@ -170,7 +170,7 @@ pub fn halfway(state: HubState, wanted: u8) -> Place
     let device = state.device;
     let stage = state.stage;
     let mut i = links.first as usize;
-    while i < MAX_HELD {
+    while i < MAX_SEQUENCE {
         if !committed[i] {
             let from = i * MAX_COMMANDS;
             let end = from + (counts[i] as usize);
@@ -188,7 +188,7 @@ pub fn halfway(state: HubState, wanted: u8) -> Place
 // The tag that counts for the command at a place of its routine, which ends at `end`: "the condition has the tag of the command after it"
 // (document 02, item 4).
 pub fn counting_tag<'a>(tag: &'a [u8; STEPS], k: usize, end: usize) -> u8
-    requires { ⌜ (k < maxHeld * maxCommands) × (end ≤ maxHeld * maxCommands) ⌝ }
+    requires { ⌜ (k < maxSequence * maxCommands) × (end ≤ maxSequence * maxCommands) ⌝ }
     ensures { λ r. ⌜ r ≡ countingTag (now (tag .entry)) k (end - k) ⌝ }
 {
     if tag[k] == CONDITION {
@@ -200,7 +200,7 @@ pub fn counting_tag<'a>(tag: &'a [u8; STEPS], k: usize, end: usize) -> u8
 }
 
 // Is one of these commands left on the device, and does it count as a must?
-fn is_must_left<'a>(
+fn any_must<'a>(
     device: &'a [u8; STEPS],
     tag: &'a [u8; STEPS],
     stage: &'a [u8; STEPS],
@@ -208,7 +208,7 @@ fn is_must_left<'a>(
     end: usize,
     wanted: u8,
 ) -> bool
-    requires { ⌜ (from ≤ end) × (end ≤ maxHeld * maxCommands) ⌝ }
+    requires { ⌜ (from ≤ end) × (end ≤ maxSequence * maxCommands) ⌝ }
     ensures { λ r. ⌜ r ≡ anyMust (now (device .entry)) (now (tag .entry)) (now (stage .entry)) wanted from (end - from) ⌝ }
 {
     let mut k = from;
@@ -236,7 +236,7 @@ pub fn must_left(state: HubState, at: usize, wanted: u8) -> bool
     let stage = state.stage;
     let from = at * MAX_COMMANDS;
     let end = from + (counts[at] as usize);
-    is_must_left(&device, &tag, &stage, from, end, wanted)
+    any_must(&device, &tag, &stage, from, end, wanted)
 }
 
 // The marks of a routine's devices.
@@ -287,7 +287,7 @@ pub fn latest(state: HubState, routine: Routine) -> u8
     let passed = state.passed;
     let committed = state.committed;
     let mut i = links.last;
-    while (i as usize) < MAX_HELD {
+    while (i as usize) < MAX_SEQUENCE {
         let x = i as usize;
         if !committed[x] {
             if limit <= passed[x] {

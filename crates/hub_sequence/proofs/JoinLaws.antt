@@ -4,7 +4,7 @@ use native.Mathlib.Omega.{arith}
 use mathlib.Core.Path.{_≡_, refl, sym, ap, subst, _∙_}
 use mathlib.Core.List.{List, _∷_}
 use lib.ListN.{length}
-use Rattle.rules.specs.State.{maxHeld}
+use Rattle.rules_routine.specs.Limits.{maxSequence}
 use Rattle.rules.specs.Tables.{put}
 use Rattle.rules.proofs.Lists.{put-same, put-other}
 use Rattle.hub_sequence.specs.Lists.{count, placed}
@@ -18,7 +18,7 @@ use Rattle.hub_sequence.proofs.Paths.{behind-then-ahead, behind-there, 
 use Rattle.hub_sequence.proofs.ReadLaws.{keeps-slots, keeps-valid, keeps-spot}
 
 -- where a slot is free, the first of them is the one that `free` names
-free-first : (k : Links) → LinksOk k → k .held < maxHeld → (m : List ℕ) × Keeps k (slotsOf k) (k .free ∷ m)
+free-first : (k : Links) → LinksOk k → k .taken < maxSequence → (m : List ℕ) × Keeps k (slotsOf k) (k .free ∷ m)
 free-first k v h =
     let p = chain-first (v .spare) (omega (arith, v .full, v .counted)) in
     (p .0, subst (λ (f : List ℕ). Keeps k (slotsOf k) f) (p .1) v)
@@ -32,7 +32,7 @@ module _ {k : Links} {l f : List ℕ} {s : ℕ} (v : Keeps k l (s ∷ f)) (after
       let c = within-most s in
       (omega arith, omega arith, omega arith)
 
-  pub fresh-slot : s < maxHeld
+  pub fresh-slot : s < maxSequence
   fresh-slot = within-slot s (omega (arith, new-slot .2))
 
   old-slot : (count after (none ∷ l) ≡ 1) × (count after (s ∷ f) ≡ 0)
@@ -70,7 +70,7 @@ module _ {k : Links} {l f : List ℕ} {s : ℕ} (v : Keeps k l (s ∷ f)) (after
     pub join-keeps-ahead : (x : ℕ) → (x ≡ s → ⊥) → (x ≡ behindOf k after → ⊥) → aheadOf r x ≡ aheadOf k x
     join-keeps-ahead x n m = at a x ∙ put-other newAhead (behindOf k after) s x m ∙ put-other (aheadOf k) s after x n
 
-    pub join-keeps : r .free ≡ behindOf k s → r .held ≡ k .held + 1 → Keeps r (placed after s none l) f
+    pub join-keeps : r .free ≡ behindOf k s → r .taken ≡ k .taken + 1 → Keeps r (placed after s none l) f
     join-keeps g c =
         let t = new-slot in
         let o = old-slot in
@@ -94,7 +94,7 @@ module _ {k : Links} {l f : List ℕ} {s : ℕ} (v : Keeps k l (s ∷ f)) (after
 -- ---- as the code asks it
 
 module _ (k : Links) (after : ℕ) (p : CanJoin k after) where
-  slot-free : k .free < maxHeld
+  slot-free : k .free < maxSequence
   slot-free = fresh-slot (free-first k (p .valid) (p .room) .1) after (p .place)
 
   pub spot-free : Spot (k .free)
@@ -108,14 +108,14 @@ module _ (k : Links) (after : ℕ) (p : CanJoin k after) where
 
 -- the four links, as they are set one by one
 module _ (k : Links) (after : ℕ) (r : Links) {next : ℕ} (p : CanJoin k after)
-    (lb : length (k .behind) ≡ maxHeld) (la : length (k .ahead) ≡ maxHeld)
+    (lb : length (k .behind) ≡ maxSequence) (la : length (k .ahead) ≡ maxSequence)
     (n : next ≡ behindOf k after)
   where
     joined-behind : {b : List ℕ} → b ≡ rowWith (k .behind) (k .free) next → r .behind ≡ rowWith b after (k .free) →
         r .first ≡ endWith (k .first) after (k .free)
         → behindOf r ≡ put (put (behindOf k) (k .free) (behindOf k after)) after (k .free)
     joined-behind {b} e f g =
-        let l : length b ≡ maxHeld = ap length e ∙ length-row (k .behind) (k .free) next ∙ lb in
+        let l : length b ≡ maxSequence = ap length e ∙ length-row (k .behind) (k .free) next ∙ lb in
         let i : linkOf b (k .first) ≡ put (behindOf k) (k .free) next
         = link-now e refl ∙ put-slot (k .behind) (k .first) (k .free) next (slot-free k after p) lb in
         link-now f g ∙ put-link b (k .first) after (k .free) (spot-after k after p) l
@@ -126,7 +126,7 @@ module _ (k : Links) (after : ℕ) (r : Links) {next : ℕ} (p : CanJoin k after
         r .last ≡ endWith (k .last) next (k .free)
         → aheadOf r ≡ put (put (aheadOf k) (k .free) after) (behindOf k after) (k .free)
     joined-ahead {a} e f g =
-        let l : length a ≡ maxHeld = ap length e ∙ length-row (k .ahead) (k .free) after ∙ la in
+        let l : length a ≡ maxSequence = ap length e ∙ length-row (k .ahead) (k .free) after ∙ la in
         let i : linkOf a (k .last) ≡ put (aheadOf k) (k .free) after
         = link-now e refl ∙ put-slot (k .ahead) (k .last) (k .free) after (slot-free k after p) la in
         link-now f g ∙ put-link a (k .last) next (k .free) (rw n (spot-next k after p)) l
@@ -136,7 +136,7 @@ module _ (k : Links) (after : ℕ) (r : Links) {next : ℕ} (p : CanJoin k after
     pub joins : {b a : List ℕ} → b ≡ rowWith (k .behind) (k .free) next → r .behind ≡ rowWith b after (k .free) →
         r .first ≡ endWith (k .first) after (k .free)
         → a ≡ rowWith (k .ahead) (k .free) after → r .ahead ≡ rowWith a next (k .free) → r .last ≡ endWith (k .last) next (k .free)
-        → r .free ≡ behindOf k (k .free) → r .held ≡ k .held + 1
+        → r .free ≡ behindOf k (k .free) → r .taken ≡ k .taken + 1
         → Joins k after (record { links = r; slot = k .free })
     joins b₁ b₂ b₃ a₁ a₂ a₃ g c =
         let b = joined-behind b₁ b₂ b₃ in
@@ -150,7 +150,7 @@ module _ (k : Links) (after : ℕ) (r : Links) {next : ℕ} (p : CanJoin k after
           slot = fresh-slot u after i;
           slot-is = refl;
           fresh = new-slot u after i .0;
-          held = c;
+          taken = c;
           behind = join-keeps-behind u after i r b a;
           ahead = join-keeps-ahead u after i r b a;
         }

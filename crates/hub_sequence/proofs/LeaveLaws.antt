@@ -4,7 +4,7 @@ use native.Mathlib.Omega.{arith}
 use mathlib.Core.Path.{_≡_, refl, sym, ap, _∙_}
 use mathlib.Core.List.{List, _∷_}
 use lib.ListN.{length}
-use Rattle.rules.specs.State.{maxHeld}
+use Rattle.rules_routine.specs.Limits.{maxSequence}
 use Rattle.rules.specs.Tables.{put}
 use Rattle.rules.proofs.Lists.{put-same, put-other}
 use Rattle.hub_sequence.specs.Lists.{count, without}
@@ -19,8 +19,8 @@ use Rattle.hub_sequence.proofs.Paths.{path-leave}
 use Rattle.hub_sequence.proofs.ReadLaws.{keeps-slots, keeps-free, keeps-valid, keeps-spot}
 
 module _ {k : Links} {l f : List ℕ} (v : Keeps k l f) (s : ℕ) (h : 1 ≤ count s l) where
-  pub held-slot : (count s l ≡ 1) × (count s f ≡ 0) × (s < maxHeld)
-  held-slot = (
+  pub taken-slot : (count s l ≡ 1) × (count s f ≡ 0) × (s < maxSequence)
+  taken-slot = (
     omega (arith, v .once s, within-most s),
     omega (arith, v .once s, within-most s),
     within-slot s (omega (arith, v .once s)),
@@ -31,7 +31,7 @@ module _ {k : Links} {l f : List ℕ} (v : Keeps k l f) (s : ℕ) (h : 1 ≤ cou
 
   -- it is neither of its neighbours
   behind-not-self : behindOf k s ≡ s → ⊥
-  behind-not-self = let t = held-slot in
+  behind-not-self = let t = taken-slot in
       let u : s ≡ none → ⊥ = λ e. omega arith in
       behind-apart s (v .linked) (λ e. u (sym e)) (omega arith) (omega (arith, same-other s none u))
 
@@ -49,9 +49,9 @@ module _ {k : Links} {l f : List ℕ} (v : Keeps k l f) (s : ℕ) (h : 1 ≤ cou
     pub leave-keeps-ahead : (x : ℕ) → (x ≡ behindOf k s → ⊥) → aheadOf r x ≡ aheadOf k x
     leave-keeps-ahead x n = at a x ∙ put-other (aheadOf k) (behindOf k s) (aheadOf k s) x n
 
-    pub leave-keeps : r .free ≡ s → r .held + 1 ≡ k .held → Keeps r (without s l) (s ∷ f)
+    pub leave-keeps : r .free ≡ s → r .taken + 1 ≡ k .taken → Keeps r (without s l) (s ∷ f)
     leave-keeps g c =
-        let t = held-slot in
+        let t = taken-slot in
         let u : s ≡ none → ⊥ = λ e. omega arith in
         let there : behindOf k (aheadOf k s) ≡ s = ahead-then-behind s (v .linked) h in
         let back : aheadOf k (behindOf k s) ≡ s = behind-then-ahead s (v .linked) (omega arith) in
@@ -73,11 +73,11 @@ module _ {k : Links} {l f : List ℕ} (v : Keeps k l f) (s : ℕ) (h : 1 ≤ cou
 -- ---- as the code asks it
 
 module _ (k : Links) (s : ℕ) (p : CanLeave k s) where
-  slot-held : s < maxHeld
-  slot-held = held-slot (p .valid) s (p .stands) .2
+  slot-taken : s < maxSequence
+  slot-taken = taken-slot (p .valid) s (p .stands) .2
 
-  pub spot-held : Spot s
-  spot-held n = slot-held
+  pub spot-taken : Spot s
+  spot-taken n = slot-taken
 
   pub spot-before : Spot (aheadOf k s)
   spot-before = keeps-spot (p .valid) (aheadOf k s) (ahead-there s (p .valid .linked) (p .stands))
@@ -85,22 +85,22 @@ module _ (k : Links) (s : ℕ) (p : CanLeave k s) where
   pub spot-next : Spot (behindOf k s)
   spot-next = let h = p .stands in keeps-spot (p .valid) (behindOf k s) (behind-there s (p .valid .linked) (omega arith))
 
-  pub some-held : 1 ≤ k .held
-  some-held = omega (arith, p .valid .counted, some-slots (p .valid) s (p .stands))
+  pub some-taken : 1 ≤ k .taken
+  some-taken = omega (arith, p .valid .counted, some-slots (p .valid) s (p .stands))
 
 -- the three links, as they are set one by one
 module _ (k : Links) (s : ℕ) (r : Links) {before next : ℕ} (p : CanLeave k s)
-    (lb : length (k .behind) ≡ maxHeld) (la : length (k .ahead) ≡ maxHeld)
+    (lb : length (k .behind) ≡ maxSequence) (la : length (k .ahead) ≡ maxSequence)
     (m : before ≡ aheadOf k s) (n : next ≡ behindOf k s)
   where
     left-behind : {b : List ℕ} → b ≡ rowWith (k .behind) before next → r .behind ≡ rowWith b s (k .free) →
         r .first ≡ endWith (k .first) before next
         → behindOf r ≡ put (put (behindOf k) (aheadOf k s) (behindOf k s)) s (k .free)
     left-behind {b} e f g =
-        let l : length b ≡ maxHeld = ap length e ∙ length-row (k .behind) before next ∙ lb in
+        let l : length b ≡ maxSequence = ap length e ∙ length-row (k .behind) before next ∙ lb in
         let i : linkOf b (r .first) ≡ put (behindOf k) before next
         = link-now e g ∙ put-link (k .behind) (k .first) before next (rw m (spot-before k s p)) lb in
-        link-now f refl ∙ put-slot b (r .first) s (k .free) (slot-held k s p) l
+        link-now f refl ∙ put-slot b (r .first) s (k .free) (slot-taken k s p) l
         ∙ ap (λ (t : ℕ → ℕ). put t s (k .free)) i
         ∙ ap (λ (y : ℕ). put (put (behindOf k) y next) s (k .free)) m
         ∙ ap (λ (y : ℕ). put (put (behindOf k) (aheadOf k s) y) s (k .free)) n
@@ -115,7 +115,7 @@ module _ (k : Links) (s : ℕ) (r : Links) {before next : ℕ} (p : CanLeave k s
     pub leaves : {b : List ℕ} → b ≡ rowWith (k .behind) before next → r .behind ≡ rowWith b s (k .free) →
         r .first ≡ endWith (k .first) before next
         → r .ahead ≡ rowWith (k .ahead) next before → r .last ≡ endWith (k .last) next before
-        → r .free ≡ s → r .held + 1 ≡ k .held
+        → r .free ≡ s → r .taken + 1 ≡ k .taken
         → Leaves k s r
     leaves b₁ b₂ b₃ a₁ a₂ g c =
         let b = left-behind b₁ b₂ b₃ in
@@ -125,7 +125,7 @@ module _ (k : Links) (s : ℕ) (r : Links) {before next : ℕ} (p : CanLeave k s
           valid = keeps-valid w;
           slots = keeps-slots w;
           free = keeps-free w;
-          held = c;
+          taken = c;
           behind = leave-keeps-behind (p .valid) s (p .stands) r b a;
           ahead = leave-keeps-ahead (p .valid) s (p .stands) r b a;
         }

@@ -8,8 +8,8 @@ use mathlib.Core.Bool.{Bool}
 use lib.Dec.{ltb}
 use lib.ListN.{length}
 use Rattle.rules_routine.specs.Choice.{if_then_else_}
-use Rattle.rules_routine.proofs.Laws.{byTest}
-use Rattle.rules.specs.State.{maxHeld}
+use Rattle.rules_routine.proofs.RoutineLaws.{byTest}
+use Rattle.rules_routine.specs.Limits.{maxSequence}
 use Rattle.hub_sequence.specs.Lists.{same, count, placed, through, past, without, upTo, rest, lastOr}
 use Rattle.hub_sequence.specs.Links.{none, within}
 use Rattle.hub_sequence.proofs.Tables.{byEq}
@@ -32,29 +32,29 @@ same-apart x y h e = omega (arith, same-eq x y e)
 
 -- ---- slots
 
-pub slot-within : (x : ℕ) → x < maxHeld → within x ≡ 1
+pub slot-within : (x : ℕ) → x < maxSequence → within x ≡ 1
 unfolding within
-slot-within x h = rw (lt-ltb x maxHeld h)
+slot-within x h = rw (lt-ltb x maxSequence h)
 
-pub past-within : (x : ℕ) → maxHeld ≤ x → within x ≡ 0
+pub past-within : (x : ℕ) → maxSequence ≤ x → within x ≡ 0
 unfolding within
-past-within x h = rw (le-ltb x maxHeld h)
+past-within x h = rw (le-ltb x maxSequence h)
 
-pub within-slot : (x : ℕ) → 1 ≤ within x → x < maxHeld
+pub within-slot : (x : ℕ) → 1 ≤ within x → x < maxSequence
 unfolding within
 within-slot x h =
-    byTest (λ (t : Bool). 1 ≤ (if t then 1 else 0) → x < maxHeld) (ltb x maxHeld) (λ e _. ltb-true x maxHeld e)
+    byTest (λ (t : Bool). 1 ≤ (if t then 1 else 0) → x < maxSequence) (ltb x maxSequence) (λ e _. ltb-true x maxSequence e)
     (λ _ i. absurd (omega arith)) h
 
 pub within-most : (x : ℕ) → within x ≤ 1
 unfolding within
-within-most x = byTest (λ (t : Bool). (if t then 1 else 0) ≤ 1) (ltb x maxHeld) (λ _. omega arith) (λ _. omega arith)
+within-most x = byTest (λ (t : Bool). (if t then 1 else 0) ≤ 1) (ltb x maxSequence) (λ _. omega arith) (λ _. omega arith)
 
 -- 1 if x is below y, else 0: `within` counts the slots so
 unfoldable pub below : ℕ → ℕ → ℕ
 below x y = if ltb x y then 1 else 0
 
-pub within-below : (x : ℕ) → within x ≡ below x maxHeld
+pub within-below : (x : ℕ) → within x ≡ below x maxSequence
 unfolding within below
 within-below x = refl
 

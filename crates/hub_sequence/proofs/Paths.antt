@@ -5,7 +5,7 @@ use borrow.Author.Tests.{eq-eqb, ne-eqb}
 use mathlib.Core.Path.{_≡_, refl, sym, ap, _∙_}
 use mathlib.Core.List.{List, _∷_, reverseAux, reverse}
 use lib.ListN.{length}
-use Rattle.rules.specs.State.{maxHeld}
+use Rattle.rules_routine.specs.Limits.{maxSequence}
 use Rattle.hub_sequence.specs.Lists.{count, placed, without, upTo, lastOr}
 use Rattle.hub_sequence.specs.Links.{none, walk, within, Path, last, next, Chain, stop, more}
 use Rattle.hub_sequence.proofs.Tables.{byEq}
@@ -24,7 +24,7 @@ walk-chain zero (stop e) s h = refl
 walk-chain (suc n) {x = x} (stop e) s h = rw (eq-eqb x none e)
 walk-chain zero (more c) s h = absurd (omega arith)
 walk-chain (suc n) {x = x} (more {l = l} c) s h =
-    let i : x < maxHeld = within-slot x (omega (arith, s x, same-self x)) in
+    let i : x < maxSequence = within-slot x (omega (arith, s x, same-self x)) in
     rw (ne-eqb x none (λ e. omega arith)) (ap (λ (m : List ℕ). x ∷ m) (walk-chain n c (λ w. omega (arith, s w)) (omega arith)))
 
 -- from the other end

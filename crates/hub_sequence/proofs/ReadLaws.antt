@@ -5,7 +5,7 @@ use native.Mathlib.Omega.{arith}
 use mathlib.Core.Path.{_≡_, sym}
 use mathlib.Core.List.{List, [], _∷_, reverse}
 use lib.ListN.{length, getD, length-reverse}
-use Rattle.rules.specs.State.{maxHeld}
+use Rattle.rules_routine.specs.Limits.{maxSequence}
 use Rattle.hub_sequence.specs.Lists.{count, upTo, lastOr}
 use Rattle.hub_sequence.specs.Links.{none, linkOf, aheadOf, along, slotsOf, backOf, freeOf, within, Chain, more, stop, Keeps, LinksOk}
 use Rattle.hub_sequence.specs.Links.{Walks, Spot, Stands}
@@ -20,11 +20,12 @@ chain-row row end (stop e) h = stop e
 chain-row row end {x} (more {l = l} c) h =
     more {x = x} {l = l} (rw (sym (link-row row end x (λ e. same-apart none x (omega arith) (sym e)))) (chain-row row end c (omega arith)))
 
-pub walks-of : (row : List ℕ) {x : ℕ} {l : List ℕ} → Chain (λ y. getD row y 0) x l → ((w : ℕ) → count w l ≤ within w) → length l ≤ maxHeld →
+pub walks-of : (row : List ℕ) {x : ℕ} {l : List ℕ} → Chain (λ y. getD row y 0) x l → ((w : ℕ) → count w l ≤ within w) →
+    length l ≤ maxSequence →
     (along row x ≡ l) × Walks row x
 unfolding along
 walks-of row {x} {l} c s h =
-    let e : along row x ≡ l = walk-chain maxHeld c s h in
+    let e : along row x ≡ l = walk-chain maxSequence c s h in
     (e, record { chain = rw e c; slots = rw e s; short = rw e h })
 
 module _ {k : Links} {l f : List ℕ} (v : Keeps k l f) where
@@ -73,15 +74,15 @@ walks-behind k v = walks-slots v .1
 pub walks-ahead : (k : Links) → LinksOk k → Walks (k .ahead) (k .last)
 walks-ahead k v = walks-back v .1
 
--- ---- and of their held slots
+-- ---- and of their taken slots
 
-pub held-length : (k : Links) → LinksOk k → k .held ≡ length (slotsOf k)
-held-length k v = v .counted
+pub taken-length : (k : Links) → LinksOk k → k .taken ≡ length (slotsOf k)
+taken-length k v = v .counted
 
-pub once-held : (k : Links) (x : ℕ) → LinksOk k → count x (slotsOf k) ≤ 1
-once-held k x v = omega (arith, v .once x, within-most x)
+pub once-taken : (k : Links) (x : ℕ) → LinksOk k → count x (slotsOf k) ≤ 1
+once-taken k x v = omega (arith, v .once x, within-most x)
 
-pub stands-slot : (k : Links) (x : ℕ) → LinksOk k → Stands k x → x < maxHeld
+pub stands-slot : (k : Links) (x : ℕ) → LinksOk k → Stands k x → x < maxSequence
 stands-slot k x v h = within-slot x (omega (arith, v .once x))
 
 -- the slot ahead, as the list has it and as the row has it

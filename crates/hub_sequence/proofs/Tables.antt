@@ -8,8 +8,8 @@ use mathlib.Core.List.{List}
 use lib.Dec.{eqb, ltb}
 use lib.ListN.{length, getD, set, length-set}
 use lib.Seq.{getD-set-same, getD-set-other}
-use Rattle.rules_routine.proofs.Laws.{byTest}
-use Rattle.rules.specs.State.{maxHeld}
+use Rattle.rules_routine.proofs.RoutineLaws.{byTest}
+use Rattle.rules_routine.specs.Limits.{maxSequence}
 use Rattle.rules.specs.Tables.{put}
 use Rattle.hub_sequence.specs.Links.{none, linkOf, rowWith, endWith, Spot}
 
@@ -76,14 +76,15 @@ module _ (row : List ℕ) (end : ℕ) where
       (λ m. rw (ne-eqb x at m, getD-set-other row at x to 0 m)))
 
   -- a link is set: the row and the end together change as a table does
-  pub put-link : (at to : ℕ) → Spot at → length row ≡ maxHeld → linkOf (rowWith row at to) (endWith end at to) ≡ put (linkOf row end) at to
+  pub put-link : (at to : ℕ) → Spot at → length row ≡ maxSequence →
+      linkOf (rowWith row at to) (endWith end at to) ≡ put (linkOf row end) at to
   put-link at to s l =
       byEq at none
       (λ e. rw (row-none row at to e, end-none end at to e) (put-end at to e))
       (λ n. let h = s n in rw (row-slot row at to n, end-slot end at to n) (put-row at to n (omega arith)))
 
   -- of a slot: the end stays
-  pub put-slot : (at to : ℕ) → at < maxHeld → length row ≡ maxHeld → linkOf (rowWith row at to) end ≡ put (linkOf row end) at to
+  pub put-slot : (at to : ℕ) → at < maxSequence → length row ≡ maxSequence → linkOf (rowWith row at to) end ≡ put (linkOf row end) at to
   put-slot at to h l = let n : at ≡ none → ⊥ = λ e. omega arith in rw (row-slot row at to n) (put-row at to n (omega arith))
 
 -- a row and its end that are given by equations

@@ -4,7 +4,7 @@ use native.Mathlib.Omega.{arith}
 use mathlib.Core.Path.{_≡_, refl, sym, ap, subst, _∙_}
 use mathlib.Core.List.{List, [], _∷_, _++_}
 use lib.ListN.{length, getD}
-use Rattle.rules.specs.State.{maxHeld}
+use Rattle.rules_routine.specs.Limits.{maxSequence}
 use Rattle.hub_sequence.specs.Lists.{count, through, past}
 use Rattle.hub_sequence.specs.Links.{none, along, within, Chain, more, stop, slotsOf, LinksOk, Walks, Stands, StandsOrNone}
 use Rattle.hub_sequence.specs.Contract.{Joins}
@@ -21,9 +21,9 @@ module _ {row : List ℕ} {x : ℕ} (t : Walks row x) where
     where
       spot : {l : List ℕ} → Chain (λ y. getD row y 0) x l → ((w : ℕ) → count w l ≤ within w) → x ≤ none
       spot (stop e) s = omega arith
-      spot (more c) s = let h : x < maxHeld = within-slot x (omega (arith, s x, same-self x)) in omega arith
+      spot (more c) s = let h : x < maxSequence = within-slot x (omega (arith, s x, same-self x)) in omega arith
 
-  pub walks-end : maxHeld ≤ x → along row x ≡ []
+  pub walks-end : maxSequence ≤ x → along row x ≡ []
   walks-end h = ends (t .chain) (t .slots)
     where
       ends : {l : List ℕ} → Chain (λ y. getD row y 0) x l → ((w : ℕ) → count w l ≤ within w) → l ≡ []
@@ -31,10 +31,10 @@ module _ {row : List ℕ} {x : ℕ} (t : Walks row x) where
       ends (more c) s = absurd (omega (arith, s x, same-self x, past-within x h))
 
   -- at a slot the walk goes on with what the row has there
-  pub walks-next : x < maxHeld → (along row x ≡ x ∷ along row (getD row x 0)) × Walks row (getD row x 0)
+  pub walks-next : x < maxSequence → (along row x ≡ x ∷ along row (getD row x 0)) × Walks row (getD row x 0)
   walks-next h = goes (along row x) (t .chain) (t .slots) (t .short)
     where
-      goes : (l : List ℕ) → Chain (λ y. getD row y 0) x l → ((w : ℕ) → count w l ≤ within w) → length l ≤ maxHeld →
+      goes : (l : List ℕ) → Chain (λ y. getD row y 0) x l → ((w : ℕ) → count w l ≤ within w) → length l ≤ maxSequence →
           (l ≡ x ∷ along row (getD row x 0)) × Walks row (getD row x 0)
       goes _ (stop e) s i = absurd (omega arith)
       goes _ (more {l = m} c) s i =
@@ -42,15 +42,15 @@ module _ {row : List ℕ} {x : ℕ} (t : Walks row x) where
           (ap (λ (n : List ℕ). x ∷ n) (sym (q .0)), q .1)
 
   -- and is shorter then, so that a loop along the row ends
-  pub walks-less : x < maxHeld → length (along row (getD row x 0)) < length (along row x)
+  pub walks-less : x < maxSequence → length (along row (getD row x 0)) < length (along row x)
   walks-less h = rw (walks-next h .0) (omega arith)
 
 -- ---- a walk up to a slot
 
 -- while the slot is still to come, the walk is at a slot
-pub walks-on : {row : List ℕ} {x : ℕ} → Walks row x → (at : ℕ) → 1 ≤ count at (along row x) → x < maxHeld
+pub walks-on : {row : List ℕ} {x : ℕ} → Walks row x → (at : ℕ) → 1 ≤ count at (along row x) → x < maxSequence
 walks-on {row} {x} t at h =
-    byLess x maxHeld (λ i. i)
+    byLess x maxSequence (λ i. i)
     (λ i. let e : along row x ≡ [] = walks-end t i in let z : count at (along row x) ≡ 0 = rw e in absurd (omega arith))
 
 -- and if that is another one, the slot is to come behind it
@@ -63,13 +63,13 @@ still-ahead {row} {x} t at h n =
 -- ---- the first slot
 
 module _ (k : Links) (v : LinksOk k) where
-  pub first-slot : k .first < maxHeld → slotsOf k ≡ k .first ∷ along (k .behind) (getD (k .behind) (k .first) 0)
+  pub first-slot : k .first < maxSequence → slotsOf k ≡ k .first ∷ along (k .behind) (getD (k .behind) (k .first) 0)
   first-slot h = walks-next (walks-behind k v) h .0
 
-  pub first-stands : k .first < maxHeld → Stands k (k .first)
+  pub first-stands : k .first < maxSequence → Stands k (k .first)
   first-stands h = rw (first-slot h) (omega (arith, same-self (k .first)))
 
-  pub no-first : maxHeld ≤ k .first → slotsOf k ≡ []
+  pub no-first : maxSequence ≤ k .first → slotsOf k ≡ []
   no-first h = walks-end (walks-behind k v) h
 
 -- ---- what stands behind a slot
@@ -79,7 +79,7 @@ same-parts : (x y : ℕ) (l m : List ℕ) → x ∷ l ≡ y ∷ m → (x ≡ y) 
 same-parts x y l m e = let i : x ≡ y = cc in let j : l ≡ m = cc in (i, j)
 
 -- a walk that comes to s is at a slot
-comes-to : {row : List ℕ} {x : ℕ} → Walks row x → (l m : List ℕ) (s : ℕ) → along row x ≡ l ++ (s ∷ m) → x < maxHeld
+comes-to : {row : List ℕ} {x : ℕ} → Walks row x → (l m : List ℕ) (s : ℕ) → along row x ≡ l ++ (s ∷ m) → x < maxSequence
 comes-to {row} {x} t l m s e =
     let c : count s (along row x) ≡ count s l + count s (s ∷ m) = ap (count s) e ∙ count-append s l (s ∷ m) in
     walks-on t s (omega (arith, same-self s))

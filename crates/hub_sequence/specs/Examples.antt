@@ -1,4 +1,4 @@
--- The readings run by computation: slots 2, 0, 1 are held in this order, and 3 is the first that is free. Assumes nothing.
+-- The readings run by computation: slots 2, 0, 1 are taken in this order, and 3 is the first that is free. Assumes nothing.
 use mathlib.Core.Path.{_≡_, refl}
 use mathlib.Core.List.{[], _∷_}
 use Rattle.hub_sequence.specs.Lists.{placed, through, past, without, upTo, rest, lastOr}
@@ -13,12 +13,12 @@ three =
       first = 2;
       last = 1;
       free = 3;
-      held = 3;
+      taken = 3;
     }
 
-held-three : slotsOf three ≡ 2 ∷ 0 ∷ 1 ∷ []
+taken-three : slotsOf three ≡ 2 ∷ 0 ∷ 1 ∷ []
 unfolding along walk
-held-three = refl
+taken-three = refl
 
 back-three : backOf three ≡ 1 ∷ 0 ∷ 2 ∷ []
 unfolding along walk

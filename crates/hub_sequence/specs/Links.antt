@@ -5,7 +5,7 @@ use mathlib.Core.List.{List, [], _∷_}
 use lib.Dec.{eqb, ltb}
 use lib.ListN.{length, getD, set}
 use Rattle.rules_routine.specs.Choice.{if_then_else_}
-use Rattle.rules.specs.State.{maxHeld}
+use Rattle.rules_routine.specs.Limits.{maxSequence}
 use Rattle.hub_sequence.specs.Lists.{count}
 use Rattle.hub_sequence.specs.declared.Links.{Links}
 
@@ -43,9 +43,9 @@ walk (suc n) f x = if eqb x none then [] else x ∷ walk n f (f x)
 
 -- The slots from x on along a row.
 unfoldable pub along : List ℕ → ℕ → List ℕ
-along row x = walk maxHeld (λ y. getD row y 0) x
+along row x = walk maxSequence (λ y. getD row y 0) x
 
--- The held slots in the sequence's order: "the sequence read along the links" (item 8).
+-- The taken slots in the sequence's order: "the sequence read along the links" (item 8).
 abbrev pub slotsOf : Links → List ℕ
 slotsOf k = along (k .behind) (k .first)
 
@@ -71,17 +71,17 @@ pub data Chain (f : ℕ → ℕ) : ℕ → List ℕ → Type 0 where
 
 -- 1 for a slot, 0 for any other number.
 unfoldable pub within : ℕ → ℕ
-within x = if ltb x maxHeld then 1 else 0
+within x = if ltb x maxSequence then 1 else 0
 
 -- The links hold these slots in this order, and these are free. Item 8 asks "the links to run through each held routine a single time":
--- the path goes from none through the held slots to none, and `once` says that each slot is in just one of the two lists, and there once,
+-- the path goes from none through the taken slots to none, and `once` says that each slot is in just one of the two lists, and there once,
 -- and that no other number is in either.
-pub record Keeps (k : Links) (held free : List ℕ) : Type 0 where
-  pub linked : Path (aheadOf k) (behindOf k) none held none
+pub record Keeps (k : Links) (taken free : List ℕ) : Type 0 where
+  pub linked : Path (aheadOf k) (behindOf k) none taken none
   pub spare : Chain (behindOf k) (k .free) free
-  pub once : (x : ℕ) → count x held + count x free ≡ within x
-  pub full : length held + length free ≡ maxHeld
-  pub counted : k .held ≡ length held
+  pub once : (x : ℕ) → count x taken + count x free ≡ within x
+  pub full : length taken + length free ≡ maxSequence
+  pub counted : k .taken ≡ length taken
 
 -- The links are in order: this holds of the two lists that are read along them.
 abbrev pub LinksOk : Links → Type 0
@@ -91,18 +91,18 @@ LinksOk k = Keeps k (slotsOf k) (freeOf k)
 pub record Walks (row : List ℕ) (x : ℕ) : Type 0 where
   pub chain : Chain (λ y. getD row y 0) x (along row x)
   pub slots : (w : ℕ) → count w (along row x) ≤ within w
-  pub short : length (along row x) ≤ maxHeld
+  pub short : length (along row x) ≤ maxSequence
 
 -- ---- numbers that name a place
 
 -- A slot or `none`: a number that has a link.
 abbrev pub Spot : ℕ → Type 0
-Spot x = (x ≡ none → ⊥) → x < maxHeld
+Spot x = (x ≡ none → ⊥) → x < maxSequence
 
--- A slot that is held.
+-- A slot that is taken.
 abbrev pub Stands : Links → ℕ → Type 0
 Stands k x = 1 ≤ count x (slotsOf k)
 
--- A slot that is held, or `none`: where a newcomer can be placed behind.
+-- A slot that is taken, or `none`: where a newcomer can be placed behind.
 abbrev pub StandsOrNone : Links → ℕ → Type 0
 StandsOrNone k x = 1 ≤ count x (none ∷ slotsOf k)

@@ -1,22 +1,21 @@
 // The sequence: document 01, "Things and ranges" and "The steps"; document 02, item 8. It is kept as links between slots: a slot that is
-// held knows the slot ahead of it and the one behind it. No routine moves. The free slots hang on a list along `behind`. Only this crate
+// taken knows the slot ahead of it and the one behind it. No routine moves. The free slots hang on a list along `behind`. Only this crate
 // changes links.
-pub mod keep;
 pub mod link;
+pub mod order;
 
-// "The sequence holds at most 16 routines, running or committed but not settled."
-pub const MAX_HELD: usize = 16;
+use rules_routine::limits::MAX_SEQUENCE;
 
 // No slot: what stands before the first and behind the last.
 pub const NONE: u8 = 255;
 
 pub struct Links {
-    pub ahead: [u8; MAX_HELD],
-    pub behind: [u8; MAX_HELD],
+    pub ahead: [u8; MAX_SEQUENCE],
+    pub behind: [u8; MAX_SEQUENCE],
     pub first: u8,
     pub last: u8,
     pub free: u8,
-    pub held: usize,
+    pub taken: usize,
 }
 
 // The links with one slot more, and which slot that is.

@@ -1,11 +1,11 @@
 // One link of a row at a time. NONE stands before the first slot and behind the last, so that a row's end (`first` of `behind`, `last` of
 // `ahead`) is the link of NONE.
-use crate::MAX_HELD;
 use crate::NONE;
+use rules_routine::limits::MAX_SEQUENCE;
 ghost use mathlib.Core.Path.{_≡_};
 ghost use Rattle.hub_sequence.specs.Links.{linkOf, rowWith, endWith, Spot};
 
-pub fn link_of(row: [u8; MAX_HELD], end: u8, at: u8) -> u8
+pub fn link_of(row: [u8; MAX_SEQUENCE], end: u8, at: u8) -> u8
     requires { ⌜ Spot at ⌝ }
     ensures { λ r. ⌜ r ≡ linkOf row end at ⌝ }
 {
@@ -17,7 +17,7 @@ pub fn link_of(row: [u8; MAX_HELD], end: u8, at: u8) -> u8
 }
 
 // The row with another link at a slot; NONE has its link in the row's end.
-pub fn with_link(row: [u8; MAX_HELD], at: u8, to: u8) -> [u8; MAX_HELD]
+pub fn with_link(row: [u8; MAX_SEQUENCE], at: u8, to: u8) -> [u8; MAX_SEQUENCE]
     requires { ⌜ Spot at ⌝ }
     ensures { λ r. ⌜ r ≡ rowWith row at to ⌝ }
 {

@@ -10,7 +10,8 @@ use lib.Dec.{eqb}
 use lib.IntN.{ℤ}
 use lib.ListN.{getD}
 use Rattle.rules_routine.specs.Choice.{if_then_else_}
-use Rattle.rules.specs.State.{maxHeld, Member, State}
+use Rattle.rules_routine.specs.Limits.{maxSequence}
+use Rattle.rules.specs.State.{Member, State}
 use Rattle.rules.specs.Sequence.{lastIdOr, withSequence, withSettled, withMark, moveMarks}
 use Rattle.rules.specs.Attach.{attachTo, attachAt, settleRestarts, attach}
 use Rattle.rules.specs.Abort.{leave}
@@ -20,7 +21,7 @@ use Rattle.hub_sequence.specs.Contract.{Leaves}
 use Rattle.hub_sequence.specs.declared.Links.{Links}
 use Rattle.hub_sequence.proofs.Tables.{byEq}
 use Rattle.hub_sequence.proofs.Lists.{same-self, same-eq, same-other, count-without, count-append, slots-around, off-upTo}
-use Rattle.hub_sequence.proofs.ReadLaws.{once-held, stands-slot, ahead-last, ahead-row}
+use Rattle.hub_sequence.proofs.ReadLaws.{once-taken, stands-slot, ahead-last, ahead-row}
 use Rattle.hub_state.specs.View.{settingsOf, marksOf, stepsAt, restartsAt, memberAt, membersOf, stateOf, there}
 use Rattle.hub_state.specs.Valid.{StateOk}
 use Rattle.hub_state.specs.declared.HubState.{HubState}
@@ -44,21 +45,21 @@ module _ (h : HubState) (at : ℕ) (v : StateOk h) (s : Stands (h .links) at) (b
   before-is : aheadOf (h .links) at ≡ b
   before-is = ahead-row (h .links) at (v .links-ok) s ∙ sym q
 
-  before-ahead : b < maxHeld → 1 ≤ count b (upTo at (slotsOf (h .links)))
+  before-ahead : b < maxSequence → 1 ≤ count b (upTo at (slotsOf (h .links)))
   before-ahead i =
       let l = upTo at (slotsOf (h .links)) in
       let e : lastOr none l ≡ b = ahead-last (h .links) at (v .links-ok) s ∙ before-is in
       let c : 1 ≤ count b (none ∷ l) = subst (λ (x : ℕ). 1 ≤ count x (none ∷ l)) e (last-in none l) in
       omega (arith, c, same-other b none (λ w. omega arith))
 
-  before-stands : b < maxHeld → Stands (h .links) b
+  before-stands : b < maxSequence → Stands (h .links) b
   before-stands i =
       let l = slotsOf (h .links) in
       let e : count b l ≡ count b (upTo at l) + count b (at ∷ rest at l)
       = ap (count b) (slots-around at l s) ∙ count-append b (upTo at l) (at ∷ rest at l) in
       omega (arith, before-ahead i, e)
 
-  pub before-other : b < maxHeld → at ≡ b → ⊥
+  pub before-other : b < maxSequence → at ≡ b → ⊥
   before-other i e =
       let c : count at (upTo at (slotsOf (h .links))) ≡ count b (upTo at (slotsOf (h .links)))
       = ap (λ (x : ℕ). count x (upTo at (slotsOf (h .links)))) e in
@@ -127,7 +128,8 @@ module _ (h : HubState) (at : ℕ) (k : Links) (row table : List ℤ) (mark : Li
     moved-leaves i = ap (λ (j : ℕ). attach j events (moved j)) i
 
     -- its events go to the one before it
-    module _ (f : b < maxHeld) (i : to ≡ getD (h .ids) b 0) (t : table ≡ h .settled) (a : MovesRestarts (h .restarts) at b row) where
+    module _ (f : b < maxSequence) (i : to ≡ getD (h .ids) b 0) (t : table ≡ h .«settled_at»)
+        (a : MovesRestarts (h .restarts) at b row) where
       behind-each : (x : ℕ) → memberAt gone x ≡ attachedIn h b events x
       behind-each = attached-each h k row table (h .up) mark b events a
 
@@ -146,7 +148,7 @@ module _ (h : HubState) (at : ℕ) (k : Links) (row table : List ℤ) (mark : Li
       behind-members =
           (λ j. map (fun-ext behind-each j) (e .slots j))
           ∙ attach-slots h b events (without at (slotsOf (h .links))) differ
-          (omega (arith, count-without at b (slotsOf (h .links)) s, once-held (h .links) b (v .links-ok)))
+          (omega (arith, count-without at b (slotsOf (h .links)) s, once-taken (h .links) b (v .links-ok)))
           ∙ ap (λ (y : ℕ). attachAt y events (map (memberAt h) (without at (slotsOf (h .links))))) (sym i)
           ∙ ap (attachAt to events) (there-left h at v s)
 
@@ -165,7 +167,8 @@ module _ (h : HubState) (at : ℕ) (k : Links) (row table : List ℤ) (mark : Li
       }
 
     -- there is none before it: they join the settled part
-    module _ (f : maxHeld ≤ b) (i : to ≡ 0) (t : settingsOf table ≡ settleRestarts events (settingsOf (h .settled))) (a : row ≡ h .restarts)
+    module _ (f : maxSequence ≤ b) (i : to ≡ 0) (t : settingsOf table ≡ settleRestarts events (settingsOf (h .«settled_at»)))
+        (a : row ≡ h .restarts)
       where
         first-each : (x : ℕ) → memberAt gone x ≡ memberAt h x
         unfolding stepsAt

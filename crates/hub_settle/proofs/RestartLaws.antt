@@ -10,8 +10,7 @@ use lib.Dec.{eqb}
 use lib.IntN.{ℤ}
 use lib.ListN.{length, getD, set}
 use Rattle.rules_routine.specs.Choice.{if_then_else_}
-use Rattle.rules_routine.specs.Routine.{maxDevices}
-use Rattle.rules.specs.State.{maxHeld}
+use Rattle.rules_routine.specs.Limits.{maxDevices, maxSequence}
 use Rattle.rules.specs.Attach.{oneRestart, later}
 use Rattle.rules.proofs.Lists.{put-same, put-other}
 use Rattle.hub_sequence.proofs.Tables.{byEq, byLess}
@@ -42,8 +41,8 @@ module _ (row : List ℤ) (from to : ℕ) where
       (byLess e d (m .moved e) (λ i. m .still e i ∙ sym (ap (later (restartsAt row to e)) (restarts-past row from e (omega arith))))))
       (λ n. rw (ne-eqb x to n) (m .others x e n))
 
-  module _ (d : ℕ) (r : List ℤ) (z : ℤ) (i : from < maxHeld) (j : to < maxHeld) (h : d < maxDevices)
-      (l : length row ≡ maxHeld * maxDevices) (k : length r ≡ maxHeld * maxDevices) (m : MovedUpTo row from to d r)
+  module _ (d : ℕ) (r : List ℤ) (z : ℤ) (i : from < maxSequence) (j : to < maxSequence) (h : d < maxDevices)
+      (l : length row ≡ maxSequence * maxDevices) (k : length r ≡ maxSequence * maxDevices) (m : MovedUpTo row from to d r)
     where
       -- what the device has in the row
       abbrev here : ℤ
@@ -74,7 +73,7 @@ module _ (row : List ℤ) (from to : ℕ) where
 
 -- ---- one restart
 
-pub attaches-one : (row : List ℤ) (x d : ℕ) (v : ℤ) → length row ≡ maxHeld * maxDevices → x < maxHeld → d < maxDevices →
+pub attaches-one : (row : List ℤ) (x d : ℕ) (v : ℤ) → length row ≡ maxSequence * maxDevices → x < maxSequence → d < maxDevices →
     isRestart v ≡ true →
     Attaches row x (oneRestart d v) (set row (x * maxDevices + d) v)
 unfolding oneRestart

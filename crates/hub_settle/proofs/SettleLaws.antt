@@ -7,9 +7,9 @@ use native.Mathlib.Omega.{arith}
 use lib.IntN.{ℤ, pos}
 use lib.ListN.{getD}
 use Rattle.rules_routine.specs.Choice.{if_then_else_}
-use Rattle.rules_routine.specs.Routine.{maxCommands}
-use Rattle.rules_routine.proofs.Laws.{byTest}
-use Rattle.rules.specs.State.{maxHeld, Step, Member, State}
+use Rattle.rules_routine.specs.Limits.{maxCommands, maxSequence}
+use Rattle.rules_routine.proofs.RoutineLaws.{byTest}
+use Rattle.rules.specs.State.{Step, Member, State}
 use Rattle.rules.specs.Sequence.{withSequence, withSettled, withMark, moveMarks}
 use Rattle.rules.specs.Due.{afterSteps, afterRestart, afterMember}
 use Rattle.rules.specs.Attach.{settleRestarts}
@@ -26,7 +26,7 @@ use Rattle.hub_state.specs.declared.HubState.{HubState}
 use Rattle.hub_state.proofs.Steps.{done-upto}
 use Rattle.hub_state.proofs.Rows.{take-stepsFrom}
 use Rattle.hub_state.proofs.Members.{answered-most, counts-most, device-within}
-use Rattle.hub_state.proofs.Laws.{settle-idle}
+use Rattle.hub_state.proofs.DecisionLaws.{settle-idle}
 use Rattle.hub_due.specs.Contract.{AfterDone, DevicesFit}
 use Rattle.hub_settle.proofs.StateLaws.{tablesIn, valid-linked}
 use Rattle.hub_settle.proofs.LeaveLaws.{stood}
@@ -43,15 +43,16 @@ module _ (h : HubState) (x : ℕ) (v : StateOk h) (s : Stands (h .links) x) wher
       rw e at (device-within h x v s (k - x * maxCommands) (omega (arith, answered-most h x v s)))
 
   module _ (done : List ℤ)
-      (a : AfterDone (h .settled) (h .device) (h .stage) (h .setting) (x * maxCommands) (x * maxCommands + getD (h .answered) x 0) done)
+      (a : AfterDone (h .«settled_at») (h .device) (h .stage) (h .setting) (x * maxCommands)
+      (x * maxCommands + getD (h .answered) x 0) done)
     where
       -- what the devices are due after its done commands
-      after-steps : (d : ℕ) → settingsOf done d ≡ afterSteps d (stepsAt h x) (settingsOf (h .settled) d)
+      after-steps : (d : ℕ) → settingsOf done d ≡ afterSteps d (stepsAt h x) (settingsOf (h .«settled_at») d)
       unfolding stepsAt
       after-steps d =
           let u = getD (h .«due_then») x (pos 0) in
           let n = getD (h .answered) x 0 in
-          let w = settingsOf (h .settled) d in
+          let w = settingsOf (h .«settled_at») d in
           let e : x * maxCommands + n - x * maxCommands ≡ n = omega arith in
           a (h .tag) u d
           ∙ ap (λ (j : ℕ). afterSteps d (stepsFrom (rowsOf h) u (x * maxCommands) j) w) e
@@ -61,7 +62,7 @@ module _ (h : HubState) (x : ℕ) (v : StateOk h) (s : Stands (h .links) x) wher
 
       -- and after its restarts
       pub after-member : (after : List ℤ) → settingsOf after ≡ settleRestarts (restartsAt (h .restarts) x) (settingsOf done) →
-          settingsOf after ≡ (λ d. afterMember d (memberAt h x) (settingsOf (h .settled) d))
+          settingsOf after ≡ (λ d. afterMember d (memberAt h x) (settingsOf (h .«settled_at») d))
       unfolding settleRestarts afterMember memberAt
       after-member after b = b ∙ fun-ext (λ d. ap (afterRestart (restartsAt (h .restarts) x d)) (after-steps d))
 
@@ -69,7 +70,7 @@ module _ (h : HubState) (x : ℕ) (v : StateOk h) (s : Stands (h .links) x) wher
 
 -- x is where the sequence starts
 module _ (h : HubState) (x : ℕ) (v : StateOk h) (q : x ≡ h .links .first) where
-  module _ (f : x < maxHeld) where
+  module _ (f : x < maxSequence) where
     abbrev behind : List ℕ
     behind = along (h .links .behind) (getD (h .links .behind) x 0)
 
@@ -89,7 +90,7 @@ module _ (h : HubState) (x : ℕ) (v : StateOk h) (q : x ≡ h .links .first) wh
     unfolding memberAt
     settles-first = sym (ap firstCommitted first-there)
 
-  pub settles-none : maxHeld ≤ x → false ≡ firstCommitted (stateOf h .sequence)
+  pub settles-none : maxSequence ≤ x → false ≡ firstCommitted (stateOf h .sequence)
   unfolding stateOf membersOf
   settles-none f = sym (ap (λ (l : List ℕ). firstCommitted (map (memberAt h) l)) (no-first (h .links) (v .links-ok) (rw q at f)))
 
@@ -108,7 +109,7 @@ settle-any s k (m ∷ l) =
 settle-more : (s : State) (m : Member) (l : List Member) → m .committed ≡ true → settleFrom s (m ∷ l) ≡ settleFrom (joinSettled s m) l
 settle-more s m l c = ap (λ (t : Bool). if t then settleFrom (joinSettled s m) l else withSequence s (m ∷ l)) c
 
-module _ (h : HubState) (x : ℕ) (after : List ℤ) (mark : List ℕ) (k : Links) (v : StateOk h) (q : x ≡ h .links .first) (f : x < maxHeld)
+module _ (h : HubState) (x : ℕ) (after : List ℤ) (mark : List ℕ) (k : Links) (v : StateOk h) (q : x ≡ h .links .first) (f : x < maxSequence)
     (e : Leaves (h .links) x k)
   where
     -- the first has joined the settled part
@@ -122,14 +123,14 @@ module _ (h : HubState) (x : ℕ) (after : List ℤ) (mark : List ℕ) (k : Link
     unfolding stateOf membersOf memberAt stepsAt
     joined-behind = ap (map (memberAt h)) (e .slots ∙ ap (without x) (slots-from h x v q f) ∙ without-first x (behind h x v q f))
 
-    joined-state : settingsOf after ≡ (λ d. afterMember d (memberAt h x) (settingsOf (h .settled) d)) →
+    joined-state : settingsOf after ≡ (λ d. afterMember d (memberAt h x) (settingsOf (h .«settled_at») d)) →
         marksOf mark ≡ moveMarks (getD (h .ids) x 0) 0 (marksOf (h .mark)) →
         stateOf joined ≡ withSequence (joinSettled (stateOf h) (memberAt h x)) (stateOf joined .sequence)
     unfolding stateOf joinSettled memberAt
     joined-state a m = λ i. withSequence (withMark (withSettled (stateOf h) (a i)) (m i)) (stateOf joined .sequence)
 
     joined-settles : getD (h .committed) x false ≡ true →
-        settingsOf after ≡ (λ d. afterMember d (memberAt h x) (settingsOf (h .settled) d)) →
+        settingsOf after ≡ (λ d. afterMember d (memberAt h x) (settingsOf (h .«settled_at») d)) →
         marksOf mark ≡ moveMarks (getD (h .ids) x 0) 0 (marksOf (h .mark)) → settle (stateOf joined) ≡ settle (stateOf h)
     unfolding settle memberAt
     joined-settles c a m =
@@ -149,8 +150,8 @@ pub record Settling (whole h : HubState) (i : ℕ) : Type 0 where
   pub same-end : settle (stateOf h) ≡ settle (stateOf whole)
 
 module _ (whole h : HubState) (i : ℕ) (s : Settling whole h i) where
-  pub settling-more : (done after : List ℤ) (mark : List ℕ) (k : Links) → i < maxHeld → getD (h .committed) i false ≡ true →
-      AfterDone (h .settled) (h .device) (h .stage) (h .setting) (i * maxCommands) (i * maxCommands + getD (h .answered) i 0) done →
+  pub settling-more : (done after : List ℤ) (mark : List ℕ) (k : Links) → i < maxSequence → getD (h .committed) i false ≡ true →
+      AfterDone (h .«settled_at») (h .device) (h .stage) (h .setting) (i * maxCommands) (i * maxCommands + getD (h .answered) i 0) done →
       settingsOf after ≡ settleRestarts (restartsAt (h .restarts) i) (settingsOf done) →
       marksOf mark ≡ moveMarks (getD (h .ids) i 0) 0 (marksOf (h .mark)) → Leaves (h .links) i k →
       Settling whole (tablesIn h k (h .restarts) after (h .up) mark) (k .first)
@@ -169,8 +170,8 @@ module _ (whole h : HubState) (i : ℕ) (s : Settling whole h i) where
   settling-ends e = sym (settle-idle (stateOf h) e) ∙ s .same-end
 
   -- the first is not committed, or there is none
-  pub settling-runs : i < maxHeld → getD (h .committed) i false ≡ false → stateOf h ≡ settle (stateOf whole)
+  pub settling-runs : i < maxSequence → getD (h .committed) i false ≡ false → stateOf h ≡ settle (stateOf whole)
   settling-runs f c = settling-ends (sym (settles-first h i (s .valid) (s .first-is) f) ∙ c)
 
-  pub settling-empty : maxHeld ≤ i → stateOf h ≡ settle (stateOf whole)
+  pub settling-empty : maxSequence ≤ i → stateOf h ≡ settle (stateOf whole)
   settling-empty f = settling-ends (sym (settles-none h i (s .valid) (s .first-is) f))

@@ -10,7 +10,7 @@ use lib.IntN.{ℤ, pos}
 use lib.ListN.{length, getD, set}
 use lib.Seq.{getD-set-same, getD-set-other}
 use Rattle.rules_routine.specs.Choice.{if_then_else_}
-use Rattle.rules_routine.proofs.Laws.{byTest}
+use Rattle.rules_routine.proofs.RoutineLaws.{byTest}
 use Rattle.rules.specs.State.{Member, State}
 use Rattle.rules.specs.Tables.{put}
 use Rattle.rules.specs.Sequence.{Found, find, onto, withSequence, withSettled, withUp}
@@ -46,7 +46,7 @@ tablesIn h links restarts settled up mark = record {
   setting = h .setting;
   stage = h .stage;
   restarts = restarts;
-  settled = settled;
+  «settled_at» = settled;
   up = up;
   mark = mark;
 }
@@ -71,30 +71,30 @@ module _ (h : HubState) (restarts settled : List ℤ) (up : List Bool) (mark : L
 
 -- a device becomes up or down
 module _ (h : HubState) (d : ℕ) (b : Bool) (l : d < length (h .up)) where
-  pub up-gives : stateOf (tablesIn h (h .links) (h .restarts) (h .settled) (set (h .up) d b) (h .mark)) ≡ withUp (stateOf h)
+  pub up-gives : stateOf (tablesIn h (h .links) (h .restarts) (h .«settled_at») (set (h .up) d b) (h .mark)) ≡ withUp (stateOf h)
       (put (stateOf h .up) d b)
   unfolding stateOf membersOf memberAt stepsAt
   up-gives = ap (withUp (stateOf h)) (fun-ext (set-put (h .up) d b true l))
 
-  pub up-there : there (tablesIn h (h .links) (h .restarts) (h .settled) (set (h .up) d b) (h .mark)) ≡ there h
+  pub up-there : there (tablesIn h (h .links) (h .restarts) (h .«settled_at») (set (h .up) d b) (h .mark)) ≡ there h
   unfolding there memberAt stepsAt
   up-there = refl
 
 -- ---- restarts attached to an id: to the settled part, or to a routine
 
 module _ (id : ℕ) (e : ℕ → Option ℤ) (s : State) where
-  pub attach-zero : id ≡ 0 → attach id e s ≡ withSettled s (settleRestarts e (s .settled))
+  pub attach-zero : id ≡ 0 → attach id e s ≡ withSettled s (settleRestarts e (s .settledAt))
   unfolding attach
   attach-zero z =
       ap (λ (b : Bool). withSettled (withSequence s (if b then s .sequence else attachAt id e (s .sequence)))
-      (if b then settleRestarts e (s .settled) else s .settled))
+      (if b then settleRestarts e (s .settledAt) else s .settledAt))
       (eq-eqb id 0 z)
 
   pub attach-routine : (id ≡ 0 → ⊥) → attach id e s ≡ withSequence s (attachAt id e (s .sequence))
   unfolding attach
   attach-routine n =
       ap (λ (b : Bool). withSettled (withSequence s (if b then s .sequence else attachAt id e (s .sequence)))
-      (if b then settleRestarts e (s .settled) else s .settled))
+      (if b then settleRestarts e (s .settledAt) else s .settledAt))
       (ne-eqb id 0 n)
 
 -- the routine of a slot, if the restarts go to x
@@ -159,7 +159,7 @@ attach-found i e (m ∷ l) =
     behind (some f) = refl
 
 module _ (h : HubState) (id : ℕ) (e : ℕ → Option ℤ) where
-  pub attach-settled : (table : List ℤ) → id ≡ 0 → settingsOf table ≡ settleRestarts e (settingsOf (h .settled)) →
+  pub attach-settled : (table : List ℤ) → id ≡ 0 → settingsOf table ≡ settleRestarts e (settingsOf (h .«settled_at»)) →
       stateOf (tablesIn h (h .links) (h .restarts) table (h .up) (h .mark)) ≡ attach id e (stateOf h)
   unfolding stateOf membersOf memberAt stepsAt
   attach-settled table z t = ap (withSettled (stateOf h)) t ∙ sym (attach-zero id e (stateOf h) z)
@@ -171,16 +171,16 @@ module _ (h : HubState) (id : ℕ) (e : ℕ → Option ℤ) where
       sym (attach-routine id e (stateOf h) n ∙ ap (withSequence (stateOf h)) a)
 
   pub attach-at : (row : List ℤ) (x : ℕ) → Attaches (h .restarts) x e row → (id ≡ 0 → ⊥) → StateOk h → Finds h (hasId id) (At x) →
-      stateOf (tablesIn h (h .links) row (h .settled) (h .up) (h .mark)) ≡ attach id e (stateOf h)
+      stateOf (tablesIn h (h .links) row (h .«settled_at») (h .up) (h .mark)) ≡ attach id e (stateOf h)
   unfolding stateOf
   attach-at row x a n v f =
-      let r = tablesIn h (h .links) row (h .settled) (h .up) (h .mark) in
+      let r = tablesIn h (h .links) row (h .«settled_at») (h .up) (h .mark) in
       let l = stateOf h .sequence in
       let it : memberAt r x ≡ attachTo e (there h x .it)
-      = attached-it h (h .links) row (h .settled) (h .up) (h .mark) x e a ∙ ap (attachTo e) (sym (there-it h x)) in
+      = attached-it h (h .links) row (h .«settled_at») (h .up) (h .mark) x e a ∙ ap (attachTo e) (sym (there-it h x)) in
       let m : membersOf r ≡ there h x .ahead ++ (attachTo e (there h x .it) ∷ there h x .behind)
       = changed-slot h r x (attachTo e (there h x .it)) v (f .place-ok) refl it
-      (attached-others h (h .links) row (h .settled) (h .up) (h .mark) x e a) in
+      (attached-others h (h .links) row (h .«settled_at») (h .up) (h .mark) x e a) in
       let k : attachAt id e l ≡ there h x .ahead ++ (attachTo e (there h x .it) ∷ there h x .behind)
       = attach-found id e l ∙ ap (attachedTo e l) (sym (f .found)) in
       ap (withSequence (stateOf h)) (m ∙ sym k) ∙ sym (attach-routine id e (stateOf h) n)

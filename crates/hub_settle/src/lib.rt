@@ -2,18 +2,17 @@
 // "Failure or restart of D" and "Settling".
 pub mod settling;
 
-use hub_sequence::MAX_HELD;
-use hub_sequence::keep;
+use hub_sequence::order;
 use hub_state::HubState;
 use hub_state::NO_RESTART;
 use hub_state::Place;
 use hub_state::RESTARTS;
-use rules_routine::MAX_DEVICES;
+use rules_routine::limits::MAX_DEVICES;
+use rules_routine::limits::MAX_SEQUENCE;
 ghost use mathlib.Core.Path.{_≡_};
 ghost use mathlib.Core.Bool.{true, false};
 ghost use Prim.Native.Nat.{_<_};
-ghost use Rattle.rules_routine.specs.Routine.{maxDevices};
-ghost use Rattle.rules.specs.State.{maxHeld};
+ghost use Rattle.rules_routine.specs.Limits.{maxDevices, maxSequence};
 ghost use Rattle.rules.specs.Tables.{put};
 ghost use Rattle.rules.specs.Sequence.{moveMarks, withUp};
 ghost use Rattle.rules.specs.Attach.{oneRestart, attach};
@@ -41,7 +40,7 @@ pub fn moved_marks(marks: [u32; MAX_DEVICES], from: u32, to: u32) -> [u32; MAX_D
 
 // The restarts of one slot go behind those of another.
 fn moved_restarts(row: [i16; RESTARTS], from: usize, to: usize) -> [i16; RESTARTS]
-    requires { ⌜ (from < maxHeld) × (to < maxHeld) × (from ≡ to → ⊥) ⌝ }
+    requires { ⌜ (from < maxSequence) × (to < maxSequence) × (from ≡ to → ⊥) ⌝ }
     ensures { λ r. ⌜ MovesRestarts row from to r ⌝ }
 {
     let old = from * MAX_DEVICES;
@@ -75,13 +74,13 @@ pub fn left(state: HubState, at: usize) -> HubState
     let stage = state.stage;
     let up = state.up;
     let marks = state.mark;
-    let mut settled = state.settled;
+    let mut settled = state.settled_at;
     let mut restarts = state.restarts;
     let links_before = state.links;
     let ahead = links_before.ahead;
     let before = ahead[at] as usize;
     let mut to: u32 = 0;
-    if before < MAX_HELD {
+    if before < MAX_SEQUENCE {
         to = ids[before];
         let moved = moved_restarts(restarts, at, before);
         restarts = moved;
@@ -90,7 +89,7 @@ pub fn left(state: HubState, at: usize) -> HubState
         settled = after;
     }
     let mark = moved_marks(marks, ids[at], to);
-    let links = keep::leave(links_before, at as u8);
+    let links = order::leave(links_before, at as u8);
     HubState {
         devices: state.devices,
         pass_limit: state.pass_limit,
@@ -107,7 +106,7 @@ pub fn left(state: HubState, at: usize) -> HubState
         setting,
         stage,
         restarts,
-        settled,
+        settled_at: settled,
         up,
         mark,
     }
@@ -121,7 +120,7 @@ pub fn attached(state: HubState, id: u32, device: u8, setting: i16) -> HubState
     let d = device as usize;
     let mut changed = state;
     if id == 0 {
-        changed.settled[d] = setting;
+        changed.settled_at[d] = setting;
         return changed;
     }
     let place = hub_search::with_id(state, id);

@@ -1,10 +1,10 @@
 // "while the first in the sequence is committed, it joins the settled part with its attached events, and marks equal to it become 0":
 // document 01, "Settling".
 use crate::moved_marks;
-use hub_sequence::MAX_HELD;
-use hub_sequence::keep;
+use hub_sequence::order;
 use hub_state::HubState;
-use rules_routine::MAX_COMMANDS;
+use rules_routine::limits::MAX_COMMANDS;
+use rules_routine::limits::MAX_SEQUENCE;
 ghost use mathlib.Core.Path.{_≡_};
 ghost use Rattle.rules.specs.Settle.{settle};
 ghost use Rattle.hub_state.specs.View.{stateOf, firstCommitted};
@@ -17,7 +17,7 @@ pub fn settles(state: HubState) -> bool
 {
     let links = state.links;
     let first = links.first as usize;
-    if first < MAX_HELD {
+    if first < MAX_SEQUENCE {
         let committed = state.committed;
         return committed[first];
     }
@@ -44,10 +44,10 @@ pub fn settled_state(state: HubState) -> HubState
     let restarts = state.restarts;
     let up = state.up;
     let mut links = state.links;
-    let mut settled = state.settled;
+    let mut settled = state.settled_at;
     let mut mark = state.mark;
     let mut i = links.first as usize;
-    while i < MAX_HELD {
+    while i < MAX_SEQUENCE {
         if !committed[i] {
             break;
         }
@@ -58,7 +58,7 @@ pub fn settled_state(state: HubState) -> HubState
         settled = after;
         let moved = moved_marks(mark, ids[i], 0);
         mark = moved;
-        let left = keep::leave(links, i as u8);
+        let left = order::leave(links, i as u8);
         links = left;
         i = links.first as usize;
     }
@@ -78,7 +78,7 @@ pub fn settled_state(state: HubState) -> HubState
         setting,
         stage,
         restarts,
-        settled,
+        settled_at: settled,
         up,
         mark,
     }

@@ -21,7 +21,7 @@ CodeBehind code = isBehind (statusOf code (pos 0)) ≡ true
 pub record CodesUpTo (stages : List ℕ) (from mid end : ℕ) : Type 0 where
   pub within : (from ≤ mid) × (mid ≤ end)
   pub answered-before : (j : ℕ) → from ≤ j → j < mid → doneCode ≤ getD stages j 0
-  pub open-there : mid < end → getD stages mid 0 < doneCode
+  pub unanswered-there : mid < end → getD stages mid 0 < doneCode
   pub behind : (j : ℕ) → mid < j → j < end → CodeBehind (getD stages j 0)
 
 module _ (rows : Rows) (u : ℤ) where
@@ -46,7 +46,7 @@ module _ (rows : Rows) (u : ℤ) where
   codes-upto k zero zero p e i j a = tt
   codes-upto k zero (suc c) p e i j a =
       let q : p ≡ k = omega arith in
-      let o = subst (λ (m : ℕ). getD (rows .stages) m 0 < doneCode) q (a .open-there (omega arith)) in
+      let o = subst (λ (m : ℕ). getD (rows .stages) m 0 < doneCode) q (a .unanswered-there (omega arith)) in
       (status-open (getD (rows .stages) k 0) u o, all-behind (suc k) c (λ m f l. a .behind m (omega arith) (omega arith)))
   codes-upto k (suc n) zero p e i j a = absurd (omega (arith, a .within .1))
   codes-upto k (suc n) (suc c) p e i j a = (
@@ -55,7 +55,7 @@ module _ (rows : Rows) (u : ℤ) where
         (record {
           within = (omega arith, a .within .1);
           answered-before = λ m f l. a .answered-before m (omega arith) l;
-          open-there = a .open-there;
+          unanswered-there = a .unanswered-there;
           behind = a .behind;
         }),
   )
@@ -66,7 +66,7 @@ module _ (rows : Rows) (u : ℤ) where
   upto-codes k zero zero p e i j a = record {
     within = (omega arith, omega arith);
     answered-before = λ m f l. absurd (omega arith);
-    open-there = λ l. absurd (omega arith);
+    unanswered-there = λ l. absurd (omega arith);
     behind = λ m f l. absurd (omega arith);
   }
   upto-codes k zero (suc c) p e i j a =
@@ -74,7 +74,7 @@ module _ (rows : Rows) (u : ℤ) where
       record {
         within = (omega arith, omega arith);
         answered-before = λ m f l. absurd (omega arith);
-        open-there = λ l. subst (λ (m : ℕ). getD (rows .stages) m 0 < doneCode) q (open-code (getD (rows .stages) k 0) u (a .0));
+        unanswered-there = λ l. subst (λ (m : ℕ). getD (rows .stages) m 0 < doneCode) q (open-code (getD (rows .stages) k 0) u (a .0));
         behind = λ m f l. behind-all (suc k) c m (a .1) (omega arith) (omega arith);
       }
   upto-codes k (suc n) zero p e i j a = absurd a
@@ -87,6 +87,6 @@ module _ (rows : Rows) (u : ℤ) where
             λ m f l. byEq m k
             (λ q. subst (λ (w : ℕ). doneCode ≤ getD (rows .stages) w 0) (sym q) h)
             (λ o. r .answered-before m (omega arith) l);
-        open-there = r .open-there;
+        unanswered-there = r .unanswered-there;
         behind = r .behind;
       }

@@ -6,15 +6,15 @@ use Prim.Native.Nat.{ℕ, _+_, _*_, _≤_, _<_}
 use native.Mathlib.Omega.{arith}
 use lib.IntN.{pos}
 use lib.ListN.{length, getD, List·getD-eq-default}
-use Rattle.rules_routine.specs.Routine.{maxDevices, maxCommands}
-use Rattle.rules_routine.proofs.Laws.{any-default}
-use Rattle.rules.specs.State.{maxHeld, Step, Member}
+use Rattle.rules_routine.specs.Limits.{maxDevices, maxCommands, maxSequence}
+use Rattle.rules_routine.proofs.RoutineLaws.{any-default}
+use Rattle.rules.specs.State.{Step, Member}
 use Rattle.rules.specs.Sequence.{lastIdOr}
 use Rattle.hub_sequence.specs.Lists.{count, without, upTo, rest, lastOr}
 use Rattle.hub_sequence.specs.Links.{none, aheadOf, slotsOf, Stands}
 use Rattle.hub_sequence.specs.declared.Links.{Links}
 use Rattle.hub_sequence.proofs.Lists.{same-self, count-append, slots-around, without-around, off-upTo, off-rest}
-use Rattle.hub_sequence.proofs.ReadLaws.{once-held, stands-slot, ahead-last, ahead-row}
+use Rattle.hub_sequence.proofs.ReadLaws.{once-taken, stands-slot, ahead-last, ahead-row}
 use Rattle.hub_state.specs.View.{settingsOf, upOf, marksOf, rowsOf, stepAt, stepsFrom, stepsAt, restartsAt, memberAt, membersOf}
 use Rattle.hub_state.specs.View.{stateOf}
 use Rattle.hub_state.specs.View.{there}
@@ -30,7 +30,7 @@ module _ (h : HubState) where
   unfolding stateOf
   state-sequence = refl
 
-  pub state-settled : stateOf h .settled ≡ settingsOf (h .settled)
+  pub state-settled : stateOf h .settledAt ≡ settingsOf (h .«settled_at»)
   unfolding stateOf
   state-settled = refl
 
@@ -95,7 +95,7 @@ member-same h r x a b c d e = λ i. record { id = a i; steps = b i; passed = c i
 -- ---- what is known of a routine that stands
 
 module _ (h : HubState) (x : ℕ) (v : StateOk h) (s : Stands (h .links) x) where
-  pub stands-below : x < maxHeld
+  pub stands-below : x < maxSequence
   stands-below = stands-slot (h .links) x (v .links-ok) s
 
   pub answered-most : getD (h .answered) x 0 ≤ getD (h .counts) x 0
@@ -106,7 +106,7 @@ module _ (h : HubState) (x : ℕ) (v : StateOk h) (s : Stands (h .links) x) wher
   counts-most = v .slots-ok x s .fits
 
   -- the place of one of its commands is in the rows, and its device fits
-  pub place-within : (j : ℕ) → j < getD (h .counts) x 0 → x * maxCommands + j < maxHeld * maxCommands
+  pub place-within : (j : ℕ) → j < getD (h .counts) x 0 → x * maxCommands + j < maxSequence * maxCommands
   place-within j i = let a = stands-below in let b = counts-most in omega arith
 
   pub device-within : (j : ℕ) → j < getD (h .counts) x 0 → getD (h .device) (x * maxCommands + j) 0 < maxDevices
@@ -154,17 +154,17 @@ pub last-in : (y : ℕ) (l : List ℕ) → 1 ≤ count (lastOr y l) (y ∷ l)
 last-in y [] = omega (arith, same-self y)
 last-in y (z ∷ l) = let i = last-in z l in omega arith
 
-last-slot : (h : HubState) (a : ℕ) (l : List ℕ) → lastOr none l ≡ a → a < maxHeld → getD (h .ids) a 0 ≡ lastIdOr 0 (map (memberAt h) l)
+last-slot : (h : HubState) (a : ℕ) (l : List ℕ) → lastOr none l ≡ a → a < maxSequence → getD (h .ids) a 0 ≡ lastIdOr 0 (map (memberAt h) l)
 last-slot h a [] e i = absurd (omega arith)
 last-slot h a (y ∷ l) e i = ap (λ (b : ℕ). getD (h .ids) b 0) (sym e) ∙ last-id h y l
 
-last-none : (h : HubState) (a : ℕ) (l : List ℕ) → ((w : ℕ) → 1 ≤ count w l → w < maxHeld) → lastOr none l ≡ a → maxHeld ≤ a →
+last-none : (h : HubState) (a : ℕ) (l : List ℕ) → ((w : ℕ) → 1 ≤ count w l → w < maxSequence) → lastOr none l ≡ a → maxSequence ≤ a →
     0 ≡ lastIdOr 0 (map (memberAt h) l)
 last-none h a [] s e i = refl
 last-none h a (y ∷ l) s e i = let j = s (lastOr y l) (last-in y l) in absurd (omega arith)
 
 module _ (h : HubState) (x : ℕ) (v : StateOk h) (s : Stands (h .links) x) where
-  ahead-slots : (w : ℕ) → 1 ≤ count w (upTo x (slotsOf (h .links))) → w < maxHeld
+  ahead-slots : (w : ℕ) → 1 ≤ count w (upTo x (slotsOf (h .links))) → w < maxSequence
   ahead-slots w i =
       let a = upTo x (slotsOf (h .links)) in
       let b = x ∷ rest x (slotsOf (h .links)) in
@@ -173,20 +173,20 @@ module _ (h : HubState) (x : ℕ) (v : StateOk h) (s : Stands (h .links) x) wher
       stands-slot (h .links) w (v .links-ok) (omega (arith, i, e))
 
   -- the id of the routine ahead of it; 0 if there is none
-  pub ahead-id : aheadOf (h .links) x < maxHeld → getD (h .ids) (aheadOf (h .links) x) 0 ≡ lastIdOr 0 (there h x .ahead)
+  pub ahead-id : aheadOf (h .links) x < maxSequence → getD (h .ids) (aheadOf (h .links) x) 0 ≡ lastIdOr 0 (there h x .ahead)
   unfolding there
   ahead-id i = last-slot h (aheadOf (h .links) x) (upTo x (slotsOf (h .links))) (ahead-last (h .links) x (v .links-ok) s) i
 
-  pub ahead-none : maxHeld ≤ aheadOf (h .links) x → 0 ≡ lastIdOr 0 (there h x .ahead)
+  pub ahead-none : maxSequence ≤ aheadOf (h .links) x → 0 ≡ lastIdOr 0 (there h x .ahead)
   unfolding there
   ahead-none i = last-none h (aheadOf (h .links) x) (upTo x (slotsOf (h .links))) ahead-slots (ahead-last (h .links) x (v .links-ok) s) i
 
   -- the slot ahead of it, as the row has it
-  pub id-in-row : getD (h .links .ahead) x 0 < maxHeld → getD (h .ids) (getD (h .links .ahead) x 0) 0 ≡ lastIdOr 0 (there h x .ahead)
+  pub id-in-row : getD (h .links .ahead) x 0 < maxSequence → getD (h .ids) (getD (h .links .ahead) x 0) 0 ≡ lastIdOr 0 (there h x .ahead)
   id-in-row i =
       let e = ahead-row (h .links) x (v .links-ok) s in ap (λ (a : ℕ). getD (h .ids) a 0) (sym e) ∙ ahead-id (omega arith)
 
-  pub id-not-in-row : maxHeld ≤ getD (h .links .ahead) x 0 → 0 ≡ lastIdOr 0 (there h x .ahead)
+  pub id-not-in-row : maxSequence ≤ getD (h .links .ahead) x 0 → 0 ≡ lastIdOr 0 (there h x .ahead)
   id-not-in-row i = let e = ahead-row (h .links) x (v .links-ok) s in ahead-none (omega arith)
 
 -- ---- another state
@@ -206,11 +206,11 @@ unfolding membersOf
 same-members h r k o =
     ap (λ (l : Links). map (memberAt r) (slotsOf l)) k ∙ map-same (memberAt r) (memberAt h) (slotsOf (h .links)) o
 
--- Of the other slots it is enough to know those that are held: a free one may hold any numbers.
+-- Of the other slots it is enough to know those that are taken: a free one may hold any numbers.
 module _ (h r : HubState) (x : ℕ) (v : StateOk h) (s : Stands (h .links) x)
     (o : (y : ℕ) → Stands (h .links) y → (y ≡ x → ⊥) → memberAt r y ≡ memberAt h y)
   where
-    -- a list of held slots without this one
+    -- a list of taken slots without this one
     same-off : (l : List ℕ) → ((y : ℕ) → count y l ≤ count y (slotsOf (h .links))) → count x l ≡ 0 → map (memberAt r) l ≡ map (memberAt h) l
     same-off l i z =
         map-same (memberAt r) (memberAt h) l
@@ -231,21 +231,21 @@ module _ (h r : HubState) (x : ℕ) (v : StateOk h) (s : Stands (h .links) x)
 
     same-behind : map (memberAt r) slotsBehind ≡ map (memberAt h) slotsBehind
     same-behind =
-        same-off slotsBehind (λ y. omega (arith, counts y)) (off-rest x (slotsOf (h .links)) (once-held (h .links) x (v .links-ok)))
+        same-off slotsBehind (λ y. omega (arith, counts y)) (off-rest x (slotsOf (h .links)) (once-taken (h .links) x (v .links-ok)))
 
     -- the same links, and the routine in one slot another
-    pub changed-held : (m : Member) → r .links ≡ h .links → memberAt r x ≡ m → membersOf r ≡ there h x .ahead ++ (m ∷ there h x .behind)
+    pub changed-taken : (m : Member) → r .links ≡ h .links → memberAt r x ≡ m → membersOf r ≡ there h x .ahead ++ (m ∷ there h x .behind)
     unfolding membersOf there
-    changed-held m k e =
+    changed-taken m k e =
         ap (λ (l : Links). map (memberAt r) (slotsOf l)) k
         ∙ ap (map (memberAt r)) (slots-around x (slotsOf (h .links)) s)
         ∙ map-append (memberAt r) slotsAhead (x ∷ slotsBehind)
         ∙ (λ i. same-ahead i ++ (e i ∷ same-behind i))
 
     -- the routine in one slot left
-    pub left-held : slotsOf (r .links) ≡ without x (slotsOf (h .links)) → membersOf r ≡ there h x .ahead ++ there h x .behind
+    pub left-taken : slotsOf (r .links) ≡ without x (slotsOf (h .links)) → membersOf r ≡ there h x .ahead ++ there h x .behind
     unfolding membersOf there
-    left-held k =
+    left-taken k =
         ap (map (memberAt r)) (k ∙ without-around x (slotsOf (h .links)) s)
         ∙ map-append (memberAt r) slotsAhead slotsBehind
         ∙ (λ i. same-ahead i ++ same-behind i)
@@ -253,4 +253,4 @@ module _ (h r : HubState) (x : ℕ) (v : StateOk h) (s : Stands (h .links) x)
 -- the same where every other slot is known
 pub changed-slot : (h r : HubState) (x : ℕ) (m : Member) → StateOk h → Stands (h .links) x → r .links ≡ h .links → memberAt r x ≡ m →
     ((y : ℕ) → (y ≡ x → ⊥) → memberAt r y ≡ memberAt h y) → membersOf r ≡ there h x .ahead ++ (m ∷ there h x .behind)
-changed-slot h r x m v s k e o = changed-held h r x v s (λ y _ n. o y n) m k e
+changed-slot h r x m v s k e o = changed-taken h r x v s (λ y _ n. o y n) m k e

@@ -11,10 +11,11 @@ use lib.IntN.{ℤ, pos}
 use lib.ListN.{length, take, drop, getD, set}
 use lib.Seq.{getD-set-same, getD-set-other}
 use Rattle.rules_routine.specs.Choice.{if_then_else_}
-use Rattle.rules_routine.specs.Routine.{maxDevices, maxCommands, zeroCommand}
+use Rattle.rules_routine.specs.Limits.{maxDevices, maxCommands, maxSequence}
+use Rattle.rules_routine.specs.Routine.{zeroCommand}
 use Rattle.rules_routine.specs.declared.Command.{Command}
-use Rattle.rules_routine.proofs.Laws.{byTest, any-default}
-use Rattle.rules.specs.State.{maxHeld, Status, to-do, in-flight, was-done, was-skipped, was-held, was-not-held, Step}
+use Rattle.rules_routine.proofs.RoutineLaws.{byTest, any-default}
+use Rattle.rules.specs.State.{Status, to-do, in-flight, was-done, was-skipped, was-held, was-not-held, Step}
 use Rattle.rules.specs.Progress.{isToDo, isInFlight, isDone, isAnswered, countsAsNotHeld, skipsNext, flight, withStatus}
 use Rattle.rules.specs.Submit.{stepOf}
 use Rattle.rules.proofs.Lists.{byIf, t≠f}
@@ -349,7 +350,7 @@ pub restarts-past : (row : List ℤ) (x d : ℕ) → maxDevices ≤ d → restar
 unfolding restartsAt
 restarts-past row x d h = rw (le-ltb d maxDevices h)
 
-pub restarts-read : (row : List ℤ) (x d : ℕ) (z : ℤ) → length row ≡ maxHeld * maxDevices → x < maxHeld → d < maxDevices →
+pub restarts-read : (row : List ℤ) (x d : ℕ) (z : ℤ) → length row ≡ maxSequence * maxDevices → x < maxSequence → d < maxDevices →
     restartsAt row x d ≡ restartOf (getD row (x * maxDevices + d) z)
 unfolding restartsAt
 restarts-read row x d z l h i = rw (lt-ltb d maxDevices i) (ap restartOf (any-default row (x * maxDevices + d) noRestart z (omega arith)))
@@ -377,6 +378,6 @@ module _ (row : List ℤ) (y e : ℕ) (v : ℤ) (i : e < maxDevices) where
       (λ q. n (same-place x y d e (ltb-true d maxDevices t) i q))))
       (λ t. refl)
 
-  pub restarts-set : length row ≡ maxHeld * maxDevices → y < maxHeld → restartsAt (set row (y * maxDevices + e) v) y e ≡ restartOf v
+  pub restarts-set : length row ≡ maxSequence * maxDevices → y < maxSequence → restartsAt (set row (y * maxDevices + e) v) y e ≡ restartOf v
   unfolding restartsAt
   restarts-set l h = rw (lt-ltb e maxDevices i) (ap restartOf (getD-set-same row (y * maxDevices + e) v noRestart (omega arith)))

@@ -8,9 +8,9 @@ use lib.Dec.{ltb}
 use lib.IntN.{ℤ}
 use lib.ListN.{getD, length}
 use Rattle.rules_routine.specs.Choice.{if_then_else_}
-use Rattle.rules_routine.specs.Routine.{maxDevices, maxCommands}
+use Rattle.rules_routine.specs.Limits.{maxDevices, maxCommands, maxSequence, highestId}
 use Rattle.rules_routine.specs.declared.Command.{Command}
-use Rattle.rules.specs.State.{maxHeld, highestId, Status, Step, State}
+use Rattle.rules.specs.State.{Status, Step, State}
 use Rattle.rules.specs.Tables.{put}
 use Rattle.rules.specs.Answers.{Back, Answer as Told, Result}
 use Rattle.rules.specs.Progress.{isToDo, withStatus, withSteps}
@@ -23,12 +23,12 @@ use Rattle.rules.specs.Turn.{commit}
 use Rattle.rules.specs.Events.{mustLeft, stopIfAny}
 use Rattle.hub_sequence.specs.Lists.{through, past}
 use Rattle.hub_sequence.specs.Links.{none as noSlot, slotsOf, Stands, StandsOrNone}
-use Rattle.hub_answers.specs.View.{oneOf, firstOf, answerOf, backsIn, changesNothing}
+use Rattle.hub_answers.specs.View.{oneOf, eventAbortOf, answerOf, putBacksIn, changesNothing}
 use Rattle.hub_answers.specs.declared.Answer.{Answer}
 use Rattle.hub_answers.specs.declared.Answer.the-variants.{Aborted, Down, Up}
-use Rattle.hub_answers.specs.declared.First.{First}
-use Rattle.hub_answers.specs.declared.First.the-variants.{NoAbort}
-use Rattle.hub_answers.specs.declared.OneBack.the-variants.{Nothing as NoBack}
+use Rattle.hub_answers.specs.declared.EventAbort.{EventAbort}
+use Rattle.hub_answers.specs.declared.EventAbort.the-variants.{NoAbort}
+use Rattle.hub_answers.specs.declared.MaybePutBack.the-variants.{Nothing as NoBack}
 use Rattle.hub_state.specs.View.{isRestart, statusOf, memberAt, stateOf, there}
 use Rattle.hub_state.specs.Valid.{CommandsOk, RoomToPass}
 use Rattle.hub_state.specs.declared.HubState.{HubState}
@@ -66,26 +66,26 @@ joinedBehind h cs after = record {
   sequence =
       map (memberAt h) (through after noSlot (slotsOf (h .links)))
       ++ (newcomer (stateOf h .nextId) cs ∷ map pass (map (memberAt h) (past after noSlot (slotsOf (h .links)))));
-  settled = stateOf h .settled;
+  settledAt = stateOf h .settledAt;
   up = stateOf h .up;
   mark = stateOf h .mark;
 }
 
 -- What the abort of a routine puts back.
-abbrev pub backsLeft : State → Found → List Back
-backsLeft s f = putBacks s (f .it) (leave s f) 0 (s .devices)
+abbrev pub putBacksLeft : State → Found → List Back
+putBacksLeft s f = putBacks s (f .it) (leave s f) 0 (s .devices)
 
 -- The routine that an event finds halfway with its device, by its slot; there is none past the slots.
 abbrev pub halfwayIn : HubState → ℕ → Option Found
-halfwayIn h x = if ltb x maxHeld then some (there h x) else none
+halfwayIn h x = if ltb x maxSequence then some (there h x) else none
 
 -- The state that an event of d leaves of it, by its abort or by skips (document 02, item 3); and what its abort puts back.
 abbrev pub stoppedBy : ℕ → State → Option Found → State
 stoppedBy d s o = stopIfAny d s o .state
 
-abbrev pub backsStopped : ℕ → State → Option Found → List Back
-backsStopped d s none = []
-backsStopped d s (some f) = if mustLeft d (f .it) then backsLeft s f else []
+abbrev pub putBacksStopped : ℕ → State → Option Found → List Back
+putBacksStopped d s none = []
+putBacksStopped d s (some f) = if mustLeft d (f .it) then putBacksLeft s f else []
 
 -- A device becomes down.
 abbrev pub downWith : State → ℕ → State
@@ -111,15 +111,15 @@ backsBy h l Nothing = l
 backsBy h l (Stage c) = l
 backsBy h l (Commit x) = l
 backsBy h l (Join after) = l
-backsBy h l (Abort x) = backsLeft (stateOf h) (there h x)
-backsBy h l (Fail d x) = backsStopped d (downWith (stateOf h) d) (halfwayIn h x)
-backsBy h l (Restart d v x) = backsStopped d (stateOf h) (halfwayIn h x)
+backsBy h l (Abort x) = putBacksLeft (stateOf h) (there h x)
+backsBy h l (Fail d x) = putBacksStopped d (downWith (stateOf h) d) (halfwayIn h x)
+backsBy h l (Restart d v x) = putBacksStopped d (stateOf h) (halfwayIn h x)
 
 -- ---- what the appliers may rely on
 
 -- A slot, or a number past them, for none.
 abbrev pub StandsOrPast : HubState → ℕ → Type 0
-StandsOrPast h x = x < maxHeld → Stands (h .links) x
+StandsOrPast h x = x < maxSequence → Stands (h .links) x
 
 pub record StageOk (h : HubState) (c : Staged) : Type 0 where
   pub stands : Stands (h .links) (c .at)
@@ -130,7 +130,7 @@ pub record StageOk (h : HubState) (c : Staged) : Type 0 where
 pub record JoinOk (h : HubState) (cs : List Command) (after : ℕ) : Type 0 where
   pub few : length cs ≤ maxCommands
   pub devices-fit : CommandsOk cs
-  pub room : h .links .held < maxHeld
+  pub room : h .links .taken < maxSequence
   pub place : StandsOrNone (h .links) after
   pub id-left : h .«next_id» ≤ highestId
   pub room-to-pass : RoomToPass (map (memberAt h) (past after noSlot (slotsOf (h .links))))
@@ -150,11 +150,11 @@ ChangeOk h cs (Restart d v x) = (d < maxDevices) × (isRestart v ≡ true) × St
 abbrev pub plainly : Answer → Change → Decision
 plainly a c = record { first = NoAbort; answer = a; back = NoBack; change = c }
 
-abbrev pub backsOfDecision : HubState → Decision → List Back
-backsOfDecision h d = backsBy h (oneOf (d .back)) (d .change)
+abbrev pub putBacksOfDecision : HubState → Decision → List Back
+putBacksOfDecision h d = backsBy h (oneOf (d .back)) (d .change)
 
 abbrev pub toldBy : HubState → Decision → List Told
-toldBy h d = firstOf (d .first) (backsOfDecision h d) ++ (answerOf (d .answer) (backsOfDecision h d) ∷ [])
+toldBy h d = eventAbortOf (d .first) (putBacksOfDecision h d) ++ (answerOf (d .answer) (putBacksOfDecision h d) ∷ [])
 
 -- After a change the hub settles.
 abbrev pub settledUnlessNothing : Change → Result → Result
@@ -170,7 +170,7 @@ abbrev pub resultBy : HubState → List Command → Decision → Result
 resultBy h cs d = settledUnlessNothing (d .change) (record { state = appliedTo h cs (d .change); answers = toldBy h d })
 
 -- Only an event tells an abort before its answer; the answer of an abort is the abort, that of an event the event.
-abbrev pub WellTold : First → Answer → Change → Type 0
+abbrev pub WellTold : EventAbort → Answer → Change → Type 0
 WellTold f a Nothing = f ≡ NoAbort
 WellTold f a (Stage c) = f ≡ NoAbort
 WellTold f a (Commit x) = f ≡ NoAbort
@@ -184,7 +184,7 @@ WellTold f a (Restart d v x) = (i : ℕ) × (a ≡ Up d i)
 pub record Decides (h : HubState) (cs : List Command) (d : Decision) (result : Result) : Type 0 where
   pub change-ok : ChangeOk h cs (d .change)
   pub gives : resultBy h cs d ≡ result
-  pub backs-told : backsOfDecision h d ≡ backsIn (toldBy h d)
+  pub backs-told : putBacksOfDecision h d ≡ putBacksIn (toldBy h d)
   pub well-told : WellTold (d .first) (d .answer) (d .change)
   pub nothing-told : changesNothing (d .answer) ≡ true → d .change ≡ Nothing
   pub something-told : changesNothing (d .answer) ≡ false → d .change ≡ Nothing → ⊥

@@ -1,4 +1,4 @@
 pub mod View
 pub mod Valid
 pub mod Contract
-pub mod Open
+pub mod Unanswered

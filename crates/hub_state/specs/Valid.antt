@@ -4,9 +4,9 @@ use mathlib.Core.Bool.{Bool, true, false}
 use mathlib.Core.List.{List, [], _∷_}
 use Prim.Native.Nat.{ℕ, zero, suc, _<_, _≤_}
 use lib.ListN.{getD}
-use Rattle.rules_routine.specs.Routine.{maxDevices, maxCommands}
+use Rattle.rules_routine.specs.Limits.{maxDevices, maxCommands, highestId}
 use Rattle.rules_routine.specs.declared.Command.{Command}
-use Rattle.rules.specs.State.{highestId, Status, to-do, in-flight, was-done, was-skipped, was-held, was-not-held, Step, Member}
+use Rattle.rules.specs.State.{Status, to-do, in-flight, was-done, was-skipped, was-held, was-not-held, Step, Member}
 use Rattle.rules.specs.Sequence.{isRunning}
 use Rattle.rules.specs.Progress.{isAnswered}
 use Rattle.rules.specs.Tables.{Each}

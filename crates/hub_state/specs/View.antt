@@ -7,7 +7,7 @@ use lib.Dec.{eqb, ltb}
 use lib.IntN.{ℤ, pos}
 use lib.ListN.{getD}
 use Rattle.rules_routine.specs.Choice.{if_then_else_}
-use Rattle.rules_routine.specs.Routine.{maxDevices, maxCommands}
+use Rattle.rules_routine.specs.Limits.{maxDevices, maxCommands}
 use Rattle.rules.specs.State.{Status, to-do, in-flight, was-done, was-skipped, was-held, was-not-held, Step, Member, State}
 use Rattle.rules.specs.Tables.{sameSetting}
 use Rattle.rules.specs.Sequence.{Found}
@@ -127,7 +127,7 @@ stateOf h = record {
   passLimit = h .«pass_limit»;
   nextId = h .«next_id»;
   sequence = membersOf h;
-  settled = settingsOf (h .settled);
+  settledAt = settingsOf (h .«settled_at»);
   up = upOf (h .up);
   mark = marksOf (h .mark);
 }

@@ -2,8 +2,8 @@
 use crate::Change;
 use crate::Decision;
 use hub_answers::Answer;
-use hub_answers::First;
-use hub_answers::OneBack;
+use hub_answers::EventAbort;
+use hub_answers::MaybePutBack;
 use rules_routine::Refusal;
 ghost use mathlib.Core.Path.{_≡_};
 ghost use Rattle.hub_state.specs.Contract.{plainly};
@@ -13,9 +13,9 @@ pub fn plain(answer: Answer, change: Change) -> Decision
     ensures { λ r. ⌜ r ≡ plainly answer change ⌝ }
 {
     Decision {
-        first: First::NoAbort,
+        first: EventAbort::NoAbort,
         answer,
-        back: OneBack::Nothing,
+        back: MaybePutBack::Nothing,
         change,
     }
 }

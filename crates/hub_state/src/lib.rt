@@ -5,17 +5,17 @@ pub mod decisions;
 pub mod readers;
 
 use hub_answers::Answer;
-use hub_answers::First;
-use hub_answers::OneBack;
+use hub_answers::EventAbort;
+use hub_answers::MaybePutBack;
 use hub_sequence::Links;
-use hub_sequence::MAX_HELD;
-use rules_routine::MAX_COMMANDS;
-use rules_routine::MAX_DEVICES;
+use rules_routine::limits::MAX_COMMANDS;
+use rules_routine::limits::MAX_DEVICES;
+use rules_routine::limits::MAX_SEQUENCE;
 
 // The commands of a slot stand in their rows from `slot * MAX_COMMANDS` on, its restarts from `slot * MAX_DEVICES` on.
-pub const STEPS: usize = MAX_HELD * MAX_COMMANDS;
+pub const STEPS: usize = MAX_SEQUENCE * MAX_COMMANDS;
 
-pub const RESTARTS: usize = MAX_HELD * MAX_DEVICES;
+pub const RESTARTS: usize = MAX_SEQUENCE * MAX_DEVICES;
 
 // Where a command stands: its stage.
 pub const TO_DO: u8 = 0;
@@ -43,18 +43,18 @@ pub struct HubState {
     pub pass_limit: u8,
     pub next_id: u64,
     pub links: Links,
-    pub ids: [u32; MAX_HELD],
-    pub passed: [u8; MAX_HELD],
-    pub committed: [bool; MAX_HELD],
-    pub counts: [u8; MAX_HELD],
-    pub answered: [u8; MAX_HELD],
-    pub due_then: [i16; MAX_HELD],
+    pub ids: [u32; MAX_SEQUENCE],
+    pub passed: [u8; MAX_SEQUENCE],
+    pub committed: [bool; MAX_SEQUENCE],
+    pub counts: [u8; MAX_SEQUENCE],
+    pub answered: [u8; MAX_SEQUENCE],
+    pub due_then: [i16; MAX_SEQUENCE],
     pub device: [u8; STEPS],
     pub tag: [u8; STEPS],
     pub setting: [i16; STEPS],
     pub stage: [u8; STEPS],
     pub restarts: [i16; RESTARTS],
-    pub settled: [i16; MAX_DEVICES],
+    pub settled_at: [i16; MAX_DEVICES],
     pub up: [bool; MAX_DEVICES],
     pub mark: [u32; MAX_DEVICES],
 }
@@ -72,7 +72,7 @@ pub enum Holder {
 }
 
 // The first command of a routine that is not answered, by its place in the rows.
-pub enum Open {
+pub enum Unanswered {
     Nothing,
     ToDo(usize),
     InFlight(usize),
@@ -105,8 +105,8 @@ pub enum Change {
 // What a call comes to: the abort that comes first, if there is one, the answer, what the answer puts back, and the change. What an abort
 // puts back is known once it is carried out.
 pub struct Decision {
-    pub first: First,
+    pub first: EventAbort,
     pub answer: Answer,
-    pub back: OneBack,
+    pub back: MaybePutBack,
     pub change: Change,
 }

@@ -1,17 +1,17 @@
 // Readings of one device or one slot.
 use crate::HubState;
 use crate::IN_FLIGHT;
-use crate::Open;
 use crate::STEPS;
-use hub_sequence::MAX_HELD;
-use rules_routine::MAX_COMMANDS;
-use rules_routine::MAX_DEVICES;
+use crate::Unanswered;
+use rules_routine::limits::MAX_COMMANDS;
+use rules_routine::limits::MAX_DEVICES;
+use rules_routine::limits::MAX_SEQUENCE;
 ghost use mathlib.Core.Path.{_≡_};
 ghost use Rattle.rules.specs.Sequence.{lastIdOr};
 ghost use Rattle.hub_sequence.specs.Links.{Stands};
 ghost use Rattle.hub_state.specs.View.{stateOf, there};
 ghost use Rattle.hub_state.specs.Valid.{StateOk};
-ghost use Rattle.hub_state.specs.Open.{OpenIs};
+ghost use Rattle.hub_state.specs.Unanswered.{UnansweredIs};
 
 // Is a device up? One that the hub does not have stands as at the opening.
 pub fn is_up(state: HubState, device: u8) -> bool
@@ -33,7 +33,7 @@ pub fn id_ahead(state: HubState, at: usize) -> u32
     let links = state.links;
     let ahead = links.ahead;
     let before = ahead[at] as usize;
-    if before < MAX_HELD {
+    if before < MAX_SEQUENCE {
         let ids = state.ids;
         return ids[before];
     }
@@ -42,18 +42,18 @@ pub fn id_ahead(state: HubState, at: usize) -> u32
 
 // The first command that is not answered: the one in flight, or the next. The row of stages is lent, so that it is taken out of the state
 // once a call.
-pub fn open_at<'a>(state: HubState, stage: &'a [u8; STEPS], at: usize) -> Open
+pub fn unanswered_at<'a>(state: HubState, stage: &'a [u8; STEPS], at: usize) -> Unanswered
     requires { ⌜ (StateOk state) × (Stands (state .links) at) × (now stage ≡ state .stage) ⌝ }
-    ensures { λ r. ⌜ OpenIs state at r ⌝ }
+    ensures { λ r. ⌜ UnansweredIs state at r ⌝ }
 {
     let counts = state.counts;
     let answered = state.answered;
     if counts[at] <= answered[at] {
-        return Open::Nothing;
+        return Unanswered::Nothing;
     }
     let k = at * MAX_COMMANDS + (answered[at] as usize);
     if stage[k] == IN_FLIGHT {
-        return Open::InFlight(k);
+        return Unanswered::InFlight(k);
     }
-    Open::ToDo(k)
+    Unanswered::ToDo(k)
 }

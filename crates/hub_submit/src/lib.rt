@@ -1,16 +1,16 @@
 // Document 01, "Submit". Refusals: 4; then the commands in turn, each 5, 6, 7 and 22 (document 02, item 4); then 8, 9.
 use hub_answers::Answer;
 use hub_answers::Placed;
-use hub_sequence::MAX_HELD;
 use hub_sequence::NONE;
 use hub_state::Change;
 use hub_state::Decision;
 use hub_state::HubState;
 use hub_state::decisions;
-use rules_routine::HIGHEST_ID;
 use rules_routine::Refusal;
 use rules_routine::Routine;
 use rules_routine::Verdict;
+use rules_routine::limits::HIGHEST_ID;
+use rules_routine::limits::MAX_SEQUENCE;
 use rules_routine::refusals::IDS_USED_UP;
 use rules_routine::refusals::SEQUENCE_FULL;
 ghost use mathlib.Core.Path.{_≡_};
@@ -35,7 +35,7 @@ fn check(state: HubState, routine: Routine) -> Verdict
         return verdict;
     };
     let links = state.links;
-    if MAX_HELD <= links.held {
+    if MAX_SEQUENCE <= links.taken {
         return Verdict::Refused(Refusal::Number(SEQUENCE_FULL));
     }
     if HIGHEST_ID < state.next_id {

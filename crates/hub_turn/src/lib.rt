@@ -10,15 +10,15 @@ use hub_state::Holder;
 use hub_state::HubState;
 use hub_state::IN_FLIGHT;
 use hub_state::NOT_HELD;
-use hub_state::Open;
 use hub_state::Place;
 use hub_state::SKIPPED;
 use hub_state::STEPS;
 use hub_state::Staged;
+use hub_state::Unanswered;
 use hub_state::decisions;
 use hub_state::readers;
 use rules_routine::Command;
-use rules_routine::MAX_COMMANDS;
+use rules_routine::limits::MAX_COMMANDS;
 use rules_routine::refusals::NOT_RUNNING;
 use rules_routine::refusals::TURN_IN_FLIGHT;
 use rules_routine::tags::CONDITION;
@@ -27,14 +27,13 @@ ghost use mathlib.Core.Path.{_≡_};
 ghost use mathlib.Core.Bool.{not};
 ghost use mathlib.Core.List.{[]};
 ghost use Prim.Native.Nat.{_*_, _<_};
-ghost use Rattle.rules_routine.specs.Routine.{maxCommands};
-ghost use Rattle.rules.specs.State.{maxHeld};
+ghost use Rattle.rules_routine.specs.Limits.{maxCommands, maxSequence};
 ghost use Rattle.rules.specs.Turn.{proceedUp, proceed, turnOf, turnNext};
 ghost use Rattle.rules.specs.Progress.{begun as hasBegun, next};
 ghost use Rattle.hub_sequence.specs.Links.{Stands};
 ghost use Rattle.hub_state.specs.View.{stepsAt, stateOf, there, memberAt};
 ghost use Rattle.hub_state.specs.Valid.{StateOk};
-ghost use Rattle.hub_state.specs.Open.{commandAt, OpenToDo};
+ghost use Rattle.hub_state.specs.Unanswered.{commandAt, NextToDo};
 ghost use Rattle.hub_state.specs.Contract.{Decides};
 ghost use Rattle.hub_turn.specs.Contract.{skippedAt};
 
@@ -56,7 +55,7 @@ fn staged(at: usize, stage: u8, due_then: i16, begun: bool, device: u8, id: u32)
 
 // Is the command at k one that the condition before it skips? Its routine's commands stand from `from` on.
 fn is_skipped<'a>(tag: &'a [u8; STEPS], stage: &'a [u8; STEPS], from: usize, k: usize) -> bool
-    requires { ⌜ k < maxHeld * maxCommands ⌝ }
+    requires { ⌜ k < maxSequence * maxCommands ⌝ }
     ensures { λ r. ⌜ r ≡ skippedAt (now (tag .entry)) (now (stage .entry)) from k ⌝ }
 {
     if k <= from {
@@ -72,7 +71,7 @@ fn is_skipped<'a>(tag: &'a [u8; STEPS], stage: &'a [u8; STEPS], from: usize, k: 
     DONE < stage[before]
 }
 
-// The next command, its device being up: a condition is held or not held, by the due setting. "Otherwise the command is sent and is in
+// The next command, its device being up: a condition is taken or not held, by the due setting. "Otherwise the command is sent and is in
 // flight": it keeps its device's due setting of now.
 fn go_on_up<'a>(
     state: HubState,
@@ -84,7 +83,7 @@ fn go_on_up<'a>(
     id: u32,
     begun: bool,
 ) -> Decision
-    requires { ⌜ (StateOk state) × (Stands (state .links) at) × (OpenToDo state at k) × (id ≡ memberAt state at .id)
+    requires { ⌜ (StateOk state) × (Stands (state .links) at) × (NextToDo state at k) × (id ≡ memberAt state at .id)
         × (now device ≡ state .device) × (now tag ≡ state .tag) × (now stage ≡ state .stage)
         × (begun ≡ hasBegun (commandAt state k .device) (memberAt state at)) ⌝ }
     ensures { λ r. ⌜ Decides state [] r (proceedUp (stateOf state) (there state at) (commandAt state k)) ⌝ }
@@ -122,7 +121,7 @@ fn go_on<'a>(
     k: usize,
     id: u32,
 ) -> Decision
-    requires { ⌜ (StateOk state) × (Stands (state .links) at) × (OpenToDo state at k) × (id ≡ memberAt state at .id)
+    requires { ⌜ (StateOk state) × (Stands (state .links) at) × (NextToDo state at k) × (id ≡ memberAt state at .id)
         × (now device ≡ state .device) × (now tag ≡ state .tag) × (now stage ≡ state .stage) ⌝ }
     ensures { λ r. ⌜ Decides state [] r (proceed (stateOf state) (there state at) (commandAt state k)) ⌝ }
 {
@@ -155,12 +154,12 @@ fn next_turn<'a>(
     k: usize,
     id: u32,
 ) -> Decision
-    requires { ⌜ (StateOk state) × (Stands (state .links) at) × (OpenToDo state at k) × (id ≡ memberAt state at .id)
+    requires { ⌜ (StateOk state) × (Stands (state .links) at) × (NextToDo state at k) × (id ≡ memberAt state at .id)
         × (now device ≡ state .device) × (now tag ≡ state .tag) × (now stage ≡ state .stage) ⌝ }
     ensures { λ r. ⌜ Decides state [] r (turnNext (stateOf state) (there state at) (next (stepsAt state at))) ⌝ }
 {
-    let asks = tag[k] == CONDITION;
-    let holder = hub_search::first_holder(state, device, stage, at, device[k], asks);
+    let condition = tag[k] == CONDITION;
+    let holder = hub_search::first_holder(state, device, stage, at, device[k], condition);
     let Holder::Routine(other) = holder else {
         return go_on(state, device, tag, stage, at, k, id);
     };
@@ -177,11 +176,11 @@ pub fn decide(state: HubState, id: u32) -> Decision
     };
     let stage = state.stage;
     let tag = state.tag;
-    let open = readers::open_at(state, &stage, at);
+    let open = readers::unanswered_at(state, &stage, at);
     match open {
-        Open::Nothing => decisions::plain(Answer::Committed(id), Change::Commit(at)),
-        Open::InFlight(_) => decisions::refused(TURN_IN_FLIGHT),
-        Open::ToDo(k) => {
+        Unanswered::Nothing => decisions::plain(Answer::Committed(id), Change::Commit(at)),
+        Unanswered::InFlight(_) => decisions::refused(TURN_IN_FLIGHT),
+        Unanswered::ToDo(k) => {
             let device = state.device;
             next_turn(state, &device, &tag, &stage, at, k, id)
         }

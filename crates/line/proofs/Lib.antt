@@ -1,3 +1,3 @@
-pub mod Laws
+pub mod LineLaws
 pub mod Told
 pub mod Loops

@@ -17,7 +17,7 @@ use mir.Facts.{toZ-pos}
 use lib.ListN.{length, take, drop, getD, length-append, length-drop, drop-of-length-le}
 use lib.Seq.{sets, sets-eq, length-sets, drop-cons, drop-drop, length-take-le}
 use Rattle.rules_routine.specs.Choice.{if_then_else_}
-use Rattle.rules_routine.proofs.Laws.{byTest}
+use Rattle.rules_routine.proofs.RoutineLaws.{byTest}
 use Rattle.rules.specs.State.{State}
 use Rattle.rules.specs.Rounds.{times}
 use Rattle.hub_state.specs.View.{stateOf}
@@ -29,13 +29,13 @@ use Rattle.line_rules.specs.Pieces.{piecesFrom, pieces, reach, withoutEmptyLast
 use Rattle.line_rules.specs.Reading.{Line as Said, readLine}
 use Rattle.line_rules.specs.Printing.{asLine, deviceText, deviceLines}
 use Rattle.line_rules.specs.Program.{Printed, before, steps, endText, runFrom, lengthOr21, bufferWith, hubWith}
-use Rattle.line_rules.proofs.Laws.{reach-within, lines-first, lines-none}
+use Rattle.line_rules.proofs.LineLaws.{reach-within, lines-first, lines-none}
 use Rattle.line_print.specs.Put.{maxText, Put, PutShort}
-use Rattle.line_print.proofs.Laws.{put-none, put-then}
+use Rattle.line_print.proofs.PutLaws.{put-none, put-then}
 use Rattle.line.specs.View.{hubIn}
 use Rattle.line.specs.Contract.{maxEnd, Wrote, Ample, RunsLines, Measures}
 use Rattle.line.specs.declared.running.Lines.{Lines}
-use Rattle.line.proofs.Laws.{Does}
+use Rattle.line.proofs.LineLaws.{Does}
 use Rattle.line.proofs.Told.{same-room, end-is, stands-there}
 
 -- ---- lines in turn

@@ -11,23 +11,23 @@ use lib.ListN.{length, take, drop}
 use lib.Seq.{sets-eq, length-sets, take-at}
 use Rattle.rules.specs.Answers.{Back, Answer as Said, aborted}
 use Rattle.rules.proofs.Lists.{t≠f}
-use Rattle.hub_answers.specs.View.{backsOf, oneOf, firstOf, answerOf, answersOf, changesNothing}
+use Rattle.hub_answers.specs.View.{putBacksOf, oneOf, eventAbortOf, answerOf, answersOf, changesNothing}
 use Rattle.hub_answers.specs.declared.Answer.{Answer}
 use Rattle.hub_answers.specs.declared.Answer.the-variants.{Refused, Placed, Wait, Sent, Done, Skipped, Committed, Aborted, Down, Up}
 use Rattle.hub_answers.specs.declared.Answer.the-variants.{Limited}
 use Rattle.hub_answers.specs.declared.Answer.the-variants.{Held, NotHeld}
-use Rattle.hub_answers.specs.declared.First.{First}
-use Rattle.hub_answers.specs.declared.First.the-variants.{NoAbort, Abort as AbortFirst}
+use Rattle.hub_answers.specs.declared.EventAbort.{EventAbort}
+use Rattle.hub_answers.specs.declared.EventAbort.the-variants.{NoAbort, Abort as AbortFirst}
 use Rattle.hub_answers.specs.declared.PutBacks.{PutBacks}
 use Rattle.hub_answers.proofs.Answer.{the-type as answer-type}
-use Rattle.hub_state.specs.Contract.{backsBy, backsOfDecision, toldBy, WellTold}
+use Rattle.hub_state.specs.Contract.{backsBy, putBacksOfDecision, toldBy, WellTold}
 use Rattle.hub_state.specs.declared.HubState.{HubState}
 use Rattle.hub_state.specs.declared.Change.{Change}
 use Rattle.hub_state.specs.declared.Change.the-variants.{Nothing, Stage, Commit, Join, Abort, Fail, Restart}
 use Rattle.hub_state.specs.declared.Decision.{Decision}
 use Rattle.line_rules.specs.Printing.{asLine, answerText, answersText}
 use Rattle.line_print.specs.Put.{halfText, maxText, Put, PutShort}
-use Rattle.line_print.proofs.Laws.{short-then, within, as-text, answers-one, answers-append}
+use Rattle.line_print.proofs.PutLaws.{short-then, within, as-text, answers-one, answers-append}
 use Rattle.line.specs.Contract.{isAbort, BacksOnce}
 
 -- ---- a text in a buffer in which it fits
@@ -83,52 +83,52 @@ changes (Held i) h k = refl
 changes (NotHeld i) h k = refl
 
 -- one that is no abort
-pub no-abort : (a : Answer) {f : First} → f ≡ NoAbort → OneOf notAborted (tagOf answer-type a) → isAbort f a ≡ false
-no-abort (Refused x) e h = ap (λ (f : First). isAbort f (Refused x)) e
-no-abort (Placed x) e h = ap (λ (f : First). isAbort f (Placed x)) e
-no-abort (Wait i j) e h = ap (λ (f : First). isAbort f (Wait i j)) e
-no-abort (Sent x) e h = ap (λ (f : First). isAbort f (Sent x)) e
-no-abort (Done i) e h = ap (λ (f : First). isAbort f (Done i)) e
-no-abort (Skipped i) e h = ap (λ (f : First). isAbort f (Skipped i)) e
-no-abort (Committed i) e h = ap (λ (f : First). isAbort f (Committed i)) e
+pub no-abort : (a : Answer) {f : EventAbort} → f ≡ NoAbort → OneOf notAborted (tagOf answer-type a) → isAbort f a ≡ false
+no-abort (Refused x) e h = ap (λ (f : EventAbort). isAbort f (Refused x)) e
+no-abort (Placed x) e h = ap (λ (f : EventAbort). isAbort f (Placed x)) e
+no-abort (Wait i j) e h = ap (λ (f : EventAbort). isAbort f (Wait i j)) e
+no-abort (Sent x) e h = ap (λ (f : EventAbort). isAbort f (Sent x)) e
+no-abort (Done i) e h = ap (λ (f : EventAbort). isAbort f (Done i)) e
+no-abort (Skipped i) e h = ap (λ (f : EventAbort). isAbort f (Skipped i)) e
+no-abort (Committed i) e h = ap (λ (f : EventAbort). isAbort f (Committed i)) e
 no-abort (Aborted i) e h = absurd (miss notAborted 7 tt h)
-no-abort (Down d i) e h = ap (λ (f : First). isAbort f (Down d i)) e
-no-abort (Up d i) e h = ap (λ (f : First). isAbort f (Up d i)) e
-no-abort (Limited k) e h = ap (λ (f : First). isAbort f (Limited k)) e
-no-abort (Held i) e h = ap (λ (f : First). isAbort f (Held i)) e
-no-abort (NotHeld i) e h = ap (λ (f : First). isAbort f (NotHeld i)) e
+no-abort (Down d i) e h = ap (λ (f : EventAbort). isAbort f (Down d i)) e
+no-abort (Up d i) e h = ap (λ (f : EventAbort). isAbort f (Up d i)) e
+no-abort (Limited k) e h = ap (λ (f : EventAbort). isAbort f (Limited k)) e
+no-abort (Held i) e h = ap (λ (f : EventAbort). isAbort f (Held i)) e
+no-abort (NotHeld i) e h = ap (λ (f : EventAbort). isAbort f (NotHeld i)) e
 
 -- ---- the answers of an abort
 
 -- there is one
-pub put-neither : {first : First} (answer : Answer) (backs : PutBacks) {P : Type 0} → first ≡ NoAbort →
-    BacksOnce first answer (backsOf backs) →
+pub put-neither : {first : EventAbort} (answer : Answer) (backs : PutBacks) {P : Type 0} → first ≡ NoAbort →
+    BacksOnce first answer (putBacksOf backs) →
     OneOf notAborted (tagOf answer-type answer) → P
 put-neither answer backs e k h =
-    let own = subst (λ (f : First). BacksOnce f answer (backsOf backs)) e k in
+    let own = subst (λ (f : EventAbort). BacksOnce f answer (putBacksOf backs)) e k in
     t≠f (ap (isAbort NoAbort) (sym (own .1)) ∙ no-abort answer refl h)
 
-module _ {first : First} (answer : Answer) (backs : PutBacks) {a b : List ℕ} {m : ℕ} where
+module _ {first : EventAbort} (answer : Answer) (backs : PutBacks) {a b : List ℕ} {m : ℕ} where
   -- the call's own
   pub put-own : (i : ℕ) → first ≡ NoAbort → answer ≡ Aborted i →
-      PutShort halfText a b 0 m (asLine (answerText (aborted i (backsOf backs)))) →
+      PutShort halfText a b 0 m (asLine (answerText (aborted i (putBacksOf backs)))) →
       PutShort maxText a b 0 m (answersText (answersOf first answer backs))
   put-own i e k p =
       as-text
-      (sym (answers-one (aborted i (backsOf backs))) ∙ (λ j. answersText (answersOf (sym e j) (sym k j) backs)))
+      (sym (answers-one (aborted i (putBacksOf backs))) ∙ (λ j. answersText (answersOf (sym e j) (sym k j) backs)))
       (within (omega arith) p)
 
   -- one before the answer
-  pub put-both : {c : List ℕ} {end : ℕ} (i : ℕ) → first ≡ AbortFirst i → BacksOnce first answer (backsOf backs) →
-      PutShort halfText a b 0 m (asLine (answerText (aborted i (backsOf backs)))) →
+  pub put-both : {c : List ℕ} {end : ℕ} (i : ℕ) → first ≡ AbortFirst i → BacksOnce first answer (putBacksOf backs) →
+      PutShort halfText a b 0 m (asLine (answerText (aborted i (putBacksOf backs)))) →
       PutShort halfText b c m end (asLine (answerText (answerOf answer []))) →
       PutShort maxText a c 0 end (answersText (answersOf first answer backs))
   put-both i e k p q =
-      let l = backsOf backs in
-      let once = subst (λ (f : First). BacksOnce f answer l) e k in
+      let l = putBacksOf backs in
+      let once = subst (λ (f : EventAbort). BacksOnce f answer l) e k in
       as-text
       (sym
-      (ap (λ (f : First). answersText (answersOf f answer backs)) e
+      (ap (λ (f : EventAbort). answersText (answersOf f answer backs)) e
       ∙ answers-append (aborted i l ∷ []) (answerOf answer l ∷ [])
       ∙ (λ j. answers-one (aborted i l) j ++ answers-one (sym once j) j)))
       (short-then p q)
@@ -136,7 +136,7 @@ module _ {first : First} (answer : Answer) (backs : PutBacks) {a b : List ℕ} {
 -- ---- the answers of a decision
 
 -- where a routine aborts, what is put back stands beside that alone
-once-plain : (f : First) (a : Answer) (l : List Back) → f ≡ NoAbort → isAbort f a ≡ true → BacksOnce f a l
+once-plain : (f : EventAbort) (a : Answer) (l : List Back) → f ≡ NoAbort → isAbort f a ≡ true → BacksOnce f a l
 once-plain (AbortFirst i) a l e t = let z : _≡_ {A = ℕ} 0 1 = cc in absurd (omega arith)
 once-plain NoAbort (Refused x) l e t = t≠f (sym t)
 once-plain NoAbort (Placed x) l e t = t≠f (sym t)
@@ -153,31 +153,31 @@ once-plain NoAbort (Held i) l e t = t≠f (sym t)
 once-plain NoAbort (NotHeld i) l e t = t≠f (sym t)
 
 -- the answer of an event puts nothing back
-once-event : (f : First) (a : Answer) (l : List Back) → isAbort NoAbort a ≡ false → answerOf a [] ≡ answerOf a l → isAbort f a ≡ true →
+once-event : (f : EventAbort) (a : Answer) (l : List Back) → isAbort NoAbort a ≡ false → answerOf a [] ≡ answerOf a l → isAbort f a ≡ true →
     BacksOnce f a l
 once-event NoAbort a l n e t = t≠f (sym t ∙ n)
 once-event (AbortFirst i) a l n e t = e
 
-no-backs : {a : Answer} (x : Answer) (l m : List Back) → a ≡ x → answerOf x l ≡ answerOf x m → answerOf a l ≡ answerOf a m
-no-backs x l m e k = subst (λ (y : Answer). answerOf y l ≡ answerOf y m) (sym e) k
+no-put-backs : {a : Answer} (x : Answer) (l m : List Back) → a ≡ x → answerOf x l ≡ answerOf x m → answerOf a l ≡ answerOf a m
+no-put-backs x l m e k = subst (λ (y : Answer). answerOf y l ≡ answerOf y m) (sym e) k
 
-pub backs-once : (f : First) (a : Answer) (c : Change) (l : List Back) → WellTold f a c → isAbort f a ≡ true → BacksOnce f a l
+pub backs-once : (f : EventAbort) (a : Answer) (c : Change) (l : List Back) → WellTold f a c → isAbort f a ≡ true → BacksOnce f a l
 backs-once f a Nothing l w t = once-plain f a l w t
 backs-once f a (Stage c) l w t = once-plain f a l w t
 backs-once f a (Commit x) l w t = once-plain f a l w t
 backs-once f a (Join after) l w t = once-plain f a l w t
 backs-once f a (Abort x) l w t = once-plain f a l (w .0) t
-backs-once f a (Fail d x) l w t = once-event f a l (ap (isAbort NoAbort) (w .1)) (no-backs (Down d (w .0)) [] l (w .1) refl) t
-backs-once f a (Restart d v x) l w t = once-event f a l (ap (isAbort NoAbort) (w .1)) (no-backs (Up d (w .0)) [] l (w .1) refl) t
+backs-once f a (Fail d x) l w t = once-event f a l (ap (isAbort NoAbort) (w .1)) (no-put-backs (Down d (w .0)) [] l (w .1) refl) t
+backs-once f a (Restart d v x) l w t = once-event f a l (ap (isAbort NoAbort) (w .1)) (no-put-backs (Up d (w .0)) [] l (w .1) refl) t
 
 -- no abort: one answer, with what the decision has
-told-plain : (f : First) (a : Answer) (l m : List Back) → isAbort f a ≡ false → answerOf a m ≡ answerOf a l →
-    firstOf f m ++ (answerOf a m ∷ []) ≡ answerOf a l ∷ []
+told-plain : (f : EventAbort) (a : Answer) (l m : List Back) → isAbort f a ≡ false → answerOf a m ≡ answerOf a l →
+    eventAbortOf f m ++ (answerOf a m ∷ []) ≡ answerOf a l ∷ []
 told-plain NoAbort a l m t e = ap (λ (x : Said). x ∷ []) e
 told-plain (AbortFirst i) a l m t e = t≠f t
 
-told-one : (h : HubState) (f : First) (a : Answer) (c : Change) (l : List Back) → WellTold f a c → isAbort f a ≡ false →
-    firstOf f (backsBy h l c) ++ (answerOf a (backsBy h l c) ∷ []) ≡ answerOf a l ∷ []
+told-one : (h : HubState) (f : EventAbort) (a : Answer) (c : Change) (l : List Back) → WellTold f a c → isAbort f a ≡ false →
+    eventAbortOf f (backsBy h l c) ++ (answerOf a (backsBy h l c) ∷ []) ≡ answerOf a l ∷ []
 told-one h f a Nothing l w t = told-plain f a l l t refl
 told-one h f a (Stage c) l w t = told-plain f a l l t refl
 told-one h f a (Commit x) l w t = told-plain f a l l t refl
@@ -187,10 +187,10 @@ told-one h f a (Abort x) l w t =
     t≠f (sym yes ∙ t)
 told-one h f a (Fail d x) l w t =
     let m = backsBy h l (Fail d x) in
-    told-plain f a l m t (no-backs (Down d (w .0)) m l (w .1) refl)
+    told-plain f a l m t (no-put-backs (Down d (w .0)) m l (w .1) refl)
 told-one h f a (Restart d v x) l w t =
     let m = backsBy h l (Restart d v x) in
-    told-plain f a l m t (no-backs (Up d (w .0)) m l (w .1) refl)
+    told-plain f a l m t (no-put-backs (Up d (w .0)) m l (w .1) refl)
 
 pub put-told : (h : HubState) (d : Decision) {a b : List ℕ} {end : ℕ} → WellTold (d .first) (d .answer) (d .change) →
     isAbort (d .first) (d .answer) ≡ false →
@@ -203,7 +203,7 @@ put-told h d w t p =
     (within (omega arith) p)
 
 -- an abort, with what it puts back
-pub put-left : (h : HubState) (d : Decision) (backs : PutBacks) {a b : List ℕ} {end : ℕ} → backsOf backs ≡ backsOfDecision h d →
+pub put-left : (h : HubState) (d : Decision) (backs : PutBacks) {a b : List ℕ} {end : ℕ} → putBacksOf backs ≡ putBacksOfDecision h d →
     PutShort maxText a b 0 end (answersText (answersOf (d .first) (d .answer) backs)) →
     PutShort maxText a b 0 end (answersText (toldBy h d))
-put-left h d backs e p = as-text (ap (λ (l : List Back). answersText (firstOf (d .first) l ++ (answerOf (d .answer) l ∷ []))) e) p
+put-left h d backs e p = as-text (ap (λ (l : List Back). answersText (eventAbortOf (d .first) l ++ (answerOf (d .answer) l ∷ []))) e) p

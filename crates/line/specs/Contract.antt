@@ -6,7 +6,7 @@ use mathlib.Core.Option.{none}
 use Prim.Native.Nat.{ℕ, suc, _+_, _-_, _*_, _<_, _≤_}
 use lib.IntN.{ℤ}
 use lib.ListN.{length, take, drop}
-use Rattle.rules_routine.specs.Routine.{maxDevices}
+use Rattle.rules_routine.specs.Limits.{maxDevices}
 use Rattle.rules_routine.specs.declared.Verdict.{Verdict}
 use Rattle.rules_routine.specs.declared.Verdict.the-variants.{Accepted, Refused as TurnedDown}
 use Rattle.rules.specs.Answers.{Back}
@@ -15,14 +15,14 @@ use Rattle.hub_answers.specs.declared.Answer.{Answer}
 use Rattle.hub_answers.specs.declared.Answer.the-variants.{Refused, Placed, Wait, Sent, Done, Skipped, Committed, Aborted, Down, Up}
 use Rattle.hub_answers.specs.declared.Answer.the-variants.{Limited}
 use Rattle.hub_answers.specs.declared.Answer.the-variants.{Held, NotHeld}
-use Rattle.hub_answers.specs.declared.First.{First}
-use Rattle.hub_answers.specs.declared.First.the-variants.{NoAbort, Abort}
+use Rattle.hub_answers.specs.declared.EventAbort.{EventAbort}
+use Rattle.hub_answers.specs.declared.EventAbort.the-variants.{NoAbort, Abort}
 use Rattle.line_rules.specs.Text.{lineEnd, bytes}
 use Rattle.line_rules.specs.Pieces.{reach, linesOf}
 use Rattle.line_rules.specs.Reading.{readLine}
 use Rattle.line_rules.specs.Printing.{asLine, refusalText}
 use Rattle.line_rules.specs.Program.{Printed, steps, lengthOr21, bufferWith, hubWith}
-use Rattle.line_read.specs.Held.{heldLine}
+use Rattle.line_read.specs.View.{readAs}
 use Rattle.line_print.specs.Put.{maxText, maxDeviceLine, Put}
 use Rattle.hub.specs.Valid.{Valid}
 use Rattle.hub.specs.declared.Hub.{Hub}
@@ -85,8 +85,8 @@ pub record Measures (text input : List ℕ) (room long : ℕ) : Type 0 where
 -- The line that begins at a place: where it ends, what of it a hub of so many devices hears, and the routine beside that.
 pub record ReadsNext (input : List ℕ) (from devices : ℕ) (r : NextLine) : Type 0 where
   pub ends : r .end ≡ from + reach lineEnd (drop from input)
-  pub hears : r .said ≡ heardOf (heldLine (readLine (take (r .end - from) (drop from input))) .line) devices
-  pub beside : r .routine ≡ heldLine (readLine (take (r .end - from) (drop from input))) .routine
+  pub hears : r .said ≡ heardOf (readAs (readLine (take (r .end - from) (drop from input))) .line) devices
+  pub beside : r .routine ≡ readAs (readLine (take (r .end - from) (drop from input))) .routine
 
 abbrev pub isAccepted : Verdict → Bool
 isAccepted Accepted = true
@@ -98,7 +98,7 @@ openingText Accepted = asLine (bytes "opened")
 openingText (TurnedDown r) = asLine (refusalText r)
 
 -- Does a routine abort by this call: before its answer, or by the call itself?
-abbrev pub isAbort : First → Answer → Bool
+abbrev pub isAbort : EventAbort → Answer → Bool
 isAbort (Abort i) a = true
 isAbort NoAbort (Refused r) = false
 isAbort NoAbort (Placed p) = false
@@ -115,6 +115,6 @@ isAbort NoAbort (Held i) = false
 isAbort NoAbort (NotHeld i) = false
 
 -- What is put back stands beside the abort alone: behind an abort comes an answer that puts nothing back.
-abbrev pub BacksOnce : First → Answer → List Back → Type 0
+abbrev pub BacksOnce : EventAbort → Answer → List Back → Type 0
 BacksOnce (Abort i) a l = answerOf a [] ≡ answerOf a l
 BacksOnce NoAbort a l = (i : ℕ) × (a ≡ Aborted i)

@@ -1,22 +1,22 @@
 // What a line does, and the device lines at the end.
 use hub::Hub;
 use hub_answers::Answer;
-use hub_answers::First;
-use hub_answers::OneBack;
+use hub_answers::EventAbort;
+use hub_answers::MaybePutBack;
 use hub_answers::PutBacks;
 use hub_state::Decision;
 use line_print::MAX_DEVICE_LINE;
 use line_read::Call;
 use line_read::Line;
-use rules_routine::MAX_DEVICES;
 use rules_routine::Routine;
 use rules_routine::Verdict;
+use rules_routine::limits::MAX_DEVICES;
 ghost use mathlib.Core.Path.{_≡_};
 ghost use Prim.Native.Nat.{_+_, _<_, _≤_, _^_};
 ghost use lib.ListN.{length};
 ghost use Rattle.rules_routine.specs.Routine.{commandsOf};
 ghost use Rattle.rules.specs.Calls.{resultOf};
-ghost use Rattle.hub_answers.specs.View.{backsOf, answersOf, BacksOk, changesNothing};
+ghost use Rattle.hub_answers.specs.View.{putBacksOf, answersOf, PutBacksOk, changesNothing};
 ghost use Rattle.hub_state.specs.Contract.{toldBy, WellTold, Decides};
 ghost use Rattle.line_rules.specs.Printing.{answersText};
 ghost use Rattle.line_rules.specs.Program.{endText};
@@ -136,7 +136,7 @@ fn aborts(decision: Decision) -> bool
     ensures { λ r. ⌜ r ≡ isAbort (decision .first) (decision .answer) ⌝ }
 {
     let first = decision.first;
-    let First::NoAbort = first else {
+    let EventAbort::NoAbort = first else {
         return true;
     };
     let answer = decision.answer;
@@ -147,18 +147,18 @@ fn aborts(decision: Decision) -> bool
 }
 
 // The answers of a call by which a routine aborts: the abort on a line, and behind it the answer of an event.
-fn put_aborts(text: &mut [u8], first: First, answer: Answer, backs: PutBacks) -> usize
-    requires { ⌜ (maxText ≤ length (now text)) × (BacksOk backs) × (BacksOnce first answer (backsOf backs)) ⌝ }
+fn put_aborts(text: &mut [u8], first: EventAbort, answer: Answer, backs: PutBacks) -> usize
+    requires { ⌜ (maxText ≤ length (now text)) × (PutBacksOk backs) × (BacksOnce first answer (putBacksOf backs)) ⌝ }
     ensures { λ r. ⌜ PutShort maxText (now (text .entry)) (now (text .exit)) 0 r (answersText (answersOf first answer backs)) ⌝ }
 {
-    let First::Abort(id) = first else {
+    let EventAbort::Abort(id) = first else {
         let Answer::Aborted(own) = answer else {
-            return line_print::put_answer(text, 0, answer, OneBack::Nothing);
+            return line_print::put_answer(text, 0, answer, MaybePutBack::Nothing);
         };
         return line_print::put_abort(text, 0, own, backs);
     };
     let at = line_print::put_abort(text, 0, id, backs);
-    line_print::put_answer(text, at, answer, OneBack::Nothing)
+    line_print::put_answer(text, at, answer, MaybePutBack::Nothing)
 }
 
 // The answers of a call.

@@ -77,7 +77,7 @@ pub fn run_lines(hub: Hub, input: &[u8], out: &mut [u8], room: usize) -> Lines
                     ),
                 }
                 if !lines::keeps_hub(answer) && hub::settles(now) {
-                    now = hub::settled(now);
+                    now = hub::settle(now);
                 }
             }
             Line::Unread => {}

@@ -11,7 +11,8 @@ use Rattle.rules_routine.specs.Choice.{if_then_else_}
 use Rattle.rules.specs.State.{State}
 use Rattle.line_rules.specs.Text.{space}
 use Rattle.line_rules.specs.Pieces.{wordsOf}
-use Rattle.line_rules.specs.Reading.{Line, opening, calling, unread, maxLine, readLine}
+use Rattle.rules_routine.specs.Limits.{maxLine}
+use Rattle.line_rules.specs.Reading.{Line, opening, calling, unread, readLine}
 use Rattle.line_rules.specs.Program.{step, printsUnread}
 use Rattle.line_hints.specs.Why.{carriageReturn, hasByte, hasOther, firstByte, lastByte, spacesTogether, allNumbers, byNumbers}
 use Rattle.line_hints.specs.Why.{byCount}

@@ -8,8 +8,9 @@ use lib.ListN.{length, getD}
 use Rattle.rules_routine.specs.Choice.{if_then_else_}
 use Rattle.line_rules.specs.Text.{space, minus}
 use Rattle.line_rules.specs.Pieces.{wordsOf}
-use Rattle.line_rules.specs.Reading.{maxLine, isDigit, Line, opening, calling, unread, readLine}
-use Rattle.line_read.specs.Held.{letterOf}
+use Rattle.rules_routine.specs.Limits.{maxLine}
+use Rattle.line_rules.specs.Reading.{isDigit, Line, opening, calling, unread, readLine}
+use Rattle.line_read.specs.View.{letterOf}
 use Rattle.line_hints.specs.declared.Hint.{Hint}
 use Rattle.line_hints.specs.declared.Hint.the-variants.{Nothing, TooLong, Empty, CarriageReturn, OtherByte, SpaceAtEnd, SpaceAtStart}
 use Rattle.line_hints.specs.declared.Hint.the-variants.{SpacesTogether, LowerCase, NoCall, TooFew, TooMany, NoNumber, OutsideWidth}

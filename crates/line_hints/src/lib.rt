@@ -4,8 +4,8 @@ mod scans;
 mod words;
 
 use line_read::Line;
-use line_read::MAX_LINE;
 use line_rules::SPACE;
+use rules_routine::limits::MAX_LINE;
 ghost use mathlib.Core.Path.{_≡_};
 ghost use Rattle.line_rules.specs.Pieces.{wordsOf};
 ghost use Rattle.line_hints.specs.Why.{byWords, why as whyOf, hintOf};

@@ -1,4 +1,4 @@
-pub mod Laws
+pub mod PartLaws
 pub mod Loops
 pub mod Steps
 pub mod Theorem

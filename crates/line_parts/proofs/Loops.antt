@@ -11,13 +11,13 @@ use lib.Dec.{ltb}
 use lib.ListN.{length, take, drop, getD, set, length-take, length-drop, take-append-drop}
 use lib.Seq.{length-take-le, take-all, take-nil, drop-length, take-suc, drop-cons}
 use lib.Seq.{drop-set-lt, take-suc-set, getD-drop, take-take, drop-drop}
-use Rattle.rules_routine.proofs.Laws.{byTest}
+use Rattle.rules_routine.proofs.RoutineLaws.{byTest}
 use Rattle.line_rules.specs.Text.{lineEnd}
 use Rattle.line_rules.specs.Pieces.{reach}
-use Rattle.line_rules.specs.Reading.{maxLine}
+use Rattle.rules_routine.specs.Limits.{maxLine}
 use Rattle.line_rules.specs.Claims.{cut}
 use Rattle.line_parts.specs.Parts.{wholeLines}
-use Rattle.line_parts.proofs.Laws.{NoEnd, whole-none, parted-so}
+use Rattle.line_parts.proofs.PartLaws.{NoEnd, whole-none, parted-so}
 
 -- ---- the search for the last byte 10
 
@@ -96,7 +96,7 @@ take-least a b l =
     let m : a ≡ min b a = omega arith in
     take-take a b l h ∙ ap (λ (k : ℕ). take k l) m)
 
--- all that are held
+-- all that are pending
 pub all-moved : (now first : List ℕ) (from filled kept i : ℕ) → kept ≡ min (filled - from) (suc maxLine) → i ≡ kept →
     take i now ≡ take i (drop from first) → take kept now ≡ cut (drop from (take filled first))
 all-moved now first from filled kept i least all moved =

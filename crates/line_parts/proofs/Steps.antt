@@ -14,15 +14,15 @@ use mir.Syntax.{w64}
 use mir.Val.{Fits}
 use Rattle.rules.specs.State.{State}
 use Rattle.line_rules.specs.Pieces.{linesOf}
-use Rattle.line_rules.specs.Reading.{maxLine}
+use Rattle.rules_routine.specs.Limits.{maxLine}
 use Rattle.line_rules.specs.Program.{Printed, before, steps, runFrom, lengthOr21, bufferWith, hubWith}
 use Rattle.line_rules.specs.Claims.{cut}
 use Rattle.hub.specs.declared.Hub.{Hub}
 use Rattle.line.specs.View.{hubIn}
 use Rattle.line.specs.Contract.{Ample, Runs}
-use Rattle.line_parts.specs.Parts.{unended, wholeLines, after, printedAfter, heldAfter}
-use Rattle.line_parts.specs.Contract.{roomFor, Holds, pieceOf, TakesPiece, TakesEnd}
-use Rattle.line_parts.proofs.Laws.{whole-first, unended-others, whole-within, after-more, held-more, whole-text, lines-few}
+use Rattle.line_parts.specs.Parts.{unended, wholeLines, after, printedAfter, pendingAfter}
+use Rattle.line_parts.specs.Contract.{roomFor, Holds, partOf, TakesPart, TakesEnd}
+use Rattle.line_parts.proofs.PartLaws.{whole-first, unended-others, whole-within, after-more, pending-more, whole-text, lines-few}
 
 -- ---- what is written into ample room
 
@@ -55,40 +55,40 @@ module _ {p : Printed} {input : List ℕ} {h next : Hub} {out out′ : List ℕ}
 
 -- ---- a piece
 
-module _ (h : Hub) (held got : ℕ) (input : List ℕ) where
-  -- the held bytes and the piece
+module _ (h : Hub) (pending got : ℕ) (input : List ℕ) where
+  -- the pending bytes and the piece
   abbrev pub filled : List ℕ
-  filled = take (held + got) input
+  filled = take (pending + got) input
 
   abbrev piece : List ℕ
-  piece = pieceOf held got input
+  piece = partOf pending got input
 
   -- what its whole lines leave and print
   abbrev pub ran : Printed
   ran = steps (hubIn h) (linesOf (wholeLines filled))
 
-  pub whole-near : length (wholeLines filled) ≤ held + got
-  whole-near = omega (arith, whole-within filled, length-take (held + got) input)
+  pub whole-near : length (wholeLines filled) ≤ pending + got
+  whole-near = omega (arith, whole-within filled, length-take (pending + got) input)
 
   pub whole-taken : take (length (wholeLines filled)) input ≡ wholeLines filled
-  whole-taken = sym (take-take (length (wholeLines filled)) (held + got) input whole-near) ∙ whole-first filled
+  whole-taken = sym (take-take (length (wholeLines filled)) (pending + got) input whole-near) ∙ whole-first filled
 
-  module _ (read : List ℕ) (k : Holds read h held input) where
-    filled-is : filled ≡ heldAfter read ++ piece
-    filled-is = take-add held got input ∙ ap (λ (l : List ℕ). l ++ piece) (k .bytes)
+  module _ (read : List ℕ) (k : Holds read h pending input) where
+    filled-is : filled ≡ pendingAfter read ++ piece
+    filled-is = take-add pending got input ∙ ap (λ (l : List ℕ). l ++ piece) (k .bytes)
 
     after-is : after (read ++ piece) ≡ before (printedAfter read) ran
     after-is =
         after-more read piece
         ∙ sym (ap₂ (λ (g : Option State) (l : List ℕ). before (printedAfter read) (steps g (linesOf (wholeLines l)))) (k .hub) filled-is)
 
-    held-is : heldAfter (read ++ piece) ≡ cut (unended filled)
-    held-is = held-more read piece ∙ sym (ap (λ (l : List ℕ). cut (unended l)) filled-is)
+    pending-is : pendingAfter (read ++ piece) ≡ cut (unended filled)
+    pending-is = pending-more read piece ∙ sym (ap (λ (l : List ℕ). cut (unended l)) filled-is)
 
   module _ {out out′ input′ : List ℕ} {next : Hub} {result : ℤ} (r : Runs ran (wholeLines filled) h next out out′ result)
       (room : Ample (wholeLines filled) (length out)) (kept : ℕ) (within : kept ≤ length input′)
       (keeps : take kept input′ ≡ cut (drop (length (wholeLines filled)) filled)) where
-    pub takes-piece : TakesPiece h held got input input′ out′ (record { hub = next; held = kept; length = length (ran .text) })
+    pub takes-piece : TakesPart h pending got input input′ out′ (record { hub = next; pending = kept; length = length (ran .text) })
     takes-piece = record {
       valid = r .wrote .valid;
       short =
@@ -97,7 +97,7 @@ module _ (h : Hub) (held got : ℕ) (input : List ℕ) where
       within = text-within r room;
       holds = λ read k. record {
         hub = hub-written r room ∙ sym (ap (λ (p : Printed). p .hub) (after-is read k));
-        bytes = keeps ∙ ap cut (unended-others filled) ∙ sym (held-is read k);
+        bytes = keeps ∙ ap cut (unended-others filled) ∙ sym (pending-is read k);
       };
       prints = λ read k.
           ap (λ (p : Printed). p .text) (after-is read k) ∙ sym (ap (λ (t : List ℕ). printedAfter read ++ t) (text-written r room));
@@ -105,10 +105,10 @@ module _ (h : Hub) (held got : ℕ) (input : List ℕ) where
 
 -- ---- the end
 
-module _ (h : Hub) (held : ℕ) (input : List ℕ) {out out′ : List ℕ} {next : Hub} {result : ℤ}
-    (r : Runs (runFrom (hubIn h) (take held input)) (take held input) h next out out′ result)
-    (room : Ample (take held input) (length out)) where
-  pub takes-end : TakesEnd h held input out′ (length (runFrom (hubIn h) (take held input) .text))
+module _ (h : Hub) (pending : ℕ) (input : List ℕ) {out out′ : List ℕ} {next : Hub} {result : ℤ}
+    (r : Runs (runFrom (hubIn h) (take pending input)) (take pending input) h next out out′ result)
+    (room : Ample (take pending input) (length out)) where
+  pub takes-end : TakesEnd h pending input out′ (length (runFrom (hubIn h) (take pending input) .text))
   takes-end = record {
     within = text-within r room;
     prints = λ read k.

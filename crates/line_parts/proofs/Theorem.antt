@@ -11,22 +11,22 @@ use Rattle.hub.specs.Valid.{Valid}
 use Rattle.hub.specs.declared.Hub.{Hub}
 use Rattle.line.specs.View.{hubIn}
 use Rattle.line_parts.specs.declared.Step.{Step}
-use Rattle.line_parts.specs.Parts.{unendedFrom, unended, wholeLines, after, hubAfter, printedAfter, heldAfter}
-use Rattle.line_parts.specs.Contract.{Holds, TakesPiece, TakesEnd, Taken, start, next, Reached, Adds, by-piece, by-end}
+use Rattle.line_parts.specs.Parts.{unendedFrom, unended, wholeLines, after, hubAfter, printedAfter, pendingAfter}
+use Rattle.line_parts.specs.Contract.{Holds, TakesPart, TakesEnd, Taken, start, next, Reached, Adds, by-part, by-end}
 use Rattle.line_parts.specs.Claims.{PrintsTheWhole}
 
 taken-holds : {read text : List ℕ} {h : Hub} {bytes : List ℕ} → Taken read text h bytes →
-    (hubIn h ≡ hubAfter read) × (bytes ≡ heldAfter read) × (text ≡ printedAfter read)
+    (hubIn h ≡ hubAfter read) × (bytes ≡ pendingAfter read) × (text ≡ printedAfter read)
 unfolding unendedFrom unended wholeLines after piecesFrom pieces withoutEmptyLast linesOf steps
 taken-holds (start e) = (e, refl, refl)
-taken-holds (next {read = read} {held = held} {input = input} {out′ = out′} {s = s} t p) =
+taken-holds (next {read = read} {pending = pending} {input = input} {out′ = out′} {s = s} t p) =
     let k = taken-holds t in
-    let is : Holds read _ held input = record { hub = k .0; bytes = k .1 } in
+    let is : Holds read _ pending input = record { hub = k .0; bytes = k .1 } in
     let then = p .holds read is in
     (then .hub, then .bytes, ap (λ (l : List ℕ). l ++ take (s .length) out′) (k .2) ∙ sym (p .prints read is))
 
 pub prints-the-whole : PrintsTheWhole
-prints-the-whole read text h held input out′ long t e =
+prints-the-whole read text h pending input out′ long t e =
     let k = taken-holds t in
     e .prints read (record { hub = k .0; bytes = k .1 }) ∙ sym (ap (λ (l : List ℕ). l ++ take long out′) (k .2))
 
@@ -35,9 +35,9 @@ prints-the-whole read text h held input out′ long t e =
 pub reached-none : {h : Hub} {input : List ℕ} → Valid h → hubIn h ≡ none → Reached h 0 input
 reached-none v e = record { read = []; text = []; taken = start e; valid = v; short = omega arith }
 
--- what is read behind the held bytes leaves them as they are
-pub reached-still : {h : Hub} {held : ℕ} {input input′ : List ℕ} → Reached h held input → take held input′ ≡ take held input →
-    Reached h held input′
+-- what is read behind the pending bytes leaves them as they are
+pub reached-still : {h : Hub} {pending : ℕ} {input input′ : List ℕ} → Reached h pending input → take pending input′ ≡ take pending input →
+    Reached h pending input′
 reached-still {h} r same = record {
   read = r .read;
   text = r .text;
@@ -47,17 +47,17 @@ reached-still {h} r same = record {
 }
 
 -- what some input read so far leaves
-reached-holds : {h : Hub} {held : ℕ} {input : List ℕ} (r : Reached h held input) → Holds (r .read) h held input
+reached-holds : {h : Hub} {pending : ℕ} {input : List ℕ} (r : Reached h pending input) → Holds (r .read) h pending input
 reached-holds r = let k = taken-holds (r .taken) in record { hub = k .0; bytes = k .1 }
 
-pub reached-more : {h : Hub} {held got : ℕ} {input input′ out′ : List ℕ} {s : Step} →
-    Reached h held input → TakesPiece h held got input input′ out′ s → Reached (s .hub) (s .held) input′
+pub reached-more : {h : Hub} {pending got : ℕ} {input input′ out′ : List ℕ} {s : Step} →
+    Reached h pending input → TakesPart h pending got input input′ out′ s → Reached (s .hub) (s .pending) input′
 reached-more r p = record { read = _; text = _; taken = next (r .taken) p; valid = p .valid; short = p .short }
 
-pub adds-piece : {h : Hub} {held got : ℕ} {input input′ out′ : List ℕ} {s : Step} →
-    Reached h held input → TakesPiece h held got input input′ out′ s → Adds (take (s .length) out′)
-adds-piece r p = by-piece (r .read) _ _ (p .prints (r .read) (reached-holds r))
+pub adds-piece : {h : Hub} {pending got : ℕ} {input input′ out′ : List ℕ} {s : Step} →
+    Reached h pending input → TakesPart h pending got input input′ out′ s → Adds (take (s .length) out′)
+adds-piece r p = by-part (r .read) _ _ (p .prints (r .read) (reached-holds r))
 
-pub adds-end : {h : Hub} {held : ℕ} {input out′ : List ℕ} {long : ℕ} → Reached h held input → TakesEnd h held input out′ long →
+pub adds-end : {h : Hub} {pending : ℕ} {input out′ : List ℕ} {long : ℕ} → Reached h pending input → TakesEnd h pending input out′ long →
     Adds (take long out′)
 adds-end r e = by-end (r .read) _ (e .prints (r .read) (reached-holds r))

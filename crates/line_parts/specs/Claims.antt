@@ -1,4 +1,4 @@
--- What is claimed of the line program over an input that comes in pieces; proved in proofs/Laws.antt and Theorem.antt. Assumes nothing.
+-- What is claimed of the line program over an input that comes in pieces; proved in proofs/PartLaws.antt and Theorem.antt. Assumes nothing.
 use mathlib.Core.Path.{_≡_}
 use mathlib.Core.List.{List, _++_}
 use Prim.Native.Nat.{ℕ}
@@ -21,5 +21,5 @@ PartedAtTheLastEnd =
 -- whole.
 abbrev pub PrintsTheWhole : Type 0
 PrintsTheWhole =
-    (read text : List ℕ) (h : Hub) (held : ℕ) (input out′ : List ℕ) (long : ℕ) →
-    Taken read text h (take held input) → TakesEnd h held input out′ long → programText read ≡ text ++ take long out′
+    (read text : List ℕ) (h : Hub) (pending : ℕ) (input out′ : List ℕ) (long : ℕ) →
+    Taken read text h (take pending input) → TakesEnd h pending input out′ long → programText read ≡ text ++ take long out′

@@ -1,5 +1,5 @@
--- The line program of an input that is still being read: what all bytes read so far print, and what is held of the line whose end has not
--- come. Assumes nothing.
+-- The line program of an input that is still being read: what all bytes read so far print, and what is pending of the line whose end has
+-- not come. Assumes nothing.
 use mathlib.Core.List.{List, [], _∷_, _++_}
 use mathlib.Core.Option.{Option, none}
 use Prim.Native.Nat.{ℕ, _-_}
@@ -12,10 +12,10 @@ use Rattle.line_rules.specs.Pieces.{linesOf}
 use Rattle.line_rules.specs.Program.{Printed, steps}
 use Rattle.line_rules.specs.Claims.{cut}
 
--- The bytes behind the last byte 10, of bytes behind those held already.
+-- The bytes behind the last byte 10, of bytes behind those pending already.
 unfoldable pub unendedFrom : List ℕ → List ℕ → List ℕ
-unendedFrom held [] = held
-unendedFrom held (b ∷ bs) = if eqb b lineEnd then unendedFrom [] bs else unendedFrom (held ++ (b ∷ [])) bs
+unendedFrom pending [] = pending
+unendedFrom pending (b ∷ bs) = if eqb b lineEnd then unendedFrom [] bs else unendedFrom (pending ++ (b ∷ [])) bs
 
 -- The line whose end has not come: the bytes behind the last byte 10.
 unfoldable pub unended : List ℕ → List ℕ
@@ -35,7 +35,7 @@ hubAfter read = after read .hub
 abbrev pub printedAfter : List ℕ → List ℕ
 printedAfter read = after read .text
 
--- What is held of the line whose end has not come: of one that is too long already, one byte more than the longest has, so that it stays
+-- What is pending of the line whose end has not come: of one that is too long already, one byte more than the longest has, so that it stays
 -- too long.
-abbrev pub heldAfter : List ℕ → List ℕ
-heldAfter read = cut (unended read)
+abbrev pub pendingAfter : List ℕ → List ℕ
+pendingAfter read = cut (unended read)

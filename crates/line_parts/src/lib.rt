@@ -4,19 +4,19 @@ pub mod pieces;
 
 use hub::Hub;
 use line_print::MAX_TEXT;
-use line_read::MAX_LINE;
+use rules_routine::limits::MAX_LINE;
 ghost use mathlib.Core.Path.{_≡_};
 ghost use Prim.Native.Nat.{_+_, _≤_};
 ghost use lib.ListN.{length};
 ghost use Rattle.hub.specs.Valid.{Valid};
-ghost use Rattle.line_parts.specs.Contract.{inputRoom, roomFor, TakesPiece, TakesEnd};
+ghost use Rattle.line_parts.specs.Contract.{inputRoom, roomFor, TakesPart, TakesEnd};
 
 // At most so many bytes are read at a time. What they print is handed out at once, so the buffer for it has room for the most that they can
 // print.
-pub const MAX_PIECE: usize = 2048;
+pub const MAX_PART: usize = 2048;
 
-// The held bytes, and a piece behind them.
-pub const INPUT_ROOM: usize = MAX_LINE + 1 + MAX_PIECE;
+// The pending bytes, and a piece behind them.
+pub const INPUT_ROOM: usize = MAX_LINE + 1 + MAX_PART;
 
 pub const OUT_ROOM: usize = MAX_TEXT * (INPUT_ROOM + 2);
 
@@ -32,19 +32,19 @@ pub fn out_buffer() -> [u8; OUT_ROOM]
     [0; OUT_ROOM]
 }
 
-// The hub after a piece, how many bytes are held of a line whose end has not come, and how long the text is that the piece prints.
+// The hub after a piece, how many bytes are pending of a line whose end has not come, and how long the text is that the piece prints.
 pub struct Step {
     pub hub: Hub,
-    pub held: usize,
+    pub pending: usize,
     pub length: usize,
 }
 
-// A piece that was read behind the held bytes: its whole lines are run, and the rest is held.
-pub fn take_piece(hub: Hub, held: usize, got: usize, input: &mut [u8], out: &mut [u8]) -> Step
-    requires { ⌜ (Valid hub) × (held + got ≤ length (now input)) × (roomFor (length (now input)) ≤ length (now out)) ⌝ }
-    ensures { λ r. ⌜ TakesPiece hub held got (now (input .entry)) (now (input .exit)) (now (out .exit)) r ⌝ }
+// A piece that was read behind the pending bytes: its whole lines are run, and the rest is pending.
+pub fn take_part(hub: Hub, pending: usize, got: usize, input: &mut [u8], out: &mut [u8]) -> Step
+    requires { ⌜ (Valid hub) × (pending + got ≤ length (now input)) × (roomFor (length (now input)) ≤ length (now out)) ⌝ }
+    ensures { λ r. ⌜ TakesPart hub pending got (now (input .entry)) (now (input .exit)) (now (out .exit)) r ⌝ }
 {
-    let filled = held + got;
+    let filled = pending + got;
     let whole = pieces::whole_length(&input[..filled]);
     let written = line::run_part(hub, &input[..whole], out);
     let next = written.hub;
@@ -52,16 +52,16 @@ pub fn take_piece(hub: Hub, held: usize, got: usize, input: &mut [u8], out: &mut
     let kept = pieces::keep(input, whole, filled);
     Step {
         hub: next,
-        held: kept,
+        pending: kept,
         length,
     }
 }
 
-// The end of the input: the held line, if there is one, and the device lines. How long their text is.
-pub fn take_end(hub: Hub, held: usize, input: &[u8], out: &mut [u8]) -> usize
-    requires { ⌜ (Valid hub) × (held ≤ length (now input)) × (roomFor (length (now input)) ≤ length (now out)) ⌝ }
-    ensures { λ r. ⌜ TakesEnd hub held (now (input .entry)) (now (out .exit)) r ⌝ }
+// The end of the input: the pending line, if there is one, and the device lines. How long their text is.
+pub fn take_end(hub: Hub, pending: usize, input: &[u8], out: &mut [u8]) -> usize
+    requires { ⌜ (Valid hub) × (pending ≤ length (now input)) × (roomFor (length (now input)) ≤ length (now out)) ⌝ }
+    ensures { λ r. ⌜ TakesEnd hub pending (now (input .entry)) (now (out .exit)) r ⌝ }
 {
-    let written = line::run_last(hub, &input[..held], out);
+    let written = line::run_last(hub, &input[..pending], out);
     written.result as usize
 }

@@ -1,6 +1,6 @@
-// Where the whole lines of some bytes end, and what is held of the line behind them.
-use line_read::MAX_LINE;
+// Where the whole lines of some bytes end, and what is pending of the line behind them.
 use line_rules::LINE_END;
+use rules_routine::limits::MAX_LINE;
 ghost use Prim.Native.Nat.{_≤_, min};
 ghost use mathlib.Core.Path.{_≡_};
 ghost use lib.ListN.{length, take, drop};
@@ -27,7 +27,7 @@ pub fn whole_length(bytes: &[u8]) -> usize
     0
 }
 
-// Moves the bytes from a place on to the front, as many as are held of a line, and says how many.
+// Moves the bytes from a place on to the front, as many as are pending of a line, and says how many.
 pub fn keep(input: &mut [u8], from: usize, filled: usize) -> usize
     requires { ⌜ (from ≤ filled) × (filled ≤ length (now input)) ⌝ }
     ensures { λ r. ⌜ (r ≤ length (now (input .exit)))

@@ -10,7 +10,7 @@ use borrow.Author.Tests.{ltb-true, ltb-false}
 use lib.Dec.{ltb}
 use lib.ListN.{length, take, drop, getD, set, length-append, take-append-drop}
 use lib.Seq.{sets, set-comm, set-out, take-suc, take-all, length-take-le, length-sets}
-use Rattle.rules_routine.proofs.Laws.{byTest, sets-append}
+use Rattle.rules_routine.proofs.RoutineLaws.{byTest, sets-append}
 use Rattle.line_rules.specs.Text.{digit0, decimal}
 use Rattle.line_rules.proofs.TextLaws.{decimal-small, decimal-large}
 

@@ -5,7 +5,7 @@ mod text;
 mod words;
 
 use hub_answers::Answer;
-use hub_answers::OneBack;
+use hub_answers::MaybePutBack;
 use hub_answers::PutBacks;
 use rules_routine::Refusal;
 ghost use mathlib.Core.Path.{_≡_};
@@ -14,7 +14,7 @@ ghost use lib.ListN.{length};
 ghost use Rattle.rules.specs.Answers.{aborted};
 ghost use Rattle.line_rules.specs.Text.{bytes};
 ghost use Rattle.line_rules.specs.Printing.{asLine, refusalText, answerText, deviceTextOf};
-ghost use Rattle.hub_answers.specs.View.{backsOf, oneOf, answerOf, BacksOk};
+ghost use Rattle.hub_answers.specs.View.{putBacksOf, oneOf, answerOf, PutBacksOk};
 ghost use Rattle.line_print.specs.Put.{halfText, maxText, maxDeviceLine, Put, PutShort};
 
 // The answers of a line are not longer: the size of the buffer that they are put into.
@@ -49,15 +49,15 @@ pub fn put_refusal(out: &mut [u8], at: usize, refusal: Refusal) -> usize
 
 // An abort, on a line of its own.
 pub fn put_abort(out: &mut [u8], at: usize, id: u32, backs: PutBacks) -> usize
-    requires { ⌜ (at + halfText ≤ length (now out)) × BacksOk backs ⌝ }
-    ensures { λ r. ⌜ PutShort halfText (now (out .entry)) (now (out .exit)) at r (asLine (answerText (aborted id (backsOf backs)))) ⌝ }
+    requires { ⌜ (at + halfText ≤ length (now out)) × PutBacksOk backs ⌝ }
+    ensures { λ r. ⌜ PutShort halfText (now (out .entry)) (now (out .exit)) at r (asLine (answerText (aborted id (putBacksOf backs)))) ⌝ }
 {
     let end = words::put_aborted(out, at, id, backs);
     text::put_end(out, end)
 }
 
 // An answer that puts back one setting at most, on a line.
-pub fn put_answer(out: &mut [u8], at: usize, answer: Answer, back: OneBack) -> usize
+pub fn put_answer(out: &mut [u8], at: usize, answer: Answer, back: MaybePutBack) -> usize
     requires { ⌜ at + halfText ≤ length (now out) ⌝ }
     ensures { λ r. ⌜ PutShort halfText (now (out .entry)) (now (out .exit)) at r (asLine (answerText (answerOf answer (oneOf back)))) ⌝ }
 {

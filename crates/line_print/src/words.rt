@@ -4,7 +4,7 @@ use crate::text::put_setting;
 use crate::text::put_two;
 use crate::text::put_word;
 use hub_answers::Answer;
-use hub_answers::OneBack;
+use hub_answers::MaybePutBack;
 use hub_answers::PutBack;
 use hub_answers::PutBacks;
 use hub_answers::Sent;
@@ -14,7 +14,7 @@ ghost use Prim.Native.Nat.{_+_, _≤_};
 ghost use lib.ListN.{length};
 ghost use Rattle.rules.specs.Answers.{send, skipped, aborted};
 ghost use Rattle.line_rules.specs.Printing.{refusalText, backList, backText, answerText};
-ghost use Rattle.hub_answers.specs.View.{backOf, backsOf, oneOf, answerOf, BacksOk};
+ghost use Rattle.hub_answers.specs.View.{backOf, putBacksOf, oneOf, answerOf, PutBacksOk};
 ghost use Rattle.line_print.specs.Put.{maxBack, maxBacks, ahead, maxAnswer, halfText, PutShort};
 
 // The word, the number, and the index if there is one; no line's end.
@@ -48,8 +48,8 @@ fn put_back(out: &mut [u8], at: usize, back: PutBack) -> usize
 
 // "`back` a count, then device and setting for each"
 fn put_backs(out: &mut [u8], at: usize, backs: PutBacks) -> usize
-    requires { ⌜ (at + maxBacks + ahead ≤ length (now out)) × BacksOk backs ⌝ }
-    ensures { λ r. ⌜ PutShort maxBacks (now (out .entry)) (now (out .exit)) at r (backText (backsOf backs)) ⌝ }
+    requires { ⌜ (at + maxBacks + ahead ≤ length (now out)) × PutBacksOk backs ⌝ }
+    ensures { λ r. ⌜ PutShort maxBacks (now (out .entry)) (now (out .exit)) at r (backText (putBacksOf backs)) ⌝ }
 {
     let count = backs.count;
     let mut to = put_one(out, at, b" back ", count as u64);
@@ -72,20 +72,20 @@ fn put_one_back(out: &mut [u8], at: usize, back: PutBack) -> usize
 }
 
 // The same of no device or one.
-fn put_at_most_one(out: &mut [u8], at: usize, back: OneBack) -> usize
+fn put_at_most_one(out: &mut [u8], at: usize, back: MaybePutBack) -> usize
     requires { ⌜ at + maxBacks + ahead ≤ length (now out) ⌝ }
     ensures { λ r. ⌜ PutShort maxBacks (now (out .entry)) (now (out .exit)) at r (backText (oneOf back)) ⌝ }
 {
     match back {
-        OneBack::Nothing => put_word(out, at, b" back 0"),
-        OneBack::One(one) => put_one_back(out, at, one),
+        MaybePutBack::Nothing => put_word(out, at, b" back 0"),
+        MaybePutBack::One(one) => put_one_back(out, at, one),
     }
 }
 
 // "`aborted 1 back 0`"
 pub fn put_aborted(out: &mut [u8], at: usize, id: u32, backs: PutBacks) -> usize
-    requires { ⌜ (at + halfText ≤ length (now out)) × BacksOk backs ⌝ }
-    ensures { λ r. ⌜ PutShort maxAnswer (now (out .entry)) (now (out .exit)) at r (answerText (aborted id (backsOf backs))) ⌝ }
+    requires { ⌜ (at + halfText ≤ length (now out)) × PutBacksOk backs ⌝ }
+    ensures { λ r. ⌜ PutShort maxAnswer (now (out .entry)) (now (out .exit)) at r (answerText (aborted id (putBacksOf backs))) ⌝ }
 {
     let named = put_one(out, at, b"aborted ", id as u64);
     put_backs(out, named, backs)
@@ -111,19 +111,19 @@ fn put_sent(out: &mut [u8], at: usize, sent: Sent) -> usize
 }
 
 // "`skipped 1` (followed by `back` in the same form where a setting was sent back)"
-fn put_skipped(out: &mut [u8], at: usize, id: u32, back: OneBack) -> usize
+fn put_skipped(out: &mut [u8], at: usize, id: u32, back: MaybePutBack) -> usize
     requires { ⌜ at + halfText ≤ length (now out) ⌝ }
     ensures { λ r. ⌜ PutShort maxAnswer (now (out .entry)) (now (out .exit)) at r (answerText (skipped id (oneOf back))) ⌝ }
 {
     let named = put_one(out, at, b"skipped ", id as u64);
     match back {
-        OneBack::Nothing => named,
-        OneBack::One(one) => put_one_back(out, named, one),
+        MaybePutBack::Nothing => named,
+        MaybePutBack::One(one) => put_one_back(out, named, one),
     }
 }
 
 // An abort that puts back one setting at most.
-fn put_short_abort(out: &mut [u8], at: usize, id: u32, back: OneBack) -> usize
+fn put_short_abort(out: &mut [u8], at: usize, id: u32, back: MaybePutBack) -> usize
     requires { ⌜ at + halfText ≤ length (now out) ⌝ }
     ensures { λ r. ⌜ PutShort maxAnswer (now (out .entry)) (now (out .exit)) at r (answerText (aborted id (oneOf back))) ⌝ }
 {
@@ -132,7 +132,7 @@ fn put_short_abort(out: &mut [u8], at: usize, id: u32, back: OneBack) -> usize
 }
 
 // An answer, without its line's end.
-pub fn put_words(out: &mut [u8], at: usize, answer: Answer, back: OneBack) -> usize
+pub fn put_words(out: &mut [u8], at: usize, answer: Answer, back: MaybePutBack) -> usize
     requires { ⌜ at + halfText ≤ length (now out) ⌝ }
     ensures { λ r. ⌜ PutShort maxAnswer (now (out .entry)) (now (out .exit)) at r (answerText (answerOf answer (oneOf back))) ⌝ }
 {

@@ -19,7 +19,8 @@ use Rattle.rules.specs.Report.{codeDone, codeFailed}
 use Rattle.rules.proofs.Lists.{byIf, t≠f}
 use Rattle.line_rules.specs.Text.{space, same}
 use Rattle.line_rules.specs.Pieces.{wordsOf}
-use Rattle.line_rules.specs.Reading.{Line as Said, opening, calling, unread, maxLine, highest8, highest32, numberUpTo, setting}
+use Rattle.rules_routine.specs.Limits.{maxLine}
+use Rattle.line_rules.specs.Reading.{Line as Said, opening, calling, unread, highest8, highest32, numberUpTo, setting}
 use Rattle.line_rules.specs.Reading.{openingWith, openingLine, commandBefore, commands, submitLine, submitWith, callWith, oneNumber}
 use Rattle.line_rules.specs.Reading.{restartWith, restartLine, lineWith, lineBy, readLine}
 use Rattle.line_read.specs.Places.{behindLetter, wordAt, wordEnd, wordsFrom, commandBehind, CommandAt}
@@ -28,12 +29,12 @@ use Rattle.line_read.specs.declared.Line.{Line}
 use Rattle.line_read.specs.declared.Line.the-variants.{Calling}
 use Rattle.line_read.specs.declared.LineRead.{LineRead}
 use Rattle.line_read.specs.declared.calls.CommandRead.{CommandRead}
-use Rattle.line_read.specs.Held.{together, letterOf, heldLine, idCallWith, idLine}
-use Rattle.line_read.proofs.Laws.{word-past, word-none, word-more, words-none, words-first, words-all, WordSays, NotFirst}
+use Rattle.line_read.specs.View.{together, letterOf, readAs, idCallWith, idLine}
+use Rattle.line_read.proofs.WordLaws.{word-past, word-none, word-more, words-none, words-first, words-all, WordSays, NotFirst}
 
 -- A line that was read, as it is held without its routine.
 abbrev pub heldAs : Said → Line
-heldAs said = heldLine said .line
+heldAs said = readAs said .line
 
 -- ---- words behind one that was read
 
@@ -212,13 +213,13 @@ one-at line from r e h k w = record { found-one = λ _. (h, k, w); found-none = 
 
 -- a submission whose commands behind those of a routine are these
 abbrev pub submitFrom : Routine → Option (List Command) → LineRead
-submitFrom r none = heldLine unread
+submitFrom r none = readAs unread
 submitFrom r (some cs) = record { line = Calling Submit; routine = together r cs }
 
-pub submit-all : (ws : List (List ℕ)) → submitFrom noRoutine (commands ws) ≡ heldLine (submitLine ws)
+pub submit-all : (ws : List (List ℕ)) → submitFrom noRoutine (commands ws) ≡ readAs (submitLine ws)
 submit-all ws = go (commands ws)
   where
-    go : (o : Option (List Command)) → submitFrom noRoutine o ≡ heldLine (submitWith o)
+    go : (o : Option (List Command)) → submitFrom noRoutine o ≡ readAs (submitWith o)
     go none = refl
     go (some cs) = refl
 
@@ -355,44 +356,44 @@ module _ (line : List ℕ) where
 
 -- ---- beside a line that submits nothing there is the empty routine
 
-open-routine : (ws : List (List ℕ)) → heldLine (openingLine ws) .routine ≡ noRoutine
+open-routine : (ws : List (List ℕ)) → readAs (openingLine ws) .routine ≡ noRoutine
 unfolding openingLine
 open-routine [] = refl
 open-routine (n ∷ []) = refl
 open-routine (n ∷ k ∷ []) = refl
 open-routine (n ∷ k ∷ first ∷ []) = go (numberUpTo highest8 n) (numberUpTo highest8 k) (numberUpTo highest32 first)
   where
-    go : (n k first : Option ℕ) → heldLine (openingWith n k first) .routine ≡ noRoutine
+    go : (n k first : Option ℕ) → readAs (openingWith n k first) .routine ≡ noRoutine
     go none k first = refl
     go (some n) none first = refl
     go (some n) (some k) none = refl
     go (some n) (some k) (some first) = refl
 open-routine (n ∷ k ∷ first ∷ w ∷ ws) = refl
 
-restart-routine : (ws : List (List ℕ)) → heldLine (restartLine ws) .routine ≡ noRoutine
+restart-routine : (ws : List (List ℕ)) → readAs (restartLine ws) .routine ≡ noRoutine
 unfolding restartLine
 restart-routine [] = refl
 restart-routine (d ∷ []) = refl
 restart-routine (d ∷ v ∷ []) = go (numberUpTo highest8 d) (setting v)
   where
-    go : (d : Option ℕ) (v : Option ℤ) → heldLine (restartWith d v) .routine ≡ noRoutine
+    go : (d : Option ℕ) (v : Option ℤ) → readAs (restartWith d v) .routine ≡ noRoutine
     go none v = refl
     go (some d) none = refl
     go (some d) (some v) = refl
 restart-routine (d ∷ v ∷ w ∷ ws) = refl
 
-one-routine : (highest : ℕ) (says : Option ℕ → Said) → ((o : Option ℕ) → heldLine (says o) .routine ≡ noRoutine) →
-    (ws : List (List ℕ)) → heldLine (oneNumber highest says ws) .routine ≡ noRoutine
+one-routine : (highest : ℕ) (says : Option ℕ → Said) → ((o : Option ℕ) → readAs (says o) .routine ≡ noRoutine) →
+    (ws : List (List ℕ)) → readAs (oneNumber highest says ws) .routine ≡ noRoutine
 unfolding oneNumber
 one-routine highest says h [] = refl
 one-routine highest says h (w ∷ []) = h (numberUpTo highest w)
 one-routine highest says h (w ∷ v ∷ ws) = refl
 
-fail-routine : (o : Option ℕ) → heldLine (callWith fails o) .routine ≡ noRoutine
+fail-routine : (o : Option ℕ) → readAs (callWith fails o) .routine ≡ noRoutine
 fail-routine none = refl
 fail-routine (some d) = refl
 
-id-routine : (letter : ℕ) (o : Option ℕ) → heldLine (idCallWith letter o) .routine ≡ noRoutine
+id-routine : (letter : ℕ) (o : Option ℕ) → readAs (idCallWith letter o) .routine ≡ noRoutine
 id-routine letter none = refl
 id-routine letter (some i) =
     byIf P (eqb letter (letterOf "N")) (λ _. refl)
@@ -400,13 +401,13 @@ id-routine letter (some i) =
     (λ _. byIf P (eqb letter (letterOf "B")) (λ _. refl) (λ _. byIf P (eqb letter (letterOf "C")) (λ _. refl) (λ _. refl))))
   where
     P : Said → Type 0
-    P said = heldLine said .routine ≡ noRoutine
+    P said = readAs said .routine ≡ noRoutine
 
-pub plain-routine : (letter : ℕ) (ws : List (List ℕ)) → letter ≢ letterOf "S" → heldLine (lineWith (letter ∷ []) ws) .routine ≡ noRoutine
+pub plain-routine : (letter : ℕ) (ws : List (List ℕ)) → letter ≢ letterOf "S" → readAs (lineWith (letter ∷ []) ws) .routine ≡ noRoutine
 plain-routine letter ws h = go (eqb letter (letterOf "O")) (eqb letter (letterOf "F")) (eqb letter (letterOf "R")) refl refl refl
   where
     routineOf : Said → Routine
-    routineOf said = heldLine said .routine
+    routineOf said = readAs said .routine
 
     go : (o f r : Bool) → eqb letter (letterOf "O") ≡ o → eqb letter (letterOf "F") ≡ f → eqb letter (letterOf "R") ≡ r →
         routineOf (lineWith (letter ∷ []) ws) ≡ noRoutine

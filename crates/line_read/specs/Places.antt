@@ -34,23 +34,23 @@ unfoldable pub wordsFrom : List ℕ → ℕ → List (List ℕ)
 wordsFrom line at = if leb at (length line) then pieces space (drop at line) else []
 
 -- A number of that word, as it is held.
-abbrev pub heldNumber : Option ℕ → ℕ → Number
-heldNumber none end = Missing
-heldNumber (some n) end = Found n end
+abbrev pub numberAs : Option ℕ → ℕ → Number
+numberAs none end = Missing
+numberAs (some n) end = Found n end
 
 -- One that was read to the end of its word: a word of no bytes is none.
 abbrev pub foundFrom : ℕ → ℕ → ℕ → Number
 foundFrom value from end = if eqb from end then Missing else Found value end
 
 unfoldable pub numberAt : ℕ → List ℕ → ℕ → Number
-numberAt highest line at = heldNumber (numberUpTo highest (wordAt line at)) (wordEnd line at)
+numberAt highest line at = numberAs (numberUpTo highest (wordAt line at)) (wordEnd line at)
 
-abbrev pub heldSetting : Option ℤ → ℕ → Setting
-heldSetting none end = SettingMissing
-heldSetting (some v) end = SettingFound v end
+abbrev pub settingAs : Option ℤ → ℕ → Setting
+settingAs none end = SettingMissing
+settingAs (some v) end = SettingFound v end
 
 unfoldable pub settingAt : List ℕ → ℕ → Setting
-settingAt line at = heldSetting (setting (wordAt line at)) (wordEnd line at)
+settingAt line at = settingAs (setting (wordAt line at)) (wordEnd line at)
 
 abbrev pub commandBehind : Command → Option (List Command) → Option (List Command)
 commandBehind c none = none

@@ -18,7 +18,7 @@ use line_rules::letters::RESTART;
 use line_rules::letters::SUBMIT;
 use line_rules::letters::TURN;
 use rules_routine::Command;
-use rules_routine::HIGHEST_ID;
+use rules_routine::limits::HIGHEST_ID;
 use rules_routine::reports::CODE_DONE;
 use rules_routine::reports::CODE_FAILED;
 ghost use mathlib.Core.Path.{_≡_};
@@ -29,7 +29,7 @@ ghost use Rattle.rules_routine.specs.Routine.{noRoutine};
 ghost use Rattle.line_rules.specs.Pieces.{wordsOf};
 ghost use Rattle.line_rules.specs.Reading.{highest8, unread as notRead, openingLine, restartLine, submitLine, callWith, oneNumber};
 ghost use Rattle.line_rules.specs.Reading.{fails, lineWith, lineBy};
-ghost use Rattle.line_read.specs.Held.{letterOf, idCall, idLine, heldLine};
+ghost use Rattle.line_read.specs.View.{letterOf, idCall, idLine, readAs};
 ghost use Rattle.line_read.specs.Places.{behindLetter, wordsFrom, CommandAt};
 
 const HIGHEST_8: u64 = 255;
@@ -45,14 +45,14 @@ fn without_routine(line: Line) -> LineRead
 }
 
 pub fn unread() -> LineRead
-    ensures { λ r. ⌜ r ≡ heldLine notRead ⌝ }
+    ensures { λ r. ⌜ r ≡ readAs notRead ⌝ }
 {
     without_routine(Line::Unread)
 }
 
 // "`O` N K first"
 fn open_line(line: &[u8]) -> Line
-    ensures { λ r. ⌜ r ≡ heldLine (openingLine (wordsFrom (now (line .entry)) behindLetter)) .line ⌝ }
+    ensures { λ r. ⌜ r ≡ readAs (openingLine (wordsFrom (now (line .entry)) behindLetter)) .line ⌝ }
 {
     let devices = number_at(line, BEHIND_LETTER, HIGHEST_8);
     let Number::Found(n, n_end) = devices else {
@@ -74,7 +74,7 @@ fn open_line(line: &[u8]) -> Line
 
 // "`R` device setting"
 fn restart_line(line: &[u8]) -> Line
-    ensures { λ r. ⌜ r ≡ heldLine (restartLine (wordsFrom (now (line .entry)) behindLetter)) .line ⌝ }
+    ensures { λ r. ⌜ r ≡ readAs (restartLine (wordsFrom (now (line .entry)) behindLetter)) .line ⌝ }
 {
     let device = number_at(line, BEHIND_LETTER, HIGHEST_8);
     let Number::Found(d, d_end) = device else {
@@ -92,7 +92,7 @@ fn restart_line(line: &[u8]) -> Line
 
 // "`F` device"
 fn fail_line(line: &[u8]) -> Line
-    ensures { λ r. ⌜ r ≡ heldLine (oneNumber highest8 (callWith fails) (wordsFrom (now (line .entry)) behindLetter)) .line ⌝ }
+    ensures { λ r. ⌜ r ≡ readAs (oneNumber highest8 (callWith fails) (wordsFrom (now (line .entry)) behindLetter)) .line ⌝ }
 {
     let device = number_at(line, BEHIND_LETTER, HIGHEST_8);
     let Number::Found(d, end) = device else {
@@ -106,7 +106,7 @@ fn fail_line(line: &[u8]) -> Line
 
 // The call of a letter that an id follows.
 fn id_call(letter: u8, id: u32) -> Line
-    ensures { λ r. ⌜ r ≡ heldLine (idCall letter id) .line ⌝ }
+    ensures { λ r. ⌜ r ≡ readAs (idCall letter id) .line ⌝ }
 {
     if letter == TURN {
         return Line::Calling(Call::Turn(id));
@@ -125,7 +125,7 @@ fn id_call(letter: u8, id: u32) -> Line
 
 // "`N` id (turn), `D` id (done), `B` id (failed), `C` id (cancel)"
 fn id_line(line: &[u8], letter: u8) -> Line
-    ensures { λ r. ⌜ r ≡ heldLine (idLine letter (wordsFrom (now (line .entry)) behindLetter)) .line ⌝ }
+    ensures { λ r. ⌜ r ≡ readAs (idLine letter (wordsFrom (now (line .entry)) behindLetter)) .line ⌝ }
 {
     let number = number_at(line, BEHIND_LETTER, HIGHEST_ID);
     let Number::Found(id, end) = number else {
@@ -189,7 +189,7 @@ fn command_at(line: &[u8], from: usize) -> CommandRead
 
 // "`S` device tag setting repeated"; "`S` alone is a routine of 0 commands".
 fn submit_line(line: &[u8]) -> LineRead
-    ensures { λ r. ⌜ r ≡ heldLine (submitLine (wordsFrom (now (line .entry)) behindLetter)) ⌝ }
+    ensures { λ r. ⌜ r ≡ readAs (submitLine (wordsFrom (now (line .entry)) behindLetter)) ⌝ }
 {
     let mut routine = rules_routine::empty();
     let mut at = BEHIND_LETTER;
@@ -211,7 +211,7 @@ fn submit_line(line: &[u8]) -> LineRead
 // The lines that hold no routine.
 fn plain_line(line: &[u8], letter: u8) -> Line
     requires { ⌜ letter ≢ letterOf "S" ⌝ }
-    ensures { λ r. ⌜ r ≡ heldLine (lineWith (letter ∷ []) (wordsFrom (now (line .entry)) behindLetter)) .line ⌝ }
+    ensures { λ r. ⌜ r ≡ readAs (lineWith (letter ∷ []) (wordsFrom (now (line .entry)) behindLetter)) .line ⌝ }
 {
     if letter == OPEN {
         return open_line(line);
@@ -227,7 +227,7 @@ fn plain_line(line: &[u8], letter: u8) -> Line
 
 // A letter alone is the first word, or there is another shape.
 pub fn by_letter(line: &[u8]) -> LineRead
-    ensures { λ r. ⌜ r ≡ heldLine (lineBy (wordsOf (now (line .entry)))) ⌝ }
+    ensures { λ r. ⌜ r ≡ readAs (lineBy (wordsOf (now (line .entry)))) ⌝ }
 {
     if line.len() == 0 {
         return unread();

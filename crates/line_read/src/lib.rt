@@ -6,17 +6,15 @@ mod pieces;
 use line_rules::LINE_END;
 use line_rules::SPACE;
 use rules_routine::Routine;
+use rules_routine::limits::MAX_LINE;
 ghost use mathlib.Core.Path.{_≡_};
 ghost use Prim.Native.Nat.{_+_};
 ghost use lib.ListN.{drop};
 ghost use Rattle.line_rules.specs.Text.{lineEnd};
 ghost use Rattle.line_rules.specs.Pieces.{reach};
 ghost use Rattle.line_rules.specs.Reading.{readLine};
-ghost use Rattle.line_read.specs.Held.{heldLine};
+ghost use Rattle.line_read.specs.View.{readAs};
 ghost use Rattle.line_read.specs.Places.{wordEnd};
-
-// Lines of up to this many bytes are read.
-pub const MAX_LINE: usize = 128;
 
 // Where the words behind a line's letter begin.
 pub const BEHIND_LETTER: usize = 2;
@@ -60,7 +58,7 @@ pub fn word_end(line: &[u8], from: usize) -> usize
 
 // What a line says. Shape and widths come before any rule.
 pub fn read_line(line: &[u8]) -> LineRead
-    ensures { λ r. ⌜ r ≡ heldLine (readLine (now (line .entry))) ⌝ }
+    ensures { λ r. ⌜ r ≡ readAs (readLine (now (line .entry))) ⌝ }
 {
     if MAX_LINE < line.len() {
         return calls::unread();

@@ -9,12 +9,12 @@ use borrow.Author.Tests.{ltb-true, ltb-false, le-leb}
 use lib.Dec.{ltb}
 use lib.ListN.{length}
 use Rattle.rules_routine.specs.Refusals.{pass-limit-out-of-range, command-count, device-not-below, not-running, event-device, refusalOf}
-use Rattle.rules_routine.specs.Routine.{maxCommands, commandCheck, commandsCheck, routineCheck}
-use Rattle.rules_routine.proofs.Laws.{check-empty, check-long, check-counted, command-device}
+use Rattle.rules_routine.specs.Limits.{maxCommands, highestPassLimit}
+use Rattle.rules_routine.specs.Routine.{commandCheck, commandsCheck, routineCheck}
+use Rattle.rules_routine.proofs.RoutineLaws.{check-empty, check-long, check-counted, command-device}
 use Rattle.rules_routine.specs.declared.Command.{Command}
 use Rattle.rules_routine.specs.declared.Refusal.{Refusal}
 use Rattle.rules_routine.specs.declared.Verdict.the-variants.{Refused}
-use Rattle.rules.specs.State.{highestPassLimit}
 use Rattle.rules.specs.Answers.{submit, turn, report, failure, restart, cancel, limit, turnedDown}
 use Rattle.rules.specs.Open.{newHub, closedWith}
 use Rattle.rules.specs.Submit.{submitCheck, submitOf}

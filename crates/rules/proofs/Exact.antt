@@ -16,7 +16,8 @@ use Rattle.rules_routine.specs.Refusals.{tag-out-of-range, condition-alone, seq
 use Rattle.rules_routine.specs.Refusals.{none-in-flight}
 use Rattle.rules_routine.specs.Refusals.{report-code-out-of-range}
 use Rattle.rules_routine.specs.Refusals.{event-device, failure-of-down, restart-of-up, restart-setting, refusalOf, refuse_when_, _andThen_}
-use Rattle.rules_routine.specs.Routine.{maxCommands, maxDevices, isCondition}
+use Rattle.rules_routine.specs.Limits.{maxCommands, maxDevices, highestPassLimit, maxSequence, highestId}
+use Rattle.rules_routine.specs.Routine.{isCondition}
 use Rattle.rules_routine.specs.Causes.{NoneOf, FirstIn, itself, OutOfRange, RoutineCause, commandCauses, routineCauses}
 use Rattle.rules_routine.specs.declared.Command.{Command}
 use Rattle.rules_routine.specs.declared.Refusal.{Refusal}
@@ -27,7 +28,7 @@ use Rattle.rules_routine.proofs.Exact.{join, exactly}
 use Rattle.rules_routine.proofs.Exact.{Covers, widened, routine-outcome}
 use Rattle.rules_routine.proofs.Exact as Made
 use Rattle.rules.specs.Tables.{put}
-use Rattle.rules.specs.State.{highestPassLimit, maxHeld, highestId, Status, to-do, in-flight, was-done, was-skipped, was-held}
+use Rattle.rules.specs.State.{Status, to-do, in-flight, was-done, was-skipped, was-held}
 use Rattle.rules.specs.State.{was-not-held}
 use Rattle.rules.specs.State.{Step, Member}
 use Rattle.rules.specs.State.{State}
@@ -256,7 +257,7 @@ exact-opening n k first =
 -- ---- submission
 
 module _ (s : State) (cs : List Command) where
-  full-said : CallCause s (submit cs) sequence-full → maxHeld ≤ length (s .sequence)
+  full-said : CallCause s (submit cs) sequence-full → maxSequence ≤ length (s .sequence)
   full-said (is-full h) = h
   full-said (routine-is-out h) = absurd (no-routine h)
     where
@@ -300,7 +301,7 @@ module _ (s : State) (cs : List Command) where
       let H = CallCause s (submit cs) in
       let R = RoutineCause (s .devices) cs in
       join H itself (widened R H itself (λ c h. routine-is-out h) routine-said (routine-outcome (s .devices) cs))
-      (λ _. join H itself (one H itself sequence-full _ (agree (at-most maxHeld (length (s .sequence))) is-full full-said))
+      (λ _. join H itself (one H itself sequence-full _ (agree (at-most maxSequence (length (s .sequence))) is-full full-said))
       (λ _. one H itself ids-used-up _ (agree (less highestId (s .nextId)) ids-are-used-up ids-said)))
 
 submit-judged : (s : State) (cs : List Command) → Judged (submitCheck s cs) s (submitOf s cs)

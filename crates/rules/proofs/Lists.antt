@@ -9,7 +9,7 @@ use borrow.Author.Tests.{eqb-true, eqb-false, eq-eqb, ne-eqb}
 use lib.Dec.{eqb}
 use lib.IntN.{ℤ, pos, negsuc}
 use Rattle.rules_routine.specs.Choice.{if_then_else_}
-use Rattle.rules_routine.proofs.Laws.{or-false, and-true}
+use Rattle.rules_routine.proofs.RoutineLaws.{or-false, and-true}
 use Rattle.rules.specs.State.{Member}
 use Rattle.rules.specs.Due.{afterMembers}
 use Rattle.rules.specs.Tables.{anyOf, Each, put, sameSetting}

@@ -10,9 +10,9 @@ use lib.Dec.{eqb}
 use lib.IntN.{pos}
 use lib.ListN.{replicate}
 use Rattle.rules_routine.specs.Choice.{if_then_else_}
-use Rattle.rules_routine.specs.Routine.{maxCommands}
+use Rattle.rules_routine.specs.Limits.{maxCommands, highestPassLimit, maxSequence}
 use Rattle.rules_routine.specs.declared.Command.{Command}
-use Rattle.rules.specs.State.{highestPassLimit, maxHeld, Member, State}
+use Rattle.rules.specs.State.{Member, State}
 use Rattle.rules.specs.Answers.{Call, submit, turn, report, limit, placed}
 use Rattle.rules.specs.Progress.{Flight, flight}
 use Rattle.rules.specs.Sequence.{isRunning}
@@ -113,10 +113,10 @@ fullRoutine = replicate maxCommands (must 0 (pos 5))
 abbrev pub crowded : Sitting
 crowded = record {
   passLimit = 2;
-  before = replicate (maxHeld - 1) (submit fullRoutine);
+  before = replicate (maxSequence - 1) (submit fullRoutine);
   commands = fullRoutine;
-  id = maxHeld;
-  follows = maxHeld - 3;
+  id = maxSequence;
+  follows = maxSequence - 3;
   newcomers = fullRoutine;
 }
 
@@ -131,7 +131,7 @@ crowded-placed = refl
 
 -- so many rounds are not enough: with `maxCommands` for `maxCommands + 1` the promise would be false
 abbrev pub tooFewRounds : ℕ
-tooFewRounds = maxCommands * (maxHeld + crowded .passLimit)
+tooFewRounds = maxCommands * (maxSequence + crowded .passLimit)
 
 -- more are promised; that it still runs after these is `needs-most` of crate `rules_promises`
 pub more-promised : tooFewRounds < enoughRounds (crowded .passLimit)
@@ -176,10 +176,10 @@ overtaken-ends = refl
 abbrev pub raised : Sitting
 raised = record {
   passLimit = 0;
-  before = replicate (maxHeld - 1) (submit fullRoutine);
+  before = replicate (maxSequence - 1) (submit fullRoutine);
   commands = fullRoutine;
-  id = maxHeld;
-  follows = maxHeld - 1;
+  id = maxSequence;
+  follows = maxSequence - 1;
   newcomers = fullRoutine;
 }
 
@@ -201,7 +201,7 @@ unfolding calcRounds
 raised-limit = refl
 
 abbrev pub roundsRaised : ℕ
-roundsRaised = maxCommands * (maxHeld + raisedTo)
+roundsRaised = maxCommands * (maxSequence + raisedTo)
 
 abbrev pub afterRaising : List Call
 afterRaising = changed raised [] raisedTo roundsRaised

@@ -38,4 +38,4 @@ settleRestarts e settled d = afterRestart (e d) (settled d)
 unfoldable pub attach : ℕ → (ℕ → Option ℤ) → State → State
 attach i e s =
     withSettled (withSequence s (if eqb i 0 then s .sequence else attachAt i e (s .sequence)))
-    (if eqb i 0 then settleRestarts e (s .settled) else s .settled)
+    (if eqb i 0 then settleRestarts e (s .settledAt) else s .settledAt)

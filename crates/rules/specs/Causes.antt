@@ -14,13 +14,13 @@ use Rattle.rules_routine.specs.Refusals.{not-running}
 use Rattle.rules_routine.specs.Refusals.{turn-in-flight, none-in-flight, report-code-out-of-range, event-device, failure-of-down}
 use Rattle.rules_routine.specs.Refusals.{restart-of-up}
 use Rattle.rules_routine.specs.Refusals.{restart-setting, no-room}
-use Rattle.rules_routine.specs.Routine.{maxDevices}
+use Rattle.rules_routine.specs.Limits.{maxDevices, highestPassLimit, maxSequence, highestId}
 use Rattle.rules_routine.specs.Causes.{NoneOf, FirstIn, Exactly, itself, OutOfRange, RoutineCause, routineCauses}
 use Rattle.rules_routine.specs.declared.Command.{Command}
 use Rattle.rules_routine.specs.declared.Refusal.{Refusal}
 use Rattle.rules_routine.specs.declared.Verdict.{Verdict}
 use Rattle.rules_routine.specs.declared.Verdict.the-variants.{Accepted, Refused}
-use Rattle.rules.specs.State.{highestPassLimit, maxHeld, highestId, in-flight, Step, Member, State}
+use Rattle.rules.specs.State.{in-flight, Step, Member, State}
 use Rattle.rules.specs.Answers.{Call, submit, turn, report, failure, restart, cancel, limit, Answer, refused}
 use Rattle.rules.specs.Due.{due}
 use Rattle.rules.specs.AllDue.{listCheck, listAfter}
@@ -67,7 +67,7 @@ pub data CallCause (s : State) : Call → Cause → Type 0 where
   -- 4 to 7 and 22, of the routine, against N
   routine-is-out : {cs : List Command} {cause : Cause} → RoutineCause (s .devices) cs cause → CallCause s (submit cs) cause
   -- 8: "16 routines in the sequence"
-  is-full : {cs : List Command} → maxHeld ≤ length (s .sequence) → CallCause s (submit cs) sequence-full
+  is-full : {cs : List Command} → maxSequence ≤ length (s .sequence) → CallCause s (submit cs) sequence-full
   -- 9: "id 4,294,967,295 already given": the next is past it
   ids-are-used-up : {cs : List Command} → highestId < s .nextId → CallCause s (submit cs) ids-used-up
   -- 10: "no running routine has this id"

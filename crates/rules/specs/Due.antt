@@ -29,4 +29,4 @@ afterMembers d (m ∷ l) v = afterMembers d l (afterMember d m v)
 
 -- Due (document 01, Abort of R): the settled part, then the sequence.
 unfoldable pub due : State → ℕ → ℤ
-due s d = afterMembers d (s .sequence) (s .settled d)
+due s d = afterMembers d (s .sequence) (s .settledAt d)

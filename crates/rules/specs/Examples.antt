@@ -220,7 +220,7 @@ hub-examples-hold = (
   ),
 )
 
--- "First id 4,294,967,295: one routine placed, the next refused (9)."
+-- "EventAbort id 4,294,967,295: one routine placed, the next refused (9)."
 abbrev pub lastIds : Example
 lastIds = record {
   devices = 1;

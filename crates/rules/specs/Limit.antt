@@ -12,7 +12,7 @@ withPassLimit s k = record {
   passLimit = k;
   nextId = s .nextId;
   sequence = s .sequence;
-  settled = s .settled;
+  settledAt = s .settledAt;
   up = s .up;
   mark = s .mark;
 }

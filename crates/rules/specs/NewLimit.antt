@@ -7,7 +7,8 @@ use Prim.Native.Nat.{ℕ, _<_, _≤_}
 use lib.IntN.{ℤ}
 use Rattle.rules_routine.specs.declared.Command.{Command}
 use Rattle.rules.specs.Tables.{Each}
-use Rattle.rules.specs.State.{highestPassLimit, Member, State}
+use Rattle.rules_routine.specs.Limits.{highestPassLimit}
+use Rattle.rules.specs.State.{Member, State}
 use Rattle.rules.specs.Answers.{Call, limit}
 use Rattle.rules.specs.Sequence.{isRunning}
 use Rattle.rules.specs.Settle.{settle}

@@ -4,12 +4,12 @@ use mathlib.Core.List.{[]}
 use Prim.Native.Nat.{ℕ}
 use lib.Dec.{ltb, eqb}
 use lib.IntN.{pos}
-use Rattle.rules_routine.specs.Routine.{maxDevices}
+use Rattle.rules_routine.specs.Limits.{maxDevices, highestPassLimit}
 use Rattle.rules_routine.specs.Refusals.{devices-out-of-range, pass-limit-out-of-range, first-id-0, refuse_when_, _andThen_}
 use Rattle.rules_routine.specs.declared.Refusal.{Refusal}
 use Rattle.rules_routine.specs.declared.Verdict.{Verdict}
 use Rattle.rules_routine.specs.declared.Verdict.the-variants.{Accepted, Refused}
-use Rattle.rules.specs.State.{highestPassLimit, State}
+use Rattle.rules.specs.State.{State}
 
 -- What an opening gives: a hub; or a refusal, and no hub is made.
 pub data Opening : Type 0 where
@@ -28,7 +28,8 @@ openCheck n k first =
 
 -- A hub just opened.
 unfoldable pub newHub : ℕ → ℕ → ℕ → State
-newHub n k first = record { devices = n; passLimit = k; nextId = first; sequence = []; settled = λ d. pos 0; up = λ d. true; mark = λ d. 0 }
+newHub n k first =
+    record { devices = n; passLimit = k; nextId = first; sequence = []; settledAt = λ d. pos 0; up = λ d. true; mark = λ d. 0 }
 
 -- No hub, where a hub has to stand: beside a refused opening, and before an accepted one. It has no devices; what calls on it come to is
 -- `StaysClosed` of `Calls.antt`.

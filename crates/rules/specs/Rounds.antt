@@ -7,10 +7,10 @@ use mathlib.Core.List.{List, [], _∷_, _++_, map}
 use Prim.Native.Nat.{ℕ, suc, _+_, _*_, _≤_}
 use lib.Dec.{eqb}
 use Rattle.rules_routine.specs.Choice.{if_then_else_}
-use Rattle.rules_routine.specs.Routine.{maxCommands}
+use Rattle.rules_routine.specs.Limits.{maxCommands, maxSequence}
 use Rattle.rules_routine.specs.declared.Command.{Command}
 use Rattle.rules.specs.Tables.{anyOf, Each}
-use Rattle.rules.specs.State.{maxHeld, State}
+use Rattle.rules.specs.State.{State}
 use Rattle.rules.specs.Answers.{Call, submit, turn, report, failure, restart, cancel, limit, Answer, refused, placed, wait, send}
 use Rattle.rules.specs.Answers.{done, skipped, held, not-held, committed, aborted}
 use Rattle.rules.specs.Answers.{down, up, limited}
@@ -116,7 +116,7 @@ pub data Schedule (k : ℕ) (start : List Told) : List Told → ℕ → Type 0 w
 
 -- "9 × (16 + K) rounds"
 abbrev pub enoughRounds : ℕ → ℕ
-enoughRounds k = (maxCommands + 1) * (maxHeld + k)
+enoughRounds k = (maxCommands + 1) * (maxSequence + k)
 
 -- The waiting promise, for every accepted opening, every list of calls, every submission then accepted, with id i, and every schedule from
 -- there: once so many rounds count, by the K in force, the routine is ended. Without a new pass limit all rounds count, and K is that of

@@ -42,7 +42,7 @@ withSequence s l = record {
   passLimit = s .passLimit;
   nextId = s .nextId;
   sequence = l;
-  settled = s .settled;
+  settledAt = s .settledAt;
   up = s .up;
   mark = s .mark;
 }
@@ -53,7 +53,7 @@ withSettled s b = record {
   passLimit = s .passLimit;
   nextId = s .nextId;
   sequence = s .sequence;
-  settled = b;
+  settledAt = b;
   up = s .up;
   mark = s .mark;
 }
@@ -64,7 +64,7 @@ withUp s u = record {
   passLimit = s .passLimit;
   nextId = s .nextId;
   sequence = s .sequence;
-  settled = s .settled;
+  settledAt = s .settledAt;
   up = u;
   mark = s .mark;
 }
@@ -75,7 +75,7 @@ withMark s m = record {
   passLimit = s .passLimit;
   nextId = s .nextId;
   sequence = s .sequence;
-  settled = s .settled;
+  settledAt = s .settledAt;
   up = s .up;
   mark = m;
 }

@@ -8,7 +8,7 @@ use Rattle.rules.specs.Due.{afterMember}
 
 -- "it joins the settled part with its attached events, and marks equal to it become 0"
 unfoldable pub joinSettled : State → Member → State
-joinSettled s m = withMark (withSettled s (λ d. afterMember d m (s .settled d))) (moveMarks (m .id) 0 (s .mark))
+joinSettled s m = withMark (withSettled s (λ d. afterMember d m (s .settledAt d))) (moveMarks (m .id) 0 (s .mark))
 
 -- "while the first in the sequence is committed"; l is what is left of the sequence
 abbrev pub settleFrom : State → List Member → State

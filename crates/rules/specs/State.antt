@@ -6,18 +6,6 @@ use Prim.Native.Nat.{ℕ}
 use lib.IntN.{ℤ}
 use Rattle.rules_routine.specs.declared.Command.{Command}
 
--- "Pass limit K, 0 to 8."
-abbrev pub highestPassLimit : ℕ
-highestPassLimit = 8
-
--- "The sequence holds at most 16 routines."
-abbrev pub maxHeld : ℕ
-maxHeld = 16
-
--- "an unsigned 32-bit number"
-abbrev pub highestId : ℕ
-highestId = 4294967295
-
 -- Where a command of a routine in the sequence stands. One in flight keeps its device's due setting "when the command was sent".
 -- "Answered" is done or skipped and, of a condition (document 02, item 4), held or not held.
 pub data Status : Type 0 where
@@ -48,6 +36,6 @@ pub record State : Type 0 where
   pub passLimit : ℕ
   pub nextId : ℕ
   pub sequence : List Member
-  pub settled : ℕ → ℤ
+  pub settledAt : ℕ → ℤ
   pub up : ℕ → Bool
   pub mark : ℕ → ℕ

@@ -11,7 +11,8 @@ use Rattle.rules_routine.specs.Routine.{routineCheck}
 use Rattle.rules_routine.specs.declared.Command.{Command}
 use Rattle.rules_routine.specs.declared.Verdict.{Verdict}
 use Rattle.rules.specs.Tables.{anyOf}
-use Rattle.rules.specs.State.{maxHeld, highestId, to-do, Step, Member, State}
+use Rattle.rules_routine.specs.Limits.{maxSequence, highestId}
+use Rattle.rules.specs.State.{to-do, Step, Member, State}
 use Rattle.rules.specs.Answers.{Result, placed, unlessRefused}
 use Rattle.rules.specs.Sequence.{isRunning, lastIdOr}
 use Rattle.rules.specs.Settle.{settling}
@@ -19,7 +20,7 @@ use Rattle.rules.specs.Settle.{settling}
 unfoldable pub submitCheck : State → List Command → Verdict
 submitCheck s cs =
     routineCheck (s .devices) cs
-    andThen refuse sequence-full when leb maxHeld (length (s .sequence))
+    andThen refuse sequence-full when leb maxSequence (length (s .sequence))
     andThen refuse ids-used-up when ltb highestId (s .nextId)
 
 -- What the newcomer must follow: "the marks of its devices; every running routine that has been passed K times"; with another K than that
@@ -61,7 +62,7 @@ place s cs = record {
   passLimit = s .passLimit;
   nextId = suc (s .nextId);
   sequence = upToLast (blocks s cs) (s .sequence) ++ (newcomer (s .nextId) cs ∷ map pass (pastLast (blocks s cs) (s .sequence)));
-  settled = s .settled;
+  settledAt = s .settledAt;
   up = s .up;
   mark = s .mark;
 }

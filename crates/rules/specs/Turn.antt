@@ -28,13 +28,13 @@ hasSet d m = isRunning m && anyOf (λ x. isOn d x && isDone (x .status)) (m .ste
 
 -- Does this routine give a command on D, or a condition on D, a cause to wait?
 unfoldable pub holdsUp : ℕ → Bool → Member → Bool
-holdsUp d asks m = holds d m || (asks && hasSet d m)
+holdsUp d condition m = holds d m || (condition && hasSet d m)
 
 -- "the first such id in the sequence", and for a condition "the first in the sequence that gives either cause to wait": the wait search,
 -- through the routines ahead.
 abbrev pub firstHolding : ℕ → Bool → List Member → Option ℕ
-firstHolding d asks [] = none
-firstHolding d asks (m ∷ l) = if holdsUp d asks m then some (m .id) else firstHolding d asks l
+firstHolding d condition [] = none
+firstHolding d condition (m ∷ l) = if holdsUp d condition m then some (m .id) else firstHolding d condition l
 
 -- Mark (document 01, The steps): "It becomes R when R begins the device."
 unfoldable pub markBegun : Member → ℕ → (ℕ → ℕ) → ℕ → ℕ

@@ -148,12 +148,12 @@ gone-spares s d l h w (loses a g b e q m) =
     spares-same a g (with g (skippedLeft d g)) b refl (k .same-asked) (k .same-done) (subst (AllPairs Spares) e w)
 
 -- a condition was found, after the wait rule
-asks-spares : (s : State) (a : List Group) (g : Group) (b : List Group) (c : Command) (n : Member) → isCondition c ≡ true →
+condition-spares : (s : State) (a : List Group) (g : Group) (b : List Group) (c : Command) (n : Member) → isCondition c ≡ true →
     Each (λ x. holdsUp (c .device) (isCondition c) (x .member) ≡ false) a → n .committed ≡ g .member .committed →
     ((d : ℕ) → c .device ≢ d → askedOn d (n .steps) ≡ askedOn d (g .member .steps)) → doneSteps (n .steps) ≡ doneSteps (g .member .steps) →
     AllPairs Spares (a ++ (g ∷ b)) → AllPairs Spares (a ++ (with g n ∷ b))
 unfolding holdsUp
-asks-spares s a g b c n k f same other done w =
+condition-spares s a g b c n k f same other done w =
     let r = pairs-around Spares a g b w in
     around-pairs Spares a (with g n) b (record {
       ahead = both a f (r .ahead);
@@ -183,8 +183,8 @@ passes-spares : (s : State) (a : List Group) (g : Group) (b : List Group) (c : C
     AllPairs Spares (a ++ (g ∷ b)) → AllPairs Spares (a ++ (with g (passedMember st g) ∷ b))
 passes-spares s a g b c (is-down u) f same other done = spares-same a g _ b refl (same refl) done
 passes-spares s a g b c (is-off u) f same other done = spares-same a g _ b refl (same refl) done
-passes-spares s a g b c (does-hold u k y) f same other done = asks-spares s a g b c _ k f refl other done
-passes-spares s a g b c (does-not u k y) f same other done = asks-spares s a g b c _ k f refl other done
+passes-spares s a g b c (does-hold u k y) f same other done = condition-spares s a g b c _ k f refl other done
+passes-spares s a g b c (does-not u k y) f same other done = condition-spares s a g b c _ k f refl other done
 
 pub spares-moves : (s : State) (l : List Group) {c : Call} {r : Result} {lead : List Event} {k : List Group} → HubOk s l →
     AllPairs Spares l → Moves s l c r lead k → AllPairs Spares k

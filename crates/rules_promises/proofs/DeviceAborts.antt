@@ -381,9 +381,9 @@ due-other d i f s n = go (eqb i 0)
   where
     go : (b : Bool) →
         afterMembers d (if b then s .sequence else attachAt i f (s .sequence))
-        ((if b then settleRestarts f (s .settled) else s .settled) d) ≡ due s d
-    go true = ap (λ x. afterMembers d (s .sequence) (afterRestart x (s .settled d))) n
-    go false = at-other d i f n (s .sequence) (s .settled d)
+        ((if b then settleRestarts f (s .settledAt) else s .settledAt) d) ≡ due s d
+    go true = ap (λ x. afterMembers d (s .sequence) (afterRestart x (s .settledAt d))) n
+    go false = at-other d i f n (s .sequence) (s .settledAt d)
 
 -- a restart of e at a routine behind which everyone is quiet
 at-this : (e i : ℕ) (f : ℕ → Option ℤ) (w : ℤ) → f e ≡ some w → (x : List Group) (g : Group) (y : List Group) → NotIn i (ids x) →
@@ -410,7 +410,7 @@ due-this e w s l h k = go (mark-place s l h e)
     go (at-zero z n q) = rw (eq-eqb i 0 z, h .sequence-is, one-here e w) (not-begun-members e l w k q)
     go (at-group x g y p j z n q) =
         rw (ne-eqb i 0 z, h .sequence-is, p)
-        (at-this e i f w (one-here e w) x g y n j (each-right EventsOk x (g ∷ y) (subst (Each EventsOk) p k) .1) q (s .settled e))
+        (at-this e i f w (one-here e w) x g y n j (each-right EventsOk x (g ∷ y) (subst (Each EventsOk) p k) .1) q (s .settledAt e))
 
 dead-empty : (d : ℕ) (t : Bool) (v : ℤ) (a : ℕ → Account) (l : List Group) (w : Device) → t ≡ false → DeviceAt d t v a l w → w .sent ≡ []
 dead-empty d t v a l w e (is-down p n) = n

@@ -56,9 +56,9 @@ due-swap : (s : State) (d : ℕ) (p : List Group) (g : Group) (q : List Group) (
     due (change s (foundAt p g q) m) d ≡ due s d
 unfolding due
 due-swap s d p g q m e f =
-    members-after-++ d (members p) (m ∷ members q) (s .settled d) ∙ ap (afterMembers d (members q)) (f _)
-    ∙ sym (members-after-++ d (members p) (g .member ∷ members q) (s .settled d))
-    ∙ ap (λ l. afterMembers d l (s .settled d)) (sym (e ∙ members-++ p (g ∷ q)))
+    members-after-++ d (members p) (m ∷ members q) (s .settledAt d) ∙ ap (afterMembers d (members q)) (f _)
+    ∙ sym (members-after-++ d (members p) (g .member ∷ members q) (s .settledAt d))
+    ∙ ap (λ l. afterMembers d l (s .settledAt d)) (sym (e ∙ members-++ p (g ∷ q)))
 
 -- ---- a routine of the sequence changes
 
@@ -230,9 +230,9 @@ module _ (s : State) (a : ℕ → Account) (p : List Group) (g : Group) (q : Lis
     due-done : Each EventsOk (p ++ (g ∷ q)) → due (doneReport s (foundAt p g q) .state) (x .command .device) ≡ x .command .setting
     unfolding doneReport due afterMember
     due-done k =
-        members-after-++ d (members p) (doneMember g ∷ members q) (s .settled d)
+        members-after-++ d (members p) (doneMember g ∷ members q) (s .settledAt d)
         ∙ not-begun-members d q _ (each-right EventsOk p (g ∷ q) k .1) (clear .behind-not-begun)
-        ∙ ap (λ r. afterRestart r (afterSteps d (doneMember g .steps) (afterMembers d (members p) (s .settled d))))
+        ∙ ap (λ r. afterRestart r (afterSteps d (doneMember g .steps) (afterMembers d (members p) (s .settledAt d))))
         (each-mid EventsOk p g q k .events-ok d ∙ lastRestart-not-begun d (g .events) (clear .no-event))
         ∙ done-after (g .member) steps-ok x e d _ ∙ rw (eq-eqb d d refl) refl
       where
@@ -366,10 +366,10 @@ module _ (d : ℕ) (s : State) (cs : List Command) (p q : List Group) (h : HubOk
       due (place s cs) d ≡ due s d
   unfolding due place
   due-placed y z =
-      members-after-++ d front (newcomer (s .nextId) cs ∷ map pass back) (s .settled d) ∙ pass-after d back _
+      members-after-++ d front (newcomer (s .nextId) cs ∷ map pass back) (s .settledAt d) ∙ pass-after d back _
       ∙ ap (afterMembers d back) (newcomer-after d (s .nextId) cs _)
-      ∙ sym (members-after-++ d front back (s .settled d))
-      ∙ ap (λ l. afterMembers d l (s .settled d))
+      ∙ sym (members-after-++ d front back (s .settledAt d))
+      ∙ ap (λ l. afterMembers d l (s .settledAt d))
       (ap (λ l. l ++ back) y ∙ ap (λ l. members p ++ l) z ∙ sym (h .sequence-is ∙ members-++ p q))
     where
       front : List Member

@@ -51,11 +51,11 @@ pub settle-fixed : (s : State) → fixedOf (settle s) ≡ fixedOf s
 unfolding settle
 settle-fixed s = from-fixed (s .sequence) s
 
-from-due : (d : ℕ) (l : List Member) (s : State) → due (settleFrom s l) d ≡ afterMembers d l (s .settled d)
+from-due : (d : ℕ) (l : List Member) (s : State) → due (settleFrom s l) d ≡ afterMembers d l (s .settledAt d)
 unfolding due joinSettled
 from-due d [] s = refl
 from-due d (m ∷ l) s =
-    byIf (λ t. due t d ≡ afterMembers d (m ∷ l) (s .settled d)) (m .committed) (λ _. from-due d l (joinSettled s m)) (λ _. refl)
+    byIf (λ t. due t d ≡ afterMembers d (m ∷ l) (s .settledAt d)) (m .committed) (λ _. from-due d l (joinSettled s m)) (λ _. refl)
 
 -- what is due stays when routines settle
 pub settle-due : (s : State) (d : ℕ) → due (settle s) d ≡ due s d

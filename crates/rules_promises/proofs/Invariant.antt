@@ -114,7 +114,7 @@ pub record EventsOk (g : Group) : Type 0 where
 -- `lead`: events attached to 0 in this call, which stand behind the bar until it moves; between calls there are none
 pub record OrderOk (s : State) (o : Order) (lead : List Event) (l : List Group) : Type 0 where
   pub unsettled-is : o .unsettled ≡ map event lead ++ flat l
-  pub settled-is : (d : ℕ) → setAfter d (o .settled ++ map event lead) (pos 0) ≡ s .settled d
+  pub settled-is : (d : ℕ) → setAfter d (o .settled ++ map event lead) (pos 0) ≡ s .settledAt d
   pub up-is : (d : ℕ) → upAfter d (entries o) true ≡ s .up d
   pub events-ok : Each EventsOk l
   pub ids-ok : IdsOk (s .nextId) (entryIds (o .settled) ++ ids l)

@@ -138,23 +138,24 @@ unfolding holds isRunning finished
 unheld d g s h = nothing-left-finished-it d g s (λ e. not-false (finished d (g .member)) (rw e at h))
 
 -- the wait search finds nobody
-pub none-held-up : (d : ℕ) (asks : Bool) (a : List Group) → firstHolding d asks (members a) ≡ none →
-    Each (λ g. holdsUp d asks (g .member) ≡ false) a
-none-held-up d asks [] e = tt
-none-held-up d asks (g ∷ a) e = go (none-held-up d asks a) (holdsUp d asks (g .member)) refl e
+pub none-held-up : (d : ℕ) (condition : Bool) (a : List Group) → firstHolding d condition (members a) ≡ none →
+    Each (λ g. holdsUp d condition (g .member) ≡ false) a
+none-held-up d condition [] e = tt
+none-held-up d condition (g ∷ a) e = go (none-held-up d condition a) (holdsUp d condition (g .member)) refl e
   where
-    go : (firstHolding d asks (members a) ≡ none → Each (λ g. holdsUp d asks (g .member) ≡ false) a) → (t : Bool) →
-        holdsUp d asks (g .member) ≡ t → (if t then some (g .member .id) else firstHolding d asks (members a)) ≡ none →
-        (holdsUp d asks (g .member) ≡ false) × Each (λ g. holdsUp d asks (g .member) ≡ false) a
+    go : (firstHolding d condition (members a) ≡ none → Each (λ g. holdsUp d condition (g .member) ≡ false) a) → (t : Bool) →
+        holdsUp d condition (g .member) ≡ t → (if t then some (g .member .id) else firstHolding d condition (members a)) ≡ none →
+        (holdsUp d condition (g .member) ≡ false) × Each (λ g. holdsUp d condition (g .member) ≡ false) a
     go ih true q e = let z : _≡_ {A = ℕ} 0 1 = cc in absurd (omega arith)
     go ih false q e = (q, ih e)
 
-none-holds : (d : ℕ) (asks : Bool) (a : List Group) → Each CommittedHasNothingLeft a → Each (λ g. holdsUp d asks (g .member) ≡ false) a →
+none-holds : (d : ℕ) (condition : Bool) (a : List Group) → Each CommittedHasNothingLeft a →
+    Each (λ g. holdsUp d condition (g .member) ≡ false) a →
     Each (HasFinished d) a
 unfolding holdsUp
-none-holds d asks [] s e = tt
-none-holds d asks (g ∷ a) s e =
-    (unheld d g (s .0) (or-left (holds d (g .member)) (asks && hasSet d (g .member)) (e .0)), none-holds d asks a (s .1) (e .1))
+none-holds d condition [] s e = tt
+none-holds d condition (g ∷ a) s e =
+    (unheld d g (s .0) (or-left (holds d (g .member)) (condition && hasSet d (g .member)) (e .0)), none-holds d condition a (s .1) (e .1))
 
 pub in-turn : (s : State) (a : List Group) (g : Group) (b : List Group) → HubOk s (a ++ (g ∷ b)) → InTurn (g .member .steps)
 in-turn s a g b h = each-mid CommandsInTurn a g b (h .turns) .turns

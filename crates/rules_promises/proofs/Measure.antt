@@ -10,7 +10,7 @@ use borrow.Author.Tests.{eqb-true, leb-false}
 use lib.Dec.{leb, eqb}
 use lib.ListN.{length}
 use Rattle.rules_routine.specs.Choice.{if_then_else_}
-use Rattle.rules_routine.specs.Routine.{maxCommands}
+use Rattle.rules_routine.specs.Limits.{maxCommands}
 use Rattle.rules_routine.specs.declared.Command.{Command}
 use Rattle.rules.specs.Tables.{anyOf, Each}
 use Rattle.rules.specs.State.{Member, State}

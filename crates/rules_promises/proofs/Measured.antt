@@ -190,14 +190,14 @@ Asks j (restart d v) = ⊥
 Asks j (cancel i) = ⊥
 Asks j (limit k) = ⊥
 
-pub asks-of-schedule : (j : ℕ) (c : Call) → Asks j c → OfSchedule c
-asks-of-schedule j (submit cs) h = tt
-asks-of-schedule j (turn i) h = tt
-asks-of-schedule j (report i code) h = tt
-asks-of-schedule j (failure d) h = h
-asks-of-schedule j (restart d v) h = h
-asks-of-schedule j (cancel i) h = h
-asks-of-schedule j (limit k) h = h
+pub condition-of-schedule : (j : ℕ) (c : Call) → Asks j c → OfSchedule c
+condition-of-schedule j (submit cs) h = tt
+condition-of-schedule j (turn i) h = tt
+condition-of-schedule j (report i code) h = tt
+condition-of-schedule j (failure d) h = h
+condition-of-schedule j (restart d v) h = h
+condition-of-schedule j (cancel i) h = h
+condition-of-schedule j (limit k) h = h
 
 -- a command of these is in flight
 abbrev pub Flies : List Step → Type 0

@@ -343,7 +343,7 @@ event-ok s x l h c q w z = record {
 
 pub hub-fails : (s : State) (d : ℕ) (l : List Group) → HubOk s l → Each (NotHalfway d) l →
     HubOk s (attachEvent (s .mark d) (failure-of d) l)
-hub-fails s d l h c = event-ok s (failure-of d) l h c (s .sequence) (s .settled) (h .sequence-is ∙ same-members l)
+hub-fails s d l h c = event-ok s (failure-of d) l h c (s .sequence) (s .settledAt) (h .sequence-is ∙ same-members l)
   where
     same-members : (l : List Group) → members l ≡ members (attachEvent (s .mark d) (failure-of d) l)
     same-members [] = refl

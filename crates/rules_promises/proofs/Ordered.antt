@@ -293,7 +293,7 @@ order-leaves s o a g b k =
     })
   where
     settled : (c : List Group) → OrderOk s o [] (c ++ (g ∷ b)) → (d : ℕ) →
-        setAfter d (o .settled ++ map event (leadOf c g)) (pos 0) ≡ abort s (foundAt c g b) .state .settled d
+        setAfter d (o .settled ++ map event (leadOf c g)) (pos 0) ≡ abort s (foundAt c g b) .state .settledAt d
     settled [] k d =
         set-++ d (o .settled) (map event (g .events)) (pos 0) ∙ set-events d (g .events) _
         ∙ ap (λ x. afterRestart x (setAfter d (o .settled) (pos 0))) (sym (k .events-ok .0 .events-ok d))
@@ -363,7 +363,7 @@ up-behind d x b q u =
 -- what an event, attached to 0 or to a routine, makes of the state
 record Attached (x : Event) (first : Bool) (s t : State) : Type 0 where
   next-is : t .nextId ≡ s .nextId
-  settled-is : (d : ℕ) → t .settled d ≡ (if first then afterRestart (lastRestart d (x ∷ [])) (s .settled d) else s .settled d)
+  settled-is : (d : ℕ) → t .settledAt d ≡ (if first then afterRestart (lastRestart d (x ∷ [])) (s .settledAt d) else s .settledAt d)
   up-is : (d : ℕ) → t .up d ≡ put (s .up) (deviceOf x) (bringsUp x) d
 
 module _ (x : Event) (s t : State) (o : Order) (lead : List Event) where
@@ -380,7 +380,7 @@ module _ (x : Event) (s t : State) (o : Order) (lead : List Event) where
   -- if the event is attached to 0, it joins the settled part
   settled-attached : (l : List Group) → OrderOk s o lead l → (d : ℕ) (first : Bool) →
       setAfter d (o .settled ++ map event (if first then lead ++ (x ∷ []) else lead)) (pos 0)
-      ≡ (if first then afterRestart (lastRestart d (x ∷ [])) (s .settled d) else s .settled d)
+      ≡ (if first then afterRestart (lastRestart d (x ∷ [])) (s .settledAt d) else s .settledAt d)
   settled-attached l k d true =
       ap (λ m. setAfter d m (pos 0))
       (ap (λ m. o .settled ++ m) (map-append event lead (x ∷ [])) ∙ sym (append-assoc (o .settled) (map event lead) (event x ∷ [])))
@@ -440,10 +440,11 @@ order-happens s t u o c n x y l {r = r} {lead = lead} {k = k} h i g e f =
     (sym (fold-++ (orderAfterAll c n) (λ o. refl) (λ x l o. refl) (r .answers) (y ∷ []) o ∙ e q)) (z .0, z .1 ∙ p .1)
 
 -- no restart: the settings stand
-attached-failure : (d : ℕ) (first : Bool) (s t : State) → t .nextId ≡ s .nextId → t .settled ≡ s .settled → t .up ≡ put (s .up) d false →
+attached-failure : (d : ℕ) (first : Bool) (s t : State) → t .nextId ≡ s .nextId → t .settledAt ≡ s .settledAt →
+    t .up ≡ put (s .up) d false →
     Attached (failure-of d) first s t
 attached-failure d first s t n v u =
-    record { next-is = n; settled-is = λ i. ap (λ f. f i) v ∙ go (s .settled i) first; up-is = λ i. ap (λ f. f i) u }
+    record { next-is = n; settled-is = λ i. ap (λ f. f i) v ∙ go (s .settledAt i) first; up-is = λ i. ap (λ f. f i) u }
   where
     go : (v : ℤ) (b : Bool) → v ≡ (if b then v else v)
     go v true = refl
@@ -455,8 +456,8 @@ unfolding attach settleRestarts
 attached-restart d j v s u e = record { next-is = refl; settled-is = go (eqb j 0); up-is = λ i. ap (λ f. put f d true i) e }
   where
     go : (b : Bool) (i : ℕ) →
-        (if b then settleRestarts (oneRestart d v) (s .settled) else s .settled) i ≡
-        (if b then afterRestart (lastRestart i (restart-of d v ∷ [])) (s .settled i) else s .settled i)
+        (if b then settleRestarts (oneRestart d v) (s .settledAt) else s .settledAt) i ≡
+        (if b then afterRestart (lastRestart i (restart-of d v ∷ [])) (s .settledAt i) else s .settledAt i)
     go true i = refl
     go false i = refl
 

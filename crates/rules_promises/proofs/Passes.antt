@@ -9,9 +9,10 @@ use lib.Dec.{leb, ltb, eqb}
 use Rattle.rules_routine.specs.Choice.{if_then_else_}
 use Rattle.rules_routine.specs.Refusals.{pass-limit-out-of-range}
 use Rattle.rules_routine.specs.declared.Command.{Command}
-use Rattle.rules_routine.proofs.Laws.{not-refused}
+use Rattle.rules_routine.proofs.RoutineLaws.{not-refused}
 use Rattle.rules.specs.Tables.{anyOf, Each}
-use Rattle.rules.specs.State.{highestPassLimit, Member, State}
+use Rattle.rules_routine.specs.Limits.{highestPassLimit}
+use Rattle.rules.specs.State.{Member, State}
 use Rattle.rules.specs.Answers.{Call, Result}
 use Rattle.rules.specs.Sequence.{isRunning}
 use Rattle.rules.specs.Open.{opened, newHub, openOf}
@@ -123,7 +124,7 @@ record Low (s : State) (l : List Group) : Type 0 where
 
 low-seen : (s : State) (l : List Group) → Low s l → {c : Call} {r : Result} → Seen s l c r → (k : List Group) × Low (r .state) k
 low-seen s l y (is-refused r) = (l, y)
-low-seen s l y (waits i a g b d asks j e n f) = (l, y)
+low-seen s l y (waits i a g b d condition j e n f) = (l, y)
 low-seen s l y (limits k e) = (
   l,
   record {

@@ -7,12 +7,13 @@ use borrow.Author.Tests.{leb-false}
 use lib.Dec.{leb}
 use lib.ListN.{length}
 use Rattle.rules_routine.specs.Refusals.{sequence-full, refuse_when_}
-use Rattle.rules_routine.specs.Routine.{maxCommands, routineCheck}
+use Rattle.rules_routine.specs.Limits.{maxCommands, maxSequence}
+use Rattle.rules_routine.specs.Routine.{routineCheck}
 use Rattle.rules_routine.specs.declared.Command.{Command}
 use Rattle.rules_routine.specs.declared.Verdict.the-variants.{Accepted}
-use Rattle.rules_routine.proofs.Laws.{both-accept, not-refused, check-accepted}
+use Rattle.rules_routine.proofs.RoutineLaws.{both-accept, not-refused, check-accepted}
 use Rattle.rules.specs.Tables.{Each}
-use Rattle.rules.specs.State.{maxHeld, State}
+use Rattle.rules.specs.State.{State}
 use Rattle.rules.specs.Answers.{Call, turn, limit, Answer, refused, wait, limited, Result}
 use Rattle.rules.specs.Due.{due}
 use Rattle.rules.specs.Limit.{withPassLimit}
@@ -149,13 +150,14 @@ held-at-most n [] h = h
 held-at-most n (g ∷ l) h = byIf (λ k. length k ≤ n) (g .member .committed) (λ _. held-at-most n l (omega arith)) (λ _. h)
 
 -- there was room for the newcomer
-room-for-one : (s : State) (cs : List Command) (l : List Group) → submitCheck s cs ≡ Accepted → s .sequence ≡ members l → length l < maxHeld
+room-for-one : (s : State) (cs : List Command) (l : List Group) → submitCheck s cs ≡ Accepted → s .sequence ≡ members l →
+    length l < maxSequence
 unfolding submitCheck
 room-for-one s cs l e q =
     let f = both-accept (routineCheck (s .devices) cs) _ e .1 in
-    let g = not-refused sequence-full (leb maxHeld (length (s .sequence)))
-    (both-accept (refuse sequence-full when leb maxHeld (length (s .sequence))) _ f .0) in
-    let n = leb-false maxHeld (length (s .sequence)) g in
+    let g = not-refused sequence-full (leb maxSequence (length (s .sequence)))
+    (both-accept (refuse sequence-full when leb maxSequence (length (s .sequence))) _ f .0) in
+    let n = leb-false maxSequence (length (s .sequence)) g in
     let m : length (s .sequence) ≡ length l = ap length q ∙ length-members l in
     omega arith
 
@@ -165,35 +167,36 @@ length-mid [] g b = refl
 length-mid (x ∷ a) g b = ap suc (length-mid a g b)
 
 -- g becomes h; g leaves
-swapped-room : (a : List Group) (g h : Group) (b : List Group) {l : List Group} → l ≡ a ++ (g ∷ b) → length l ≤ maxHeld →
-    length (a ++ (h ∷ b)) ≤ maxHeld
+swapped-room : (a : List Group) (g h : Group) (b : List Group) {l : List Group} → l ≡ a ++ (g ∷ b) → length l ≤ maxSequence →
+    length (a ++ (h ∷ b)) ≤ maxSequence
 swapped-room a g h b e n =
     let p = length-mid a g b in
     let q = length-mid a h b in
     let z = ap length e in
     omega arith
 
-left-room : (a : List Group) (g : Group) (b : List Group) {l : List Group} → l ≡ a ++ (g ∷ b) → length l ≤ maxHeld →
-    length (leaving a g b) ≤ maxHeld
+left-room : (a : List Group) (g : Group) (b : List Group) {l : List Group} → l ≡ a ++ (g ∷ b) → length l ≤ maxSequence →
+    length (leaving a g b) ≤ maxSequence
 left-room a g b e n =
     let p = length-mid a g b in
     let q = same-length (same-leaving a g b) in
     let z = ap length e in
     omega arith
 
-gone-room : (s : State) (d : ℕ) (l : List Group) {r : Result} {lead : List Event} {k : List Group} → length l ≤ maxHeld →
+gone-room : (s : State) (d : ℕ) (l : List Group) {r : Result} {lead : List Event} {k : List Group} → length l ≤ maxSequence →
     Gone s d l r lead k →
-    length k ≤ maxHeld
+    length k ≤ maxSequence
 gone-room s d l n (nobody q) = n
 gone-room s d l n (somebody a g b e q) = left-room a g b e n
 gone-room s d l n (loses a g b e q m) = swapped-room a g (with g (skippedLeft d g)) b e n
 
-event-room : (j : ℕ) (x : Event) (l : List Group) → length l ≤ maxHeld → length (attachEvent j x l) ≤ maxHeld
+event-room : (j : ℕ) (x : Event) (l : List Group) → length l ≤ maxSequence → length (attachEvent j x l) ≤ maxSequence
 event-room j x l n = let q = same-length (same-attached j x l) in omega arith
 
 -- the sequence holds no more than it may
-room-moves : (s : State) (l : List Group) {c : Call} {r : Result} {lead : List Event} {k : List Group} → HubOk s l → length l ≤ maxHeld →
-    Moves s l c r lead k → length k ≤ maxHeld
+room-moves : (s : State) (l : List Group) {c : Call} {r : Result} {lead : List Event} {k : List Group} → HubOk s l →
+    length l ≤ maxSequence →
+    Moves s l c r lead k → length k ≤ maxSequence
 room-moves s l h t (places cs a b q e u p n) =
     let new = alone (newcomer (s .nextId) cs) in
     let w = room-for-one s cs l q (h .sequence-is) in
@@ -220,7 +223,7 @@ pub record Ready (s : State) (h : List Told) (l : List Group) : Type 0 where
   pub tells : Each (AccountTells (accountsOf h)) l
   pub flying-told : FliesTold (accountsOf h) l
   pub few-left : Each FewLeft l
-  pub room : length l ≤ maxHeld
+  pub room : length l ≤ maxSequence
 
 pub ready-moves : (s : State) (h : List Told) (l : List Group) → Ready s h l →
     {c : Call} {r : Result} {lead : List Event} {m : List Group} → Moves s l c r lead m →
@@ -234,7 +237,7 @@ ready-moves s h l y {c = c} {r = r} {m = m} v = record {
   flying-told = flies-held (noteAnswers c (r .answers) (accountsOf h)) m
       (flies-told s (accountsOf h) l (y .hub) (y .running-told) (y .tells) (y .flying-told) v);
   few-left = each-held FewLeft m (few-left-moves s l (y .hub) (y .few-left) v);
-  room = held-at-most maxHeld m (room-moves s l (y .hub) (y .room) v);
+  room = held-at-most maxSequence m (room-moves s l (y .hub) (y .room) v);
 }
 
 -- a call told, with these answers
@@ -269,7 +272,7 @@ ready-limit s h l y k = record {
 pub ready-seen : (s : State) (h : List Told) (l : List Group) → Ready s h l → {c : Call} {r : Result} → Seen s l c r →
     (m : List Group) × Ready (r .state) (saying c (r .answers) ∷ h) m
 ready-seen s h l y {c = c} (is-refused r) = (l, untold s h l (saying c (refused r ∷ [])) refl y)
-ready-seen s h l y (waits i a g b d asks j e n f) = (l, untold s h l (saying (turn i) (wait (g .member .id) j ∷ [])) refl y)
+ready-seen s h l y (waits i a g b d condition j e n f) = (l, untold s h l (saying (turn i) (wait (g .member .id) j ∷ [])) refl y)
 ready-seen s h l y (limits k e) = (l, ready-limit s h l y k)
 ready-seen s h l y (moves {k = m} v) = (stillHeld m, ready-moves s h l y v)
 
@@ -325,7 +328,7 @@ limit-moves s l (restarts d v r lead k m u g) n = gone-limit s d l _ n g
 limit-seen : (s : State) (l : List Group) {c : Call} {r : Result} → Seen s l c r →
     (limitAfterAll (r .answers) (s .passLimit) ≡ r .state .passLimit) × (KeepsLimit c → (n : ℕ) → limitAfterAll (r .answers) n ≡ n)
 limit-seen s l (is-refused r) = (refl, λ _ n. refl)
-limit-seen s l (waits i a g b d asks j e n f) = (refl, λ _ n. refl)
+limit-seen s l (waits i a g b d condition j e n f) = (refl, λ _ n. refl)
 limit-seen s l (limits k e) = (refl, λ no n. absurd no)
 limit-seen s l (moves {r = r} v) = (
   limit-moves s l v (s .passLimit) ∙ sym (ap (λ (x : Fixed). x .passLimit) (settle-fixed (r .state)) ∙ fixed-moves s l v .0),

@@ -13,7 +13,7 @@ use Rattle.rules_routine.specs.Choice.{if_then_else_}
 use Rattle.rules_routine.specs.Routine.{isCondition}
 use Rattle.rules_routine.specs.declared.Command.{Command}
 use Rattle.rules_routine.specs.declared.Verdict.the-variants.{Accepted}
-use Rattle.rules_routine.proofs.Laws.{byTest}
+use Rattle.rules_routine.proofs.RoutineLaws.{byTest}
 use Rattle.rules.specs.Tables.{anyOf, put, Each}
 use Rattle.rules.specs.State.{Status, to-do, in-flight, was-done, was-skipped, was-held, was-not-held, Step, Member, State}
 use Rattle.rules.specs.Answers.{Call, submit, turn, report, limit, placed, limited, Result}
@@ -236,7 +236,7 @@ module _ (s : State) (h : List Told) (l : List Group) (i j : ℕ) (other : i ≢
   others-told : {c : Call} {r : Result} → Asks j c → Seen s l c r → accountsOf (saying c (r .answers) ∷ h) i ≡ accountsOf h i
   unfolding commitTurn sendTurn doneReport skipReport abort
   others-told o (is-refused r) = refl
-  others-told o (waits w a g b d asks x e n f) = refl
+  others-told o (waits w a g b d condition x e n f) = refl
   others-told o (limits w e) = absurd o
   others-told o (moves (places cs a b q e u p n)) = absurd o
   others-told o (moves (commits w a g b e n r f q)) = elsewhere (accountsOf h) g _ (n ∙ o)
@@ -277,7 +277,7 @@ rest-passes test after j js once same i =
     let n : times i (j ∷ js) ≡ times i js = rw e refl in
     subst (λ b. times i js ≤ oneIf b) (sym (same i (λ z. eqb-false j i e (sym z)))) (subst (λ m. m ≤ oneIf (test i)) n (once i)))
 
-module _ (make : ℕ → Call) (asks : (j : ℕ) → Asks j (make j)) (test : List Told → ℕ → Bool)
+module _ (make : ℕ → Call) (condition : (j : ℕ) → Asks j (make j)) (test : List Told → ℕ → Bool)
     (ok : (s : State) (h : List Told) (l : List Group) → Ready s h l → (j : ℕ) → test h j ≡ true →
     isAccepted (resultOf s (make j) .answers) ≡ true)
     (still : (h : List Told) (t : Told) (i : ℕ) → accountsOf (t ∷ h) i ≡ accountsOf h i → test (t ∷ h) i ≡ test h i) where
@@ -295,7 +295,7 @@ module _ (make : ℕ → Call) (asks : (j : ℕ) → Asks j (make j)) (test : Li
       let passes = first-passes (test h) j js once .0 in
       let r = asked-once u (t ∷ h) (n .0) (n .1) js
       (rest-passes (test h) (test (t ∷ h)) j js once
-      (λ i z. still h t i (others-told s h l i j z (asks j) v))) in
+      (λ i z. still h t i (others-told s h l i j z (condition j) v))) in
       (ap (λ b. if b then make j ∷ rest else rest) (ok s h l y j passes) ∙ ap (λ x. make j ∷ x) (r .0), r .1, r .2)
 
 -- ---- a round

@@ -133,7 +133,7 @@ set-flat d (g ∷ l) v h =
     ∙ set-flat d l _ (h .1)
 
 -- with no lead, the settled part alone leaves what the hub keeps of it
-pub settled-alone : (s : State) (o : Order) (l : List Group) → OrderOk s o [] l → (d : ℕ) → setAfter d (o .settled) (pos 0) ≡ s .settled d
+pub settled-alone : (s : State) (o : Order) (l : List Group) → OrderOk s o [] l → (d : ℕ) → setAfter d (o .settled) (pos 0) ≡ s .settledAt d
 settled-alone s o l k d = ap (λ q. setAfter d q (pos 0)) (sym (append-nil (o .settled))) ∙ k .settled-is d
 
 -- a quiet routine leaves d as it was

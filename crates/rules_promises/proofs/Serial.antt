@@ -65,7 +65,7 @@ order-due s o l h k d =
     ∙ ap (λ q. setAfter d q (setAfter d (o .settled) (pos 0))) (k .unsettled-is)
     ∙ set-flat d l _ (k .events-ok)
     ∙ ap (λ v. afterMembers d (members l) v) (settled-alone s o l k d)
-    ∙ ap (λ q. afterMembers d q (s .settled d)) (sym (h .sequence-is))
+    ∙ ap (λ q. afterMembers d q (s .settledAt d)) (sym (h .sequence-is))
 
 -- ---- the bar
 
@@ -133,7 +133,7 @@ barAt p l = record { settled = p; unsettled = flat l }
 
 -- the bar behind p goes over r, where the groups begin
 bar-over : (s : State) (p r : List Entry) (l : List Group) → beforeBar p ≡ p → beforeBar r ≡ r →
-    ((d : ℕ) → setAfter d (p ++ r) (pos 0) ≡ s .settled d) →
+    ((d : ℕ) → setAfter d (p ++ r) (pos 0) ≡ s .settledAt d) →
     ((d : ℕ) → upAfter d (p ++ (r ++ flat l)) true ≡ s .up d) → Each EventsOk l → IdsOk (s .nextId) (entryIds p ++ (entryIds r ++ ids l)) →
     OrderOk s (barAt (p ++ r) l) [] l
 bar-over s p r l before-p before-r set up eo io = record {

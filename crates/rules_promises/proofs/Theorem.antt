@@ -9,13 +9,13 @@ use native.Mathlib.Omega.{arith}
 use borrow.Author.Tests.{ltb-false, eqb-true, eqb-false}
 use lib.Dec.{ltb, eqb}
 use lib.IntN.{ℤ, pos}
-use Rattle.rules_routine.specs.Routine.{maxDevices}
+use Rattle.rules_routine.specs.Limits.{maxDevices, highestPassLimit}
 use Rattle.rules_routine.specs.Refusals.{devices-out-of-range, pass-limit-out-of-range, first-id-0, refuse_when_}
 use Rattle.rules_routine.specs.declared.Verdict.{Verdict}
 use Rattle.rules_routine.specs.declared.Verdict.the-variants.{Accepted, Refused}
-use Rattle.rules_routine.proofs.Laws.{both-accept, not-refused}
+use Rattle.rules_routine.proofs.RoutineLaws.{both-accept, not-refused}
 use Rattle.rules.specs.Tables.{anyOf, Each}
-use Rattle.rules.specs.State.{highestPassLimit, Member, State}
+use Rattle.rules.specs.State.{Member, State}
 use Rattle.rules.specs.Answers.{Call, submit, turn, report, failure, restart, cancel, limit, Answer, refused, wait, limited, Result}
 use Rattle.rules.specs.Answers.{turnedDown, unlessRefused}
 use Rattle.rules.specs.Due.{due}
@@ -152,7 +152,7 @@ devices-kept s c = go (see-any s c)
   where
     go : {c : Call} {r : Result} → Seen s (map alone (s .sequence)) c r → r .state .devices ≡ s .devices
     go (is-refused r) = refl
-    go (waits i a g b d asks j w n f) = refl
+    go (waits i a g b d condition j w n f) = refl
     go (limits k e) = refl
     go (moves {r = r} m) = ap (λ (q : Fixed). q .devices) (settle-fixed (r .state)) ∙ moves-same s (map alone (s .sequence)) m .1
 
@@ -281,7 +281,7 @@ told P w c v h {r = r} {lead = lead} {k = k} m = record {
 seen : (P : Type 0) (w : World) (c : Call) (v : ℤ) (h : Holds P w) {r : Result} → Seen (w .state) (h .groups) c r →
     Next (P × Premised w c (r .answers)) w (afterCall w c v r)
 seen P w c v h (is-refused r) = untold P _ w c (refused r) h refl refl refl
-seen P w _ v h (waits i a g b d asks j e n f) = untold P _ w (turn i) (wait (g .member .id) j) h refl refl refl
+seen P w _ v h (waits i a g b d condition j e n f) = untold P _ w (turn i) (wait (g .member .id) j) h refl refl refl
 seen P w _ v h (limits k e) =
     let n = untold P _ (withLimit w k) (limit k) (limited k) (holds-limit P w k h) refl refl refl in
     record { next = n .next; grows = n .grows; same-devices = n .same-devices }

@@ -154,8 +154,8 @@ pub data Moves (s : State) (l : List Group) : Call → Result → List Event →
 -- a turn waits for a routine ahead of its own; a new pass limit is in force
 pub data Seen (s : State) (l : List Group) : Call → Result → Type 0 where
   is-refused : {c : Call} (r : Refusal) → Seen s l c (record { state = s; answers = refused r ∷ [] })
-  waits : (i : ℕ) (a : List Group) (g : Group) (b : List Group) (d : ℕ) (asks : Bool) (j : ℕ) → l ≡ a ++ (g ∷ b) →
-      g .member .id ≡ i → firstHolding d asks (members a) ≡ some j →
+  waits : (i : ℕ) (a : List Group) (g : Group) (b : List Group) (d : ℕ) (condition : Bool) (j : ℕ) → l ≡ a ++ (g ∷ b) →
+      g .member .id ≡ i → firstHolding d condition (members a) ≡ some j →
       Seen s l (turn i) (record { state = s; answers = wait (g .member .id) j ∷ [] })
   limits : (k : ℕ) → limitCheck k ≡ Accepted → Seen s l (limit k) (record { state = withPassLimit s k; answers = limited k ∷ [] })
   moves : {c : Call} {r : Result} {lead : List Event} {k : List Group} → Moves s l c r lead k → Seen s l c (settling r)

@@ -11,7 +11,7 @@ use borrow.Author.Tests.{eqb-true, eqb-false}
 use lib.Dec.{eqb}
 use Rattle.rules_routine.specs.Choice.{if_then_else_}
 use Rattle.rules_routine.specs.declared.Command.{Command}
-use Rattle.rules_routine.proofs.Laws.{byTest}
+use Rattle.rules_routine.proofs.RoutineLaws.{byTest}
 use Rattle.rules.specs.State.{Step, State}
 use Rattle.rules.specs.Answers.{Call, submit, turn, report, limit, refused, placed, wait, limited, Result}
 use Rattle.rules.specs.Progress.{Flight, flight}
@@ -45,7 +45,7 @@ use Rattle.rules_promises.proofs.Ready.{opened-limit}
 use Rattle.rules_promises.proofs.Ready.{limit-call, limit-kept}
 use Rattle.rules_promises.proofs.Measured.{OfSchedule, NotRaised, not-raised-same, moves-at-most, HeadIs, head-is, head-held}
 use Rattle.rules_promises.proofs.Measured.{IsTurn, Asks}
-use Rattle.rules_promises.proofs.Measured.{asks-of-schedule}
+use Rattle.rules_promises.proofs.Measured.{condition-of-schedule}
 use Rattle.rules_promises.proofs.Measured.{Flies}
 use Rattle.rules_promises.proofs.Measured.{Own, falls, flies, others-move, none-ahead, own-moves}
 
@@ -100,7 +100,7 @@ module _ (k i : ℕ) (s : State) (h : List Told) (now : Now k i s h) where
       (next : Now k i (r .state) (saying c (r .answers) ∷ h)) × NotRaised k i (now .groups) (next .groups)
   of-schedule {c = c} of (is-refused r) =
       (same-now k i s h now (saying c (refused r ∷ [])) refl, not-raised-same k i (now .groups))
-  of-schedule of (waits j a g b d asks w e n f) =
+  of-schedule of (waits j a g b d condition w e n f) =
       (same-now k i s h now (saying (turn j) (wait (g .member .id) w ∷ [])) refl, not-raised-same k i (now .groups))
   of-schedule of (limits j e) = absurd of
   of-schedule of (moves {r = r} {k = m} v) = (
@@ -128,19 +128,20 @@ asked : (k i : ℕ) (s : State) (h : List Told) (now : Now k i s h) (j : ℕ) {c
     (next : Now k i (r .state) (saying c (r .answers) ∷ h)) × Asked k i j c (now .groups) (next .groups)
 unfolding of-schedule
 asked k i s h now j o (is-refused r) e = t≠f (sym e)
-asked k i s h now j o (waits w a g b d asks x e n f) _ =
-    let v = of-schedule k i s h now {c = turn w} tt (waits w a g b d asks x e n f) in (
+asked k i s h now j o (waits w a g b d condition x e n f) _ =
+    let v = of-schedule k i s h now {c = turn w} tt (waits w a g b d condition x e n f) in (
       v .0,
       record {
         not-raised = v .1;
         others = λ f steps n hd. hd;
         own = λ steps hd. absurd (Option·none-ne-some x
-            (sym (ap (λ p. firstHolding d asks (members p)) (none-ahead k s h (now .groups) (now .ready) j steps hd a g b e (n ∙ o))) ∙ f));
+            (sym (ap (λ p. firstHolding d condition (members p)) (none-ahead k s h (now .groups) (now .ready) j steps hd a g b e (n ∙ o)))
+            ∙ f));
       },
     )
 asked k i s h now j o (limits w e) _ = absurd o
 asked k i s h now j {c = c} o (moves {r = r} {k = m} v) _ =
-    let u = of-schedule k i s h now {c = c} (asks-of-schedule j c o) (moves v) in (
+    let u = of-schedule k i s h now {c = c} (condition-of-schedule j c o) (moves v) in (
       u .0,
       record {
         not-raised = u .1;
@@ -197,7 +198,7 @@ as-told k i s u h t P e = subst (λ a. Reached k i u (saying (t .call) a ∷ h) 
 refused-same : (k i : ℕ) (s : State) (h : List Told) (now : Now k i s h) {c : Call} {r : Result} → Seen s (now .groups) c r →
     isAccepted (r .answers) ≡ false → (P : List Group → Type 0) → P (now .groups) → Reached k i (r .state) (saying c (r .answers) ∷ h) P
 refused-same k i s h now {c = c} (is-refused r) e P p = (same-now k i s h now (saying c (refused r ∷ [])) refl, p)
-refused-same k i s h now (waits j a g b d asks w x n f) e P p = t≠f e
+refused-same k i s h now (waits j a g b d condition w x n f) e P p = t≠f e
 refused-same k i s h now (limits j x) e P p = t≠f e
 refused-same k i s h now (moves v) e P p = t≠f (sym (moves-same s (now .groups) v .0) ∙ e)
 
@@ -233,7 +234,7 @@ times-now f j ids n e t = sym (rw e refl) ∙ t
 times-later : (f j : ℕ) (ids : List ℕ) (n : ℕ) → eqb j f ≡ false → times f (j ∷ ids) ≡ n → times f ids ≡ n
 times-later f j ids n e t = sym (rw e refl) ∙ t
 
-module _ (k i m f : ℕ) (make : ℕ → Call) (asks : (j : ℕ) → Asks j (make j)) (After : List Step → Type 0)
+module _ (k i m f : ℕ) (make : ℕ → Call) (condition : (j : ℕ) → Asks j (make j)) (After : List Step → Type 0)
     (after : (j : ℕ) (steps : List Step) → IsTurn (make j) → Flies steps → After steps) where
   one : (j : ℕ) (ids : List ℕ) (l n : List Group) → Asked k i j (make j) l n → Stage k i m f After l (j ∷ ids) → Stage k i m f After n ids
   one j ids l n a (fell o) = fell (bounded-still k i m l n (a .not-raised) o)
@@ -274,7 +275,7 @@ module _ (k i m f : ℕ) (make : ℕ → Call) (asks : (j : ℕ) → Asks j (mak
       (λ y.
       let q = sym (accepted-first t ts y) ∙ e in
       let is : make j ≡ t .call = sym (head-eq-of-cons-eq q) in
-      let u = asked k i s h now j (subst (Asks j) is (asks j)) (seen k i s h now (t .call)) (ap isAccepted (answered .0) ∙ y) in
+      let u = asked k i s h now j (subst (Asks j) is (condition j)) (seen k i s h now (t .call)) (ap isAccepted (answered .0) ∙ y) in
       let r = as-told k i s (resultOf s (t .call) .state) h t (λ l. Stage k i m f After l ids) (answered .0)
       (u .0, one j ids (now .groups) (u .0 .groups) (subst (λ c. Asked k i j c (now .groups) (u .0 .groups)) (sym is) (u .1)) g) in
       half (resultOf s (t .call) .state) (t ∷ h) (r .0) ts ids (answered .1) (tail-eq-of-cons-eq q) (r .1))

@@ -11,7 +11,8 @@ use lib.Dec.{T, leb, ltb, eqb, lt→ltb, ltb→lt}
 use lib.IntN.{ℤ, pos, negsuc}
 use lib.Signed.{_<ℤ_, leZ}
 use lib.ListN.{length}
-use Rattle.rules_routine.specs.Range.{lowestSetting, highestSetting, inRange}
+use Rattle.rules_routine.specs.Limits.{lowestSetting, highestSetting, maxCommands}
+use Rattle.rules_routine.specs.Range.{inRange}
 use Rattle.rules_routine.specs.Choice.{if_then_else_}
 use Rattle.rules_routine.specs.Refusals.{Cause, devices-out-of-range, pass-limit-out-of-range, first-id-0, command-count}
 use Rattle.rules_routine.specs.Refusals.{device-not-below}
@@ -21,7 +22,7 @@ use Rattle.rules_routine.specs.Refusals.{none-in-flight, report-code-out
 use Rattle.rules_routine.specs.Refusals.{restart-setting}
 use Rattle.rules_routine.specs.Refusals.{book-cut-short, book-misplaced, book-length, no-room, condition-alone, refusalOf}
 use Rattle.rules_routine.specs.Refusals.{refuse_when_, _andThen_}
-use Rattle.rules_routine.specs.Routine.{maxCommands, conditionTag, highestTag, commandCheck, standsAlone, commandsCheck, routineCheck}
+use Rattle.rules_routine.specs.Routine.{conditionTag, highestTag, commandCheck, standsAlone, commandsCheck, routineCheck}
 use Rattle.rules_routine.specs.Causes.{NoneOf, FirstIn, Exactly, itself, NumbersDiffer, OutOfRange, commandNo, commandCauses}
 use Rattle.rules_routine.specs.Causes.{routineCauses}
 use Rattle.rules_routine.specs.Causes.{ExactRoutine}

@@ -9,11 +9,11 @@ use Prim.Native.Nat.{ℕ, zero, suc, _<_, _≤_}
 use lib.IntN.{ℤ}
 use lib.Signed.{_<ℤ_}
 use lib.ListN.{length, getD}
-use Rattle.rules_routine.specs.Range.{lowestSetting, highestSetting}
+use Rattle.rules_routine.specs.Limits.{lowestSetting, highestSetting, maxCommands}
 use Rattle.rules_routine.specs.Refusals.{Cause, command-count, device-not-below, setting-out-of-range, tag-out-of-range}
 use Rattle.rules_routine.specs.Refusals.{condition-alone}
 use Rattle.rules_routine.specs.Refusals.{refusalOf}
-use Rattle.rules_routine.specs.Routine.{maxCommands, highestTag, conditionTag, zeroCommand, routineCheck}
+use Rattle.rules_routine.specs.Routine.{highestTag, conditionTag, zeroCommand, routineCheck}
 use Rattle.rules_routine.specs.declared.Command.{Command}
 use Rattle.rules_routine.specs.declared.Refusal.{Refusal}
 use Rattle.rules_routine.specs.declared.Verdict.the-variants.{Accepted, Refused}

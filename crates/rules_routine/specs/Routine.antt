@@ -7,6 +7,7 @@ use Prim.Native.Nat.{ℕ, suc, _+_, _-_, _^_}
 use lib.Dec.{leb, ltb, eqb}
 use lib.IntN.{pos}
 use lib.ListN.{length, take, set, replicate}
+use Rattle.rules_routine.specs.Limits.{maxCommands}
 use Rattle.rules_routine.specs.Choice.{if_then_else_}
 use Rattle.rules_routine.specs.Range.{inRange}
 use Rattle.rules_routine.specs.Refusals.{command-count, device-not-below, setting-out-of-range, tag-out-of-range, condition-alone}
@@ -15,13 +16,6 @@ use Rattle.rules_routine.specs.declared.Command.{Command}
 use Rattle.rules_routine.specs.declared.Routine.{Routine}
 use Rattle.rules_routine.specs.declared.Verdict.{Verdict}
 use Rattle.rules_routine.specs.declared.Verdict.the-variants.{Accepted}
-
--- "Devices are 0 to N−1, N from 1 to 32."
-abbrev pub maxDevices : ℕ
-maxDevices = 32
-
-abbrev pub maxCommands : ℕ
-maxCommands = 8
 
 -- "tag (0 must, 1 best-effort)"; document 02, item 4: "Tag 2 is a condition".
 abbrev pub mustTag : ℕ

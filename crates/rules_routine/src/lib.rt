@@ -1,9 +1,13 @@
 // Commands, routines, and what turns a call down: document 01, "Things and ranges" and "When a call is turned down"; conditions: document
 // 02, item 4.
+pub mod limits;
 pub mod refusals;
 pub mod reports;
 pub mod tags;
 
+use limits::HIGHEST_SETTING;
+use limits::LOWEST_SETTING;
+use limits::MAX_COMMANDS;
 use refusals::COMMAND_COUNT;
 use refusals::CONDITION_ALONE;
 use refusals::DEVICE;
@@ -16,26 +20,10 @@ ghost use Prim.Native.Nat.{_+_, _<_, _≤_};
 ghost use lib.ListN.{getD};
 ghost use lib.Seq.{slice};
 ghost use Rattle.rules_routine.specs.Range.{inRange};
-ghost use Rattle.rules_routine.specs.Routine.{maxCommands, zeroCommand, commandsOf, noRoutine, withCommand, commandCheck};
+ghost use Rattle.rules_routine.specs.Limits.{maxCommands};
+ghost use Rattle.rules_routine.specs.Routine.{zeroCommand, commandsOf, noRoutine, withCommand, commandCheck};
 ghost use Rattle.rules_routine.specs.Routine.{standsAlone};
 ghost use Rattle.rules_routine.specs.Routine.{routineCheck};
-
-// A routine has at most this many commands.
-pub const MAX_COMMANDS: usize = 8;
-
-// Devices are below this number.
-pub const MAX_DEVICES: usize = 32;
-
-// Settings are from one to the other.
-pub const LOWEST_SETTING: i16 = -1000;
-
-pub const HIGHEST_SETTING: i16 = 1000;
-
-// Pass limit K, 0 to 8.
-pub const HIGHEST_PASS_LIMIT: u8 = 8;
-
-// The last id that can be given.
-pub const HIGHEST_ID: u64 = 4294967295;
 
 pub struct Command {
     pub device: u8,

@@ -1,11 +1,11 @@
 // Prints what reading a book gives: a line for each routine and then `end`, or the refusal.
 use book_layout::Item;
-use book_layout::MAX_ROUTINES;
 use libc::STDOUT_FILENO;
 use rules_routine::Command;
-use rules_routine::MAX_COMMANDS;
 use rules_routine::Refusal;
 use rules_routine::Routine;
+use rules_routine::limits::MAX_COMMANDS;
+use rules_routine::limits::MAX_ROUTINES;
 
 // The steps of a whole reading: one a routine, and the end.
 const STEPS: usize = MAX_ROUTINES + 1;

@@ -2,10 +2,10 @@
 use hub::Hub;
 use hub::Outcome;
 use hub_answers::Answer;
-use hub_answers::First;
+use hub_answers::EventAbort;
 use hub_answers::PutBacks;
 use libc::STDOUT_FILENO;
-use rules_routine::MAX_DEVICES;
+use rules_routine::limits::MAX_DEVICES;
 use run_book_print::print_number;
 use run_book_print::print_refusal;
 use run_book_print::print_setting;
@@ -137,11 +137,11 @@ fn print_answer(answer: Answer, backs: PutBacks) {
 }
 
 pub fn print_outcome(outcome: Outcome) {
-    let backs = outcome.backs;
+    let backs = outcome.put_backs;
     let first = outcome.first;
     match first {
-        First::NoAbort => {}
-        First::Abort(id) => print_aborted(id, backs),
+        EventAbort::NoAbort => {}
+        EventAbort::Abort(id) => print_aborted(id, backs),
     }
     let answer = outcome.answer;
     print_answer(answer, backs);

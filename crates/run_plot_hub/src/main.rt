@@ -5,13 +5,13 @@ mod standard;
 use hub::Hub;
 ghost use Prim.Native.Nat.{suc, _<_, _≤_};
 ghost use lib.ListN.{length};
-ghost use Rattle.line_rules.specs.Reading.{maxLine};
+ghost use Rattle.rules_routine.specs.Limits.{maxLine};
 ghost use Rattle.line_parts.specs.Contract.{roomFor, Reached, Adds};
 
-// How far the reading came: the hub, how many bytes are held of a line whose end has not come, and whether all went well.
+// How far the reading came: the hub, how many bytes are pending of a line whose end has not come, and whether all went well.
 struct Read {
     hub: Hub,
-    held: usize,
+    pending: usize,
     good: bool,
 }
 
@@ -25,28 +25,28 @@ fn print(text: &[u8]) -> bool
 // Piece by piece to the end of the input. Nothing says that an input ends, so the loop counts its turns down.
 fn read_all(input: &mut [u8], out: &mut [u8]) -> Read
     requires { ⌜ (suc maxLine < length (now input)) × (roomFor (length (now input)) ≤ length (now out)) ⌝ }
-    ensures { λ r. ⌜ Reached (r .hub) (r .held) (now (input .exit)) ⌝ }
+    ensures { λ r. ⌜ Reached (r .hub) (r .pending) (now (input .exit)) ⌝ }
 {
     let mut hub = line::no_hub();
-    let mut held = 0usize;
+    let mut pending = 0usize;
     let mut turns = u64::MAX;
     while turns > 0 {
-        let got = standard::read_behind(input, held);
+        let got = standard::read_behind(input, pending);
         if got.count == 0 {
             return Read {
                 hub,
-                held,
+                pending,
                 good: got.good,
             };
         }
-        let step = line_parts::take_piece(hub, held, got.count, input, out);
+        let step = line_parts::take_part(hub, pending, got.count, input, out);
         hub = step.hub;
-        held = step.held;
+        pending = step.pending;
         let length = step.length;
         if !print(&out[..length]) {
             return Read {
                 hub,
-                held,
+                pending,
                 good: false,
             };
         }
@@ -54,7 +54,7 @@ fn read_all(input: &mut [u8], out: &mut [u8]) -> Read
     }
     Read {
         hub,
-        held,
+        pending,
         good: false,
     }
 }
@@ -65,7 +65,7 @@ fn main() {
     let read = read_all(&mut input, &mut out);
     if read.good {
         let hub = read.hub;
-        let length = line_parts::take_end(hub, read.held, &input, &mut out);
+        let length = line_parts::take_end(hub, read.pending, &input, &mut out);
         print(&out[..length]);
     }
 }

@@ -4,12 +4,13 @@ ghost use mathlib.Core.Path.{_≡_};
 ghost use Prim.Native.Nat.{_+_, _≤_};
 ghost use lib.ListN.{length, take};
 
-// Reads into the input behind the held bytes, which stay.
-pub fn read_behind(input: &mut [u8], held: usize) -> Got
-    requires { ⌜ held ≤ length (now input) ⌝ }
-    ensures { λ r. ⌜ (held + r .count ≤ length (now (input .entry))) × (take held (now (input .exit)) ≡ take held (now (input .entry))) ⌝ }
+// Reads into the input behind the pending bytes, which stay.
+pub fn read_behind(input: &mut [u8], pending: usize) -> Got
+    requires { ⌜ pending ≤ length (now input) ⌝ }
+    ensures { λ r. ⌜ (pending + r .count ≤ length (now (input .entry)))
+        × (take pending (now (input .exit)) ≡ take pending (now (input .entry))) ⌝ }
 {
-    run_streams::read_behind(b"plot_hub", input, held)
+    run_streams::read_behind(b"plot_hub", input, pending)
 }
 
 // Whether all of a text could be written.

@@ -97,42 +97,45 @@ fn take_lines(tally: Tally, input: &[u8], out: &mut [u8]) -> Tally
     so_far
 }
 
-// Reads into the input behind the held bytes. What cannot be read is told under the name of the command.
-fn read_behind(input: &mut [u8], held: usize) -> Got
-    requires { ⌜ held ≤ length (now input) ⌝ }
-    ensures { λ r. ⌜ held + r .count ≤ length (now (input .entry)) ⌝ }
+// Reads into the input behind the pending bytes. What cannot be read is told under the name of the command.
+fn read_behind(input: &mut [u8], pending: usize) -> Got
+    requires { ⌜ pending ≤ length (now input) ⌝ }
+    ensures { λ r. ⌜ pending + r .count ≤ length (now (input .entry)) ⌝ }
 {
-    run_streams::read_behind(b"plot_hub", input, held)
+    run_streams::read_behind(b"plot_hub", input, pending)
 }
 
-// The lines so far, and how many bytes are held of a line whose end has not come.
+// The lines so far, and how many bytes are pending of a line whose end has not come.
 struct Taken {
     tally: Tally,
-    held: usize,
+    pending: usize,
 }
 
-// The bytes read so far behind the lines that were taken: the whole lines of them are taken, and the rest is held.
-fn take_piece(tally: Tally, filled: usize, input: &mut [u8], out: &mut [u8]) -> Taken
+// The bytes read so far behind the lines that were taken: the whole lines of them are taken, and the rest is pending.
+fn take_part(tally: Tally, filled: usize, input: &mut [u8], out: &mut [u8]) -> Taken
     requires { ⌜ (Valid (tally .hub)) × (filled ≤ length (now input)) × (0 < length (now out)) ⌝ }
-    ensures { λ r. ⌜ (Valid (r .tally .hub)) × (r .held ≤ length (now (input .exit))) ⌝ }
+    ensures { λ r. ⌜ (Valid (r .tally .hub)) × (r .pending ≤ length (now (input .exit))) ⌝ }
 {
     let whole = line_parts::pieces::whole_length(&input[..filled]);
     let taken = take_lines(tally, &input[..whole], out);
-    let held = line_parts::pieces::keep(input, whole, filled);
-    Taken { tally: taken, held }
+    let pending = line_parts::pieces::keep(input, whole, filled);
+    Taken {
+        tally: taken,
+        pending,
+    }
 }
 
-// The lines of all whole pieces, how many bytes are held, and whether all could be read.
+// The lines of all whole pieces, how many bytes are pending, and whether all could be read.
 struct Read {
     tally: Tally,
-    held: usize,
+    pending: usize,
     good: bool,
 }
 
 // Piece by piece to the end of the input. Nothing says that an input ends, so the loop counts its turns down.
 fn read_all(input: &mut [u8], out: &mut [u8]) -> Read
     requires { ⌜ 0 < length (now out) ⌝ }
-    ensures { λ r. ⌜ (Valid (r .tally .hub)) × (r .held ≤ length (now (input .exit))) ⌝ }
+    ensures { λ r. ⌜ (Valid (r .tally .hub)) × (r .pending ≤ length (now (input .exit))) ⌝ }
 {
     let hub = line::no_hub();
     let mut tally = Tally {
@@ -142,38 +145,38 @@ fn read_all(input: &mut [u8], out: &mut [u8]) -> Read
         refused: 0,
         good: true,
     };
-    let mut held = 0usize;
+    let mut pending = 0usize;
     let mut turns = u64::MAX;
     while turns > 0 {
-        let got = read_behind(input, held);
+        let got = read_behind(input, pending);
         if got.count == 0 {
             return Read {
                 tally,
-                held,
+                pending,
                 good: got.good,
             };
         }
-        let taken = take_piece(tally, held + got.count, input, out);
+        let taken = take_part(tally, pending + got.count, input, out);
         tally = taken.tally;
-        held = taken.held;
+        pending = taken.pending;
         turns -= 1;
     }
     Read {
         tally,
-        held,
+        pending,
         good: false,
     }
 }
 
 // The line whose end has not come, if there is one.
-fn take_last(tally: Tally, held: &[u8], out: &mut [u8]) -> Tally
+fn take_last(tally: Tally, pending: &[u8], out: &mut [u8]) -> Tally
     requires { ⌜ (Valid (tally .hub)) × (0 < length (now out)) ⌝ }
     ensures { λ r. ⌜ Valid (r .hub) ⌝ }
 {
-    if held.len() == 0 {
+    if pending.len() == 0 {
         return tally;
     }
-    take_line(tally, held, out)
+    take_line(tally, pending, out)
 }
 
 fn main() {
@@ -181,9 +184,9 @@ fn main() {
     let mut out = [0u8; OUT_ROOM];
     let read = read_all(&mut input, &mut out);
     if read.good {
-        let held = read.held;
+        let pending = read.pending;
         let tally = read.tally;
-        let all = take_last(tally, &input[..held], &mut out);
+        let all = take_last(tally, &input[..pending], &mut out);
         let told = said::sum_up(all.lines, all.unread, all.refused);
         if !(all.good && told) {
             run_streams::say_not_written(b"plot_hub");

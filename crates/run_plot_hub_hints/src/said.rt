@@ -1,7 +1,7 @@
 // What is said of an unread line, and at the end.
 use libc::STDOUT_FILENO;
 use line_hints::Hint;
-use line_read::MAX_LINE;
+use rules_routine::limits::MAX_LINE;
 
 fn put(text: &[u8]) -> bool {
     io::write_all(STDOUT_FILENO, text)

@@ -24,13 +24,14 @@ pub struct Got {
     pub good: bool,
 }
 
-// Reads into the input behind the held bytes, which stay.
-pub fn read_behind(program: &[u8], input: &mut [u8], held: usize) -> Got
-    requires { ⌜ held ≤ length (now input) ⌝ }
-    ensures { λ r. ⌜ (held + r .count ≤ length (now (input .entry))) × (take held (now (input .exit)) ≡ take held (now (input .entry))) ⌝ }
+// Reads into the input behind the pending bytes, which stay.
+pub fn read_behind(program: &[u8], input: &mut [u8], pending: usize) -> Got
+    requires { ⌜ pending ≤ length (now input) ⌝ }
+    ensures { λ r. ⌜ (pending + r .count ≤ length (now (input .entry)))
+        × (take pending (now (input .exit)) ≡ take pending (now (input .entry))) ⌝ }
 {
-    let answer = libc::read(STDIN_FILENO, &mut input[held..]);
-    let count = io::count(answer, &input[held..]);
+    let answer = libc::read(STDIN_FILENO, &mut input[pending..]);
+    let count = io::count(answer, &input[pending..]);
     if answer < 0 {
         say(program, b"standard input cannot be read");
     }

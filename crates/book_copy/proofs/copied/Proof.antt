@@ -7,8 +7,8 @@ use Rattle.rules_routine.specs.declared.Command.{Command}
 use Rattle.book_layout.specs.Claims.{Bytes}
 use Rattle.book_layout.specs.Writing.{writtenOf, bufferAfter}
 use Rattle.book_copy.specs.declared.Rows.{Rows}
-use Rattle.book_copy.proofs.Laws.{rows-count, rows-lent, written-copied, after-copied, refused-copied, Read, read-refused}
-use Rattle.book_copy.proofs.Laws.{read-accepted}
+use Rattle.book_copy.proofs.CopyLaws.{rows-count, rows-lent, written-copied, after-copied, refused-copied, Read, read-refused}
+use Rattle.book_copy.proofs.CopyLaws.{read-accepted}
 use borrow.Author.Needs.{needs}
 use Rattle.book_copy.proofs.copied.Statement.{statement}
 use Rattle.book_copy.proofs.copied.Tie as tie

@@ -2,8 +2,8 @@
 use mathlib.Core.Path.{_≡_}
 use native.Mathlib.Omega.{arith}
 use lib.ListN.{length, length-take}
-use Rattle.rules_routine.proofs.Laws.{length-mapped}
-use Rattle.book_layout.specs.Layout.{maxRoutines}
+use Rattle.rules_routine.proofs.RoutineLaws.{length-mapped}
+use Rattle.rules_routine.specs.Limits.{maxRoutines}
 use borrow.Author.Needs.{needs}
 use Rattle.book_copy.proofs.write_rows.Statement.{statement}
 use Rattle.book_copy.proofs.write_rows.Tie as tie

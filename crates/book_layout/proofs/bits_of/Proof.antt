@@ -8,7 +8,7 @@ use lib.Signed.{leZ, mag}
 use mir.Syntax.{w16, w32}
 use mir.Val.{toZ, ofZ}
 use mir.Facts.{toZ-ofZ, toZ-pos, sfits-widen}
-use Rattle.book_layout.proofs.Laws.{not-below-0, and-65536, bits-from-0, bits-below-0}
+use Rattle.book_layout.proofs.LayoutLaws.{not-below-0, and-65536, bits-from-0, bits-below-0}
 use Rattle.book_layout.proofs.bits_of.Statement.{statement}
 use Rattle.book_layout.proofs.bits_of.Tie as tie
 

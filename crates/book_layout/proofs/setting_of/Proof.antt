@@ -7,7 +7,7 @@ use lib.IntN.{pos, _+ℤ_, _-ℤ_, _*ℤ_}
 use mir.Syntax.{w16, w32}
 use mir.Val.{SFits, toZ, ofZ}
 use mir.Facts.{toZ-pos, toZ-ofZ, sfits-widen}
-use Rattle.book_layout.proofs.Laws.{setting-low, setting-high, less-65536}
+use Rattle.book_layout.proofs.LayoutLaws.{setting-low, setting-high, less-65536}
 use borrow.Author.Needs.{needs}
 use Rattle.book_layout.proofs.setting_of.Statement.{statement}
 use Rattle.book_layout.proofs.setting_of.Tie as tie

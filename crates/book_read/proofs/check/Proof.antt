@@ -5,7 +5,7 @@ use native.Mathlib.Omega.{arith}
 use Rattle.rules_routine.specs.Refusals.{refusalOf}
 use Rattle.book_layout.specs.Layout.{pairsEnd, countOf}
 use Rattle.book_layout.specs.Reading.{placedChecks}
-use Rattle.book_layout.proofs.Laws.{head-count, head-many, head-pairs, head-fine, book-refused, book-placed}
+use Rattle.book_layout.proofs.LayoutLaws.{head-count, head-many, head-pairs, head-fine, book-refused, book-placed}
 use borrow.Author.Needs.{needs}
 use Rattle.book_read.proofs.check.Statement.{statement}
 use Rattle.book_read.proofs.check.Tie as tie

@@ -4,7 +4,7 @@ use Rattle.rules_routine.specs.declared.Verdict.the-variants.{Accepted}
 use Rattle.book_layout.specs.declared.Item.the-variants.{Refused as RefusedBook}
 use mathlib.Core.Path.{_≡_, sym, ap, _∙_}
 use Rattle.book_layout.specs.Reading.{bookCheck, nextOf}
-use Rattle.book_layout.proofs.Laws.{next-first, next-later, next-refused}
+use Rattle.book_layout.proofs.LayoutLaws.{next-first, next-later, next-refused}
 use borrow.Author.Needs.{needs}
 use Rattle.book_read.proofs.next.Statement.{statement}
 use Rattle.book_read.proofs.next.Tie as tie

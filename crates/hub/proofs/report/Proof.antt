@@ -1,6 +1,6 @@
 -- `hub::report` meets its contract. Assumes nothing.
 use borrow.Author.Needs.{needs}
-use Rattle.hub.proofs.Laws.{decides-none, gives-none}
+use Rattle.hub.proofs.CallLaws.{decides-none, gives-none}
 use Rattle.hub.proofs.report.Statement.{statement}
 use Rattle.hub.proofs.report.Tie as tie
 

@@ -8,7 +8,7 @@ use borrow.Author.Needs.{needs}
 use Rattle.rules.specs.Events.{restartOf}
 use Rattle.hub_state.specs.Contract.{Decides}
 use Rattle.hub.specs.View.{view}
-use Rattle.hub.proofs.Laws.{decides-none, gives-none}
+use Rattle.hub.proofs.CallLaws.{decides-none, gives-none}
 use Rattle.hub.proofs.restart.Statement.{statement}
 use Rattle.hub.proofs.restart.Tie as tie
 

@@ -2,7 +2,7 @@
 use borrow.Author.Needs.{needs}
 use mathlib.Core.Path.{subst}
 use Rattle.hub.specs.Contract.{Gives}
-use Rattle.hub.proofs.Laws.{decides-itself}
+use Rattle.hub.proofs.CallLaws.{decides-itself}
 use Rattle.hub.proofs.submit.Statement.{statement}
 use Rattle.hub.proofs.submit.Tie as tie
 

@@ -1,6 +1,6 @@
 -- `hub_abort::decide_cancel` meets its contract. Assumes nothing.
 use borrow.Author.Needs.{needs}
-use Rattle.hub_abort.proofs.Laws.{cancel-nowhere, cancel-aborts}
+use Rattle.hub_abort.proofs.PutBackLaws.{cancel-nowhere, cancel-aborts}
 use Rattle.hub_abort.proofs.decide_cancel.Statement.{statement}
 use Rattle.hub_abort.proofs.decide_cancel.Tie as tie
 

@@ -1,6 +1,6 @@
 -- `hub_abort::is_put_back` meets its contract. Assumes nothing.
 use mir.Facts.{toZ-ofZ}
-use Rattle.hub_abort.proofs.Laws.{back-down, back-others, back-own, back-changed}
+use Rattle.hub_abort.proofs.PutBackLaws.{back-down, back-others, back-own, back-changed}
 use Rattle.hub_abort.proofs.is_put_back.Statement.{statement}
 use Rattle.hub_abort.proofs.is_put_back.Tie as tie
 

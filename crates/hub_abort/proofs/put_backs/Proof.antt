@@ -10,35 +10,35 @@ use Prim.Native.Nat.{_+_, _-_, _≤_, _<_}
 use lib.ListN.{length}
 use mir.Val.{toZ, ofZ}
 use mir.Syntax.{w16}
-use Rattle.rules_routine.specs.Routine.{maxDevices}
-use Rattle.rules_routine.proofs.Laws.{any-default, length-mapped}
+use Rattle.rules_routine.specs.Limits.{maxDevices}
+use Rattle.rules_routine.proofs.RoutineLaws.{any-default, length-mapped}
 use Rattle.rules.specs.Answers.{Back}
 use Rattle.hub_state.specs.View.{settingsOf}
-use Rattle.hub_answers.specs.View.{backsOf}
+use Rattle.hub_answers.specs.View.{putBacksOf}
 use Rattle.hub_answers.specs.declared.PutBacks.{PutBacks}
 use Rattle.hub_abort.specs.PutBacks.{isBackBy, backsBy}
-use Rattle.hub_abort.proofs.Laws.{test-read, backs-more, backs-same, backs-end}
+use Rattle.hub_abort.proofs.PutBackLaws.{test-read, backs-more, backs-same, backs-end}
 use Rattle.hub_abort.proofs.put_backs.Statement.{statement}
 use Rattle.hub_abort.proofs.put_backs.Tie as tie
 
 abbrev Inv-loop : tie.InvT-loop
 Inv-loop devices tables backs₀ count d₀ backs d =
     let all = backsBy (isBackBy tables) (settingsOf (tables .after)) in
-    (d ≤ count) × (backs .count ≤ d) × (backsOf backs ++ all d (count - d) ≡ all 0 count)
+    (d ≤ count) × (backs .count ≤ d) × (putBacksOf backs ++ all d (count - d) ≡ all 0 count)
 
 abbrev μ-loop : tie.MeasureT-loop
 μ-loop devices tables backs₀ count d₀ backs d = count - d
 
-no-backs-requires : tie.Need-no-backs-requires Inv-loop μ-loop
-no-backs-requires c κs = search needs
+no-put-backs-requires : tie.Need-no-put-backs-requires Inv-loop μ-loop
+no-put-backs-requires c κs = search needs
 
 loop-holds : tie.Need-loop-holds Inv-loop μ-loop
 loop-holds c =
     let t = c .before .args .t2 in
-    let z = c .no-backs .ensures .0 in
+    let z = c .no-put-backs .ensures .0 in
     let n = c .before .args .devices in
     let e : n - 0 ≡ n = omega arith in
-    (search needs, omega (arith, z), λ i. c .no-backs .ensures .1 i ++ backsBy (isBackBy t) (settingsOf (t .after)) 0 (e i))
+    (search needs, omega (arith, z), λ i. c .no-put-backs .ensures .1 i ++ backsBy (isBackBy t) (settingsOf (t .after)) 0 (e i))
 
 element-copy-out-up : tie.Need-element-copy-out-up Inv-loop μ-loop
 element-copy-out-up c = search needs
@@ -67,8 +67,8 @@ is-put-back-requires c κs = search needs
 cast-t28 : tie.Need-cast-t28 Inv-loop μ-loop
 cast-t28 c = search needs
 
-with-back-requires : tie.Need-with-back-requires Inv-loop μ-loop
-with-back-requires c κs = search needs
+with-put-back-requires : tie.Need-with-put-back-requires Inv-loop μ-loop
+with-put-back-requires c κs = search needs
 
 add-d : tie.Need-add-d Inv-loop μ-loop
 add-d c = search needs
@@ -97,16 +97,17 @@ loop-again c =
     (λ w. (
       search needs,
       omega (arith, ap (λ (r : PutBacks). r .count) (w .2), w .1 .ensures .0, v .1),
-      ap (λ (r : PutBacks). backsOf r ++ rest) (w .2)
+      ap (λ (r : PutBacks). putBacksOf r ++ rest) (w .2)
           ∙ ap (λ (r : List Back). r ++ rest) (w .1 .ensures .1)
-          ∙ (λ i. (backsOf b ++ (record { device = d; setting = y i } ∷ [])) ++ rest)
-          ∙ backs-more (isBackBy t) f (backsOf b) d (a .args .devices) k (sym e ∙ w .0 .taken)
+          ∙ (λ i. (putBacksOf b ++ (record { device = d; setting = y i } ∷ [])) ++ rest)
+          ∙ backs-more (isBackBy t) f (putBacksOf b) d (a .args .devices) k (sym e ∙ w .0 .taken)
           ∙ v .2,
     ))
     (λ w. (
       search needs,
       omega (arith, ap (λ (r : PutBacks). r .count) (w .1), v .1),
-      ap (λ (r : PutBacks). backsOf r ++ rest) (w .1) ∙ backs-same (isBackBy t) f (backsOf b) d (a .args .devices) k (sym e ∙ w .0 .left)
+      ap (λ (r : PutBacks). putBacksOf r ++ rest) (w .1)
+          ∙ backs-same (isBackBy t) f (putBacksOf b) d (a .args .devices) k (sym e ∙ w .0 .left)
           ∙ v .2,
     ))
     (c .if1 .came)
@@ -116,7 +117,7 @@ returns c =
     let v = c .before .loop .inv in
     let t = c .before .before .before .args .t2 in (
       omega (arith, v .0, v .1, c .before .before .before .pre),
-      sym (backs-end (isBackBy t) (settingsOf (t .after)) (backsOf (c .before .loop .backs)) (c .before .loop .d)
+      sym (backs-end (isBackBy t) (settingsOf (t .after)) (putBacksOf (c .before .loop .backs)) (c .before .loop .d)
           (c .before .before .before .args .devices) (c .loop-test .left)) ∙ v .2,
     )
 
@@ -126,7 +127,7 @@ put-backs-spec =
     (tie.spec
     Inv-loop
     μ-loop
-    no-backs-requires
+    no-put-backs-requires
     loop-holds
     element-copy-out-up
     element-copy-out-others
@@ -137,7 +138,7 @@ put-backs-spec =
     element-copy-out-after
     is-put-back-requires
     cast-t28
-    with-back-requires
+    with-put-back-requires
     add-d
     loop-less
     loop-again

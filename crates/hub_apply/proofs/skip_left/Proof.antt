@@ -5,9 +5,8 @@ use native.Mathlib.Omega.{arith}
 use mathlib.Core.Path.{_≡_}
 use mathlib.Core.Logic.{⊎-elim}
 use lib.ListN.{length, length-set}
-use Rattle.rules_routine.specs.Routine.{maxCommands}
-use Rattle.rules_routine.proofs.Laws.{length-mapped}
-use Rattle.rules.specs.State.{maxHeld}
+use Rattle.rules_routine.specs.Limits.{maxCommands, maxSequence}
+use Rattle.rules_routine.proofs.RoutineLaws.{length-mapped}
 use Rattle.hub_apply.specs.Stages.{SkipsLeft}
 use Rattle.hub_apply.proofs.CodeLaws.{skip-none, skip-here, skip-other, skip-answered, skip-all}
 use Rattle.hub_apply.proofs.skip_left.Statement.{statement}
@@ -15,12 +14,12 @@ use Rattle.hub_apply.proofs.skip_left.Tie as tie
 
 abbrev Inv-loop : tie.InvT-loop
 Inv-loop device from end wanted skipped₀ k₀ skipped k =
-    (from ≤ k) × (k ≤ end) × (length skipped ≡ maxHeld * maxCommands) × SkipsLeft skipped₀ device wanted from k skipped
+    (from ≤ k) × (k ≤ end) × (length skipped ≡ maxSequence * maxCommands) × SkipsLeft skipped₀ device wanted from k skipped
 
 abbrev μ-loop : tie.MeasureT-loop
 μ-loop device from end wanted skipped₀ k₀ skipped k = end - k
 
-long : (c : tie.Start Inv-loop μ-loop) → length (c .args .stage) ≡ maxHeld * maxCommands
+long : (c : tie.Start Inv-loop μ-loop) → length (c .args .stage) ≡ maxSequence * maxCommands
 long c = search (needs, length-mapped)
 
 loop-holds : tie.Need-loop-holds Inv-loop μ-loop

@@ -2,14 +2,14 @@
 use borrow.Author.Needs.{needs}
 use mathlib.Core.Path.{_≡_}
 use lib.ListN.{length}
-use Rattle.rules_routine.proofs.Laws.{length-mapped}
-use Rattle.rules.specs.State.{maxHeld}
+use Rattle.rules_routine.proofs.RoutineLaws.{length-mapped}
+use Rattle.rules_routine.specs.Limits.{maxSequence}
 use Rattle.hub_state.proofs.Members.{stands-below}
 use Rattle.hub_apply.proofs.StageLaws.{commit-applied}
 use Rattle.hub_apply.proofs.with_commit.Statement.{statement}
 use Rattle.hub_apply.proofs.with_commit.Tie as tie
 
-long : (c : tie.Start) → length (c .args .state .committed) ≡ maxHeld
+long : (c : tie.Start) → length (c .args .state .committed) ≡ maxSequence
 long c = search (needs, length-mapped)
 
 abbrev start : tie.After-committed → tie.Start

@@ -2,8 +2,8 @@
 use borrow.Author.Needs.{needs}
 use Prim.Native.Nat.{_<_}
 use native.Mathlib.Omega.{arith}
-use Rattle.rules_routine.proofs.Laws.{length-mapped}
-use Rattle.rules.specs.State.{maxHeld}
+use Rattle.rules_routine.proofs.RoutineLaws.{length-mapped}
+use Rattle.rules_routine.specs.Limits.{maxSequence}
 use Rattle.hub_apply.specs.Fill.{CanFill}
 use Rattle.hub_apply.proofs.PlaceLaws.{Long, can-join, count-fits, can-fill, can-pass, join-places}
 use Rattle.hub_apply.proofs.with_routine.Statement.{statement}
@@ -25,7 +25,7 @@ long c =
       commands = search (needs, length-mapped);
     }
 
-slot : (c : tie.After-join) → c .join .result .slot < maxHeld
+slot : (c : tie.After-join) → c .join .result .slot < maxSequence
 slot c = c .join .ensures .slot
 
 join-requires : tie.Need-join-requires

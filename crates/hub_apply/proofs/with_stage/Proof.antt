@@ -7,9 +7,8 @@ use mathlib.Core.Logic.{⊎-elim}
 use lib.ListN.{length, getD}
 use mir.Syntax.{w16}
 use mir.Val.{toZ, ofZ}
-use Rattle.rules_routine.specs.Routine.{maxDevices, maxCommands}
-use Rattle.rules_routine.proofs.Laws.{length-mapped}
-use Rattle.rules.specs.State.{maxHeld}
+use Rattle.rules_routine.specs.Limits.{maxDevices, maxCommands, maxSequence}
+use Rattle.rules_routine.proofs.RoutineLaws.{length-mapped}
 use Rattle.hub_state.proofs.Members.{counts-most}
 use Rattle.hub_apply.proofs.StageLaws.{at-slot, at-place, next-open, no-more, AnsweredNow, stage-applied, begins-marks, same-marks}
 use Rattle.hub_apply.proofs.with_stage.Statement.{statement}
@@ -19,8 +18,8 @@ abbrev start : tie.After-mark → tie.Start
 start c = c .before .before .before .before .before .before .before .before .before .before .before .before .before .before .before
 
 -- the lengths of the rows
-long : (c : tie.Start) → (length (c .args .state .answered) ≡ maxHeld) × (length (c .args .state .stage) ≡ maxHeld * maxCommands)
-    × (length (c .args .state .«due_then») ≡ maxHeld)
+long : (c : tie.Start) → (length (c .args .state .answered) ≡ maxSequence) × (length (c .args .state .stage) ≡ maxSequence * maxCommands)
+    × (length (c .args .state .«due_then») ≡ maxSequence)
 long c = (search (needs, length-mapped), search (needs, length-mapped), search (needs, length-mapped))
 
 -- the last row's stands too deep for the search
@@ -30,7 +29,7 @@ long-mark c =
     (c .good .0 .1 .1 .1 .1 .1 .1 .1 .1 .1 .1 .1 .1 .1 .1 .1 .1 .1 .1 .1 .0 .1 .0 .1)
 
 -- the slot, and how many commands it has
-fits : (c : tie.Start) → (c .args .change .at < maxHeld)
+fits : (c : tie.Start) → (c .args .change .at < maxSequence)
     × (getD (c .args .state .answered) (c .args .change .at) 0 < getD (c .args .state .counts) (c .args .change .at) 0)
     × (getD (c .args .state .counts) (c .args .change .at) 0 ≤ maxCommands)
 fits c = (at-slot _ _ (c .pre .0) (c .pre .1), c .pre .1 .not-all, counts-most _ _ (c .pre .0) (c .pre .1 .stands))
@@ -65,18 +64,19 @@ mul-due-then c = let f = fits (start (c .before)) in omega (arith, f .0)
 array-set-from-due-then : tie.Need-array-set-from-due-then
 array-set-from-due-then c = fits (start (c .before)) .0
 
-add-first-open : tie.Need-add-first-open
-add-first-open c = let f = fits (start (c .before .before .before .before)) in omega arith
+add-first-unanswered : tie.Need-add-first-unanswered
+add-first-unanswered c = let f = fits (start (c .before .before .before .before)) in omega arith
 
-first-open-requires : tie.Need-first-open-requires
-first-open-requires c κs = let f = fits (start (c .before .before .before .before)) in (omega arith, omega arith)
+first-unanswered-requires : tie.Need-first-unanswered-requires
+first-unanswered-requires c κs = let f = fits (start (c .before .before .before .before)) in (omega arith, omega arith)
 
 -- where the next command stands
-next-within : (c : tie.After-first-open) → let s = start (c .before .before .before .before .before) in
-    let from = s .args .change .at * maxCommands in (from ≤ c .first-open .result) × (c .first-open .result ≤ from + maxCommands)
+next-within : (c : tie.After-first-unanswered) → let s = start (c .before .before .before .before .before) in
+    let from = s .args .change .at * maxCommands in (from ≤ c .first-unanswered .result)
+    × (c .first-unanswered .result ≤ from + maxCommands)
 next-within c =
     let f = fits (start (c .before .before .before .before .before)) in
-    let w = c .first-open .ensures .within in
+    let w = c .first-unanswered .ensures .within in
     (omega (arith, w .0), omega (arith, w .1))
 
 sub-answered : tie.Need-sub-answered
@@ -142,8 +142,8 @@ with-stage-spec =
     array-write-stage
     mul-due-then
     array-set-from-due-then
-    add-first-open
-    first-open-requires
+    add-first-unanswered
+    first-unanswered-requires
     sub-answered
     cast-answered
     array-write-answered

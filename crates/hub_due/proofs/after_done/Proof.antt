@@ -9,7 +9,7 @@ use lib.IntN.{pos}
 use lib.ListN.{getD, set}
 use mir.Val.{toZ, ofZ}
 use mir.Syntax.{w16}
-use Rattle.rules_routine.specs.Routine.{maxDevices}
+use Rattle.rules_routine.specs.Limits.{maxDevices}
 use Rattle.hub_due.proofs.Places.{DoneTo, done-yet, done-all, done-store, done-keep}
 use Rattle.hub_due.proofs.after_done.Statement.{statement}
 use Rattle.hub_due.proofs.after_done.Tie as tie

@@ -8,7 +8,7 @@ use lib.IntN.{pos}
 use lib.ListN.{getD, set}
 use mir.Val.{toZ, ofZ}
 use mir.Syntax.{w16}
-use Rattle.rules_routine.specs.Routine.{maxDevices}
+use Rattle.rules_routine.specs.Limits.{maxDevices}
 use Rattle.hub_due.proofs.Restarts.{restart-there, restart-absent, RestartsTo, restarts-yet, restart-store, restart-keep}
 use Rattle.hub_due.proofs.Restarts.{restarts-all}
 use Rattle.hub_due.proofs.after_restarts.Statement.{statement}

@@ -10,9 +10,8 @@ use lib.IntN.{pos}
 use lib.ListN.{length, getD}
 use mir.Val.{toZ, ofZ}
 use mir.Syntax.{w16}
-use Rattle.rules_routine.specs.Routine.{maxDevices, maxCommands}
-use Rattle.rules_routine.proofs.Laws.{length-mapped}
-use Rattle.rules.specs.State.{maxHeld}
+use Rattle.rules_routine.specs.Limits.{maxDevices, maxCommands, maxSequence}
+use Rattle.rules_routine.proofs.RoutineLaws.{length-mapped}
 use Rattle.rules.specs.Due.{afterMembers}
 use Rattle.hub_sequence.specs.Links.{along, backOf, Walks, Stands}
 use Rattle.hub_sequence.proofs.ReadLaws.{walks-ahead}
@@ -35,10 +34,10 @@ abbrev μ-loop : tie.MeasureT-loop
 μ-loop device stage setting wanted settled ahead answered restarts d i₀ i = length (along ahead i)
 
 -- the row of restarts
-long : (c : tie.Start Inv-loop μ-loop) → length (c .args .state .restarts) ≡ maxHeld * maxDevices
+long : (c : tie.Start Inv-loop μ-loop) → length (c .args .state .restarts) ≡ maxSequence * maxDevices
 long c = search (needs, length-mapped)
 
--- the slot that the walk has come to is held
+-- the slot that the walk has come to is taken
 stands : (c : tie.In-loop Inv-loop μ-loop) →
     Stands (c .before .before .before .before .before .before .before .args .state .links) (c .before .loop .i)
 stands c = let s = c .before .before .before .before .before .before .before in
@@ -48,7 +47,7 @@ stands c = let s = c .before .before .before .before .before .before .before in
 -- where its answered commands end
 ends : (c : tie.In-loop Inv-loop μ-loop) →
     c .before .loop .i * maxCommands + getD (c .before .before .before .before .before .before .before .args .state .answered)
-    (c .before .loop .i) 0 ≤ maxHeld * maxCommands
+    (c .before .loop .i) 0 ≤ maxSequence * maxCommands
 ends c = let s = c .before .before .before .before .before .before .before in
     answered-end (s .args .state) _ (s .pre .0) (stands c)
 
@@ -115,26 +114,26 @@ cast-end c = let h = ends (c .before) in omega arith
 add-end : tie.Need-add-end Inv-loop μ-loop
 add-end c = let h = ends (c .before) in omega arith
 
-last-done-requires : tie.Need-last-done-requires Inv-loop μ-loop
-last-done-requires c κs = (omega arith, ends (c .before))
+behind-last-done-requires : tie.Need-behind-last-done-requires Inv-loop μ-loop
+behind-last-done-requires c κs = (omega arith, ends (c .before))
 
 sub-result : tie.Need-sub-result Inv-loop μ-loop
 sub-result c = search needs
 
 mul-result : tie.Need-mul-result Inv-loop μ-loop
-mul-result c = let h = ends (c .before .before .before) in omega (arith, c .before .last-done .ensures .within)
+mul-result c = let h = ends (c .before .before .before) in omega (arith, c .before .behind-last-done .ensures .within)
 
 element-copy-out-result : tie.Need-element-copy-out-result Inv-loop μ-loop
-element-copy-out-result c = let h = ends (c .before .before .before) in omega (arith, c .before .last-done .ensures .within)
+element-copy-out-result c = let h = ends (c .before .before .before) in omega (arith, c .before .behind-last-done .ensures .within)
 
 returns-2 : tie.Need-returns-2 Inv-loop μ-loop
 returns-2 c = let k = c .before .before in
     let l = k .before .before in
     let s = l .before .before .before .before .before .before .before in
     let v = l .before .loop .inv in
-    let r = getD (s .args .setting .now) (k .last-done .result - 1) (pos 0) in
+    let r = getD (s .args .setting .now) (k .behind-last-done .result - 1) (pos 0) in
     let b : toZ w16 (ofZ w16 r) ≡ r = search needs in
-    b ∙ back-found (v .0) (v .2) (l .loop-test .taken) (absent (k .before)) (k .last-done .ensures) (c .before .if3 .taken) ∙ whole s
+    b ∙ back-found (v .0) (v .2) (l .loop-test .taken) (absent (k .before)) (k .behind-last-done .ensures) (c .before .if3 .taken) ∙ whole s
 
 array-read-i : tie.Need-array-read-i Inv-loop μ-loop
 array-read-i c = search needs
@@ -155,7 +154,7 @@ loop-again c = let k = c .before in
     let v = l .before .loop .inv in (
       walks-next (v .0) h .1,
       walk-within (v .0) (v .1) h,
-      back-past (v .0) (v .2) h (absent (k .before)) (k .last-done .ensures)
+      back-past (v .0) (v .2) h (absent (k .before)) (k .behind-last-done .ensures)
           (c .if3 .left),
     )
 
@@ -180,7 +179,7 @@ due-on-spec =
     array-read-end
     cast-end
     add-end
-    last-done-requires
+    behind-last-done-requires
     sub-result
     mul-result
     element-copy-out-result

@@ -6,8 +6,8 @@ use lib.IntN.{ℤ}
 use lib.ListN.{length}
 use mir.Val.{toZ, ofZ}
 use mir.Syntax.{w16}
-use Rattle.rules_routine.specs.Routine.{maxDevices}
-use Rattle.rules_routine.proofs.Laws.{length-mapped}
+use Rattle.rules_routine.specs.Limits.{maxDevices}
+use Rattle.rules_routine.proofs.RoutineLaws.{length-mapped}
 use Rattle.rules.specs.Due.{afterMembers}
 use Rattle.hub_state.specs.View.{settingsOf, membersOf}
 use Rattle.hub_due.proofs.Slots.{due-is, due-past}
@@ -15,7 +15,7 @@ use Rattle.hub_due.proofs.due_setting.Statement.{statement}
 use Rattle.hub_due.proofs.due_setting.Tie as tie
 
 -- the row of settings
-long : (c : tie.Start) → length (c .args .state .settled) ≡ maxDevices
+long : (c : tie.Start) → length (c .args .state .«settled_at») ≡ maxDevices
 long c = search (needs, length-mapped)
 
 due-on-requires : tie.Need-due-on-requires
@@ -42,7 +42,7 @@ returns-2 c =
     let s = c .before .before .before .before in
     let v = c .due-on2 .result in
     let e : toZ w16 (ofZ w16 v) ≡ v = search needs in
-    let u = settingsOf (s .args .state .settled) (s .args .wanted) in
+    let u = settingsOf (s .args .state .«settled_at») (s .args .wanted) in
     let f : toZ w16 (ofZ w16 u) ≡ u = search needs in
     e ∙ c .due-on2 .ensures ∙ ap (λ (z : ℤ). afterMembers (s .args .wanted) (membersOf (s .args .state)) z) f ∙ due-is _ (s .pre .0) _
 

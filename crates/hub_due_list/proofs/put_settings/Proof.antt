@@ -10,7 +10,7 @@ use lib.Seq.{sets}
 use mir.Val.{toZ, ofZ}
 use mir.Syntax.{w16}
 use Rattle.rules_routine.specs.Refusals.{refusalOf}
-use Rattle.rules_routine.specs.Routine.{maxDevices}
+use Rattle.rules_routine.specs.Limits.{maxDevices}
 use Rattle.rules.specs.AllDue.{settingsFrom}
 use Rattle.rules.proofs.AllDue.{settings-next, settings-end, list-refused, list-accepted, list-stored}
 use Rattle.hub_state.specs.View.{settingsOf, stateOf}

@@ -5,8 +5,8 @@ use borrow.Author.Tests.{not-true, not-false}
 use mathlib.Core.Path.{sym, _∙_}
 use mathlib.Core.List.{[]}
 use Rattle.hub_state.specs.View.{stateOf}
-use Rattle.hub_abort.proofs.Laws.{refused-as}
-use Rattle.hub_events.proofs.Laws.{failure-14, failure-15, failure-passes, failure-decides}
+use Rattle.hub_abort.proofs.PutBackLaws.{refused-as}
+use Rattle.hub_events.proofs.EventLaws.{failure-14, failure-15, failure-passes, failure-decides}
 use Rattle.hub_events.proofs.decide_failure.Statement.{statement}
 use Rattle.hub_events.proofs.decide_failure.Tie as tie
 

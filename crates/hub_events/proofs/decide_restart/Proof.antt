@@ -10,8 +10,8 @@ use Rattle.rules_routine.specs.Range.{inRange}
 use Rattle.rules.specs.Settle.{settling}
 use Rattle.rules.specs.Events.{restartResult}
 use Rattle.hub_state.specs.View.{stateOf}
-use Rattle.hub_abort.proofs.Laws.{refused-as}
-use Rattle.hub_events.proofs.Laws.{restart-14, restart-16, restart-17, restart-passes, restart-decides, restart-entry}
+use Rattle.hub_abort.proofs.PutBackLaws.{refused-as}
+use Rattle.hub_events.proofs.EventLaws.{restart-14, restart-16, restart-17, restart-passes, restart-decides, restart-entry}
 use Rattle.hub_events.proofs.decide_restart.Statement.{statement}
 use Rattle.hub_events.proofs.decide_restart.Tie as tie
 

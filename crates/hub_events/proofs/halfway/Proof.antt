@@ -3,10 +3,10 @@ use borrow.Author.Needs.{needs}
 use borrow.Author.Tests.{not-true, not-false}
 use native.Mathlib.Omega.{arith}
 use Prim.Native.Nat.{_<_}
-use Rattle.rules.specs.State.{maxHeld}
+use Rattle.rules_routine.specs.Limits.{maxSequence}
 use Rattle.hub_sequence.specs.Links.{Stands}
 use Rattle.hub_state.proofs.Members.{stands-below}
-use Rattle.hub_events.proofs.Laws.{halfway-none, halfway-stands, halfway-skips, halfway-other, halfway-marked}
+use Rattle.hub_events.proofs.EventLaws.{halfway-none, halfway-stands, halfway-skips, halfway-other, halfway-marked}
 use Rattle.hub_events.proofs.halfway.Statement.{statement}
 use Rattle.hub_events.proofs.halfway.Tie as tie
 
@@ -53,7 +53,7 @@ returns-2 c =
     (q .place .given .1)
     t (m .must-left .ensures) (not-true t (c .if1 .taken))
 
-below : (c : tie.After-ids) → c .before .before .before .before .place .given .0 .0 < maxHeld
+below : (c : tie.After-ids) → c .before .before .before .before .place .given .0 .0 < maxSequence
 below c =
     let q = c .before .before .before .before in
     let s = q .before .before .before .before in

@@ -1,6 +1,6 @@
 -- `hub_events::with_failure` meets its contract. Assumes nothing.
 use borrow.Author.Needs.{needs}
-use Rattle.hub_events.proofs.Laws.{one-leaves, one-skips, none-stops, stands-down, failure-stops}
+use Rattle.hub_events.proofs.EventLaws.{one-leaves, one-skips, none-stops, stands-down, failure-stops}
 use Rattle.hub_events.proofs.with_failure.Statement.{statement}
 use Rattle.hub_events.proofs.with_failure.Tie as tie
 

@@ -7,7 +7,7 @@ use lib.ListN.{getD}
 use mir.Facts.{toZ-ofZ}
 use Rattle.rules.specs.Attach.{oneRestart, attach}
 use Rattle.hub_state.specs.View.{isRestart, stateOf}
-use Rattle.hub_events.proofs.Laws.{Stops, one-leaves, one-skips, none-stops, restart-gives}
+use Rattle.hub_events.proofs.EventLaws.{Stops, one-leaves, one-skips, none-stops, restart-gives}
 use Rattle.hub_events.proofs.with_restart.Statement.{statement}
 use Rattle.hub_events.proofs.with_restart.Tie as tie
 

@@ -1,7 +1,7 @@
 -- `hub_limit::check` meets its contract. Assumes nothing.
 use mathlib.Core.Path.{sym}
 use Rattle.rules_routine.specs.Refusals.{refusalOf}
-use Rattle.hub_limit.proofs.Laws.{limit-out, limit-fine}
+use Rattle.hub_limit.proofs.LimitLaws.{limit-out, limit-fine}
 use Rattle.hub_limit.proofs.check.Statement.{statement}
 use Rattle.hub_limit.proofs.check.Tie as tie
 

@@ -1,6 +1,6 @@
 -- `hub_limit::set_limit` meets its contract. Assumes nothing.
 use borrow.Author.Needs.{needs}
-use Rattle.hub_limit.proofs.Laws.{limits-fine, limits-not}
+use Rattle.hub_limit.proofs.LimitLaws.{limits-fine, limits-not}
 use Rattle.hub_limit.proofs.set_limit.Statement.{statement}
 use Rattle.hub_limit.proofs.set_limit.Tie as tie
 

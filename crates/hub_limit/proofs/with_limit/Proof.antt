@@ -1,5 +1,5 @@
 -- `hub_limit::with_limit` meets its contract. Assumes nothing.
-use Rattle.hub_limit.proofs.Laws.{limited-state}
+use Rattle.hub_limit.proofs.LimitLaws.{limited-state}
 use Rattle.hub_limit.proofs.with_limit.Statement.{statement}
 use Rattle.hub_limit.proofs.with_limit.Tie as tie
 

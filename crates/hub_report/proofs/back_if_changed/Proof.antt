@@ -3,7 +3,7 @@ use borrow.Author.Needs.{needs}
 use mathlib.Core.Path.{_≡_, sym, ap, _∙_}
 use mir.Val.{toZ, ofZ}
 use mir.Syntax.{w16}
-use Rattle.hub_report.proofs.Laws.{back-same, back-changed}
+use Rattle.hub_report.proofs.ReportLaws.{back-same, back-changed}
 use Rattle.hub_report.proofs.back_if_changed.Statement.{statement}
 use Rattle.hub_report.proofs.back_if_changed.Tie as tie
 

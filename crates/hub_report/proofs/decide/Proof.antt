@@ -1,9 +1,9 @@
 -- `hub_report::decide` meets its contract. Assumes nothing.
 use borrow.Author.Needs.{needs}
 use mathlib.Core.Path.{refl, subst}
-use Rattle.hub_state.specs.Open.{OpenInFlight, OpenIs}
+use Rattle.hub_state.specs.Unanswered.{NextInFlight, UnansweredIs}
 use Rattle.hub_search.proofs.Found.{stands-at, found-id}
-use Rattle.hub_report.proofs.Laws.{done-decides, idle, report-nowhere, report-idle, report-code, report-done, report-failed}
+use Rattle.hub_report.proofs.ReportLaws.{done-decides, idle, report-nowhere, report-idle, report-code, report-done, report-failed}
 use Rattle.hub_report.proofs.decide.Statement.{statement}
 use Rattle.hub_report.proofs.decide.Tie as tie
 
@@ -26,8 +26,8 @@ returns c =
     report-nowhere (l .args .state) (l .args .id) (l .args .code) _ (r .running .ensures) _
     (c .before .enum-told .given .1) (c .refused .ensures)
 
-open-at-requires : tie.Need-open-at-requires
-open-at-requires c κs =
+unanswered-at-requires : tie.Need-unanswered-at-requires
+unanswered-at-requires c κs =
     let g = c .before .before .before in
     let r = g .before .before in
     (r .before .pre, stands-at _ _ _ (r .running .ensures) _ (g .place .given .1), refl)
@@ -45,14 +45,14 @@ returns-2 c =
     let r = g .before .before in
     let l = r .before in
     report-idle (l .args .state) (l .args .id) (l .args .code) _ (r .running .ensures) _ _ (g .place .given .1)
-    (idle _ _ (o .open-at .result) (o .open-at .ensures) (c .before .match2 .keys2)) (c .refused2 .ensures)
+    (idle _ _ (o .unanswered-at .result) (o .unanswered-at .ensures) (c .before .match2 .keys2)) (c .refused2 .ensures)
 
 -- the command in flight of the routine that was found
 opened : (c : tie.After-known-told2) →
     let o = c .before .before .before in
     let g = o .before .before .before .before in
-    OpenInFlight (g .before .before .before .args .state) (g .place .given .0 .0) (c .before .«open» .given .0 .0)
-opened c = subst (OpenIs _ _) (c .before .«open» .given .1) (c .before .before .before .open-at .ensures)
+    NextInFlight (g .before .before .before .args .state) (g .place .given .0 .0) (c .before .«open» .given .0 .0)
+opened c = subst (UnansweredIs _ _) (c .before .«open» .given .1) (c .before .before .before .unanswered-at .ensures)
 
 refused-requires-3 : tie.Need-refused-requires-3
 refused-requires-3 c κs = search needs
@@ -113,7 +113,7 @@ decide-spec =
     enum-told
     refused-requires
     returns
-    open-at-requires
+    unanswered-at-requires
     enum-known-open
     refused-requires-2
     returns-2

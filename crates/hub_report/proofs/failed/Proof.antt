@@ -2,7 +2,7 @@
 use borrow.Author.Needs.{needs}
 use mathlib.Core.Path.{sym, _∙_, subst}
 use Rattle.hub_state.specs.Contract.{Decides}
-use Rattle.hub_report.proofs.Laws.{tag-read, in-rows, must-decides, failed-must, failed-other}
+use Rattle.hub_report.proofs.ReportLaws.{tag-read, in-rows, must-decides, failed-must, failed-other}
 use Rattle.hub_report.proofs.failed.Statement.{statement}
 use Rattle.hub_report.proofs.failed.Tie as tie
 

@@ -7,17 +7,16 @@ use mir.Val.{toZ, ofZ}
 use mir.Syntax.{w16}
 use lib.IntN.{pos}
 use lib.ListN.{length, getD}
-use Rattle.rules_routine.specs.Routine.{maxDevices}
-use Rattle.rules_routine.proofs.Laws.{length-mapped}
-use Rattle.rules.specs.State.{maxHeld}
+use Rattle.rules_routine.specs.Limits.{maxDevices, maxSequence}
+use Rattle.rules_routine.proofs.RoutineLaws.{length-mapped}
 use Rattle.rules.specs.Report.{backIfChanged}
 use Rattle.hub_state.proofs.Members.{stands-below}
-use Rattle.hub_report.proofs.Laws.{device-read, due-read, in-rows, skips}
+use Rattle.hub_report.proofs.ReportLaws.{device-read, due-read, in-rows, skips}
 use Rattle.hub_report.proofs.skip.Statement.{statement}
 use Rattle.hub_report.proofs.skip.Tie as tie
 
 -- the slot, and the device of the command in flight
-below : (c : tie.Start) → c .args .at < maxHeld
+below : (c : tie.Start) → c .args .at < maxSequence
 below c = stands-below _ _ (c .pre .0) (c .pre .1)
 
 fits : (c : tie.Start) → getD (c .args .state .device) (c .args .k) 0 < maxDevices

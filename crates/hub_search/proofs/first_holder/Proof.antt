@@ -6,8 +6,7 @@ use native.Mathlib.Omega.{arith}
 use mathlib.Core.Path.{_≡_, refl, sym, ap, _∙_}
 use mathlib.Core.Logic.{⊎-elim}
 use lib.ListN.{length, getD}
-use Rattle.rules_routine.specs.Routine.{maxCommands}
-use Rattle.rules.specs.State.{maxHeld}
+use Rattle.rules_routine.specs.Limits.{maxCommands, maxSequence}
 use Rattle.hub_sequence.specs.Links.{along, Stands}
 use Rattle.hub_sequence.proofs.ReadLaws.{walks-behind}
 use Rattle.hub_state.specs.View.{holderOf}
@@ -15,32 +14,33 @@ use Rattle.hub_state.proofs.Members.{answered-most}
 use Rattle.hub_state.specs.declared.Holder.the-variants.{Nobody}
 use Rattle.hub_search.proofs.Slots.{Seeks, stopAt, seeks-start, seeks-there, seeks-on, seeks-less, seeks-spot}
 use Rattle.hub_search.proofs.Commands.{anyAt, pastOf, belowAt, at-hit, at-on, at-end, below-here, below-other, below-past}
-use Rattle.hub_search.proofs.Laws.{belowIn, below-start, below-left, holdsIn, holds-committed, holds-off, commands-fit, holder-slot}
-use Rattle.hub_search.proofs.Laws.{holder-nobody, holder-found}
+use Rattle.hub_search.proofs.SearchLaws.{belowIn, below-start, below-left, holdsIn, holds-committed, holds-off, commands-fit}
+use Rattle.hub_search.proofs.SearchLaws.{holder-slot}
+use Rattle.hub_search.proofs.SearchLaws.{holder-nobody, holder-found}
 use Rattle.hub_search.proofs.first_holder.Statement.{statement}
 use Rattle.hub_search.proofs.first_holder.Tie as tie
 
 abbrev Inv-loop : tie.InvT-loop
-Inv-loop device stage at wanted asks behind ids committed counts answered past holder₀ i end from k₀ holder k = (holder ≡ Nobody)
-    × (end ≤ maxHeld * maxCommands)
-    × (anyAt (belowAt device stage past wanted) k (end - k) ≡ belowIn counts device stage past wanted i)
+Inv-loop device stage at wanted condition behind ids committed counts answered bound holder₀ i end from k₀ holder k = (holder ≡ Nobody)
+    × (end ≤ maxSequence * maxCommands)
+    × (anyAt (belowAt device stage bound wanted) k (end - k) ≡ belowIn counts device stage bound wanted i)
 
 abbrev μ-loop : tie.MeasureT-loop
-μ-loop device stage at wanted asks behind ids committed counts answered past holder₀ i end from k₀ holder k = end - k
+μ-loop device stage at wanted condition behind ids committed counts answered bound holder₀ i end from k₀ holder k = end - k
 
 abbrev Inv-ahead : tie.InvT-ahead
-Inv-ahead device stage at wanted asks behind ids committed counts answered past holder₀ i₀ holder i = (holder ≡ Nobody)
-    × Seeks (stopAt at (holdsIn committed counts device stage past wanted)) behind i₀ i
+Inv-ahead device stage at wanted condition behind ids committed counts answered bound holder₀ i₀ holder i = (holder ≡ Nobody)
+    × Seeks (stopAt at (holdsIn committed counts device stage bound wanted)) behind i₀ i
 
 abbrev μ-ahead : tie.MeasureT-ahead
-μ-ahead device stage at wanted asks behind ids committed counts answered past holder₀ i₀ holder i = length (along behind i)
+μ-ahead device stage at wanted condition behind ids committed counts answered bound holder₀ i₀ holder i = length (along behind i)
 
 abbrev start : tie.Joined1 Inv-loop μ-loop Inv-ahead μ-ahead → tie.Start Inv-loop μ-loop Inv-ahead μ-ahead
 start c = c .before .before .before .before .before .before .before
 
 -- whom a command waits for, and whom a condition
-past-is : (c : tie.Joined1 Inv-loop μ-loop Inv-ahead μ-ahead) → c .if1 .past ≡ pastOf (start c .args .asks)
-past-is c = ⊎-elim (λ w. w .1 ∙ sym (ap pastOf (w .0 .taken))) (λ w. w .1 ∙ sym (ap pastOf (w .0 .left))) (c .if1 .came)
+bound-is : (c : tie.Joined1 Inv-loop μ-loop Inv-ahead μ-ahead) → c .if1 .bound ≡ pastOf (start c .args .condition)
+bound-is c = ⊎-elim (λ w. w .1 ∙ sym (ap pastOf (w .0 .taken))) (λ w. w .1 ∙ sym (ap pastOf (w .0 .left))) (c .if1 .came)
 
 abbrev outset : tie.In-ahead Inv-loop μ-loop Inv-ahead μ-ahead → tie.Start Inv-loop μ-loop Inv-ahead μ-ahead
 outset c = start (c .before .before .before)
@@ -51,13 +51,13 @@ at-slot c =
     let s = c .before .ahead .inv .1 in
     let j = c .before .before .before in
     let p = start j .pre in
-    seeks-there s (holder-slot _ (p .0) _ _ (p .2) (p .3) (start j .args .asks) (past-is j) _ _ (p .1) s)
+    seeks-there s (holder-slot _ (p .0) _ _ (p .2) (p .3) (start j .args .condition) (bound-is j) _ _ (p .1) s)
 
 -- the slot, how many commands it has, and how many of them are answered
 fits : (c : tie.In-ahead Inv-loop μ-loop Inv-ahead μ-ahead) →
     let h = outset c .args .state in
     let x = c .before .ahead .i in
-    (x < maxHeld) × (getD (h .counts) x 0 ≤ maxCommands) × (getD (h .answered) x 0 ≤ getD (h .counts) x 0)
+    (x < maxSequence) × (getD (h .counts) x 0 ≤ maxCommands) × (getD (h .answered) x 0 ≤ getD (h .counts) x 0)
 fits c =
     let v = outset c .pre .0 in
     let s = at-slot c in
@@ -112,7 +112,7 @@ loop-holds c =
       omega arith,
       ⊎-elim
           (λ w. below-start _ _ _ _ _ _ (w .1))
-          (λ w. below-left _ (p .0) _ (at-slot t) _ _ _ (p .3) (past-is j ∙ ap pastOf (w .0 .left)) (w .1))
+          (λ w. below-left _ (p .0) _ (at-slot t) _ _ _ (p .3) (bound-is j ∙ ap pastOf (w .0 .left)) (w .1))
           (c .before .if3 .came),
     )
 
@@ -163,7 +163,8 @@ returns : tie.Need-returns Inv-loop μ-loop Inv-ahead μ-ahead
 returns c = let w = c .before .ahead .inv in
     let j = c .before .before .before in
     let p = start j .pre in
-    ap holderOf (w .0) ∙ holder-nobody _ (p .0) _ _ (p .2) (p .3) (start j .args .asks) (past-is j) _ _ (p .1) (w .1) (c .ahead-test .left)
+    ap holderOf (w .0)
+    ∙ holder-nobody _ (p .0) _ _ (p .2) (p .3) (start j .args .condition) (bound-is j) _ _ (p .1) (w .1) (c .ahead-test .left)
 
 returns-2 : tie.Need-returns-2 Inv-loop μ-loop Inv-ahead μ-ahead
 returns-2 c = let l = c .before .before .before .before in
@@ -172,7 +173,8 @@ returns-2 c = let l = c .before .before .before .before in
     let a = t .before in
     let j = a .before .before .before in
     let p = start j .pre in
-    holder-found _ (p .0) _ _ (p .2) (p .3) (start j .args .asks) (past-is j) _ _ (p .1) (a .before .ahead .inv .1) (a .ahead-test .taken)
+    holder-found _ (p .0) _ _ (p .2) (p .3) (start j .args .condition) (bound-is j) _ _ (p .1) (a .before .ahead .inv .1)
+    (a .ahead-test .taken)
     (t .if2 .taken)
     (sym (v .2) ∙ at-hit _ _ _ (l .loop-test .taken) (below-here _ _ _ _ _ (c .before .before .if4 .taken) (c .if5 .taken)))
 

@@ -6,14 +6,13 @@ use mathlib.Core.Logic.{⊎-elim}
 use lib.ListN.{length, getD}
 use mir.Syntax.{w8}
 use mir.Val.{Fits}
-use Rattle.rules_routine.specs.Routine.{maxCommands}
-use Rattle.rules.specs.State.{maxHeld}
+use Rattle.rules_routine.specs.Limits.{maxCommands, maxSequence}
 use Rattle.hub_sequence.specs.Links.{along}
 use Rattle.hub_sequence.proofs.ReadLaws.{walks-behind}
 use Rattle.hub_search.specs.Contract.{highestStage}
 use Rattle.hub_search.proofs.Slots.{Seeks, seeks-start, seeks-there, seeks-on, seeks-less, seeks-spot}
-use Rattle.hub_search.proofs.Laws.{halfwayIn, halfway-committed, halfway-unbegun, halfway-finished, commands-fit, halfway-at}
-use Rattle.hub_search.proofs.Laws.{halfway-nowhere}
+use Rattle.hub_search.proofs.SearchLaws.{halfwayIn, halfway-committed, halfway-unbegun, halfway-finished, commands-fit, halfway-at}
+use Rattle.hub_search.proofs.SearchLaws.{halfway-nowhere}
 use Rattle.hub_search.proofs.halfway.Statement.{statement}
 use Rattle.hub_search.proofs.halfway.Tie as tie
 
@@ -31,7 +30,7 @@ start c = c .before .before .before .before .before .before .before .before
 fits : (c : tie.In-loop Inv-loop μ-loop) →
     let h = start (c .before) .args .state in
     let x = c .before .loop .i in
-    (x < maxHeld) × (getD (h .counts) x 0 ≤ maxCommands)
+    (x < maxSequence) × (getD (h .counts) x 0 ≤ maxCommands)
 fits c =
     commands-fit _ (start (c .before) .pre) _ (seeks-there (c .before .loop .inv) (c .loop-test .taken))
 

@@ -5,14 +5,13 @@ use Prim.Native.Nat.{ℕ, _≤_, _<_}
 use lib.ListN.{getD}
 use mir.Syntax.{w8}
 use mir.Val.{Fits}
-use Rattle.rules_routine.specs.Routine.{maxCommands}
-use Rattle.rules.specs.State.{maxHeld}
+use Rattle.rules_routine.specs.Limits.{maxCommands, maxSequence}
 use Rattle.hub_search.specs.Contract.{highestStage}
-use Rattle.hub_search.proofs.Laws.{commands-fit, begun-is}
+use Rattle.hub_search.proofs.SearchLaws.{commands-fit, begun-is}
 use Rattle.hub_search.proofs.has_begun.Statement.{statement}
 use Rattle.hub_search.proofs.has_begun.Tie as tie
 
-fits : (c : tie.Start) → (c .args .at < maxHeld)
+fits : (c : tie.Start) → (c .args .at < maxSequence)
     × (getD (c .args .state .counts) (c .args .at) 0 ≤ maxCommands)
 fits c = commands-fit _ (c .pre .0) _ (c .pre .1)
 

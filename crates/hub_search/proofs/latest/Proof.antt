@@ -3,12 +3,12 @@ use native.Mathlib.Omega.{arith}
 use mathlib.Core.Path.{sym, _∙_}
 use mathlib.Core.Logic.{⊎-elim}
 use lib.ListN.{length}
-use Rattle.rules_routine.proofs.Laws.{length-commandsOf}
+use Rattle.rules_routine.proofs.RoutineLaws.{length-commandsOf}
 use Rattle.hub_sequence.specs.Links.{along}
 use Rattle.hub_sequence.proofs.ReadLaws.{walks-ahead}
 use Rattle.hub_sequence.proofs.WalkLaws.{walks-spot}
 use Rattle.hub_search.proofs.Slots.{Seeks, seeks-start, seeks-on, seeks-less}
-use Rattle.hub_search.proofs.Laws.{blocksIn, blocks-committed, blocks-few, latest-marked, latest-passed, latest-none}
+use Rattle.hub_search.proofs.SearchLaws.{blocksIn, blocks-committed, blocks-few, latest-marked, latest-passed, latest-none}
 use Rattle.hub_search.proofs.latest.Statement.{statement}
 use Rattle.hub_search.proofs.latest.Tie as tie
 

@@ -4,10 +4,11 @@ use Prim.Native.Nat.{_-_, _≤_, _<_}
 use native.Mathlib.Omega.{arith}
 use mathlib.Core.Path.{_≡_, refl}
 use lib.ListN.{length, take, getD, length-set}
-use Rattle.rules_routine.specs.Routine.{maxDevices, maxCommands, zeroCommand}
-use Rattle.rules_routine.proofs.Laws.{length-mapped}
+use Rattle.rules_routine.specs.Limits.{maxDevices, maxCommands}
+use Rattle.rules_routine.specs.Routine.{zeroCommand}
+use Rattle.rules_routine.proofs.RoutineLaws.{length-mapped}
 use Rattle.hub_search.specs.Contract.{marksFor}
-use Rattle.hub_search.proofs.Laws.{mark-none, mark-more, mark-all, device-fits}
+use Rattle.hub_search.proofs.SearchLaws.{mark-none, mark-more, mark-all, device-fits}
 use Rattle.hub_search.proofs.marks_of.Statement.{statement}
 use Rattle.hub_search.proofs.marks_of.Tie as tie
 

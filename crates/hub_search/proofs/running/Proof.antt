@@ -6,7 +6,7 @@ use Rattle.hub_sequence.specs.Links.{along}
 use Rattle.hub_sequence.proofs.ReadLaws.{walks-behind}
 use Rattle.hub_search.proofs.Slots.{Seeks, seeks-start, seeks-on, seeks-less, seeks-spot}
 use mathlib.Core.Logic.{⊎-elim}
-use Rattle.hub_search.proofs.Laws.{runsIn, runs-other, runs-committed, running-at, running-nowhere}
+use Rattle.hub_search.proofs.SearchLaws.{runsIn, runs-other, runs-committed, running-at, running-nowhere}
 use Rattle.hub_search.proofs.running.Statement.{statement}
 use Rattle.hub_search.proofs.running.Tie as tie
 

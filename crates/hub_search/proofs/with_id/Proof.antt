@@ -5,7 +5,7 @@ use lib.ListN.{length}
 use Rattle.hub_sequence.specs.Links.{along}
 use Rattle.hub_sequence.proofs.ReadLaws.{walks-behind}
 use Rattle.hub_search.proofs.Slots.{Seeks, seeks-start, seeks-on, seeks-less, seeks-spot}
-use Rattle.hub_search.proofs.Laws.{idIn, id-other, id-at, id-nowhere}
+use Rattle.hub_search.proofs.SearchLaws.{idIn, id-other, id-at, id-nowhere}
 use Rattle.hub_search.proofs.with_id.Statement.{statement}
 use Rattle.hub_search.proofs.with_id.Tie as tie
 

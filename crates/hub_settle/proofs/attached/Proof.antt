@@ -6,9 +6,8 @@ use mathlib.Core.Path.{_≡_, subst}
 use mir.Val.{toZ, ofZ}
 use mir.Syntax.{w16}
 use lib.ListN.{length}
-use Rattle.rules_routine.specs.Routine.{maxDevices}
-use Rattle.rules_routine.proofs.Laws.{length-mapped}
-use Rattle.rules.specs.State.{maxHeld}
+use Rattle.rules_routine.specs.Limits.{maxDevices, maxSequence}
+use Rattle.rules_routine.proofs.RoutineLaws.{length-mapped}
 use Rattle.hub_sequence.proofs.ReadLaws.{stands-slot}
 use Rattle.hub_search.specs.Contract.{hasId, Finds}
 use Rattle.hub_state.specs.declared.Place.the-variants.{At, Nowhere}
@@ -18,7 +17,8 @@ use Rattle.hub_settle.proofs.attached.Statement.{statement}
 use Rattle.hub_settle.proofs.attached.Tie as tie
 
 -- the lengths of the rows
-long : (c : tie.Start) → (length (c .args .state .settled) ≡ maxDevices) × (length (c .args .state .restarts) ≡ maxHeld * maxDevices)
+long : (c : tie.Start) → (length (c .args .state .«settled_at») ≡ maxDevices)
+    × (length (c .args .state .restarts) ≡ maxSequence * maxDevices)
 long c = (search (needs, length-mapped), search (needs, length-mapped))
 
 mul-setting : tie.Need-mul-setting
@@ -36,7 +36,8 @@ returns c =
     let d = s .pre .1 in (
       valid-tables (a .state) _ _ _ _ (s .pre .0),
       rw z
-          (attach-settled (a .state) (a .id) _ _ (c .if1 .taken) (settles-one (a .state .settled) (a .device) (a .setting) (omega arith))),
+          (attach-settled (a .state) (a .id) _ _ (c .if1 .taken)
+          (settles-one (a .state .«settled_at») (a .device) (a .setting) (omega arith))),
     )
 
 with-id-requires : tie.Need-with-id-requires
@@ -70,10 +71,10 @@ found c =
     subst (Finds (s .args .state) (hasId (s .args .id))) (c .before .place .given .1) (c .before .before .before .with-id .ensures)
 
 -- its slot, and the place in the row
-slot : (c : tie.After-known-told) → to c < maxHeld
+slot : (c : tie.After-known-told) → to c < maxSequence
 slot c = stands-slot _ _ (start c .pre .0 .links-ok) (found c .place-ok)
 
-place : (c : tie.After-known-told) → to c * maxDevices + start c .args .device < maxHeld * maxDevices
+place : (c : tie.After-known-told) → to c * maxDevices + start c .args .device < maxSequence * maxDevices
 place c = let h = slot c in
     let d = start c .pre .1 in
     omega arith

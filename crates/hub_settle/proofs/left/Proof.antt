@@ -5,9 +5,8 @@ use native.Mathlib.Omega.{arith}
 use mathlib.Core.Path.{_≡_, refl, sym, ap, subst, _∙_}
 use mathlib.Core.Logic.{⊎-elim}
 use lib.ListN.{length, getD}
-use Rattle.rules_routine.specs.Routine.{maxDevices}
-use Rattle.rules_routine.proofs.Laws.{length-mapped}
-use Rattle.rules.specs.State.{maxHeld}
+use Rattle.rules_routine.specs.Limits.{maxDevices, maxSequence}
+use Rattle.rules_routine.proofs.RoutineLaws.{length-mapped}
 use Rattle.hub_sequence.proofs.ReadLaws.{stands-slot}
 use Rattle.hub_state.specs.View.{settingsOf}
 use Rattle.hub_settle.specs.Contract.{MovesRestarts}
@@ -20,11 +19,11 @@ abbrev start : tie.After-ahead → tie.Start
 start c = c .before .before .before .before .before .before .before .before .before .before .before .before .before .before .before .before
 
 -- the slot
-slot : (c : tie.Start) → c .args .at < maxHeld
+slot : (c : tie.Start) → c .args .at < maxSequence
 slot c = stands-slot _ _ (c .pre .0 .links-ok) (c .pre .1)
 
 -- the length of the row of restarts
-long : (c : tie.Start) → length (c .args .state .restarts) ≡ maxHeld * maxDevices
+long : (c : tie.Start) → length (c .args .state .restarts) ≡ maxSequence * maxDevices
 long c = search (needs, length-mapped)
 
 array-read-before : tie.Need-array-read-before

@@ -10,7 +10,7 @@ use borrow.Author.Tests.{eq-eqb, ne-eqb}
 use lib.ListN.{length, getD, set, length-set}
 use lib.Seq.{set-getD}
 use Rattle.rules_routine.specs.Choice.{if_then_else_}
-use Rattle.rules_routine.specs.Routine.{maxDevices}
+use Rattle.rules_routine.specs.Limits.{maxDevices}
 use Rattle.hub_state.specs.View.{marksOf}
 use Rattle.hub_settle.proofs.MarkLaws.{remark, remarked, remark-more, remark-end, marks-moved}
 use Rattle.hub_settle.proofs.moved_marks.Statement.{statement}

@@ -8,15 +8,15 @@ use mir.Val.{toZ, ofZ}
 use mir.Syntax.{w16}
 use lib.IntN.{pos}
 use lib.ListN.{length, getD, set, length-set}
-use Rattle.rules_routine.specs.Routine.{maxDevices}
-use Rattle.rules.specs.State.{maxHeld}
+use Rattle.rules_routine.specs.Limits.{maxDevices, maxSequence}
 use Rattle.hub_due.proofs.Tables.{restart-bits, no-restart-bits}
 use Rattle.hub_settle.proofs.RestartLaws.{MovedUpTo, moved-none, moved-some, moved-skip, moved-all}
 use Rattle.hub_settle.proofs.moved_restarts.Statement.{statement}
 use Rattle.hub_settle.proofs.moved_restarts.Tie as tie
 
 abbrev Inv-loop : tie.InvT-loop
-Inv-loop from to row old new moved₀ d₀ moved d = (d ≤ maxDevices) × (length moved ≡ maxHeld * maxDevices) × MovedUpTo row from to d moved
+Inv-loop from to row old new moved₀ d₀ moved d = (d ≤ maxDevices) × (length moved ≡ maxSequence * maxDevices)
+    × MovedUpTo row from to d moved
 
 abbrev μ-loop : tie.MeasureT-loop
 μ-loop from to row old new moved₀ d₀ moved d = maxDevices - d
@@ -65,7 +65,7 @@ loop-again c =
     let p = a .to * maxDevices + d in
     let x = getD (a .t1) (a .from * maxDevices + d) (pos 0) in
     let b : toZ w16 (ofZ w16 x) ≡ x = search needs in
-    let n : length (a .t1) ≡ maxHeld * maxDevices = search needs in
+    let n : length (a .t1) ≡ maxSequence * maxDevices = search needs in
     let i = s .pre .0 in
     let j = s .pre .1 in
     let h = l .loop-test .taken in

@@ -3,8 +3,8 @@ use borrow.Author.Needs.{needs}
 use mathlib.Core.Path.{_≡_, refl}
 use lib.ListN.{length}
 use native.Mathlib.Omega.{arith}
-use Rattle.rules_routine.specs.Routine.{maxDevices}
-use Rattle.rules_routine.proofs.Laws.{length-mapped}
+use Rattle.rules_routine.specs.Limits.{maxDevices}
+use Rattle.rules_routine.proofs.RoutineLaws.{length-mapped}
 use Rattle.hub_settle.proofs.StateLaws.{valid-tables, up-gives, up-there}
 use Rattle.hub_settle.proofs.with_up.Statement.{statement}
 use Rattle.hub_settle.proofs.with_up.Tie as tie

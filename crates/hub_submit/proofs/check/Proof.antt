@@ -5,9 +5,9 @@ use Prim.Native.Nat.{_≤_, _<_}
 use native.Mathlib.Omega.{arith}
 use lib.ListN.{length}
 use Rattle.rules_routine.specs.Refusals.{refusalOf}
-use Rattle.rules.specs.State.{maxHeld}
+use Rattle.rules_routine.specs.Limits.{maxSequence}
 use Rattle.hub_state.specs.View.{stateOf}
-use Rattle.hub_submit.proofs.Laws.{check-routine, check-full, check-ids, check-fine, held-is}
+use Rattle.hub_submit.proofs.SubmitLaws.{check-routine, check-full, check-ids, check-fine, taken-is}
 use Rattle.hub_submit.proofs.check.Statement.{statement}
 use Rattle.hub_submit.proofs.check.Tie as tie
 
@@ -33,14 +33,14 @@ returns-2 c =
     let t = c .before .before .before in
     let k = t .before .before in
     let h = k .before .args .state in
-    let i : maxHeld ≤ length (stateOf h .sequence) = let n = held-is h (k .before .pre) in omega (arith, n, c .if1 .taken) in
+    let i : maxSequence ≤ length (stateOf h .sequence) = let n = taken-is h (k .before .pre) in omega (arith, n, c .if1 .taken) in
     sym (check-full (stateOf h) _ (sym (k .check .ensures) ∙ t .enum-told .given .1) i)
 
 -- the routine is fine, and there is room for it
-room : (c : tie.Else1) → length (stateOf (c .before .before .before .before .before .before .args .state) .sequence) < maxHeld
+room : (c : tie.Else1) → length (stateOf (c .before .before .before .before .before .before .args .state) .sequence) < maxSequence
 room c =
     let k = c .before .before .before .before .before in
-    let n = held-is (k .before .args .state) (k .before .pre) in
+    let n = taken-is (k .before .args .state) (k .before .pre) in
     omega (arith, n, c .if1 .left)
 
 returns-3 : tie.Need-returns-3

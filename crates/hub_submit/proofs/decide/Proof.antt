@@ -1,7 +1,7 @@
 -- `hub_submit::decide` meets its contract. Assumes nothing.
 use borrow.Author.Needs.{needs}
 use mathlib.Core.Path.{sym, _∙_}
-use Rattle.hub_submit.proofs.Laws.{submit-turned-down}
+use Rattle.hub_submit.proofs.SubmitLaws.{submit-turned-down}
 use Rattle.hub_submit.proofs.decide.Statement.{statement}
 use Rattle.hub_submit.proofs.decide.Tie as tie
 

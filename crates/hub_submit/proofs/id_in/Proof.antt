@@ -1,6 +1,6 @@
 -- `hub_submit::id_in` meets its contract. Assumes nothing.
 use borrow.Author.Needs.{needs}
-use Rattle.hub_submit.proofs.Laws.{id-none, slot-below, id-slot}
+use Rattle.hub_submit.proofs.SubmitLaws.{id-none, slot-below, id-slot}
 use Rattle.hub_submit.proofs.id_in.Statement.{statement}
 use Rattle.hub_submit.proofs.id_in.Tie as tie
 

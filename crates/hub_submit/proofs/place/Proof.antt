@@ -3,9 +3,9 @@ use borrow.Author.Needs.{needs}
 use Prim.Native.Nat.{_≤_}
 use native.Mathlib.Omega.{arith}
 use Rattle.rules_routine.specs.Routine.{commandsOf}
-use Rattle.rules_routine.proofs.Laws.{length-commandsOf}
+use Rattle.rules_routine.proofs.RoutineLaws.{length-commandsOf}
 use Rattle.hub_state.specs.Valid.{highestPassed}
-use Rattle.hub_submit.proofs.Laws.{fine-routine, fine-id, submit-places}
+use Rattle.hub_submit.proofs.SubmitLaws.{fine-routine, fine-id, submit-places}
 use Rattle.hub_submit.proofs.place.Statement.{statement}
 use Rattle.hub_submit.proofs.place.Tie as tie
 

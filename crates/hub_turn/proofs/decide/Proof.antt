@@ -1,9 +1,9 @@
 -- `hub_turn::decide` meets its contract. Assumes nothing.
 use borrow.Author.Needs.{needs}
 use mathlib.Core.Path.{refl, subst}
-use Rattle.hub_state.specs.Open.{OpenToDo, OpenIs}
+use Rattle.hub_state.specs.Unanswered.{NextToDo, UnansweredIs}
 use Rattle.hub_search.proofs.Found.{stands-at, found-id}
-use Rattle.hub_turn.proofs.Laws.{turn-nowhere, turn-sent, turn-commits, turn-on}
+use Rattle.hub_turn.proofs.TurnLaws.{turn-nowhere, turn-sent, turn-commits, turn-on}
 use Rattle.hub_turn.proofs.decide.Statement.{statement}
 use Rattle.hub_turn.proofs.decide.Tie as tie
 
@@ -25,8 +25,8 @@ returns c =
     let l = r .before in
     turn-nowhere (l .args .state) (l .args .id) _ (r .running .ensures) _ (c .before .enum-told .given .1) (c .refused .ensures)
 
-open-at-requires : tie.Need-open-at-requires
-open-at-requires c κs =
+unanswered-at-requires : tie.Need-unanswered-at-requires
+unanswered-at-requires c κs =
     let g = c .before .before .before .before in
     let r = g .before .before in
     (r .before .pre, stands-at _ _ _ (r .running .ensures) _ (g .place .given .1), refl)
@@ -50,8 +50,8 @@ enum-known-open c = search needs
 opened : (c : tie.After-known-told2) →
     let o = c .before .before .before in
     let g = o .before .before .before .before .before in
-    OpenToDo (g .before .before .before .args .state) (g .place .given .0 .0) (c .before .«open» .given .0 .0)
-opened c = subst (OpenIs _ _) (c .before .«open» .given .1) (c .before .before .before .open-at .ensures)
+    NextToDo (g .before .before .before .args .state) (g .place .given .0 .0) (c .before .«open» .given .0 .0)
+opened c = subst (UnansweredIs _ _) (c .before .«open» .given .1) (c .before .before .before .unanswered-at .ensures)
 
 next-turn-requires : tie.Need-next-turn-requires
 next-turn-requires c κs =
@@ -68,7 +68,7 @@ returns-2 c =
     let g = o .before .before .before .before .before in
     let r = g .before .before in
     turn-commits (r .before .args .state) (r .before .args .id) _ (r .running .ensures) _ _ (g .place .given .1)
-    (subst (OpenIs _ _) (c .before .enum-told2 .given .1) (o .open-at .ensures)) (c .plain .ensures)
+    (subst (UnansweredIs _ _) (c .before .enum-told2 .given .1) (o .unanswered-at .ensures)) (c .plain .ensures)
 
 returns-3 : tie.Need-returns-3
 returns-3 c =
@@ -76,7 +76,7 @@ returns-3 c =
     let g = o .before .before .before .before .before in
     let r = g .before .before in
     turn-sent (r .before .args .state) (r .before .args .id) _ (r .running .ensures) _ _ (g .place .given .1) _
-    (subst (OpenIs _ _) (c .before .enum-told3 .given .1) (o .open-at .ensures)) (c .refused2 .ensures)
+    (subst (UnansweredIs _ _) (c .before .enum-told3 .given .1) (o .unanswered-at .ensures)) (c .refused2 .ensures)
 
 returns-4 : tie.Need-returns-4
 returns-4 c =
@@ -95,7 +95,7 @@ decide-spec =
     enum-told
     refused-requires
     returns
-    open-at-requires
+    unanswered-at-requires
     enum-told-2
     plain-requires
     enum-told-3

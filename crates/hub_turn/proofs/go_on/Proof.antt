@@ -6,28 +6,27 @@ use mathlib.Core.Bool.{Bool, true, false, not, Bool·not-not}
 use Prim.Native.Nat.{_*_, _≤_, _<_}
 use native.Mathlib.Omega.{arith}
 use lib.ListN.{getD}
-use Rattle.rules_routine.specs.Routine.{maxCommands}
-use Rattle.rules.specs.State.{maxHeld}
+use Rattle.rules_routine.specs.Limits.{maxCommands, maxSequence}
 use Rattle.rules.specs.Progress.{begun, nextIsSkipped}
 use Rattle.rules.specs.Settle.{settling}
 use Rattle.rules.specs.Turn.{skipTurn, proceedUp, proceed}
 use Rattle.rules.proofs.Lists.{t≠f}
 use Rattle.hub_state.specs.View.{stepsAt, stateOf, there, memberAt}
-use Rattle.hub_state.specs.Open.{commandAt}
+use Rattle.hub_state.specs.Unanswered.{commandAt}
 use Rattle.hub_state.specs.Contract.{Decides}
-use Rattle.hub_search.proofs.Laws.{commands-fit}
-use Rattle.hub_turn.proofs.Laws.{in-rows, device-read, skipped-is, counts-as, must-decides, skip-decides, proceed-skipped}
-use Rattle.hub_turn.proofs.Laws.{proceed-up}
-use Rattle.hub_turn.proofs.Laws.{proceed-must, proceed-skip}
+use Rattle.hub_search.proofs.SearchLaws.{commands-fit}
+use Rattle.hub_turn.proofs.TurnLaws.{in-rows, device-read, skipped-is, counts-as, must-decides, skip-decides, proceed-skipped}
+use Rattle.hub_turn.proofs.TurnLaws.{proceed-up}
+use Rattle.hub_turn.proofs.TurnLaws.{proceed-must, proceed-skip}
 use Rattle.hub_turn.proofs.go_on.Statement.{statement}
 use Rattle.hub_turn.proofs.go_on.Tie as tie
 
 -- the place of the command is in the rows
-within : (c : tie.Start) → c .args .k < maxHeld * maxCommands
+within : (c : tie.Start) → c .args .k < maxSequence * maxCommands
 within c = in-rows _ _ _ (c .pre .0) (c .pre .1) (c .pre .2)
 
 -- the slot, and how many commands it has
-fits : (c : tie.Start) → (c .args .at < maxHeld) × (getD (c .args .state .counts) (c .args .at) 0 ≤ maxCommands)
+fits : (c : tie.Start) → (c .args .at < maxSequence) × (getD (c .args .state .counts) (c .args .at) 0 ≤ maxCommands)
 fits c = commands-fit _ (c .pre .0) _ (c .pre .1)
 
 abbrev start : tie.After-is-skipped → tie.Start

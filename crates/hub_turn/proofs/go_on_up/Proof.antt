@@ -7,19 +7,20 @@ use mir.Val.{toZ, ofZ}
 use mir.Syntax.{w16}
 use lib.IntN.{pos}
 use lib.ListN.{getD}
-use Rattle.rules_routine.specs.Routine.{maxCommands, conditionTag}
-use Rattle.rules.specs.State.{maxHeld}
+use Rattle.rules_routine.specs.Limits.{maxCommands, maxSequence}
+use Rattle.rules_routine.specs.Routine.{conditionTag}
 use Rattle.rules.specs.Due.{due}
 use Rattle.hub_state.specs.View.{stateOf}
-use Rattle.hub_state.specs.Open.{commandAt}
+use Rattle.hub_state.specs.Unanswered.{commandAt}
 use Rattle.hub_state.specs.Contract.{Decides}
-use Rattle.hub_turn.proofs.Laws.{in-rows, device-read, tag-read, setting-read, send-decides, held-decides, not-held-decides, up-asks}
-use Rattle.hub_turn.proofs.Laws.{up-sends}
+use Rattle.hub_turn.proofs.TurnLaws.{in-rows, device-read, tag-read, setting-read, send-decides, held-decides, not-held-decides}
+use Rattle.hub_turn.proofs.TurnLaws.{up-condition}
+use Rattle.hub_turn.proofs.TurnLaws.{up-sends}
 use Rattle.hub_turn.proofs.go_on_up.Statement.{statement}
 use Rattle.hub_turn.proofs.go_on_up.Tie as tie
 
 -- the place of the command is in the rows
-within : (c : tie.Start) → c .args .k < maxHeld * maxCommands
+within : (c : tie.Start) → c .args .k < maxSequence * maxCommands
 within c = in-rows _ _ _ (c .pre .0) (c .pre .1) (c .pre .2)
 
 abbrev start : tie.After-if12 → tie.Start
@@ -98,7 +99,7 @@ returns-2 c =
     let h = l .args .state in
     let k = l .args .k in
     let p = l .pre in
-    subst (Decides _ _ _) (up-asks _ _ _ (asked (t .before)))
+    subst (Decides _ _ _) (up-condition _ _ _ (asked (t .before)))
     (not-held-decides h (l .args .at) k (p .1) (p .2) _ _ _ (device-read h k _ (p .4)) (p .7) (p .3) _ _ (due-read b) (number-read b)
     (t .if2 .taken) _ _ _ (c .plain2 .ensures) (c .before .staged2 .ensures))
 
@@ -116,7 +117,7 @@ returns-3 c =
     let h = l .args .state in
     let k = l .args .k in
     let p = l .pre in
-    subst (Decides _ _ _) (up-asks _ _ _ (asked (t .before)))
+    subst (Decides _ _ _) (up-condition _ _ _ (asked (t .before)))
     (held-decides h (l .args .at) k (p .1) (p .2) _ _ _ (device-read h k _ (p .4)) (p .7) (p .3) _ _ (due-read b) (number-read b)
     (t .if2 .left) _ _ _ (c .plain3 .ensures) (c .before .staged3 .ensures))
 

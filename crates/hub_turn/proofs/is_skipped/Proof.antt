@@ -1,6 +1,6 @@
 -- `hub_turn::is_skipped` meets its contract. Assumes nothing.
 use borrow.Author.Needs.{needs}
-use Rattle.hub_turn.proofs.Laws.{none-before, before-command, before-held, before-condition}
+use Rattle.hub_turn.proofs.TurnLaws.{none-before, before-command, before-held, before-condition}
 use Rattle.hub_turn.proofs.is_skipped.Statement.{statement}
 use Rattle.hub_turn.proofs.is_skipped.Tie as tie
 

@@ -1,18 +1,17 @@
 -- `hub_turn::next_turn` meets its contract. Assumes nothing.
 use borrow.Author.Needs.{needs}
 use Prim.Native.Nat.{_*_, _<_}
-use Rattle.rules_routine.specs.Routine.{maxCommands}
-use Rattle.rules.specs.State.{maxHeld}
-use Rattle.hub_turn.proofs.Laws.{in-rows, device-read, asks-read, goes-on, waits}
+use Rattle.rules_routine.specs.Limits.{maxCommands, maxSequence}
+use Rattle.hub_turn.proofs.TurnLaws.{in-rows, device-read, condition-read, goes-on, waits}
 use Rattle.hub_turn.proofs.next_turn.Statement.{statement}
 use Rattle.hub_turn.proofs.next_turn.Tie as tie
 
 -- the place of the command is in the rows
-within : (c : tie.Start) → c .args .k < maxHeld * maxCommands
+within : (c : tie.Start) → c .args .k < maxSequence * maxCommands
 within c = in-rows _ _ _ (c .pre .0) (c .pre .1) (c .pre .2)
 
-element-copy-out-asks : tie.Need-element-copy-out-asks
-element-copy-out-asks c = within c
+element-copy-out-condition : tie.Need-element-copy-out-condition
+element-copy-out-condition c = within c
 
 element-copy-out-first-holder : tie.Need-element-copy-out-first-holder
 element-copy-out-first-holder c = within (c .before)
@@ -36,7 +35,7 @@ returns c =
     let h = l .args .state in
     let k = l .args .k in
     let p = l .pre in
-    goes-on h (l .args .at) k (p .1) (p .2) _ (device-read h k _ (p .4)) _ (asks-read h k _ (p .5)) _ (f .first-holder .ensures) _
+    goes-on h (l .args .at) k (p .1) (p .2) _ (device-read h k _ (p .4)) _ (condition-read h k _ (p .5)) _ (f .first-holder .ensures) _
     (c .before .enum-told .given .1) (c .go-on .ensures)
 
 plain-requires : tie.Need-plain-requires
@@ -50,14 +49,15 @@ returns-2 c =
     let h = l .args .state in
     let k = l .args .k in
     let p = l .pre in
-    waits h (l .args .at) k (p .1) (p .2) _ (device-read h k _ (p .4)) _ (asks-read h k _ (p .5)) _ (f .first-holder .ensures) _ _ _ (p .3)
+    waits h (l .args .at) k (p .1) (p .2) _ (device-read h k _ (p .4)) _ (condition-read h k _ (p .5)) _ (f .first-holder .ensures) _ _ _
+    (p .3)
     (g .holder .given .1) (c .plain .ensures)
 
 pub next-turn-spec : {M : Type 1} → statement M
 next-turn-spec =
     tie.close
     (tie.spec
-    element-copy-out-asks
+    element-copy-out-condition
     element-copy-out-first-holder
     first-holder-requires
     enum-known-holder

@@ -60,7 +60,7 @@ use Rattle.hub.proofs.Hub as T
 use Rattle.hub.proofs.Hub.Laws as T′
 use Rattle.line.specs.View.{hubIn}
 use Rattle.line.specs.Contract.{Wrote}
-use Rattle.line.proofs.Laws.{hub-none}
+use Rattle.line.proofs.LineLaws.{hub-none}
 use Rattle.line.proofs.no_hub as none-yet
 use Rattle.line.proofs.no_hub.Symbol as none-yet-def
 use Rattle.line.proofs.no_hub.Symbol.{name as #no-hub}

@@ -6,7 +6,7 @@ use lib.ListN.{getD}
 use Rattle.line_rules.specs.Pieces.{wordsOf}
 use Rattle.line_read.specs.Places.{behindLetter, wordsFrom}
 use Rattle.line_hints.specs.Why.{byLetter, byWords}
-use Rattle.line_hints.proofs.Laws.{no-bytes, a-space, longer-word, one-byte, letter-alone}
+use Rattle.line_hints.proofs.ReasonLaws.{no-bytes, a-space, longer-word, one-byte, letter-alone}
 use borrow.Author.Needs.{needs}
 use Rattle.line_hints.proofs.by_words.Statement.{statement}
 use Rattle.line_hints.proofs.by_words.Tie as tie

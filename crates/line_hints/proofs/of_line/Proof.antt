@@ -1,6 +1,6 @@
 -- `line_hints::of_line` meets its contract. Assumes nothing.
 use mathlib.Core.Path.{refl, sym, _∙_}
-use Rattle.line_hints.proofs.Laws.{told-unread, told-call, told-opening}
+use Rattle.line_hints.proofs.ReasonLaws.{told-unread, told-call, told-opening}
 use borrow.Author.Needs.{needs}
 use Rattle.line_hints.proofs.of_line.Statement.{statement}
 use Rattle.line_hints.proofs.of_line.Tie as tie

@@ -1,6 +1,6 @@
 -- `line_hints::why` meets its contract: one law for each way out. Assumes nothing.
 use mathlib.Core.Path.{sym, _∙_}
-use Rattle.line_hints.proofs.Laws.{too-long, no-byte, a-return, another-byte, space-last, space-first, two-spaces, words-left}
+use Rattle.line_hints.proofs.ReasonLaws.{too-long, no-byte, a-return, another-byte, space-last, space-first, two-spaces, words-left}
 use borrow.Author.Needs.{needs}
 use Rattle.line_hints.proofs.why.Statement.{statement}
 use Rattle.line_hints.proofs.why.Tie as tie

@@ -19,11 +19,11 @@ small : (c : tie.After-slice-known) → length (c .before .before .args .out .no
 small c = search needs
 
 -- the buffer has ample room
-room : (c : tie.After-struct-told) → Ample (take (start c .args .held) (start c .args .input .now)) (length (start c .args .out .now))
+room : (c : tie.After-struct-told) → Ample (take (start c .args .pending) (start c .args .input .now)) (length (start c .args .out .now))
 room c =
     let s = start c in
-    ample (s .args .input .now) (take (s .args .held) (s .args .input .now)) (s .args .out .now)
-    (omega (arith, length-take (s .args .held) (s .args .input .now))) (s .pre .2)
+    ample (s .args .input .now) (take (s .args .pending) (s .args .input .now)) (s .args .out .now)
+    (omega (arith, length-take (s .args .pending) (s .args .input .now))) (s .pre .2)
 
 slice-aggregate-run-last : tie.Need-slice-aggregate-run-last
 slice-aggregate-run-last c = simp length-take (omega arith)
@@ -44,7 +44,7 @@ returns c = let s = start c in
     let l = c .before .before .before .before in
     let e : toZ w64 (ofZ w64 (l .run-last .result .result)) ≡ l .run-last .result .result = search needs in
     rw (e, length-written (l .run-last .ensures) (room c))
-    (takes-end (s .args .hub) (s .args .held) (s .args .input .now) (l .run-last .ensures) (room c))
+    (takes-end (s .args .hub) (s .args .pending) (s .args .input .now) (l .run-last .ensures) (room c))
 
 pub take-end-spec : {M : Type 1} → statement M
 take-end-spec =

@@ -1,5 +1,5 @@
 -- `line_print::put_abort` meets its contract. Assumes nothing.
-use Rattle.line_print.proofs.Laws.{short-then, exactly}
+use Rattle.line_print.proofs.PutLaws.{short-then, exactly}
 use borrow.Author.Needs.{needs}
 use Rattle.line_print.proofs.put_abort.Statement.{statement}
 use Rattle.line_print.proofs.put_abort.Tie as tie

@@ -12,7 +12,7 @@ use Rattle.line_rules.specs.Text.{lineEnd, bytes, decimal, signed}
 use Rattle.line_rules.specs.Printing.{asLine}
 use Rattle.line_rules.proofs.TextLaws.{decimal-short}
 use Rattle.line_print.specs.Put.{PutShort}
-use Rattle.line_print.proofs.Laws.{short-then, exactly, within, as-text, reaches}
+use Rattle.line_print.proofs.PutLaws.{short-then, exactly, within, as-text, reaches}
 use borrow.Author.Needs.{needs}
 use Rattle.line_print.proofs.put_device.Statement.{statement}
 use Rattle.line_print.proofs.put_device.Tie as tie

@@ -1,6 +1,6 @@
 -- `line_print::put_refusal` meets its contract. Assumes nothing.
 use native.Mathlib.Omega.{arith}
-use Rattle.line_print.proofs.Laws.{short-then, exactly, within}
+use Rattle.line_print.proofs.PutLaws.{short-then, exactly, within}
 use borrow.Author.Needs.{needs}
 use Rattle.line_print.proofs.put_refusal.Statement.{statement}
 use Rattle.line_print.proofs.put_refusal.Tie as tie

@@ -1,6 +1,6 @@
 -- `line_read::word_end` meets its contract. Assumes nothing.
 use mathlib.Core.Path.{sym, _∙_}
-use Rattle.line_read.proofs.Laws.{word-ends}
+use Rattle.line_read.proofs.WordLaws.{word-ends}
 use borrow.Author.Needs.{needs}
 use Rattle.line_read.proofs.word_end.Statement.{statement}
 use Rattle.line_read.proofs.word_end.Tie as tie

@@ -7,9 +7,10 @@ use mathlib.Core.Path.{_≡_, refl, sym, _∙_}
 use lib.ListN.{length, take}
 use lib.Seq.{slice}
 use Rattle.rules_routine.specs.Refusals.{refusalOf}
-use Rattle.rules_routine.specs.Routine.{maxCommands, commandsOf, commandsCheck, routineCheck}
-use Rattle.rules_routine.proofs.Laws.{length-commandsOf, length-mapped, check-empty, check-long, check-held, commands-more}
-use Rattle.rules_routine.proofs.Laws.{commands-refused, commands-alone, commands-end}
+use Rattle.rules_routine.specs.Limits.{maxCommands}
+use Rattle.rules_routine.specs.Routine.{commandsOf, commandsCheck, routineCheck}
+use Rattle.rules_routine.proofs.RoutineLaws.{length-commandsOf, length-mapped, check-empty, check-long, check-held, commands-more}
+use Rattle.rules_routine.proofs.RoutineLaws.{commands-refused, commands-alone, commands-end}
 use Rattle.rules_routine.proofs.check.Statement.{statement}
 use Rattle.rules_routine.proofs.check.Tie as tie
 

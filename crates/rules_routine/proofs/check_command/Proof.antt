@@ -6,7 +6,7 @@ use borrow.Author.Needs.{needs}
 use borrow.Author.Tests.{not-true, not-false}
 use Rattle.rules_routine.specs.Range.{inRange}
 use Rattle.rules_routine.specs.Refusals.{refusalOf}
-use Rattle.rules_routine.proofs.Laws.{command-device, command-setting, command-tag, command-fine}
+use Rattle.rules_routine.proofs.RoutineLaws.{command-device, command-setting, command-tag, command-fine}
 use Rattle.rules_routine.proofs.check_command.Statement.{statement}
 use Rattle.rules_routine.proofs.check_command.Tie as tie
 

@@ -3,8 +3,8 @@ use mathlib.Core.Path.{_≡_, sym}
 use native.Mathlib.Omega.{arith}
 use borrow.Author.Needs.{needs}
 use lib.ListN.{length}
-use Rattle.rules_routine.specs.Routine.{maxCommands}
-use Rattle.rules_routine.proofs.Laws.{length-mapped, alone-command, alone-last, alone-followed}
+use Rattle.rules_routine.specs.Limits.{maxCommands}
+use Rattle.rules_routine.proofs.RoutineLaws.{length-mapped, alone-command, alone-last, alone-followed}
 use Rattle.rules_routine.proofs.stands_alone.Statement.{statement}
 use Rattle.rules_routine.proofs.stands_alone.Tie as tie
 

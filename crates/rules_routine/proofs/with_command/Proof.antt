@@ -5,8 +5,9 @@ use native.Mathlib.Omega.{arith}
 use borrow.Author.Tests.{lt-ltb, le-ltb}
 use lib.ListN.{length}
 use lib.Seq.{set-out}
-use Rattle.rules_routine.specs.Routine.{maxCommands, withCommand}
-use Rattle.rules_routine.proofs.Laws.{length-mapped}
+use Rattle.rules_routine.specs.Limits.{maxCommands}
+use Rattle.rules_routine.specs.Routine.{withCommand}
+use Rattle.rules_routine.proofs.RoutineLaws.{length-mapped}
 use borrow.Author.Needs.{needs}
 use Rattle.rules_routine.proofs.with_command.Statement.{statement}
 use Rattle.rules_routine.proofs.with_command.Tie as tie

@@ -1,7 +1,7 @@
 -- `run_book_print::print_book` is safe and ends. Assumes nothing.
 use borrow.Author.Needs.{needs}
 use Prim.Native.Nat.{suc, _-_, _≤_}
-use Rattle.book_layout.specs.Layout.{maxRoutines}
+use Rattle.rules_routine.specs.Limits.{maxRoutines}
 use Rattle.run_book_print.proofs.print_book.Statement.{statement}
 use Rattle.run_book_print.proofs.print_book.Tie as tie
 

@@ -1,7 +1,7 @@
 -- `run_book_print::print_commands` is safe and ends. Assumes nothing.
 use borrow.Author.Needs.{needs}
 use Prim.Native.Nat.{_-_, _≤_}
-use Rattle.rules_routine.specs.Routine.{maxCommands}
+use Rattle.rules_routine.specs.Limits.{maxCommands}
 use Rattle.run_book_print.proofs.print_commands.Statement.{statement}
 use Rattle.run_book_print.proofs.print_commands.Tie as tie
 

@@ -1,34 +1,34 @@
--- `run_plot_hub::read_all` is safe and ends, by its turns; hub and held bytes are at every turn what the steps over all bytes read so far
--- leave. Assumes nothing.
+-- `run_plot_hub::read_all` is safe and ends, by its turns; hub and pending bytes are at every turn what the steps over all bytes read so
+-- far leave. Assumes nothing.
 use mathlib.Core.Path.{_≡_}
 use native.Mathlib.Omega.{arith}
 use borrow.Author.Needs.{needs}
 use lib.ListN.{length, length-take}
-use Rattle.line.proofs.Laws.{hub-none}
+use Rattle.line.proofs.LineLaws.{hub-none}
 use Rattle.line_parts.specs.Contract.{Reached}
 use Rattle.line_parts.proofs.Theorem.{reached-none, reached-still, reached-more, adds-piece}
 use Rattle.run_plot_hub.proofs.read_all.Statement.{statement}
 use Rattle.run_plot_hub.proofs.read_all.Tie as tie
 
 abbrev Inv-loop : tie.InvT-loop
-Inv-loop input₀ out₀ hub₀ held₀ turns₀ input out hub held turns =
-    Reached hub held input × (length input ≡ length input₀) × (length out ≡ length out₀)
+Inv-loop input₀ out₀ hub₀ pending₀ turns₀ input out hub pending turns =
+    Reached hub pending input × (length input ≡ length input₀) × (length out ≡ length out₀)
 
 abbrev μ-loop : tie.MeasureT-loop
-μ-loop input₀ out₀ hub₀ held₀ turns₀ input out hub held turns = turns
+μ-loop input₀ out₀ hub₀ pending₀ turns₀ input out hub pending turns = turns
 
 -- the bytes read so far, before the piece is taken
-reached : (c : tie.After-take-piece Inv-loop μ-loop) →
+reached : (c : tie.After-take-part Inv-loop μ-loop) →
     let r = c .before .before .before .before .before .before .before in
-    Reached (r .before .before .before .loop .hub) (r .before .before .before .loop .held) (r .read-behind .last .0)
+    Reached (r .before .before .before .loop .hub) (r .before .before .before .loop .pending) (r .read-behind .last .0)
 reached c =
     let r = c .before .before .before .before .before .before .before in
     reached-still (r .before .before .before .loop .inv .0) (r .read-behind .ensures .1)
 
 -- one piece more
-more : (c : tie.After-take-piece Inv-loop μ-loop) →
-    Reached (c .take-piece .result .hub) (c .take-piece .result .held) (c .take-piece .last .1 .1 .1 .0)
-more c = reached-more (reached c) (c .take-piece .ensures)
+more : (c : tie.After-take-part Inv-loop μ-loop) →
+    Reached (c .take-part .result .hub) (c .take-part .result .pending) (c .take-part .last .1 .1 .1 .0)
+more c = reached-more (reached c) (c .take-part .ensures)
 
 no-hub-requires : tie.Need-no-hub-requires Inv-loop μ-loop
 no-hub-requires c κs = search needs
@@ -50,21 +50,21 @@ returns c =
     let r = c .before .before .before .before in
     reached-still (r .before .before .before .loop .inv .0) (r .read-behind .ensures .1)
 
-take-piece-requires : tie.Need-take-piece-requires Inv-loop μ-loop
-take-piece-requires c κs = search needs
+take-part-requires : tie.Need-take-part-requires Inv-loop μ-loop
+take-part-requires c κs = search needs
 
 slice-reshare-prefix-print : tie.Need-slice-reshare-prefix-print Inv-loop μ-loop
 slice-reshare-prefix-print c = search needs
 
 slice-aggregate-print : tie.Need-slice-aggregate-print Inv-loop μ-loop
 slice-aggregate-print c =
-    let h = c .before .before .before .before .before .before .take-piece .ensures .within in
+    let h = c .before .before .before .before .before .before .take-part .ensures .within in
     simp length-take (omega arith)
 
 print-requires : tie.Need-print-requires Inv-loop μ-loop
 print-requires c κs =
     let t = c .before .before .before .before .before .before in
-    adds-piece (reached t) (t .take-piece .ensures)
+    adds-piece (reached t) (t .take-part .ensures)
 
 same-length-3 : tie.Need-same-length-3 Inv-loop μ-loop
 same-length-3 c = search needs
@@ -105,7 +105,7 @@ read-all-spec =
     same-length
     same-length-2
     returns
-    take-piece-requires
+    take-part-requires
     slice-reshare-prefix-print
     slice-aggregate-print
     print-requires

@@ -9,11 +9,11 @@ use Rattle.run_plot_hub_hints.proofs.read_all.Statement.{statement}
 use Rattle.run_plot_hub_hints.proofs.read_all.Tie as tie
 
 abbrev Inv-loop : tie.InvT-loop
-Inv-loop input₀ out₀ tally₀ held₀ turns₀ input out tally held turns =
-    Valid (tally .hub) × (held ≤ length input) × (length input ≡ length input₀) × (length out ≡ length out₀) × (0 < length out)
+Inv-loop input₀ out₀ tally₀ pending₀ turns₀ input out tally pending turns =
+    Valid (tally .hub) × (pending ≤ length input) × (length input ≡ length input₀) × (length out ≡ length out₀) × (0 < length out)
 
 abbrev μ-loop : tie.MeasureT-loop
-μ-loop input₀ out₀ tally₀ held₀ turns₀ input out tally held turns = turns
+μ-loop input₀ out₀ tally₀ pending₀ turns₀ input out tally pending turns = turns
 
 no-hub-requires : tie.Need-no-hub-requires Inv-loop μ-loop
 no-hub-requires c κs = search needs
@@ -33,11 +33,11 @@ same-length-2 c = search needs
 returns : tie.Need-returns Inv-loop μ-loop
 returns c = search needs
 
-add-take-piece : tie.Need-add-take-piece Inv-loop μ-loop
-add-take-piece c = search needs
+add-take-part : tie.Need-add-take-part Inv-loop μ-loop
+add-take-part c = search needs
 
-take-piece-requires : tie.Need-take-piece-requires Inv-loop μ-loop
-take-piece-requires c κs = search needs
+take-part-requires : tie.Need-take-part-requires Inv-loop μ-loop
+take-part-requires c κs = search needs
 
 sub-turns : tie.Need-sub-turns Inv-loop μ-loop
 sub-turns c = search needs
@@ -60,5 +60,5 @@ returns-2 c = search needs
 pub read-all-spec : {M : Type 1} → statement M
 read-all-spec =
     tie.close
-    (tie.spec Inv-loop μ-loop no-hub-requires loop-holds read-behind-requires same-length same-length-2 returns add-take-piece
-    take-piece-requires sub-turns loop-less loop-again same-length-3 same-length-4 returns-2)
+    (tie.spec Inv-loop μ-loop no-hub-requires loop-holds read-behind-requires same-length same-length-2 returns add-take-part
+    take-part-requires sub-turns loop-less loop-again same-length-3 same-length-4 returns-2)

@@ -5,7 +5,7 @@ use native.Mathlib.Omega.{arith}
 use lib.ListN.{length, drop, length-drop}
 use Rattle.line_rules.specs.Text.{lineEnd}
 use Rattle.line_rules.specs.Pieces.{reach}
-use Rattle.line_rules.proofs.Laws.{reach-within}
+use Rattle.line_rules.proofs.LineLaws.{reach-within}
 use Rattle.hub.specs.Valid.{Valid}
 use borrow.Author.Needs.{needs}
 use Rattle.run_plot_hub_hints.proofs.take_lines.Statement.{statement}

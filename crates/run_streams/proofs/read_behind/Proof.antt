@@ -1,4 +1,4 @@
--- `run_streams::read_behind` leaves the held bytes as they are. Assumes nothing.
+-- `run_streams::read_behind` leaves the pending bytes as they are. Assumes nothing.
 use Prim.Native.Nat.{_-_}
 use borrow.Author.Needs.{needs}
 use borrow.Rule.Slice.PartMut.{take-put}
@@ -41,9 +41,12 @@ same-length c = search needs
 
 returns : tie.Need-returns
 returns c = let s = c .before .before .before .before .before .before .before .before .before .before in
-    let held = s .args .held in
-    let input = s .args .input .now in
-    (search needs, take-put held (length input - held) input (c .before .before .before .before .before .before .read .last .1 .0) (s .pre))
+    let pending = s .args .pending in
+    let input = s .args .input .now in (
+      search needs,
+      take-put pending (length input - pending) input (c .before .before .before .before .before .before .read .last .1 .0)
+          (s .pre),
+    )
 
 pub read-behind-spec : {M : Type 1} → statement M
 read-behind-spec =

@@ -10,15 +10,15 @@ use lib.ListN.{length, take, drop}
 use lib.Seq.{take-all}
 use Rattle.rules_routine.specs.Routine.{commandsOf}
 use Rattle.rules_routine.specs.declared.Command.{Command}
-use Rattle.rules_routine.proofs.Laws.{length-commandsOf}
+use Rattle.rules_routine.proofs.RoutineLaws.{length-commandsOf}
 use Rattle.book_layout.specs.Claims.{Hands, Bytes}
-use Rattle.book_layout.specs.Layout.{maxRoutines}
+use Rattle.rules_routine.specs.Limits.{maxRoutines}
 use Rattle.book_layout.specs.Reading.{nextOf}
 use Rattle.book_layout.specs.declared.Next.{Next}
 use Rattle.book_layout.proofs.RoundTrip.{hands-make}
 use Rattle.book_layout.proofs.Theorems.{read-then-write}
 use Rattle.book_copy.specs.Rows.{rowsOf, withRoutine}
-use Rattle.book_copy.proofs.Laws.{rows-more, routines-short, Step, step-handed, step-ended, not-handed}
+use Rattle.book_copy.proofs.CopyLaws.{rows-more, routines-short, Step, step-handed, step-ended, not-handed}
 use Rattle.book_copy.proofs.reading.read_all.Statement.{statement}
 use Rattle.book_copy.proofs.reading.read_all.Tie as tie
 

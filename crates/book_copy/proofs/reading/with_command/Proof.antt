@@ -6,7 +6,7 @@ use mir.Syntax.{w16}
 use mir.Val.{toZ, ofZ}
 use lib.ListN.{length}
 use lib.Seq.{set-out}
-use Rattle.rules_routine.proofs.Laws.{length-mapped}
+use Rattle.rules_routine.proofs.RoutineLaws.{length-mapped}
 use Rattle.book_copy.specs.Rows.{mostCommands, withCommand}
 use borrow.Author.Needs.{needs}
 use Rattle.book_copy.proofs.reading.with_command.Statement.{statement}

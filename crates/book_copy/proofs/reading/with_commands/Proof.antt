@@ -7,11 +7,11 @@ use mathlib.Core.Path.{_≡_, refl, sym, ap, _∙_}
 use native.Mathlib.Omega.{arith}
 use lib.ListN.{length, take}
 use lib.Seq.{slice}
-use Rattle.rules_routine.specs.Routine.{maxCommands}
-use Rattle.rules_routine.proofs.Laws.{length-mapped, commandsOf-held}
+use Rattle.rules_routine.specs.Limits.{maxCommands}
+use Rattle.rules_routine.proofs.RoutineLaws.{length-mapped, commandsOf-held}
 use Rattle.book_copy.specs.Rows.{withCommands}
 use Rattle.book_copy.specs.declared.Rows.{Rows}
-use Rattle.book_copy.proofs.Laws.{commands-step, commands-over}
+use Rattle.book_copy.proofs.CopyLaws.{commands-step, commands-over}
 use Rattle.book_copy.proofs.reading.with_commands.Statement.{statement}
 use Rattle.book_copy.proofs.reading.with_commands.Tie as tie
 

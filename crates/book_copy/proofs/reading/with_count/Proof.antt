@@ -4,8 +4,8 @@ use native.Mathlib.Omega.{arith}
 use borrow.Author.Tests.{lt-ltb, le-ltb}
 use lib.ListN.{length}
 use lib.Seq.{set-out}
-use Rattle.rules_routine.proofs.Laws.{length-mapped}
-use Rattle.book_layout.specs.Layout.{maxRoutines}
+use Rattle.rules_routine.proofs.RoutineLaws.{length-mapped}
+use Rattle.rules_routine.specs.Limits.{maxRoutines}
 use Rattle.book_copy.specs.Rows.{withCount}
 use borrow.Author.Needs.{needs}
 use Rattle.book_copy.proofs.reading.with_count.Statement.{statement}

@@ -1,6 +1,6 @@
 -- `book_copy::reading::with_routine` meets its contract. Assumes nothing.
 use mathlib.Core.Path.{sym, ap₂, _∙_}
-use Rattle.rules_routine.proofs.Laws.{length-commandsOf}
+use Rattle.rules_routine.proofs.RoutineLaws.{length-commandsOf}
 use Rattle.book_copy.specs.Rows.{withCount, withRoutine}
 use borrow.Author.Needs.{needs}
 use Rattle.book_copy.proofs.reading.with_routine.Statement.{statement}

@@ -8,7 +8,7 @@ use lib.ListN.{length}
 use Rattle.rules_routine.specs.Refusals.{refusalOf}
 use Rattle.book_layout.specs.Layout.{pairsEnd, lengthAt}
 use Rattle.book_layout.specs.Reading.{placedChecks}
-use Rattle.book_layout.proofs.Laws.{placed, checks-more, checks-refused, checks-left-over, checks-end}
+use Rattle.book_layout.proofs.LayoutLaws.{placed, checks-more, checks-refused, checks-left-over, checks-end}
 use Rattle.book_read.proofs.reading.check_all.Statement.{statement}
 use Rattle.book_read.proofs.reading.check_all.Tie as tie
 

@@ -7,10 +7,10 @@ use borrow.Author.Tests.{not-true, not-false}
 use Rattle.rules_routine.specs.Refusals.{refusalOf}
 use Rattle.rules_routine.specs.Routine.{commandsOf, routineOf, routineCheck}
 use Rattle.rules_routine.specs.declared.Routine.{Routine}
-use Rattle.rules_routine.proofs.Laws.{check-counted, routineOf-commands}
+use Rattle.rules_routine.proofs.RoutineLaws.{check-counted, routineOf-commands}
 use Rattle.book_layout.specs.Layout.{commandSize, bookDevices, offsetAt, lengthAt, commandsAt}
 use Rattle.book_layout.specs.Reading.{lengthFits}
-use Rattle.book_layout.proofs.Laws.{fits-in-fours, placed-length, placed-offset, placed-end, placed-commands, length-commandsAt}
+use Rattle.book_layout.proofs.LayoutLaws.{fits-in-fours, placed-length, placed-offset, placed-end, placed-commands, length-commandsAt}
 use borrow.Author.Needs.{needs}
 use Rattle.book_read.proofs.reading.check_placed.Statement.{statement}
 use Rattle.book_read.proofs.reading.check_placed.Tie as tie

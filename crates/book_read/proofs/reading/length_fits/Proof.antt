@@ -1,7 +1,7 @@
 -- `book_read::reading::length_fits` meets its contract. Assumes nothing.
 use Prim.Native.Nat.{_*_}
 use borrow.Author.Tests.{le-leb, lt-leb}
-use Rattle.rules_routine.specs.Routine.{maxCommands}
+use Rattle.rules_routine.specs.Limits.{maxCommands}
 use Rattle.book_layout.specs.Layout.{commandSize}
 use Rattle.book_layout.specs.Reading.{lengthFits}
 use borrow.Author.Needs.{needs}

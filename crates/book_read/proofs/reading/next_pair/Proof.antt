@@ -9,7 +9,7 @@ use Rattle.book_layout.specs.Numbers.{fourAt}
 use Rattle.book_layout.specs.Layout.{countSize, pairSize, offsetSize, commandSize, pairPlace, pairsEnd, countOf, lengthAt, commandsAt}
 use Rattle.book_layout.specs.Reading.{lengthFits}
 use Rattle.book_layout.specs.declared.Item.the-variants.{Handed}
-use Rattle.book_layout.proofs.Laws.{fits-in-fours, book-fits, pair-handed, pair-past, pair-between}
+use Rattle.book_layout.proofs.LayoutLaws.{fits-in-fours, book-fits, pair-handed, pair-past, pair-between}
 use borrow.Author.Needs.{needs}
 use Rattle.book_read.proofs.reading.next_pair.Statement.{statement}
 use Rattle.book_read.proofs.reading.next_pair.Tie as tie

@@ -4,9 +4,9 @@ use mathlib.Core.List.{[], _∷_, _++_}
 use native.Mathlib.Numerals.{add-one}
 use Rattle.rules_routine.specs.declared.Command.{Command}
 use Rattle.rules_routine.specs.declared.Routine.{Routine}
-use Rattle.book_layout.proofs.Laws.{length-commandsAt}
-use Rattle.rules_routine.proofs.Laws.{routineOf-count, with-more}
-use Rattle.book_read.proofs.Laws.{commandsAt-more}
+use Rattle.book_layout.proofs.LayoutLaws.{length-commandsAt}
+use Rattle.rules_routine.proofs.RoutineLaws.{routineOf-count, with-more}
+use Rattle.book_read.proofs.ReadingLaws.{commandsAt-more}
 use borrow.Author.Needs.{needs}
 use Prim.Native.Nat.{_-_, _≤_}
 use mathlib.Core.Path.{_≡_, sym, ap, _∙_}

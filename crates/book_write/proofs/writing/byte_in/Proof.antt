@@ -1,7 +1,7 @@
 -- `book_write::writing::byte_in` meets its contract. Assumes nothing.
 use mathlib.Core.Path.{sym}
 use lib.ListN.{List·getD-eq-default}
-use Rattle.rules_routine.proofs.Laws.{any-default}
+use Rattle.rules_routine.proofs.RoutineLaws.{any-default}
 use borrow.Author.Needs.{needs}
 use Rattle.book_write.proofs.writing.byte_in.Statement.{statement}
 use Rattle.book_write.proofs.writing.byte_in.Tie as tie

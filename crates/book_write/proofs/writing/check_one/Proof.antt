@@ -4,7 +4,7 @@ use native.Mathlib.Omega.{arith}
 use Rattle.rules_routine.specs.Refusals.{refusalOf}
 use Rattle.rules_routine.specs.Routine.{commandsOf, routineCheck}
 use Rattle.rules_routine.specs.declared.Routine.{Routine}
-use Rattle.rules_routine.proofs.Laws.{check-long, routineOf-commands}
+use Rattle.rules_routine.proofs.RoutineLaws.{check-long, routineOf-commands}
 use Rattle.book_layout.specs.Layout.{bookDevices}
 use Rattle.book_layout.specs.Writing.{commandsLent}
 use Rattle.book_layout.proofs.Lending.{length-lent}

@@ -9,7 +9,7 @@ use native.Mathlib.Omega.{arith}
 use Rattle.rules_routine.specs.declared.Command.{Command}
 use Rattle.rules_routine.specs.declared.Routine.{Routine}
 use Rattle.rules_routine.specs.Routine.{routineOf, withCommand}
-use Rattle.rules_routine.proofs.Laws.{with-more}
+use Rattle.rules_routine.proofs.RoutineLaws.{with-more}
 use Rattle.book_layout.specs.Writing.{commandsLent}
 use Rattle.book_write.proofs.Row.{lent-more}
 use Rattle.book_layout.proofs.Lending.{length-lent}

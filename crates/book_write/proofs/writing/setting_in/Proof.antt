@@ -4,7 +4,7 @@ use lib.IntN.{pos}
 use lib.ListN.{getD, List·getD-eq-default}
 use mir.Syntax.{w16}
 use mir.Val.{toZ, ofZ}
-use Rattle.rules_routine.proofs.Laws.{any-default}
+use Rattle.rules_routine.proofs.RoutineLaws.{any-default}
 use Rattle.book_layout.specs.Writing.{missingSetting}
 use borrow.Author.Needs.{needs}
 use Rattle.book_write.proofs.writing.setting_in.Statement.{statement}

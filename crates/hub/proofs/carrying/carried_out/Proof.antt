@@ -2,7 +2,7 @@
 use borrow.Author.Needs.{needs}
 use mathlib.Core.Path.{sym, _∙_}
 use Rattle.rules_routine.specs.Routine.{commandsOf}
-use Rattle.hub.proofs.Laws.{leaving-ok, settled-gives, stands-gives}
+use Rattle.hub.proofs.CallLaws.{leaving-ok, settled-gives, stands-gives}
 use Rattle.hub.proofs.carrying.carried_out.Statement.{statement}
 use Rattle.hub.proofs.carrying.carried_out.Tie as tie
 
@@ -16,8 +16,8 @@ changed-requires c κs = search needs
 is-due-requires : tie.Need-is-due-requires
 is-due-requires c κs = search needs
 
-settled-requires : tie.Need-settled-requires
-settled-requires c κs = search needs
+settle-requires : tie.Need-settle-requires
+settle-requires c κs = search needs
 
 outcome-with-requires : tie.Need-outcome-with-requires
 outcome-with-requires c κs = search needs
@@ -31,7 +31,7 @@ returns c =
     let a = p .before .args in
     settled-gives (a .hub) (commandsOf (a .routine)) (a .decision) (p .put-backs .result) (n .changed .result) (p .before .pre .1) (b .0)
     (b .1) (n .changed .ensures) _ _ (c .outcome-with .ensures)
-    (sym (d .is-due .ensures) ∙ c .before .before .if1 .taken) (c .before .settled .ensures .0) (c .before .settled .ensures .1)
+    (sym (d .is-due .ensures) ∙ c .before .before .if1 .taken) (c .before .settle .ensures .0) (c .before .settle .ensures .1)
 
 outcome-with-requires-2 : tie.Need-outcome-with-requires-2
 outcome-with-requires-2 c κs = search needs
@@ -54,7 +54,7 @@ carried-out-spec =
     put-backs-requires
     changed-requires
     is-due-requires
-    settled-requires
+    settle-requires
     outcome-with-requires
     returns
     outcome-with-requires-2

@@ -10,7 +10,7 @@ use borrow.Author.Needs.{needs}
 use Rattle.hub_state.specs.View.{isRestart}
 use Rattle.hub_state.specs.Contract.{halfwayIn, stoppedBy, upWith, ChangeOk}
 use Rattle.hub.specs.View.{view}
-use Rattle.hub.proofs.Laws.{carries-as, carries-nothing}
+use Rattle.hub.proofs.CallLaws.{carries-as, carries-nothing}
 use Rattle.hub.proofs.carrying.changed.Statement.{statement}
 use Rattle.hub.proofs.carrying.changed.Tie as tie
 

@@ -2,7 +2,7 @@
 use borrow.Author.Needs.{needs}
 use mathlib.Core.Path.{refl, sym, _∙_}
 use Rattle.hub.specs.View.{view}
-use Rattle.hub.proofs.Laws.{none-after, due-after}
+use Rattle.hub.proofs.CallLaws.{none-after, due-after}
 use Rattle.hub.proofs.carrying.is_due.Statement.{statement}
 use Rattle.hub.proofs.carrying.is_due.Tie as tie
 

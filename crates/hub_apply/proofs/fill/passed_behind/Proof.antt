@@ -5,7 +5,7 @@ use borrow.Author.Tests.{not-true, not-false}
 use mathlib.Core.Path.{_≡_}
 use mathlib.Core.Logic.{⊎-elim}
 use lib.ListN.{length, length-set}
-use Rattle.rules.specs.State.{maxHeld}
+use Rattle.rules_routine.specs.Limits.{maxSequence}
 use Rattle.hub_sequence.specs.Links.{along, Walks}
 use Rattle.hub_sequence.proofs.WalkLaws.{walks-next, walks-less}
 use Rattle.hub_apply.proofs.FillLaws.{PassedSoFar, passes-none, room-left, passes-running, passes-committed, passes-all}
@@ -13,7 +13,7 @@ use Rattle.hub_apply.proofs.fill.passed_behind.Statement.{statement}
 use Rattle.hub_apply.proofs.fill.passed_behind.Tie as tie
 
 abbrev Inv-loop : tie.InvT-loop
-Inv-loop slot committed behind passed₀ i₀ passed i = (length passed ≡ maxHeld) × (Walks behind i)
+Inv-loop slot committed behind passed₀ i₀ passed i = (length passed ≡ maxSequence) × (Walks behind i)
     × (PassedSoFar committed passed₀ (along behind i₀) (along behind i) passed)
 
 abbrev μ-loop : tie.MeasureT-loop
@@ -70,7 +70,7 @@ loop-again c = let l = c .before .before in
 returns : tie.Need-returns Inv-loop μ-loop
 returns c = let l = c .before in
     let s = l .before .before in
-    let n : length (s .args .row) ≡ maxHeld = search needs in
+    let n : length (s .args .row) ≡ maxSequence = search needs in
     passes-all _ _ _ _ (s .pre) _ _ n (l .loop .inv .1) (c .loop-test .left) (l .loop .inv .2)
 
 pub passed-behind-spec : {M : Type 1} → statement M

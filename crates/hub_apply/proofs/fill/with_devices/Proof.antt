@@ -4,15 +4,15 @@ use Prim.Native.Nat.{_*_, _-_, _≤_}
 use native.Mathlib.Omega.{arith}
 use mathlib.Core.Path.{_≡_, refl}
 use lib.ListN.{length, getD, length-set}
-use Rattle.rules_routine.specs.Routine.{maxCommands, zeroCommand}
-use Rattle.rules.specs.State.{maxHeld}
+use Rattle.rules_routine.specs.Limits.{maxCommands, maxSequence}
+use Rattle.rules_routine.specs.Routine.{zeroCommand}
 use Rattle.hub_apply.specs.Fill.{Fills}
 use Rattle.hub_apply.proofs.FillLaws.{fills-none, fills-more, fills-all}
 use Rattle.hub_apply.proofs.fill.with_devices.Statement.{statement}
 use Rattle.hub_apply.proofs.fill.with_devices.Tie as tie
 
 abbrev Inv-loop : tie.InvT-loop
-Inv-loop slot commands count from filled₀ j₀ filled j = (length filled ≡ maxHeld * maxCommands) × (j ≤ count)
+Inv-loop slot commands count from filled₀ j₀ filled j = (length filled ≡ maxSequence * maxCommands) × (j ≤ count)
     × (Fills 0 filled₀ (slot * maxCommands) j (λ i. getD commands i zeroCommand .device) filled)
 
 abbrev μ-loop : tie.MeasureT-loop

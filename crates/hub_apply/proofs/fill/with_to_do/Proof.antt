@@ -4,8 +4,7 @@ use Prim.Native.Nat.{_*_, _-_, _≤_}
 use native.Mathlib.Omega.{arith}
 use mathlib.Core.Path.{_≡_, refl}
 use lib.ListN.{length, length-set}
-use Rattle.rules_routine.specs.Routine.{maxCommands}
-use Rattle.rules.specs.State.{maxHeld}
+use Rattle.rules_routine.specs.Limits.{maxCommands, maxSequence}
 use Rattle.hub_state.specs.View.{toDoCode}
 use Rattle.hub_apply.specs.Fill.{Fills}
 use Rattle.hub_apply.proofs.FillLaws.{fills-none, fills-more, fills-all}
@@ -13,7 +12,7 @@ use Rattle.hub_apply.proofs.fill.with_to_do.Statement.{statement}
 use Rattle.hub_apply.proofs.fill.with_to_do.Tie as tie
 
 abbrev Inv-loop : tie.InvT-loop
-Inv-loop slot from filled₀ j₀ filled j = (length filled ≡ maxHeld * maxCommands) × (j ≤ maxCommands)
+Inv-loop slot from filled₀ j₀ filled j = (length filled ≡ maxSequence * maxCommands) × (j ≤ maxCommands)
     × (Fills 0 filled₀ (slot * maxCommands) j (λ i. toDoCode) filled)
 
 abbrev μ-loop : tie.MeasureT-loop

@@ -4,8 +4,7 @@ use Prim.Native.Nat.{_*_, _-_, _≤_}
 use native.Mathlib.Omega.{arith}
 use mathlib.Core.Path.{_≡_, refl}
 use lib.ListN.{length, length-set}
-use Rattle.rules_routine.specs.Routine.{maxDevices}
-use Rattle.rules.specs.State.{maxHeld}
+use Rattle.rules_routine.specs.Limits.{maxDevices, maxSequence}
 use Rattle.hub_state.specs.View.{noRestart}
 use Rattle.hub_apply.specs.Fill.{Fills}
 use Rattle.hub_apply.proofs.FillLaws.{fills-none, fills-more, fills-all}
@@ -13,7 +12,7 @@ use Rattle.hub_apply.proofs.fill.without_restarts.Statement.{statement}
 use Rattle.hub_apply.proofs.fill.without_restarts.Tie as tie
 
 abbrev Inv-loop : tie.InvT-loop
-Inv-loop slot from filled₀ d₀ filled d = (length filled ≡ maxHeld * maxDevices) × (d ≤ maxDevices)
+Inv-loop slot from filled₀ d₀ filled d = (length filled ≡ maxSequence * maxDevices) × (d ≤ maxDevices)
     × (Fills noRestart filled₀ (slot * maxDevices) d (λ i. noRestart) filled)
 
 abbrev μ-loop : tie.MeasureT-loop

@@ -6,9 +6,8 @@ use native.Mathlib.Omega.{arith}
 use borrow.Author.Tests.{not-true, not-false}
 use mathlib.Core.Path.{_≡_, refl}
 use lib.ListN.{length, getD}
-use Rattle.rules_routine.specs.Routine.{maxDevices, maxCommands}
-use Rattle.rules_routine.proofs.Laws.{length-mapped}
-use Rattle.rules.specs.State.{maxHeld}
+use Rattle.rules_routine.specs.Limits.{maxDevices, maxCommands, maxSequence}
+use Rattle.rules_routine.proofs.RoutineLaws.{length-mapped}
 use Rattle.hub_sequence.specs.Links.{Stands}
 use Rattle.hub_state.specs.declared.HubState.{HubState}
 use Rattle.hub_settle.proofs.StateLaws.{tablesIn}
@@ -36,7 +35,7 @@ Inv-loop devices pass-limit next-id ids passed committed counts answered due-the
       setting = setting;
       stage = stage;
       restarts = restarts;
-      settled = settled₀;
+      «settled_at» = settled₀;
       up = up;
       mark = mark₀;
     } in
@@ -45,7 +44,7 @@ Inv-loop devices pass-limit next-id ids passed committed counts answered due-the
 abbrev μ-loop : tie.MeasureT-loop
 μ-loop devices pass-limit next-id ids passed committed counts answered due-then device tag setting stage restarts up links₀ settled₀ mark₀
     i₀ links settled mark i =
-    links .held
+    links .taken
 
 -- where the function starts
 abbrev start : tie.At-loop Inv-loop μ-loop → tie.Start Inv-loop μ-loop
@@ -53,7 +52,7 @@ start c = c .before .before .before .before .before .before .before .before .bef
     .before
 
 -- the length of the row of restarts
-long : (c : tie.Start Inv-loop μ-loop) → length (c .args .state .restarts) ≡ maxHeld * maxDevices
+long : (c : tie.Start Inv-loop μ-loop) → length (c .args .state .restarts) ≡ maxSequence * maxDevices
 long c = search (needs, length-mapped)
 
 -- the state as the loop has it
@@ -131,7 +130,7 @@ cast-i-2 : tie.Need-cast-i-2 Inv-loop μ-loop
 cast-i-2 c = search needs
 
 loop-less : tie.Need-loop-less Inv-loop μ-loop
-loop-less c = let h = c .before .leave .ensures .held in omega arith
+loop-less c = let h = c .before .leave .ensures .taken in omega arith
 
 loop-again : tie.Need-loop-again Inv-loop μ-loop
 loop-again c =

@@ -3,8 +3,8 @@ use mathlib.Core.Path.{_≡_}
 use native.Mathlib.Omega.{arith}
 use borrow.Author.Needs.{needs}
 use lib.ListN.{length}
-use Rattle.rules_routine.specs.Routine.{maxDevices}
-use Rattle.rules_routine.proofs.Laws.{length-mapped}
+use Rattle.rules_routine.specs.Limits.{maxDevices}
+use Rattle.rules_routine.proofs.RoutineLaws.{length-mapped}
 use Rattle.hub_state.proofs.Members.{up-read, up-past}
 use Rattle.hub_state.proofs.readers.is_up.Statement.{statement}
 use Rattle.hub_state.proofs.readers.is_up.Tie as tie

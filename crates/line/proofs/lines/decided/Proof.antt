@@ -2,7 +2,7 @@
 use mathlib.Core.Path.{_≡_, refl, sym}
 use mir.Syntax.{w16}
 use mir.Val.{toZ, ofZ}
-use Rattle.line.proofs.Laws.{fits-as, as-call}
+use Rattle.line.proofs.LineLaws.{fits-as, as-call}
 use borrow.Author.Needs.{needs}
 use Rattle.line.proofs.lines.decided.Statement.{statement}
 use Rattle.line.proofs.lines.decided.Tie as tie

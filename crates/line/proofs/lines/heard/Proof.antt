@@ -3,7 +3,7 @@ use mathlib.Core.Path.{refl, sym, ap, _∙_}
 use borrow.Author.Tests.{eq-eqb}
 use Rattle.line_read.specs.declared.Line.{Line}
 use Rattle.line.specs.View.{heardOf}
-use Rattle.line.proofs.Laws.{heard-none, heard-some}
+use Rattle.line.proofs.LineLaws.{heard-none, heard-some}
 use borrow.Author.Needs.{needs}
 use Rattle.line.proofs.lines.heard.Statement.{statement}
 use Rattle.line.proofs.lines.heard.Tie as tie

@@ -9,13 +9,13 @@ use mir.Val.{toZ, ofZ}
 use lib.Seq.{length-take-le}
 use lib.IntN.{ℤ, pos}
 use lib.ListN.{length, take, getD}
-use Rattle.rules_routine.specs.Routine.{maxDevices}
+use Rattle.rules_routine.specs.Limits.{maxDevices}
 use Rattle.rules.specs.Due.{due}
 use Rattle.rules.proofs.AllDue.{list-entry}
 use Rattle.hub.specs.View.{view}
 use Rattle.line_rules.specs.Printing.{asLine, deviceTextOf, deviceText, deviceLines}
 use Rattle.line_print.specs.Put.{maxDeviceLine, PutShort}
-use Rattle.line_print.proofs.Laws.{put-none, short-then, within, as-text, reaches}
+use Rattle.line_print.proofs.PutLaws.{put-none, short-then, within, as-text, reaches}
 use Rattle.line.proofs.Told.{same-room, end-fits, copied}
 use Rattle.line.proofs.Loops.{devices-are, devices-next, end-text}
 use Rattle.line.proofs.lines.put_devices.Statement.{statement}

@@ -1,6 +1,6 @@
 -- `line::lines::put_opening` meets its contract. Assumes nothing.
 use mathlib.Core.Path.{sym, ap}
-use Rattle.line_print.proofs.Laws.{as-text}
+use Rattle.line_print.proofs.PutLaws.{as-text}
 use Rattle.line.specs.Contract.{openingText}
 use borrow.Author.Needs.{needs}
 use Rattle.line.proofs.lines.put_opening.Statement.{statement}

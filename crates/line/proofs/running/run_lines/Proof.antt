@@ -18,7 +18,7 @@ use Rattle.hub_state.specs.declared.Change.{Change}
 use Rattle.hub_state.specs.declared.Change.the-variants.{Stage, Commit, Join, Abort, Fail, Restart}
 use Rattle.line_rules.specs.Reading.{Line as Said, readLine}
 use Rattle.line_rules.specs.Printing.{answersText}
-use Rattle.line_read.specs.Held.{heldLine}
+use Rattle.line_read.specs.View.{readAs}
 use Rattle.line_read.specs.declared.Line.the-variants.{Calling}
 use Rattle.line_print.specs.Put.{maxText}
 use Rattle.hub.specs.View.{view}
@@ -26,8 +26,8 @@ use Rattle.hub.specs.Valid.{Valid}
 use Rattle.hub.specs.Carrying.{Carries}
 use Rattle.hub.specs.declared.Hub.{Hub}
 use Rattle.line.specs.View.{heardOf}
-use Rattle.line.proofs.Laws.{Does, does-unread, does-open, does-not-open, does-settle, does-change, does-same, fits-line}
-use Rattle.line.proofs.Laws.{leaving-ok, change-as, carries-nothing, carries, carries-as}
+use Rattle.line.proofs.LineLaws.{Does, does-unread, does-open, does-not-open, does-settle, does-change, does-same, fits-line}
+use Rattle.line.proofs.LineLaws.{leaving-ok, change-as, carries-nothing, carries, carries-as}
 use Rattle.line.proofs.Told.{same-room}
 use Rattle.line.proofs.Loops.{Prints, prints, printed-fits, printed-long, goes}
 use Rattle.line.proofs.Loops.{Ran, ran-none, ran-more, ran-length, ran-past, ran-all, end-within}
@@ -81,10 +81,10 @@ ends n =
 -- what of it is heard
 heard : (x : tie.After-text2 Inv-loop μ-loop) →
     let n = line-of x in
-    heardOf (heldLine (says n) .line) (view (nowAt n) .devices) ≡ n .next-line .result .said
+    heardOf (readAs (says n) .line) (view (nowAt n) .devices) ≡ n .next-line .result .said
 heard x =
     let n = line-of x in
-    sym (n .next-line .ensures .hears ∙ (λ i. heardOf (heldLine (says n) .line) (n .before .device-count .ensures i)))
+    sym (n .next-line .ensures .hears ∙ (λ i. heardOf (readAs (says n) .line) (n .before .device-count .ensures i)))
 
 -- any text fits into its buffer
 room : (x : tie.After-text2 Inv-loop μ-loop) → length (x .before .put-unread .last .0) ≡ maxText
@@ -98,7 +98,7 @@ valid x = loop-of (line-of x) .loop .inv .1 .valid
 -- which one
 calls : (d : tie.After-decided Inv-loop μ-loop) →
     let n = line-of (heard-of d) in
-    heardOf (heldLine (says n) .line) (view (nowAt n) .devices) ≡ Calling (d .before .before .said2 .given .0 .0)
+    heardOf (readAs (says n) .line) (view (nowAt n) .devices) ≡ Calling (d .before .before .said2 .given .0 .0)
 calls d = heard (heard-of d) ∙ d .before .before .said2 .given .1
 
 abbrev commandsAt : tie.After-decided Inv-loop μ-loop → List Command
@@ -312,8 +312,8 @@ keeps-hub-requires c κs = search needs
 settles-requires : tie.Need-settles-requires Inv-loop μ-loop
 settles-requires c κs = made (c .before .before) .valid
 
-settled-requires : tie.Need-settled-requires Inv-loop μ-loop
-settled-requires c κs = made (c .before .before .before .before) .valid
+settle-requires : tie.Need-settle-requires Inv-loop μ-loop
+settle-requires c κs = made (c .before .before .before .before) .valid
 
 enum-told-2 : tie.Need-enum-told-2 Inv-loop μ-loop
 enum-told-2 c = search needs
@@ -394,7 +394,7 @@ run-lines-spec =
     with-restart-requires
     keeps-hub-requires
     settles-requires
-    settled-requires
+    settle-requires
     enum-told-2
     array-share-prefix-text
     slice-aggregate-put-text

@@ -1,6 +1,6 @@
 -- `line_hints::letters::by_commands` meets its contract. Assumes nothing.
 use mathlib.Core.Path.{sym, _∙_}
-use Rattle.line_hints.proofs.Laws.{commands-cut, commands-whole}
+use Rattle.line_hints.proofs.ReasonLaws.{commands-cut, commands-whole}
 use borrow.Author.Needs.{needs}
 use Rattle.line_hints.proofs.letters.by_commands.Statement.{statement}
 use Rattle.line_hints.proofs.letters.by_commands.Tie as tie

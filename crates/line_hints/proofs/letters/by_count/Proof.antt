@@ -1,7 +1,7 @@
 -- `line_hints::letters::by_count` meets its contract. Assumes nothing.
 use mathlib.Core.Path.{sym, _∙_}
 use native.Mathlib.Omega.{arith}
-use Rattle.line_hints.proofs.Laws.{count-few, count-many, count-right}
+use Rattle.line_hints.proofs.ReasonLaws.{count-few, count-many, count-right}
 use borrow.Author.Needs.{needs}
 use Rattle.line_hints.proofs.letters.by_count.Statement.{statement}
 use Rattle.line_hints.proofs.letters.by_count.Tie as tie

@@ -1,6 +1,6 @@
 -- `line_hints::letters::by_letter` meets its contract. Assumes nothing.
 use mathlib.Core.Path.{sym, _∙_}
-use Rattle.line_hints.proofs.Laws.{by-O, by-R, by-S, by-one, by-lower, by-none}
+use Rattle.line_hints.proofs.ReasonLaws.{by-O, by-R, by-S, by-one, by-lower, by-none}
 use borrow.Author.Needs.{needs}
 use Rattle.line_hints.proofs.letters.by_letter.Statement.{statement}
 use Rattle.line_hints.proofs.letters.by_letter.Tie as tie

@@ -1,6 +1,6 @@
 -- `line_hints::letters::by_numbers` meets its contract. Assumes nothing.
 use mathlib.Core.Path.{sym, _∙_}
-use Rattle.line_hints.proofs.Laws.{numbers-all, numbers-some-not}
+use Rattle.line_hints.proofs.ReasonLaws.{numbers-all, numbers-some-not}
 use borrow.Author.Needs.{needs}
 use Rattle.line_hints.proofs.letters.by_numbers.Statement.{statement}
 use Rattle.line_hints.proofs.letters.by_numbers.Tie as tie

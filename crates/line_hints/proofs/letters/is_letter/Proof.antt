@@ -1,7 +1,7 @@
 -- `line_hints::letters::is_letter` meets its contract. Assumes nothing.
 use mathlib.Core.Path.{refl, sym}
 use Rattle.line_hints.specs.Why.{isLetter}
-use Rattle.line_hints.proofs.Laws.{a-letter, last-letter}
+use Rattle.line_hints.proofs.ReasonLaws.{a-letter, last-letter}
 use Rattle.line_hints.proofs.letters.is_letter.Statement.{statement}
 use Rattle.line_hints.proofs.letters.is_letter.Tie as tie
 

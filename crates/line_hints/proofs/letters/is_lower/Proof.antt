@@ -1,6 +1,6 @@
 -- `line_hints::letters::is_lower` meets its contract. Assumes nothing.
 use mathlib.Core.Path.{sym, _∙_}
-use Rattle.line_hints.proofs.Laws.{lower-not, lower-so}
+use Rattle.line_hints.proofs.ReasonLaws.{lower-not, lower-so}
 use borrow.Author.Needs.{needs}
 use Rattle.line_hints.proofs.letters.is_lower.Statement.{statement}
 use Rattle.line_hints.proofs.letters.is_lower.Tie as tie

@@ -4,7 +4,7 @@ use mathlib.Core.Path.{_≡_, refl, sym, _∙_}
 use native.Mathlib.Numerals.{add-one}
 use lib.ListN.{length, drop}
 use Rattle.line_hints.specs.Why.{carriageReturn, hasByte}
-use Rattle.line_hints.proofs.Laws.{has-past, has-here, has-on}
+use Rattle.line_hints.proofs.ReasonLaws.{has-past, has-here, has-on}
 use borrow.Author.Needs.{needs}
 use Rattle.line_hints.proofs.scans.has_carriage_return.Statement.{statement}
 use Rattle.line_hints.proofs.scans.has_carriage_return.Tie as tie

@@ -4,7 +4,7 @@ use mathlib.Core.Path.{_≡_, refl, sym, _∙_}
 use native.Mathlib.Numerals.{add-one}
 use lib.ListN.{length, drop}
 use Rattle.line_hints.specs.Why.{hasOther}
-use Rattle.line_hints.proofs.Laws.{other-past, other-below, other-above, other-on}
+use Rattle.line_hints.proofs.ReasonLaws.{other-past, other-below, other-above, other-on}
 use borrow.Author.Needs.{needs}
 use Rattle.line_hints.proofs.scans.has_other.Statement.{statement}
 use Rattle.line_hints.proofs.scans.has_other.Tie as tie

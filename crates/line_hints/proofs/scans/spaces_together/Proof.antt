@@ -5,7 +5,7 @@ use mathlib.Core.Logic.{⊎-elim}
 use native.Mathlib.Omega.{arith}
 use lib.ListN.{length, drop}
 use Rattle.line_hints.specs.Why.{spacesTogether}
-use Rattle.line_hints.proofs.Laws.{together-here, together-on-first, together-on-second, together-last}
+use Rattle.line_hints.proofs.ReasonLaws.{together-here, together-on-first, together-on-second, together-last}
 use borrow.Author.Needs.{needs}
 use Rattle.line_hints.proofs.scans.spaces_together.Statement.{statement}
 use Rattle.line_hints.proofs.scans.spaces_together.Tie as tie

@@ -5,9 +5,9 @@ use native.Mathlib.Omega.{arith}
 use borrow.Author.Tests.{not-true, not-false}
 use lib.ListN.{length}
 use Rattle.line_read.specs.Places.{behindLetter, wordEnd, wordsFrom}
-use Rattle.line_read.proofs.Laws.{word-ends, word-inside, words-none}
+use Rattle.line_read.proofs.WordLaws.{word-ends, word-inside, words-none}
 use Rattle.line_hints.specs.Why.{allNumbers}
-use Rattle.line_hints.proofs.Laws.{numbers-not, numbers-on, numbers-none}
+use Rattle.line_hints.proofs.ReasonLaws.{numbers-not, numbers-on, numbers-none}
 use borrow.Author.Needs.{needs}
 use Rattle.line_hints.proofs.words.all_numbers.Statement.{statement}
 use Rattle.line_hints.proofs.words.all_numbers.Tie as tie

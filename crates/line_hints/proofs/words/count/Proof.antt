@@ -4,8 +4,8 @@ use mathlib.Core.Path.{_≡_, ap}
 use native.Mathlib.Omega.{arith}
 use lib.ListN.{length}
 use Rattle.line_read.specs.Places.{behindLetter, wordEnd, wordsFrom}
-use Rattle.line_read.proofs.Laws.{word-ends, word-inside, words-none}
-use Rattle.line_hints.proofs.Laws.{one-word}
+use Rattle.line_read.proofs.WordLaws.{word-ends, word-inside, words-none}
+use Rattle.line_hints.proofs.ReasonLaws.{one-word}
 use borrow.Author.Needs.{needs}
 use Rattle.line_hints.proofs.words.count.Statement.{statement}
 use Rattle.line_hints.proofs.words.count.Tie as tie

@@ -9,9 +9,9 @@ use lib.Dec.{ltb}
 use lib.ListN.{length, getD}
 use Rattle.line_rules.specs.Text.{digit0}
 use Rattle.line_read.specs.Places.{wordAt}
-use Rattle.line_read.proofs.Laws.{word-past, word-none}
+use Rattle.line_read.proofs.WordLaws.{word-past, word-none}
 use Rattle.line_hints.specs.Why.{someDigits}
-use Rattle.line_hints.proofs.Laws.{restDigits, rest-some, rest-ended, rest-below, rest-above, rest-on}
+use Rattle.line_hints.proofs.ReasonLaws.{restDigits, rest-some, rest-ended, rest-below, rest-above, rest-on}
 use borrow.Author.Needs.{needs}
 use Rattle.line_hints.proofs.words.digits_at.Statement.{statement}
 use Rattle.line_hints.proofs.words.digits_at.Tie as tie

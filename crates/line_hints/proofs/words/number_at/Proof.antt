@@ -5,7 +5,7 @@ use Prim.Native.Nat.{_<_}
 use native.Mathlib.Numerals.{add-one}
 use native.Mathlib.Omega.{arith}
 use lib.ListN.{length, getD}
-use Rattle.line_hints.proofs.Laws.{number-minus, number-plain}
+use Rattle.line_hints.proofs.ReasonLaws.{number-minus, number-plain}
 use borrow.Author.Needs.{needs}
 use Rattle.line_hints.proofs.words.number_at.Statement.{statement}
 use Rattle.line_hints.proofs.words.number_at.Tie as tie

@@ -1,7 +1,7 @@
 -- `line_parts::pieces::whole_length` meets its contract: no byte 10 lies behind the place. Assumes nothing.
 use Prim.Native.Nat.{_≤_}
 use lib.ListN.{length, drop}
-use Rattle.line_parts.proofs.Laws.{NoEnd}
+use Rattle.line_parts.proofs.PartLaws.{NoEnd}
 use Rattle.line_parts.proofs.Loops.{none-at-end, none-before, last-here, none-here}
 use borrow.Author.Needs.{needs}
 use Rattle.line_parts.proofs.pieces.whole_length.Statement.{statement}

@@ -10,7 +10,7 @@ use mir.Syntax.{w16}
 use mir.Val.{SFits}
 use Rattle.line_rules.specs.Text.{decimal}
 use Rattle.line_rules.proofs.TextLaws.{decimal-short, signed-short}
-use Rattle.line_print.proofs.Laws.{put-then, kept, wider, less, size-below, size-fits, signed-below, signed-above, not-below}
+use Rattle.line_print.proofs.PutLaws.{put-then, kept, wider, less, size-below, size-fits, signed-below, signed-above, not-below}
 use borrow.Author.Needs.{needs}
 use Rattle.line_print.proofs.text.put_setting.Statement.{statement}
 use Rattle.line_print.proofs.text.put_setting.Tie as tie

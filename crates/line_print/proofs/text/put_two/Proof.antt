@@ -1,7 +1,7 @@
 -- `line_print::text::put_two` meets its contract. Assumes nothing.
 use native.Mathlib.Omega.{arith}
 use Rattle.line_rules.proofs.TextLaws.{decimal-short}
-use Rattle.line_print.proofs.Laws.{short-then, exactly, reaches}
+use Rattle.line_print.proofs.PutLaws.{short-then, exactly, reaches}
 use borrow.Author.Needs.{needs}
 use Rattle.line_print.proofs.text.put_two.Statement.{statement}
 use Rattle.line_print.proofs.text.put_two.Tie as tie

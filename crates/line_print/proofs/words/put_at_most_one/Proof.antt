@@ -2,10 +2,10 @@
 use mathlib.Core.Path.{sym, ap}
 use native.Mathlib.Omega.{arith}
 use Rattle.hub_answers.specs.View.{oneOf}
-use Rattle.hub_answers.specs.declared.OneBack.{OneBack}
+use Rattle.hub_answers.specs.declared.MaybePutBack.{MaybePutBack}
 use Rattle.line_rules.specs.Text.{digits, decimal}
 use Rattle.line_rules.specs.Printing.{backList, backText}
-use Rattle.line_print.proofs.Laws.{exactly, within, as-text}
+use Rattle.line_print.proofs.PutLaws.{exactly, within, as-text}
 use borrow.Author.Needs.{needs}
 use Rattle.line_print.proofs.words.put_at_most_one.Statement.{statement}
 use Rattle.line_print.proofs.words.put_at_most_one.Tie as tie
@@ -31,7 +31,7 @@ same-length c = search needs
 returns : tie.Need-returns
 unfolding backList backText decimal digits
 returns c =
-    as-text (ap (λ (b : OneBack). backText (oneOf b)) (sym (c .before .before .before .before .before .enum-told .given .1)))
+    as-text (ap (λ (b : MaybePutBack). backText (oneOf b)) (sym (c .before .before .before .before .before .enum-told .given .1)))
     (within (omega arith) (exactly (c .before .before .put-word .ensures)))
 
 same-length-2 : tie.Need-same-length-2
@@ -39,7 +39,7 @@ same-length-2 c = search needs
 
 returns-2 : tie.Need-returns-2
 returns-2 c =
-    as-text (ap (λ (b : OneBack). backText (oneOf b)) (sym (c .before .before .before .before .before .back .given .1)))
+    as-text (ap (λ (b : MaybePutBack). backText (oneOf b)) (sym (c .before .before .before .before .before .back .given .1)))
     (c .before .before .put-one-back .ensures)
 
 pub put-at-most-one-spec : {M : Type 1} → statement M

@@ -8,7 +8,7 @@ use mir.Val.{Fits, toZ, ofZ}
 use Rattle.hub_answers.specs.View.{backOf}
 use Rattle.line_rules.specs.Text.{bytes, decimal}
 use Rattle.line_rules.proofs.TextLaws.{decimal-short}
-use Rattle.line_print.proofs.Laws.{short-then, exactly, shorter, as-text, back-one}
+use Rattle.line_print.proofs.PutLaws.{short-then, exactly, shorter, as-text, back-one}
 use borrow.Author.Needs.{needs}
 use Rattle.line_print.proofs.words.put_back.Statement.{statement}
 use Rattle.line_print.proofs.words.put_back.Tie as tie

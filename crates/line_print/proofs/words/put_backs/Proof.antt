@@ -5,14 +5,14 @@ use Prim.Native.Nat.{ℕ, _-_, _*_, _≤_, _<_}
 use native.Mathlib.Omega.{arith}
 use borrow.Author.Needs.{needs}
 use lib.ListN.{length, take}
-use Rattle.rules_routine.specs.Routine.{maxDevices}
-use Rattle.rules_routine.proofs.Laws.{length-mapped}
+use Rattle.rules_routine.specs.Limits.{maxDevices}
+use Rattle.rules_routine.proofs.RoutineLaws.{length-mapped}
 use Rattle.hub_answers.specs.View.{backOf}
 use Rattle.line_rules.specs.Text.{bytes, decimal}
 use Rattle.line_rules.specs.Printing.{backList, backText}
 use Rattle.line_rules.proofs.TextLaws.{decimal-short}
 use Rattle.line_print.specs.Put.{maxBack, PutShort}
-use Rattle.line_print.proofs.Laws.{put-none, short-then, shorter, within, as-text, reaches, backs-next, backs-count}
+use Rattle.line_print.proofs.PutLaws.{put-none, short-then, shorter, within, as-text, reaches, backs-next, backs-count}
 use Rattle.line_print.proofs.words.put_backs.Statement.{statement}
 use Rattle.line_print.proofs.words.put_backs.Tie as tie
 

@@ -2,7 +2,7 @@
 use native.Mathlib.Omega.{arith}
 use Rattle.line_rules.specs.Text.{digits, decimal}
 use Rattle.line_rules.specs.Printing.{backText}
-use Rattle.line_print.proofs.Laws.{short-then, exactly, within}
+use Rattle.line_print.proofs.PutLaws.{short-then, exactly, within}
 use borrow.Author.Needs.{needs}
 use Rattle.line_print.proofs.words.put_one_back.Statement.{statement}
 use Rattle.line_print.proofs.words.put_one_back.Tie as tie

@@ -2,7 +2,7 @@
 use mathlib.Core.Path.{sym, ap}
 use native.Mathlib.Omega.{arith}
 use Rattle.line_rules.specs.Printing.{refusalText}
-use Rattle.line_print.proofs.Laws.{within, as-text}
+use Rattle.line_print.proofs.PutLaws.{within, as-text}
 use borrow.Author.Needs.{needs}
 use Rattle.line_print.proofs.words.put_refused.Statement.{statement}
 use Rattle.line_print.proofs.words.put_refused.Tie as tie

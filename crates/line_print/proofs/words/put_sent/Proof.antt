@@ -4,7 +4,7 @@ use native.Mathlib.Omega.{arith}
 use mir.Syntax.{w16}
 use mir.Val.{toZ, ofZ}
 use Rattle.line_rules.specs.Printing.{answerText}
-use Rattle.line_print.proofs.Laws.{short-then, exactly, within, reaches}
+use Rattle.line_print.proofs.PutLaws.{short-then, exactly, within, reaches}
 use borrow.Author.Needs.{needs}
 use Rattle.line_print.proofs.words.put_sent.Statement.{statement}
 use Rattle.line_print.proofs.words.put_sent.Tie as tie

@@ -1,7 +1,7 @@
 -- `line_print::words::put_short_abort` meets its contract. Assumes nothing.
 use native.Mathlib.Omega.{arith}
 use Rattle.line_rules.specs.Printing.{answerText}
-use Rattle.line_print.proofs.Laws.{short-then, within}
+use Rattle.line_print.proofs.PutLaws.{short-then, within}
 use borrow.Author.Needs.{needs}
 use Rattle.line_print.proofs.words.put_short_abort.Statement.{statement}
 use Rattle.line_print.proofs.words.put_short_abort.Tie as tie

@@ -4,10 +4,10 @@ use mathlib.Core.List.{_++_, append-nil}
 use native.Mathlib.Omega.{arith}
 use Rattle.rules.specs.Answers.{skipped}
 use Rattle.hub_answers.specs.View.{oneOf}
-use Rattle.hub_answers.specs.declared.OneBack.{OneBack}
+use Rattle.hub_answers.specs.declared.MaybePutBack.{MaybePutBack}
 use Rattle.line_rules.specs.Text.{bytes, decimal}
 use Rattle.line_rules.specs.Printing.{backIfAny, answerText}
-use Rattle.line_print.proofs.Laws.{short-then, within, as-text}
+use Rattle.line_print.proofs.PutLaws.{short-then, within, as-text}
 use borrow.Author.Needs.{needs}
 use Rattle.line_print.proofs.words.put_skipped.Statement.{statement}
 use Rattle.line_print.proofs.words.put_skipped.Tie as tie
@@ -37,7 +37,7 @@ returns c =
     let i = o .before .before .before .before .args .id in
     as-text
     (sym (append-nil (bytes "skipped " ++ decimal i))
-    ∙ ap (λ (b : OneBack). answerText (skipped i (oneOf b))) (sym (c .enum-told .given .1)))
+    ∙ ap (λ (b : MaybePutBack). answerText (skipped i (oneOf b))) (sym (c .enum-told .given .1)))
     (within (omega arith) (o .put-one .ensures))
 
 same-length-2 : tie.Need-same-length-2
@@ -49,7 +49,7 @@ returns-2 c =
     let k = c .before .before .before .before .before in
     let o = k .before .before .before .before in
     let i = o .before .before .before .before .args .id in
-    as-text (ap (λ (b : OneBack). answerText (skipped i (oneOf b))) (sym (k .back .given .1)))
+    as-text (ap (λ (b : MaybePutBack). answerText (skipped i (oneOf b))) (sym (k .back .given .1)))
     (within (omega arith) (short-then (o .put-one .ensures) (c .before .before .put-one-back .ensures)))
 
 pub put-skipped-spec : {M : Type 1} → statement M

@@ -8,7 +8,7 @@ use Rattle.hub_answers.specs.View.{answerOf}
 use Rattle.hub_answers.specs.declared.Answer.{Answer}
 use Rattle.line_rules.specs.Printing.{answerText}
 use Rattle.line_print.specs.Put.{maxAnswer, PutShort}
-use Rattle.line_print.proofs.Laws.{within, as-text}
+use Rattle.line_print.proofs.PutLaws.{within, as-text}
 use borrow.Author.Needs.{needs}
 use Rattle.line_print.proofs.words.put_words.Statement.{statement}
 use Rattle.line_print.proofs.words.put_words.Tie as tie

@@ -5,7 +5,7 @@ use native.Mathlib.Omega.{arith}
 use mir.Syntax.{w16}
 use mir.Val.{toZ, ofZ}
 use Rattle.line_rules.specs.Reading.{highest8, numberUpTo, setting}
-use Rattle.line_read.proofs.Laws.{WordSays, no-number, number-says, number-bound, no-setting, setting-says}
+use Rattle.line_read.proofs.WordLaws.{WordSays, no-number, number-says, number-bound, no-setting, setting-says}
 use Rattle.line_read.proofs.Forms.{command-none, command-one, command-two, command-all, none-at, one-at}
 use borrow.Author.Needs.{needs}
 use Rattle.line_read.proofs.calls.command_at.Statement.{statement}

@@ -4,7 +4,7 @@ use native.Mathlib.Omega.{arith}
 use Rattle.line_rules.specs.Reading.{fails}
 use Rattle.line_rules.specs.Reading.{highest8, callWith, numberUpTo}
 use Rattle.line_read.specs.Places.{behindLetter}
-use Rattle.line_read.proofs.Laws.{WordSays, no-number, number-says, number-bound}
+use Rattle.line_read.proofs.WordLaws.{WordSays, no-number, number-says, number-bound}
 use Rattle.line_read.proofs.Forms.{heldAs, one-none, one-more, one-found}
 use borrow.Author.Needs.{needs}
 use Rattle.line_read.proofs.calls.fail_line.Statement.{statement}

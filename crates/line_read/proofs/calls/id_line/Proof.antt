@@ -2,9 +2,9 @@
 use mathlib.Core.Path.{refl, sym, ap, _∙_}
 use native.Mathlib.Omega.{arith}
 use Rattle.line_rules.specs.Reading.{highest32, numberUpTo}
-use Rattle.line_read.specs.Held.{idCallWith}
+use Rattle.line_read.specs.View.{idCallWith}
 use Rattle.line_read.specs.Places.{behindLetter}
-use Rattle.line_read.proofs.Laws.{WordSays, no-number, number-says, number-bound}
+use Rattle.line_read.proofs.WordLaws.{WordSays, no-number, number-says, number-bound}
 use Rattle.line_read.proofs.Forms.{heldAs, one-none, one-more, one-found}
 use borrow.Author.Needs.{needs}
 use Rattle.line_read.proofs.calls.id_line.Statement.{statement}

@@ -4,7 +4,7 @@ use mathlib.Core.Path.{sym, ap, _∙_}
 use native.Mathlib.Omega.{arith}
 use Rattle.line_rules.specs.Reading.{highest8, highest32, numberUpTo}
 use Rattle.line_read.specs.Places.{behindLetter}
-use Rattle.line_read.proofs.Laws.{WordSays, no-number, number-says, number-bound}
+use Rattle.line_read.proofs.WordLaws.{WordSays, no-number, number-says, number-bound}
 use Rattle.line_read.proofs.Forms.{heldAs, open-none, open-one, open-two, open-more, open-all}
 use borrow.Author.Needs.{needs}
 use Rattle.line_read.proofs.calls.open_line.Statement.{statement}

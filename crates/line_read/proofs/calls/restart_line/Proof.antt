@@ -6,7 +6,7 @@ use mir.Syntax.{w16}
 use mir.Val.{toZ, ofZ}
 use Rattle.line_rules.specs.Reading.{highest8, numberUpTo, setting}
 use Rattle.line_read.specs.Places.{behindLetter}
-use Rattle.line_read.proofs.Laws.{WordSays, no-number, number-says, number-bound, no-setting, setting-says}
+use Rattle.line_read.proofs.WordLaws.{WordSays, no-number, number-says, number-bound, no-setting, setting-says}
 use Rattle.line_read.proofs.Forms.{heldAs, restart-none, restart-one, restart-more, restart-all}
 use borrow.Author.Needs.{needs}
 use Rattle.line_read.proofs.calls.restart_line.Statement.{statement}

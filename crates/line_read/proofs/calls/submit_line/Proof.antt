@@ -6,7 +6,7 @@ use borrow.Author.Tests.{not-true, not-false}
 use lib.ListN.{length}
 use Rattle.rules_routine.specs.declared.Routine.{Routine}
 use Rattle.line_rules.specs.Reading.{commands, submitLine}
-use Rattle.line_read.specs.Held.{heldLine}
+use Rattle.line_read.specs.View.{readAs}
 use Rattle.line_read.specs.Places.{behindLetter, wordsFrom, commandBehind}
 use Rattle.line_read.proofs.Forms.{submitFrom, submit-all, submit-more, submit-end}
 use borrow.Author.Needs.{needs}
@@ -16,7 +16,7 @@ use Rattle.line_read.proofs.calls.submit_line.Tie as tie
 -- what is left: the commands of the words from a place on, behind those that the routine has
 abbrev Inv-loop : tie.InvT-loop
 Inv-loop line routine₀ at₀ routine at =
-    submitFrom routine (commands (wordsFrom line at)) ≡ heldLine (submitLine (wordsFrom line behindLetter))
+    submitFrom routine (commands (wordsFrom line at)) ≡ readAs (submitLine (wordsFrom line behindLetter))
 
 abbrev μ-loop : tie.MeasureT-loop
 μ-loop line routine₀ at₀ routine at = suc (length line) - at

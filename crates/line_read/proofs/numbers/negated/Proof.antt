@@ -8,7 +8,7 @@ use mir.Syntax.{w16, w64}
 use mir.Val.{SFits, toZ}
 use mir.Facts.{toZ-pos, toZ-ofZ, sfits-widen}
 use Rattle.line_rules.specs.Reading.{minusOf}
-use Rattle.line_read.proofs.Laws.{minus-sub, minus-fits}
+use Rattle.line_read.proofs.WordLaws.{minus-sub, minus-fits}
 use borrow.Author.Needs.{needs}
 use Rattle.line_read.proofs.numbers.negated.Statement.{statement}
 use Rattle.line_read.proofs.numbers.negated.Tie as tie

@@ -5,8 +5,8 @@ use native.Mathlib.Numerals.{add-one}
 use native.Mathlib.Omega.{arith}
 use lib.ListN.{length, getD}
 use Rattle.line_rules.specs.Reading.{within}
-use Rattle.line_read.proofs.Laws.{Left, word-past, word-none, digits-large, number-ended, number-missing, left-below, left-above}
-use Rattle.line_read.proofs.Laws.{left-more}
+use Rattle.line_read.proofs.WordLaws.{Left, word-past, word-none, digits-large, number-ended, number-missing, left-below, left-above}
+use Rattle.line_read.proofs.WordLaws.{left-more}
 use borrow.Author.Needs.{needs}
 use Rattle.line_read.proofs.numbers.number_at.Statement.{statement}
 use Rattle.line_read.proofs.numbers.number_at.Tie as tie

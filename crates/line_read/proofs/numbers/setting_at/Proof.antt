@@ -10,7 +10,7 @@ use mir.Facts.{toZ-pos}
 use Rattle.line_rules.specs.Text.{minus}
 use Rattle.line_rules.specs.Reading.{lowest16, highest16}
 use Rattle.line_read.specs.Places.{settingAt}
-use Rattle.line_read.proofs.Laws.{minusHeld, plainHeld, setting-minus, setting-plain, number-bound}
+use Rattle.line_read.proofs.WordLaws.{minusHeld, plainHeld, setting-minus, setting-plain, number-bound}
 use borrow.Author.Needs.{needs}
 use Rattle.line_read.proofs.numbers.setting_at.Statement.{statement}
 use Rattle.line_read.proofs.numbers.setting_at.Tie as tie

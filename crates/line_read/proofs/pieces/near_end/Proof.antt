@@ -4,7 +4,7 @@ use mathlib.Core.Path.{_≡_, sym, _∙_}
 use native.Mathlib.Numerals.{add-one}
 use lib.ListN.{length, drop}
 use Rattle.line_rules.specs.Pieces.{reach}
-use Rattle.line_read.proofs.Laws.{ends-past, ends-here, ends-on}
+use Rattle.line_read.proofs.WordLaws.{ends-past, ends-here, ends-on}
 use borrow.Author.Needs.{needs}
 use Rattle.line_read.proofs.pieces.near_end.Statement.{statement}
 use Rattle.line_read.proofs.pieces.near_end.Tie as tie

@@ -6,7 +6,7 @@ use mathlib.Core.Logic.{⊎-elim}
 use native.Mathlib.Omega.{arith}
 use lib.ListN.{length, drop}
 use Rattle.line_rules.specs.Pieces.{reach}
-use Rattle.line_read.proofs.Laws.{ends-at, ends-next}
+use Rattle.line_read.proofs.WordLaws.{ends-at, ends-next}
 use borrow.Author.Needs.{needs}
 use Rattle.line_read.proofs.pieces.piece_end.Statement.{statement}
 use Rattle.line_read.proofs.pieces.piece_end.Tie as tie

@@ -1,0 +1,219 @@
+-- Laws for the proofs of the public calls: a decision that is carried out gives what the call's contract says. Assumes nothing.
+use mathlib.Core.Path.{_≡_, refl, sym, ap, _∙_, subst}
+use mathlib.Core.Bool.{Bool, true, false}
+use mathlib.Core.List.{List, [], _∷_, _++_}
+use Prim.Native.Nat.{ℕ, _<_}
+use borrow.Author.Tests.{lt-ltb}
+use types.Run.{OneOf, miss}
+use denote.Enum.Declared.{tagOf}
+use Rattle.rules_routine.specs.Choice.{if_then_else_}
+use Rattle.rules_routine.specs.Limits.{maxDevices}
+use Rattle.rules_routine.specs.Routine.{commandsOf, routineOf, noRoutine}
+use Rattle.rules_routine.specs.declared.Command.{Command}
+use Rattle.rules_routine.specs.declared.Routine.{Routine}
+use Rattle.rules_routine.proofs.RoutineLaws.{byTest}
+use Rattle.rules.specs.State.{State}
+use Rattle.rules.specs.Answers.{Back, Result}
+use Rattle.rules.specs.Settle.{settle, settling}
+use Rattle.rules.proofs.Lists.{t≠f}
+use Rattle.hub_answers.specs.View.{oneOf, eventAbortOf, answerOf, putBacksOf, putBacksIn, PutBacksOk, changesNothing}
+use Rattle.hub_answers.specs.declared.Answer.{Answer}
+use Rattle.hub_answers.specs.declared.Answer.the-variants.{Refused, Placed, Wait, Sent, Done, Skipped, Committed, Aborted, Down, Up}
+use Rattle.hub_answers.specs.declared.Answer.the-variants.{Limited}
+use Rattle.hub_answers.specs.declared.Answer.the-variants.{Held, NotHeld}
+use Rattle.hub_answers.specs.declared.PutBacks.{PutBacks}
+use Rattle.hub_answers.proofs.Answer.{the-type}
+use Rattle.hub_state.specs.View.{stateOf, firstCommitted}
+use Rattle.hub_abort.specs.PutBacks.{downIf}
+use Rattle.hub_state.specs.Contract.{halfwayIn, putBacksStopped, downWith, appliedTo, backsBy, ChangeOk, putBacksOfDecision, toldBy}
+use Rattle.hub_state.specs.Contract.{settledUnlessNothing, resultBy, Decides}
+use Rattle.hub_state.specs.declared.HubState.{HubState}
+use Rattle.hub_state.specs.declared.Change.{Change}
+use Rattle.hub_state.specs.declared.Change.the-variants.{Nothing, Stage, Commit, Join, Abort, Fail, Restart}
+use Rattle.hub_state.specs.declared.Decision.{Decision}
+use Rattle.hub_state.proofs.DecisionLaws.{settle-idle}
+use Rattle.hub.specs.View.{view, answersIn}
+use Rattle.hub.specs.Valid.{Valid}
+use Rattle.hub.specs.Contract.{Gives}
+use Rattle.hub.specs.Carrying.{LeavingOk, Carries, settlesAfter}
+use Rattle.hub.specs.declared.Hub.{Hub}
+use Rattle.hub.specs.declared.Outcome.{Outcome}
+
+-- ---- which answers tell of a change
+
+-- the answers that are no refusal, and those that are no wait, by their numbers
+abbrev pub notRefused : List ℕ
+notRefused = 1 ∷ 2 ∷ 3 ∷ 4 ∷ 5 ∷ 6 ∷ 7 ∷ 8 ∷ 9 ∷ 10 ∷ 11 ∷ 12 ∷ []
+
+abbrev pub notWait : List ℕ
+notWait = 0 ∷ 1 ∷ 3 ∷ 4 ∷ 5 ∷ 6 ∷ 7 ∷ 8 ∷ 9 ∷ 10 ∷ 11 ∷ 12 ∷ []
+
+-- any other answer tells of a change
+pub changes : (a : Answer) → OneOf notRefused (tagOf the-type a) → OneOf notWait (tagOf the-type a) → changesNothing a ≡ false
+changes (Refused x) h k = absurd (miss notRefused 0 tt h)
+changes (Placed x) h k = refl
+changes (Wait i j) h k = absurd (miss notWait 2 tt k)
+changes (Sent x) h k = refl
+changes (Done i) h k = refl
+changes (Skipped i) h k = refl
+changes (Committed i) h k = refl
+changes (Aborted i) h k = refl
+changes (Down d i) h k = refl
+changes (Up d i) h k = refl
+changes (Limited j) h k = refl
+changes (Held i) h k = refl
+changes (NotHeld i) h k = refl
+
+abbrev dueIf : State → Bool → Bool
+dueIf s t = if t then false else firstCommitted (s .sequence)
+
+-- after a refusal or a wait nothing settles
+pub none-after : (a b : Answer) (s : State) → a ≡ b → changesNothing b ≡ true → settlesAfter a s ≡ false
+none-after a b s e f = ap (dueIf s) (ap changesNothing e ∙ f)
+
+-- after a change, it is the first in the sequence that decides
+first-decides : (a : Answer) (s : State) → changesNothing a ≡ false → settlesAfter a s ≡ firstCommitted (s .sequence)
+first-decides a s e = ap (dueIf s) e
+
+pub due-after : (a : Answer) (s : State) → OneOf notRefused (tagOf the-type a) → OneOf notWait (tagOf the-type a) →
+    settlesAfter a s ≡ firstCommitted (s .sequence)
+due-after a s h k = first-decides a s (changes a h k)
+
+-- what settles has changed
+changed : (t u : Bool) → (if t then false else u) ≡ true → t ≡ false
+changed true u e = t≠f (sym e)
+changed false u e = refl
+
+-- ---- what may be asked about its put-backs
+
+pub leaving-ok : (h : HubState) (cs : List Command) (c : Change) → ChangeOk h cs c → LeavingOk h c
+leaving-ok h cs Nothing k = tt
+leaving-ok h cs (Stage x) k = tt
+leaving-ok h cs (Commit x) k = tt
+leaving-ok h cs (Join after) k = tt
+leaving-ok h cs (Abort x) k = k
+leaving-ok h cs (Fail d x) k = k
+leaving-ok h cs (Restart d v x) k = k
+
+-- ---- a decision with another word for its result
+
+pub decides-itself : {h : HubState} {cs : List Command} {d : Decision} {result : Result} → Decides h cs d result →
+    Decides h cs d (resultBy h cs d)
+decides-itself k = record {
+  change-ok = k .change-ok;
+  gives = refl;
+  backs-told = k .backs-told;
+  well-told = k .well-told;
+  nothing-told = k .nothing-told;
+  something-told = k .something-told;
+}
+
+-- ---- carried out
+
+-- after a change it settles
+settles-change : (c : Change) (x : Result) → (c ≡ Nothing → ⊥) → settledUnlessNothing c x ≡ settling x
+settles-change Nothing x n = absurd (n refl)
+settles-change (Stage s) x n = refl
+settles-change (Commit s) x n = refl
+settles-change (Join after) x n = refl
+settles-change (Abort s) x n = refl
+settles-change (Fail d s) x n = refl
+settles-change (Restart d v s) x n = refl
+
+-- A hub with the answers of a decision.
+abbrev pub Wraps : Hub → Decision → PutBacks → Outcome → Type 0
+Wraps r d backs o = (o .hub ≡ r) × (o .first ≡ d .first) × (o .answer ≡ d .answer) × (o .«put_backs» ≡ backs)
+
+module _ (h : Hub) (cs : List Command) (d : Decision) (backs : PutBacks) (n : Hub)
+    (k : Decides (h .state) cs d (resultBy (h .state) cs d)) (fit : PutBacksOk backs)
+    (are : putBacksOf backs ≡ putBacksOfDecision (h .state) d)
+    (c : Carries h cs (d .change) n) where
+  told : (r : Hub) (o : Outcome) → Wraps r d backs o → answersIn o ≡ toldBy (h .state) d
+  told r o w = λ i.
+      let b = (ap putBacksOf (w .3) ∙ are) i in
+      eventAbortOf (w .1 i) b ++ (answerOf (w .2 i) b ∷ [])
+
+  -- what is given, where this is the hub in the end
+  wraps-gives : (r : Hub) (o : Outcome) → Wraps r d backs o → Valid r →
+      record { state = view r; answers = toldBy (h .state) d } ≡ resultBy (h .state) cs d → (changesNothing (d .answer) ≡ true → r ≡ h) →
+      Gives h o (resultBy (h .state) cs d)
+  wraps-gives r o w v e s = record {
+    valid = subst Valid (sym (w .0)) v;
+    gives = (λ i. record { state = view (w .0 i); answers = told r o w i }) ∙ e;
+    backs-fit = subst PutBacksOk (sym (w .3)) fit;
+    backs-told = ap putBacksOf (w .3) ∙ are ∙ k .backs-told ∙ sym (ap putBacksIn (told r o w));
+    same-hub = λ t. w .0 ∙ s (sym (ap changesNothing (w .2)) ∙ t);
+  }
+
+  -- the result where something changes
+  settled-result : changesNothing (d .answer) ≡ false →
+      resultBy (h .state) cs d ≡ record { state = settle (view n); answers = toldBy (h .state) d }
+  settled-result f =
+      settles-change (d .change) (record { state = appliedTo (h .state) cs (d .change); answers = toldBy (h .state) d })
+      (k .something-told f)
+      ∙ ap (λ (s : State). record { state = settle s; answers = toldBy (h .state) d }) (sym (c .gives))
+
+  pub settled-gives : (r : Hub) (o : Outcome) → Wraps r d backs o → settlesAfter (d .answer) (view n) ≡ true → Valid r →
+      view r ≡ settle (view n) → Gives h o (resultBy (h .state) cs d)
+  settled-gives r o w e v g =
+      let f : changesNothing (d .answer) ≡ false = changed (changesNothing (d .answer)) (firstCommitted (view n .sequence)) e in
+      wraps-gives r o w v
+      (ap (λ (s : State). record { state = s; answers = toldBy (h .state) d }) g ∙ sym (settled-result f)) (λ t. t≠f (sym t ∙ f))
+
+  pub stands-gives : (o : Outcome) → Wraps n d backs o → settlesAfter (d .answer) (view n) ≡ false → Gives h o (resultBy (h .state) cs d)
+  stands-gives o w e =
+      byTest (λ (t : Bool). changesNothing (d .answer) ≡ t → Gives h o (resultBy (h .state) cs d)) (changesNothing (d .answer))
+      (λ t _.
+      let nothing = k .nothing-told t in
+      let same = c .same-hub nothing in
+      wraps-gives n o w (c .valid)
+      (ap (λ (s : State). record { state = s; answers = toldBy (h .state) d }) (ap view same)
+      ∙ sym (ap (λ (x : Change). settledUnlessNothing x (record { state = appliedTo (h .state) cs x; answers = toldBy (h .state) d }))
+      nothing))
+      (λ _. same))
+      (λ f _.
+      wraps-gives n o w (c .valid)
+      (ap (λ (s : State). record { state = s; answers = toldBy (h .state) d })
+      (sym (settle-idle (view n) (sym (first-decides (d .answer) (view n) f) ∙ e)))
+      ∙ sym (settled-result f))
+      (λ t. t≠f (sym t ∙ f)))
+      refl
+
+-- ---- the arms
+
+-- what is put back, where the change is this one
+pub backs-as : (h : HubState) (d : Decision) {c : Change} {l : List Back} → d .change ≡ c → l ≡ backsBy h (oneOf (d .back)) c →
+    l ≡ putBacksOfDecision h d
+backs-as h d e f = f ∙ sym (ap (backsBy h (oneOf (d .back))) e)
+
+-- a device that fails is down by then
+down-is : (s : State) (d : ℕ) → d < maxDevices → downIf s d ≡ downWith s d
+down-is s d h = ap (λ (t : Bool). if t then downWith s d else s) (lt-ltb d maxDevices h)
+
+pub backs-down : (h : HubState) (d : Decision) {x y : ℕ} {l : List Back} → d .change ≡ Fail x y → x < maxDevices →
+    l ≡ putBacksStopped x (downIf (stateOf h) x) (halfwayIn h y) → l ≡ putBacksOfDecision h d
+backs-down h d {x} {y} e i f = backs-as h d e (f ∙ ap (λ (s : State). putBacksStopped x s (halfwayIn h y)) (down-is (stateOf h) x i))
+
+-- a change that is this one is carried out
+pub carries-as : {h : Hub} {cs : List Command} {c x : Change} {r : Hub} → c ≡ x → (x ≡ Nothing → ⊥) → Valid r →
+    view r ≡ appliedTo (h .state) cs x →
+    Carries h cs c r
+carries-as {h} {cs} e n v g = record { valid = v; gives = g ∙ sym (ap (appliedTo (h .state) cs) e); same-hub = λ k. absurd (n (sym e ∙ k)) }
+
+pub carries-nothing : {h : Hub} {cs : List Command} {c : Change} → c ≡ Nothing → Valid h → Carries h cs c h
+carries-nothing {h} {cs} e v = record { valid = v; gives = sym (ap (appliedTo (h .state) cs) e); same-hub = λ _. refl }
+
+-- ---- calls that submit nothing
+
+no-commands : (r : Routine) → r ≡ noRoutine → [] ≡ commandsOf r
+unfolding commandsOf routineOf
+no-commands r e = sym (ap commandsOf e)
+
+pub decides-none : {h : HubState} {d : Decision} {result : Result} (r : Routine) → r ≡ noRoutine → Decides h [] d result →
+    Decides h (commandsOf r) d (resultBy h (commandsOf r) d)
+decides-none {h} {d} r e k = subst (λ (cs : List Command). Decides h cs d (resultBy h cs d)) (no-commands r e) (decides-itself k)
+
+pub gives-none : {h : Hub} {o : Outcome} {d : Decision} {result : Result} (r : Routine) → r ≡ noRoutine → Decides (h .state) [] d result →
+    Gives h o (resultBy (h .state) (commandsOf r) d) → Gives h o result
+gives-none {h} {o} {d} r e k g =
+    subst (Gives h o) (ap (λ (cs : List Command). resultBy (h .state) cs d) (sym (no-commands r e)) ∙ k .gives) g
