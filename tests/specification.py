@@ -1,5 +1,6 @@
 #!/usr/bin/env python3
-"""Tests tools/specification: that the page is whole, that its links lead somewhere, and that tool and test fail where they should.
+"""Tests tools/specification: that the page is whole, that its links lead somewhere, that docs/STATEMENTS.md says what it shows, and that
+tool and test fail where they should.
 
     tests/specification.py FOLDER    an empty folder to work in
 
@@ -19,10 +20,11 @@ ROOT = os.path.dirname(os.path.dirname(os.path.abspath(__file__)))
 CONTRACTS = ["rules_routine", "book_layout", "book_read", "book_write", "book_copy", "hub", "line", "line_parts", "line_hints"]
 CHAPTERS = ["reading", "refusals", "book", "rules", "order", "serial", "world", "demand-3", "waiting", "lines", "running", "contracts",
             "values", "examples", "parts"]
-TEXTS = ("code", "marked", "kind", "said")
+TEXTS = ("code", "marked", "kind", "said", "first")
 SIGNS = {"i": ("-- ", "-- ", ""), "a": ("", "⟪", "⟫"), "b": ("", "⟪", "⟫")}  # a tag's sign in plain text, and in marked text
 USE = re.compile(r"^(?:ghost )?use Rattle·(\w+?)(?:·\w+)?\.(specs|proofs)\.([^\s{]+)\.\{([^}]*)\}", re.M)
 WORD = r"[^\s(){}.;,@\"«»]+"
+STATEMENTS, DECISIONS = "docs/STATEMENTS.md", "docs/DECISIONS.md"
 
 
 def read(root, path):
@@ -34,7 +36,8 @@ def read(root, path):
 
 
 class Page(HTMLParser):
-    """The page's tags, ids and links; for each block of class d the links of its code and its text, once with links in ⟪⟫."""
+    """The page's tags, ids and links; for each block of class d the links of its code and its text, once with links in ⟪⟫, and its first
+    paragraph."""
 
     def __init__(self, text):
         super().__init__(convert_charrefs=True)
@@ -55,6 +58,7 @@ class Page(HTMLParser):
             self.ids.append(attrs["id"])
         if "d" in attrs.get("class", "").split():
             block = self.blocks[attrs["id"]] = {"classes": attrs["class"].split(), "links": set(), "pairs": []} | dict.fromkeys(TEXTS, "")
+            block["paragraphs"] = 0
             self.order.append(attrs["id"])
         if "href" in attrs:
             self.links.append(attrs["href"])
@@ -65,6 +69,8 @@ class Page(HTMLParser):
             self.problems.append(f"the page has a <{tag}>")
         if tag not in ("meta",):
             self.stack.append((tag, block))
+        if tag == "p" and self.block() is not None:
+            self.block()["paragraphs"] += 1
         if self.in_code() and tag in SIGNS:
             self.block()["code"] += SIGNS[tag][0]
             self.block()["marked"] += SIGNS[tag][1]
@@ -88,6 +94,8 @@ class Page(HTMLParser):
                 self.block()["pairs"][-1][1] += data
         elif self.block() is not None and self.stack[-1][0] in ("b", "span"):
             self.block()["kind" if self.stack[-1][0] == "b" else "said"] += data
+        elif self.block() is not None and self.block()["paragraphs"] == 1 and any(tag == "p" for tag, _ in self.stack):
+            self.block()["first"] += data
 
     def faults(self):
         """What is wrong with tags, ids and links."""
@@ -183,7 +191,7 @@ def words_in(text):
 
 
 def named_theorems(root):
-    """The theorems that README ("Where the statements are") and TRUST name."""
+    """The theorems that STATEMENTS and TRUST name."""
     proved = {}
     for crate in os.listdir(os.path.join(root, "crates")):
         for part in ("proofs", "specs"):
@@ -191,10 +199,30 @@ def named_theorems(root):
             for name in [n for n in os.listdir(folder) if n.endswith(".antt")] if os.path.isdir(folder) else []:
                 for found, kind in re.findall(r"^pub (\S+) :[ \n]+(.*)$", read(root, f"crates/{crate}/{part}/{name}"), re.M):
                     proved.setdefault(found, set()).add(kind)
-    section = re.search(r"^#+ Where the statements are$(.*?)(?=^#+ |\Z)", read(root, "README.md"), re.M | re.S)
-    assert section, "README has no section `Where the statements are`"
-    words = set(re.findall(r"`([^`\n]+)`", section.group(1) + read(root, "docs/TRUST.md")))
+    words = set(re.findall(r"`([^`\n]+)`", read(root, STATEMENTS) + read(root, "docs/TRUST.md")))
     return {w for w in words if w in proved and ("-" in w or any(re.fullmatch(r"[A-Z]\w+", kind) for kind in proved[w]))}
+
+
+def listed_theorems(text):
+    """The theorems that STATEMENTS lists: name, the files of its proof and of the definitions, and its sentence."""
+    groups = re.split(r"^About `([^`]*)`, proved in `([^`]*)`:\n\n", text, flags=re.M)[1:]
+    found = []
+    for about, proof, rest in zip(groups[::3], groups[1::3], groups[2::3]):
+        for name, said in re.findall(r"^- `([^`]*)`: (.*(?:\n  .*)*)", re.split(r"\n(?![- ])", rest)[0], re.M):
+            found.append((name, proof, about, re.sub(r"\s+", " ", said.replace("`", ""))))
+    return found
+
+
+@lru_cache(maxsize=None)
+def words_of_crates(root):
+    """Every word of definitions and code."""
+    found = set()
+    for crate in os.listdir(os.path.join(root, "crates")):
+        for part in ("specs", "src"):
+            folder = os.path.join(root, "crates", crate, part)
+            for name in os.listdir(folder) if os.path.isdir(folder) else []:
+                found |= set(re.findall(r"[\w-]+", read(folder, name)))
+    return found
 
 
 # ---- the checks: each gives what is wrong
@@ -278,7 +306,7 @@ def check_theorems(root, page):
         if block["kind"] == "Theorem":
             names.add(name.split(".")[-1])
     found += [fault for name, block in page.blocks.items() if "t" in block["classes"] for fault in misplaced(root, name, block)]
-    found += [f"README or TRUST names the theorem {name}, and it is not on the page" for name in sorted(named_theorems(root) - names)]
+    found += [f"STATEMENTS or TRUST names the theorem {name}, and it is not on the page" for name in sorted(named_theorems(root) - names)]
     for name, block in page.blocks.items():
         if ".proofs." not in name:
             continue
@@ -302,6 +330,54 @@ def misplaced(root, name, block):
     file, line = re.fullmatch(r"(?:Proved|Computed) in (\S+), line (\d+)", block["said"]).groups()
     there = read(root, file).split("\n")[int(line) - 1]
     return [] if re.match(rf"(?:pub )?{re.escape(name.split('.')[-1])} :", there) else [f"{name} is not at {file}, line {line}"]
+
+
+def check_statements(root, page, text):
+    """STATEMENTS lists the theorems of the page, each with its file and its sentence; what else it names is there."""
+    shown = {}
+    for name, block in page.blocks.items():
+        if block["kind"] == "Theorem":
+            crate, *rest = name.split(".")
+            proof = f"crates/{crate}/proofs/{rest[1]}.antt" if rest[0] == "proofs" else f"crates/{crate}/specs/{rest[0]}.antt"
+            shown[rest[-1]] = proof, re.sub(r"\s+", " ", block["first"]).strip()
+    listed = {name: (proof, said) for name, proof, _, said in listed_theorems(text)}
+    found = [f"{STATEMENTS} lacks the theorem {name}" for name in shown if name not in listed]
+    found += [f"{STATEMENTS} lists {name}, which is no theorem of the page" for name in listed if name not in shown]
+    found += [f"{STATEMENTS} says of {name}: {listed[name]}; the page: {shown[name]}"
+              for name in shown if name in listed and shown[name] != listed[name]]
+    words = set(re.findall(r"`([^`\n]+)`", text)) - {"specs/", "proofs/", "src/", "src/lib.rt"} - set(listed)
+    files = {word for word in words if "/" in word}
+    gone = [file for file in sorted(files) if not os.path.exists(os.path.join(root, file))]
+    found += [f"{STATEMENTS} names {file}, and there is no such file" for file in gone]
+    unknown = sorted(words - files - words_of_crates(root))
+    return found + [f"{STATEMENTS} names {word}, which neither definitions nor code have" for word in unknown]
+
+
+def check_decisions(text):
+    """DECISIONS has each number once, under the subject that its last section names."""
+    body, _, index = text.partition("## Where a number stands\n")
+    stands = {}
+    for subject, part in re.findall(r"^## ([^\n(]*?)(?: \([^\n]*\))?\n(.*?)(?=^## |\Z)", body, re.M | re.S):
+        for number, other in re.findall(r"(?:^|; )(?:\*\*(\d+)\. |(\d+): (?:see|superseded by) )", part, re.M):
+            stands.setdefault(int(number or other), []).append(subject)
+    named = {}
+    for first, last, subject in re.findall(r"(\d+)(?:(?: to |, )(\d+))? \*([^*]*)\*", " ".join(index.split())):
+        named |= dict.fromkeys(range(int(first), int(last or first) + 1), subject)
+    found = [f"DECISIONS has {number} {len(subjects)} times" for number, subjects in stands.items() if len(subjects) > 1]
+    found += [f"DECISIONS has no {number}" for number in range(1, max(stands) + 1) if number not in stands]
+    return found + [f"DECISIONS has {number} under {subjects[0]}, and its last section says {named.get(number)}"
+                    for number, subjects in stands.items() if named.get(number) != subjects[0]]
+
+
+def check_rooms(crates, text):
+    """ARCHITECTURE has a row for each crate, once, and no other; a crate's name begins with a layer's."""
+    crates = re.findall(r"^(\w+):", crates, re.M)
+    rows = Counter(name for first in re.findall(r"^\| (`[^|]*) \|", text.partition("## The way of a line")[0], re.M)
+                   for name in re.findall(r"`(\w+)`", first))
+    layers = re.findall(r"^\*\*(\w+)\*\*: ", text, re.M)
+    found = [f"ARCHITECTURE has {rows[crate]} rows for the crate {crate}" for crate in crates if rows[crate] != 1]
+    found += [f"ARCHITECTURE has a row for {crate}, which is no crate" for crate in rows if crate not in crates]
+    return found + [f"{crate} begins with no layer's name" for crate in crates if crate.split("_")[0] not in layers]
 
 
 def check_values(root, page):
@@ -344,8 +420,10 @@ def check_contracts(root, page):
     return found, count
 
 
-def check(root, text):
+def check(root, text, papers=None):
+    """What is wrong with the page and the papers, some of which may be given; and what was counted."""
     page = Page(text)
+    paper = lambda path: (papers or {}).get(path) or read(root, path)
     page.known = set(page.ids)
     faults = page.faults()
     if [name[8:] for name in page.ids if name.startswith("chapter-")] != CHAPTERS:
@@ -353,7 +431,8 @@ def check(root, text):
     definitions, count = check_definitions(root, page)
     theorems, proved = check_theorems(root, page)
     contracts, calls = check_contracts(root, page)
-    contracts += check_values(root, page)
+    contracts += check_values(root, page) + check_statements(root, page, paper(STATEMENTS))
+    contracts += check_decisions(paper(DECISIONS)) + check_rooms(paper("crates.txt"), read(root, "docs/ARCHITECTURE.md"))
     said = f"{count} definitions and examples, {proved} theorems, {calls} contracts, {len(page.links)} links, {len(page.ids)} places"
     return faults + definitions + theorems + contracts, said
 
@@ -368,7 +447,9 @@ def copy_tree(root, to):
             if os.path.isdir(folder):
                 shutil.copytree(folder, os.path.join(to, "crates", crate, part))
     shutil.copytree(os.path.join(root, "tools"), os.path.join(to, "tools"), ignore=shutil.ignore_patterns("__pycache__"))
-    shutil.copy(os.path.join(root, "crates.txt"), to)
+    os.mkdir(os.path.join(to, "docs"))
+    for file in ("crates.txt", STATEMENTS):
+        shutil.copy(os.path.join(root, file), os.path.join(to, file))
 
 
 def made(root, out):
@@ -392,10 +473,14 @@ def restore(tree, path, text):
 
 
 EDITS = [  # what is changed, and what the tool then says
-    ("crates/rules/specs/State.antt", "abbrev pub maxHeld : ℕ\nmaxHeld = 16\n", "", "`maxHeld`"),
+    ("crates/rules/specs/State.antt", "abbrev pub maxSequence : ℕ\nmaxHeld = 16\n", "", "`maxSequence`"),
     ("crates/rules_promises/proofs/Theorem.antt", "pub demand-3 : Statement", "pub demand-three : Statement", "`demand-3`"),
     ("crates/rules/specs/Due.antt", "due s d = afterMembers d", "due s d = afterAll d", "`afterAll`"),
     ("crates/rules_routine/src/lib.rt", "pub struct Command {", "pub struct Order {", "`Command`"),
+    ("docs/STATEMENTS.md", "- `demand-3`: ", "- `demand-4`: ", "`demand-4`"),
+    ("docs/STATEMENTS.md", "- `replay`: ", "- `demand-3`: ", "`demand-3` twice"),
+    ("docs/STATEMENTS.md", "- `replay`: ", "- replay: ", "no theorem with what it says"),
+    ("docs/STATEMENTS.md", "About `crates/rules/specs/Replay.antt`, proved", "About `Replay.antt`, proved", "no such group"),
 ]
 
 
@@ -429,18 +514,46 @@ WRONG = [  # small pages, and what the test says of them
     ("<p><script>a</script></p>", "has a <script>"),
 ]
 HARM = [  # changes of the page, and what the test says of them
-    (r'id="rules\.State\.maxHeld"', 'id="rules.State.most"', "rules.State.maxHeld is not on the page"),
+    (r'id="rules\.State\.maxSequence"', 'id="rules.State.most"', "rules.State.maxSequence is not on the page"),
     (r'<div class="d t" id="rules_promises\.proofs\.Theorem\.demand-3">.*?</div>\n', "", "theorem demand-3, and it is not"),
     (r'<a href="#rules\.Due\.due">due</a>', "due", "no link to rules.Due.due"),
     (r'(id="rules_promises\.proofs\.Theorem\.replay"><b>)Theorem', r"\1Lemma", "replay is a lemma"),
     (r"(<dfn>|<b>)maxDevices(</dfn>|</b>) = 32", "maxDevices = 33", "another text than the file's"),
     (r'(hasSet</b>.*?λ x\..*?</a> d )x ', r'\1<a href="#rules.State.Step">x</a> ', "a link on x, which is bound there"),
-    (r"(Proved in crates/rules_promises/proofs/Theorem\.antt, line )\d+", r"\g<1>1", "is not at crates/rules_promises/proofs/Theorem.antt, line 1"),
+    (r"(Proved in crates/rules_promises/proofs/Theorem\.antt, line )\d+", r"\g<1>1",
+     "is not at crates/rules_promises/proofs/Theorem.antt, line 1"),
     (r"enum <b>Verdict</b>", "enum <b>Verdicts</b>", "code.rules_routine.Verdict: another text"),
     (r'id="chapter-(order|serial)"', lambda found: 'id="chapter-%s"' % {"order": "serial", "serial": "order"}[found[1]], "another order"),
     (r'href="#rules\.State\.Member\.steps"', 'href="#rules.State.Member.id"', "steps leads to rules.State.Member.id"),
     (r'id="call\.hub\.submit"', 'id="call.hub.submits"', "call.hub.submit is not on the page"),
 ]
+
+
+AMISS = [  # changes of docs/STATEMENTS.md, and what the test says of them
+    ("- `any-order`: From every hub", "- `any-order`: From some hub", "says of any-order"),
+    ("- `rounds-exist`: ", "- rounds-exist: ", "lacks the theorem rounds-exist"),
+    ("- `told-is-held`: ", "- `told-is-kept`: ", "lists told-is-kept, which is no theorem"),
+    ("proved in `crates/hub/proofs/Links.antt`", "proved in `crates/hub/proofs/Theorem.antt`", "says of links-are-the-sequence"),
+    ("`crates/rules/specs/World.antt`", "`crates/rules/specs/Worlds.antt`", "there is no such file"),
+    ("`refusalOf`", "`refusalFor`", "names refusalFor, which neither"),
+]
+
+
+def must_be_seen(root, text):
+    """Papers that say something else than the page."""
+    statements = read(root, STATEMENTS)
+    for old, new, _ in AMISS:
+        assert old in statements, f"{STATEMENTS}: {old}"
+        statements = statements.replace(old, new)
+    decisions = read(root, DECISIONS).replace("**5. ", "**4. ", 1).replace("15 to 19", "15 to 18", 1)
+    crates = read(root, "crates.txt") + "\nshed: hub\n"
+    faults, _ = check(root, text, {STATEMENTS: statements, DECISIONS: decisions, "crates.txt": crates})
+    expected = [says for _, _, says in AMISS]
+    expected += ["DECISIONS has 4 2 times", "DECISIONS has no 5", "19 under The rules, and its last section says None"]
+    expected += ["0 rows for the crate shed", "shed begins with no layer's name"]
+    for says in expected:
+        assert any(says in fault for fault in faults), f"the test does not say: {says}; it says {faults[:9]}"
+    return len(expected)
 
 
 def must_show(root, text):
@@ -469,9 +582,9 @@ def main():
         print("\n".join(faults))
         return 1
     print(f"{counted}: all there, all linked")
-    shown = must_show(ROOT, text)
+    shown = must_show(ROOT, text) + must_be_seen(ROOT, text)
     must_fail(ROOT, scratch)
-    print(f"{len(EDITS) + 1} changed trees are refused, a new file is picked up, {shown} faults of pages are seen")
+    print(f"{len(EDITS) + 1} changed trees are refused, a new file is picked up, {shown} faults of pages and papers are seen")
     return 0
 
 
