@@ -473,7 +473,7 @@ def restore(tree, path, text):
 
 
 EDITS = [  # what is changed, and what the tool then says
-    ("crates/rules/specs/State.antt", "abbrev pub maxSequence : ℕ\nmaxHeld = 16\n", "", "`maxSequence`"),
+    ("crates/rules_routine/specs/Limits.antt", "abbrev pub maxSequence : ℕ\nmaxSequence = 16\n", "", "`maxSequence`"),
     ("crates/rules_promises/proofs/Theorem.antt", "pub demand-3 : Statement", "pub demand-three : Statement", "`demand-3`"),
     ("crates/rules/specs/Due.antt", "due s d = afterMembers d", "due s d = afterAll d", "`afterAll`"),
     ("crates/rules_routine/src/lib.rt", "pub struct Command {", "pub struct Order {", "`Command`"),
@@ -514,7 +514,7 @@ WRONG = [  # small pages, and what the test says of them
     ("<p><script>a</script></p>", "has a <script>"),
 ]
 HARM = [  # changes of the page, and what the test says of them
-    (r'id="rules\.State\.maxSequence"', 'id="rules.State.most"', "rules.State.maxSequence is not on the page"),
+    (r'id="rules_routine\.Limits\.maxSequence"', 'id="rules_routine.Limits.most"', "rules_routine.Limits.maxSequence is not on the page"),
     (r'<div class="d t" id="rules_promises\.proofs\.Theorem\.demand-3">.*?</div>\n', "", "theorem demand-3, and it is not"),
     (r'<a href="#rules\.Due\.due">due</a>', "due", "no link to rules.Due.due"),
     (r'(id="rules_promises\.proofs\.Theorem\.replay"><b>)Theorem', r"\1Lemma", "replay is a lemma"),
