@@ -3,10 +3,11 @@
 
     tests/command.py TREE REFERENCE HISTORY BENCH_INPUTS SEED
 
-TREE is a folder like the repository's, with bin/, VERSION, KIT and the programs in target/bin. Every case is run with each shell that the
-machine has of dash and bash, as POSIX shells. Exit status 0: all is as expected.
+TREE is a folder like the repository's, with bin/, VERSION, KIT, crates.txt and the programs in target/bin. Every case is run with each
+shell that the machine has of dash and bash, as POSIX shells. Exit status 0: all is as expected.
 """
 import os
+import re
 import shutil
 import signal
 import socket
@@ -65,8 +66,8 @@ def tree(folder, shell, release=False):
         os.chmod(path, 0o755)
     for program in ('plot_hub', 'show_book', 'plot_hub_hints'):
         os.symlink(os.path.realpath(built(TREE, program)), os.path.join(folder, programs, program) if release else built(folder, program))
-    for file in ('VERSION', 'KIT'):
-        shutil.copy(os.path.join(TREE, file), folder)
+    for file in ('VERSION', 'KIT') if release else ('VERSION', 'KIT', 'crates.txt', 'bin/build.sh'):
+        shutil.copy(os.path.join(TREE, file), os.path.join(folder, file))
 
 
 class Commands:
@@ -318,31 +319,258 @@ def hints_that_fail(c):
     assert said.startswith(b'some\n') and said.endswith(b'plot_hub: the hints are not whole\n'), said
 
 
-def not_built(shell, folder):
-    """Nothing is built; then all but the hints. A release that lacks a program."""
-    for release, root in ((False, os.path.join(folder, 'bare')), (True, os.path.join(folder, 'bare release'))):
-        tree(root, shell, release)
-        c = Commands(root, folder)
+def not_whole(shell, folder):
+    """A release that lacks a program is not built: there is nothing to build it from."""
+    c = Commands(os.path.join(folder, 'bare release'), folder)
+    tree(c.root, shell, release=True)
+    kit = fake_kit(c, 'touch "$root/called"')
 
-        def place(program):
-            return os.path.join(root, 'libexec/plot_hub', program) if release else built(root, program)
+    def place(program):
+        return os.path.join(c.root, 'libexec/plot_hub', program)
 
-        def message(program):
-            if release:
-                return f'this release is not whole: there is no {place(program)}'
-            return f'not built yet; in {root} run: rt check run_{program}'
+    def message(program):
+        return bad('plot_hub' if program == 'plot_hub_hints' else program, f'this release is not whole: there is no {place(program)}')
+    os.remove(place('plot_hub_hints'))
+    c.check(message('plot_hub_hints'), 'plot_hub', '--hints', text=LISTING, environment=kit)
+    c.check(good(key_of(LISTING)), 'plot_hub', text=LISTING, environment=kit)
+    for name in NAMES:
+        os.remove(place(name))
+        for options in ([], ['--hints']):
+            c.check(message(name), name, *options, text=INPUT[name], environment=kit)
+    assert not os.path.exists(os.path.join(c.root, 'called'))
+
+
+# ---- building
+
+# What bin/ needs besides the kit.
+TOOLS = ['sh', 'awk', 'cat', 'date', 'flock', 'mkdir', 'mktemp', 'readlink', 'rm', 'sed', 'setsid', 'sleep', 'tail', 'touch', 'tr']
+# In the place of rt: it tells that it was called and with what, and what it reads, does `script`, then says and makes what rt would.
+FAKE_RT = '''#!/bin/sh
+root={root}
+echo "$PWD: $*" >>"$root/called"
+cat
+{script}
+for crate in {crates}; do echo "rt: $crate proved (0 s)"; done
+shift
+for crate do
+    [ ! -e {programs}/$crate ] || ln -s {programs}/$crate target/bin/$crate
+    echo "rt: $crate ran, and wrote what its file 'stdout' has (0 s)"
+done
+'''
+
+
+def quoted(path):
+    return "'" + path.replace("'", "'\\''") + "'"
+
+
+def fake_kit(c, script='', lacking='', crates=()):
+    """An environment in which rt is a fake one and no tool but those of TOOLS is there; `lacking` names one that is not."""
+    kit = os.path.join(c.folder, 'kit')
+    shutil.rmtree(kit, ignore_errors=True)
+    os.makedirs(kit)
+    for tool in TOOLS + ['ln']:
+        if tool != lacking:
+            os.symlink(shutil.which(tool), os.path.join(kit, tool))
+    if lacking != 'rt':
+        with open(os.path.join(kit, 'rt'), 'w', encoding='utf-8') as file:
+            programs = quoted(os.path.realpath(os.path.join(TREE, 'target/bin')))
+            file.write(FAKE_RT.format(root=quoted(c.root), script=script, crates=' '.join(crates), programs=programs))
+        os.chmod(os.path.join(kit, 'rt'), 0o755)
+    return {'PATH': kit}
+
+
+def built_on(*names):
+    """The crates, each behind those that it names, as rt takes them: from crates.txt, whose lines stand in such an order."""
+    with open(os.path.join(TREE, 'crates.txt'), encoding='utf-8') as file:
+        needs = {line.split(':')[0]: line.split(':')[1].split() for line in file if line.strip() and not line.startswith('#')}
+    found, todo = set(), list(names)
+    while todo:
+        crate = todo.pop()
+        if crate in needs and crate not in found:
+            found.add(crate)
+            todo += needs[crate]
+    return [crate for crate in needs if crate in found]
+
+
+def told(name, crates):
+    """What standard error is told of a build."""
+    minutes = (len(crates) + 4) // 5
+    lines = [f'not built yet; it is proved first, {len(crates)} crates, which takes some {minutes} minutes on two processors']
+    lines += [f'{number} of {len(crates)} crates proved: {crate}' for number, crate in enumerate(crates, 1)]
+    return ''.join(f'{name}: {line}\n' for line in lines + ['built in 0 s']).encode()
+
+
+class Bare(Commands):
+    """A tree like the repository's where nothing is built, and what rt was called with there."""
+
+    def __init__(self, shell, folder, root):
+        super().__init__(os.path.join(folder, root), folder)
+        tree(self.root, shell)
+        self.bare()
+
+    def bare(self):
+        shutil.rmtree(os.path.join(self.root, 'target'), ignore_errors=True)
+        self.calls()
+
+    def run(self, *words, **options):
+        status, printed, said = super().run(*words, **options)
+        return status, printed, re.sub(rb'built in \d+ s\n', b'built in 0 s\n', said)
+
+    def calls(self):
+        """The words of each call since this was last asked."""
+        try:
+            with open(os.path.join(self.root, 'called'), encoding='utf-8') as file:
+                lines = file.read().split('\n')[:-1]
+            os.remove(os.path.join(self.root, 'called'))
+        except FileNotFoundError:
+            return []
+        assert all(line.startswith(self.root + ': ') for line in lines), lines
+        return [line[len(self.root) + 2:] for line in lines]
+
+    def log(self):
+        return os.path.join(self.root, 'target/build.log')
+
+
+def builds_first(c):
+    """One command: what is not built is built, and then does what it was asked. The second time it is there."""
+    for name in NAMES:
+        crates, text = built_on('run_' + name), INPUT[name]
+        kit, expected = fake_kit(c, crates=crates), good(output_of(name, text), told(name, crates))
+        link = os.path.join(c.folder, 'a link')
+        os.symlink(os.path.join(c.root, 'bin', name), link)
+        c.write('plain', text)
+        for words, options in (([], {'text': text, 'cwd': '/'}),
+                               (['plain'], {'cwd': c.folder, 'before': f'set -- {quoted(link)} "$2"'})):
+            c.bare()
+            c.check(expected, name, *words, environment=kit, **options)
+            assert c.calls() == [f'check run_{name}']
+            c.check(good(expected[1]), name, *words, environment=kit, **options)
+            assert c.calls() == []
+        os.remove(link)
+        with open(c.log(), 'rb') as file:
+            assert file.read().startswith(b'rt: '), 'rt has read from standard input'
+        c.bare()
+        c.check(good(expected[1]), name, text=text, environment=kit, redirect='2>&-')
+        for word in ('--help', '--version'):
+            c.bare()
+            assert c.run(name, word, environment=kit)[::2] == (0, b'') and c.calls() == []
+
+
+def builds_hints(c):
+    """With --hints both programs in one go, or the one that is not there."""
+    both, hinted = built_on('run_plot_hub', 'run_plot_hub_hints'), built_on('run_plot_hub_hints')
+    said, key = hints_of('plot_hub', LISTING), key_of(LISTING)
+    c.bare()
+    c.check(good(key, told('plot_hub', both) + said), 'plot_hub', '--hints', text=LISTING, environment=fake_kit(c, crates=both))
+    assert c.calls() == ['check run_plot_hub run_plot_hub_hints']
+    os.remove(built(c.root, 'plot_hub_hints'))
+    c.check(good(key), 'plot_hub', text=LISTING)
+    c.check(good(key, told('plot_hub', hinted) + said), 'plot_hub', '--hints', text=LISTING, environment=fake_kit(c, crates=hinted))
+    assert c.calls() == ['check run_plot_hub_hints']
+    c.bare()
+    crates = built_on('run_show_book')
+    c.check(good(output_of('show_book', BOOK), told('show_book', crates)), 'show_book', '--hints', text=BOOK,
+            environment=fake_kit(c, crates=crates))
+    assert c.calls() == ['check run_show_book']
+
+
+def cannot_be_built(c):
+    """A tool that is not there, a folder that cannot be written, words and files for which nothing is built."""
+    for tool in ('rt', 'flock', 'setsid'):
+        shown = "the Rattle kit's rt" if tool == 'rt' else f"{tool} of Debian's package util-linux"
+        c.bare()
         for name in NAMES:
-            c.check(good(output_of(name, INPUT[name])), name, text=INPUT[name])
-        os.remove(place('plot_hub_hints'))
-        c.check(bad('plot_hub', message('plot_hub_hints')), 'plot_hub', '--hints', text=LISTING)
-        c.check(good(key_of(LISTING)), 'plot_hub', text=LISTING)
-        c.check(good(output_of('show_book', BOOK)), 'show_book', '--hints', text=BOOK)
-        for name in NAMES:
-            os.remove(place(name))
-            for options in ([], ['--hints']):
-                c.check(bad(name, message(name)), name, *options, text=INPUT[name])
-            assert c.run(name, '--version')[0] == c.run(name, '--help')[0] == 0
+            c.check(bad(name, f'not built yet; building it needs {shown}, which is not on the PATH'), name, text=INPUT[name],
+                    environment=fake_kit(c, lacking=tool))
+    kit = fake_kit(c)
+    with open(os.path.join(c.root, 'target'), 'wb'):
+        c.check(bad('plot_hub', f'not built yet, and {c.root}/target cannot be written'), 'plot_hub', text=LISTING, environment=kit)
+    os.remove(os.path.join(c.root, 'target'))
+    c.check(bad('plot_hub', 'missing: cannot be opened'), 'plot_hub', 'missing', cwd=c.folder, environment=kit)
+    c.check(bad('plot_hub', '/: is a directory'), 'plot_hub', '/', environment=kit)
+    c.check((2, b'', 'plot_hub: unknown option -x; try plot_hub --help\n'), 'plot_hub', '-x', environment=kit)
+    assert c.calls() == []
 
+
+def fails_to_build(c):
+    """A build that fails, after it has linked the program or before: nothing is printed, and the next start builds again."""
+    crates = built_on('run_plot_hub')
+    first = told('plot_hub', crates).split(b'\n')[0] + b'\n'
+    linked = f"ln -sf {quoted(os.path.realpath(built(TREE, 'plot_hub')))} target/bin/run_plot_hub"
+    failed = f'plot_hub: the build has failed; what rt said is in {c.log()}\n'.encode()
+    for script, said in (
+            ("echo 'rt: rules proved (1 s)'; echo 'rt: hub NOT PROVED (exit 1, 2 s)'; exit 1",
+             b'plot_hub: 1 of %d crates proved: rules\n' % len(crates) + failed),
+            (linked + "; echo 'rt: run_plot_hub proved, and its run FAILED (0 s)'; exit 1", failed),
+            (linked + '; kill -KILL $$', failed),
+            ('exit 0', f'plot_hub: rt has made no target/bin/run_plot_hub; what it said is in {c.log()}\n'.encode())):
+        c.bare()
+        c.check((1, b'', first + said), 'plot_hub', text=LISTING, environment=fake_kit(c, script))
+        assert c.calls() == ['check run_plot_hub']
+        remove = f'rm -f {quoted(built(c.root, "plot_hub"))}'
+        c.check(good(key_of(LISTING), told('plot_hub', crates)), 'plot_hub', text=LISTING, environment=fake_kit(c, remove, crates=crates))
+        assert c.calls() == ['check run_plot_hub']
+
+
+def breaks_off(c):
+    """A signal ends the build, with all that rt has started, and what is half made is no program."""
+    global checked
+    crates = built_on('run_plot_hub')
+    half = f"ln -sf {quoted(os.path.realpath(built(TREE, 'plot_hub')))} target/bin/run_plot_hub"
+    for number in (signal.SIGINT, signal.SIGTERM, signal.SIGHUP):
+        for whole_group in (True, False):
+            c.bare()
+            environment = dict(os.environ, **fake_kit(c, half + '; sleep 50 & sleep 50'))
+            ran = subprocess.Popen([os.path.join(c.root, 'bin/plot_hub'), '/dev/null'], stdout=subprocess.PIPE, stderr=subprocess.PIPE,
+                                   env=environment, start_new_session=True)
+            wait_until(lambda: os.path.lexists(built(c.root, 'plot_hub')), 'nothing is built')
+            (os.killpg if whole_group else os.kill)(ran.pid, number)
+            printed, said = ran.communicate(timeout=60)
+            assert (ran.returncode, printed) == (130, b''), (number, ran.returncode, printed)
+            assert said == told('plot_hub', crates).split(b'\n')[0] + b'\nplot_hub: not built: broken off\n', said
+            lock = os.path.join(c.root, 'target/build.lock')
+            wait_until(lambda: subprocess.run(['flock', '-n', lock, 'true'], check=False).returncode == 0, 'something of rt is left')
+            checked += 1
+    remove = f'rm -f {quoted(built(c.root, "plot_hub"))}'
+    c.check(good(key_of(LISTING), told('plot_hub', crates)), 'plot_hub', text=LISTING, environment=fake_kit(c, remove, crates=crates))
+
+
+def two_at_once(c):
+    """One builds, the other waits for it: rt is called once."""
+    global checked
+    crates, expected = built_on('run_plot_hub'), key_of(LISTING)
+    c.bare()
+    environment = dict(os.environ, **fake_kit(c, 'while [ ! -e "$root/go" ]; do sleep 0.1; done', crates=crates))
+    command, both = [os.path.join(c.root, 'bin/plot_hub'), c.write('plain', LISTING)], []
+    for _ in range(2):
+        both.append(subprocess.Popen(command, stdout=subprocess.PIPE, stderr=subprocess.PIPE, env=environment))
+        wait_until(lambda: os.path.exists(os.path.join(c.root, 'called')), 'nothing is built')
+    line = both[1].stderr.readline()
+    assert line == b'plot_hub: another start builds it; waiting\n', line
+    with open(os.path.join(c.root, 'go'), 'wb'):
+        ends = [(*ran.communicate(timeout=60), ran.returncode) for ran in both]
+    os.remove(os.path.join(c.root, 'go'))
+    assert ends[1] == (expected, b'', 0), ends[1]
+    assert ends[0][::2] == (expected, 0), ends[0]
+    assert c.calls() == ['check run_plot_hub']
+    checked += 2
+
+
+def wait_until(holds, why):
+    for _ in range(1000):
+        if holds():
+            return
+        time.sleep(0.01)
+    raise AssertionError(why)
+
+
+def building(shell, folder):
+    c = Bare(shell, folder, 'bare tree')
+    for cases in (builds_first, builds_hints, cannot_be_built, fails_to_build, breaks_off, two_at_once):
+        cases(c)
+
+
+# ---- signals, books, keys
 
 def signals(c):
     """A command with --hints that waits for its input is ended: no temporary file is left. (SIGINT comes from a terminal, to all.)"""
@@ -441,7 +669,8 @@ def one_shell(shell, folder, release):
     refused_books(c)
     signals(c)
     ended_otherwise(shell, folder)
-    not_built(shell, folder)
+    not_whole(shell, folder)
+    building(shell, folder)
     return c
 
 

@@ -1,3 +1,4 @@
+# shellcheck shell=bash disable=SC2154 # the script that takes it in has set log
 # Debian's packages that single parts of tests/run need, installed where root runs it. tests/run and tests/install have set
 #   $log             a folder for what the installing says
 # Afterwards $not_installed has a sentence on what is missing, if anything is.
@@ -21,23 +22,23 @@ get() { # PACKAGE...: installs them, without asking
 set_up() { # PACKAGE...
     command -v dpkg-query >/dev/null && command -v apt-get >/dev/null || return 0 # not Debian: the parts look for themselves
     local packages
-    packages=$(lacking "$@" | xargs)
-    if [ -z "$packages" ]; then
+    mapfile -t packages < <(lacking "$@")
+    if [ ${#packages[@]} = 0 ]; then
         return 0
     elif [ "${PLOT_HUB_INSTALL-}" = no ]; then
-        not_installed="$not_installed; $packages: PLOT_HUB_INSTALL=no"
+        not_installed="$not_installed; ${packages[*]}: PLOT_HUB_INSTALL=no"
     elif [ "$(id -u)" != 0 ]; then
-        not_installed="$not_installed; $packages: only root may"
+        not_installed="$not_installed; ${packages[*]}: only root may"
     else
-        echo "tests: installing $packages"
-        get $packages </dev/null >>"$log/install" 2>&1 || not_installed="$not_installed; $packages: see $log/install"
+        echo "tests: installing ${packages[*]}"
+        get "${packages[@]}" </dev/null >>"$log/install" 2>&1 || not_installed="$not_installed; ${packages[*]}: see $log/install"
     fi
 }
 
 # The browser is by itself: where it is not to be had, the others are.
 set_up_all() {
     not_installed=
-    set_up valgrind make pkgconf
+    set_up valgrind make pkgconf shellcheck
     set_up chromium
     not_installed=${not_installed:+not installed: ${not_installed#; }}
 }

@@ -1,3 +1,4 @@
+# shellcheck shell=bash disable=SC2154,SC2030,SC2031 # tests/run has set the names; a PATH is for one subshell alone
 # The parts of tests/run: a function each. tests/run has set
 #   $archive, $program, $show_book, $hub_vectors, $hints   what is tested, by its whole path
 #   $out, $bin, $log                                       what is built for the tests, its programs, the logs
@@ -6,6 +7,14 @@
 # Status 0: passed. 77: it cannot run here, and the last line that it prints says why. Any other: failed.
 
 # ---- what is stored in the repository is what the models make
+
+# Names that nothing uses, layout, width, scripts, crates.txt, must-fail edits, the picture of the crates; and planted faults are found.
+text() {
+    local status=0
+    tests/text.py "$scratch" || status=$?
+    [ $status = 0 ] || [ $status = 77 ] || return $status
+    tests/text.py
+}
 
 book_model() {
     python3 tests/book/test_model.py && python3 tests/book/test_page.py
@@ -31,7 +40,8 @@ stored_sittings() {
 stored_output() {
     local sitting=crates/run_plot_hub_hints/stdin
     "$bin/reference" <crates/run_plot_hub/stdin | cmp - crates/run_plot_hub/stdout &&
-        "$bin/reference" <$sitting >"$scratch/key" && python3 tests/hints.py $sitting "$scratch/key" | cmp - crates/run_plot_hub_hints/stdout &&
+        "$bin/reference" <$sitting >"$scratch/key" &&
+        python3 tests/hints.py $sitting "$scratch/key" | cmp - crates/run_plot_hub_hints/stdout &&
         python3 tests/book/show.py <crates/run_show_book/stdin | cmp - crates/run_show_book/stdout
 }
 
@@ -64,7 +74,7 @@ needs_nothing() {
     # Only what the call reaches is taken from the archive; readelf then lists what it has and what it still needs.
     gcc -r -nostdlib -Wl,-u,plot_hub_run "$archive" -o "$scratch/reached.o" && readelf -Ws "$scratch/reached.o" >"$log/symbols" || return 1
     awk '$7 == "UND" && $8 != "" { print $8 }' "$log/symbols" | sort -u >"$log/needed"
-    echo "the archive needs:" $(cat "$log/needed")
+    echo "the archive needs: $(xargs <"$log/needed")"
     if ! grep -q ' plot_hub_run$' "$log/symbols" || grep -qx 'plot_hub_run' "$log/needed"; then
         echo "plot_hub_run is not in the archive"
         return 1
@@ -103,7 +113,7 @@ under_valgrind() {
 
 # A folder like the repository's: bin/, and the tested programs where bin/ looks for them.
 tree() { # FOLDER
-    mkdir -p "$1/bin" "$1/target/bin" && cp bin/* "$1/bin/" && cp VERSION KIT "$1/" &&
+    mkdir -p "$1/bin" "$1/target/bin" && cp bin/* "$1/bin/" && cp VERSION KIT crates.txt "$1/" &&
         ln -s "$program" "$1/target/bin/run_plot_hub" && ln -s "$show_book" "$1/target/bin/run_show_book" &&
         ln -s "$hints" "$1/target/bin/run_plot_hub_hints"
 }
@@ -214,7 +224,7 @@ release_prints() {
     done
     (
         cd "$unpacked" || exit 1
-        for sitting in $sittings/*.txt; do
+        for sitting in "$sittings"/*.txt; do
             "${plain[@]}" bin/plot_hub "$sitting" 2>&1 | cmp - "${sitting%.txt}.key" || exit 1
             "${plain[@]}" bin/plot_hub --hints <"$sitting" 2>"$scratch/said" | cmp - "${sitting%.txt}.key" || exit 1
             python3 "$OLDPWD/tests/hints.py" "$sitting" "${sitting%.txt}.key" | cmp - "$scratch/said" || exit 1
@@ -249,6 +259,7 @@ end
         done
     done
     PKG_CONFIG_PATH=$elsewhere/lib/pkgconfig
+    # shellcheck disable=SC2046 # words, not one
     gcc "$scratch/caller.c" $(pkg-config --cflags --libs plot_hub) -o "$scratch/caller" && "$scratch/caller" </dev/null
 }
 

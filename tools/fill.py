@@ -1,7 +1,9 @@
-"""Fills a printed proof file from Python: `fill(path, {'need': 'answer'}, uses=[..], unfold={'need': 'f g'}, head=.., before=('need', text))`.
+"""Fills a printed proof file from Python:
 
-An answer of several lines is indented by four spaces. The holes that are left become `search needs`, unless `rest` is None. `tidy` takes out what a
-proved file no longer needs.
+    fill(path, {'need': 'answer'}, uses=[..], unfold={'need': 'f g'}, head=.., before=('need', text))
+
+An answer of several lines is indented by four spaces. The holes that are left become `search needs`, unless `rest` is None. `tidy` takes
+out what a proved file no longer needs.
 """
 
 import re
@@ -17,7 +19,8 @@ def fill(path, answers=None, uses=(), unfold=None, head=None, before=None, rest=
             continue
         text = text[:found.start()] + found.group(1) + ' = ' + answer.strip('\n') + text[found.end():]
     for need, names in (unfold or {}).items():
-        text = re.sub(r'^(' + re.escape(need) + r' : [^\n]*\n)(unfolding [^\n]*\n)?', lambda m: m.group(1) + f'unfolding {names}\n', text, count=1, flags=re.M)
+        signature = r'^(' + re.escape(need) + r' : [^\n]*\n)(unfolding [^\n]*\n)?'
+        text = re.sub(signature, lambda m, names=names: m.group(1) + f'unfolding {names}\n', text, count=1, flags=re.M)
     if rest:
         text = re.sub(r'^(\S+ [^\n=]*)= \?$', lambda m: m.group(1) + '= ' + rest, text, flags=re.M)
     wanted = list(uses)

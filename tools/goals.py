@@ -4,7 +4,8 @@
     tools/goals.py NAME [PART] [LINES]             # only of files whose path has PART; at most LINES lines
     tools/goals.py --over LIB,LIB NAME [PART] ..   # over libraries of the repository that may have holes themselves
 
-A library that NAME builds on is else taken as proved. Those given by --over, with all that stands between them and NAME, are read as source.
+A library that NAME builds on is else taken as proved. Those given by --over, with all that stands between them and NAME, are read as
+source.
 """
 
 import os

@@ -144,6 +144,13 @@ def page(text):
     return "\n".join(out)
 
 
+def too_long(name, text):
+    """A message for each line that is too long; tables of a page may be."""
+    for number, line in enumerate(text.split("\n"), 1):
+        if len(line) > WIDTH and not (name.endswith(".md") and line.startswith("|")):
+            yield f"{name}:{number}: {len(line)} columns"
+
+
 def main():
     check = sys.argv[1:2] == ["--check"]
     status = 0
@@ -151,10 +158,9 @@ def main():
         with open(name, encoding="utf-8") as file:
             text = file.read()
         if check:
-            for number, line in enumerate(text.split("\n"), 1):
-                if len(line) > WIDTH and not (name.endswith(".md") and line.startswith("|")):
-                    print(f"{name}:{number}: {len(line)} columns")
-                    status = 1
+            for message in too_long(name, text):
+                print(message)
+                status = 1
             continue
         after = page(text) if name.endswith(".md") else program(text)
         if after != text:

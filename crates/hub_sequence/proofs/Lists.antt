@@ -32,10 +32,6 @@ same-apart x y h e = omega (arith, same-eq x y e)
 
 -- ---- slots
 
-pub slot-within : (x : ℕ) → x < maxSequence → within x ≡ 1
-unfolding within
-slot-within x h = rw (lt-ltb x maxSequence h)
-
 pub past-within : (x : ℕ) → maxSequence ≤ x → within x ≡ 0
 unfolding within
 past-within x h = rw (le-ltb x maxSequence h)

@@ -11,7 +11,7 @@ use Rattle.hub_sequence.specs.Contract.{Joins}
 use Rattle.hub_sequence.specs.declared.Links.{Links}
 use Rattle.hub_sequence.specs.declared.Joined.{Joined}
 use Rattle.hub_sequence.proofs.Tables.{byLess}
-use Rattle.hub_sequence.proofs.Lists.{same-self, same-other, past-within, within-slot, count-append, placed-split}
+use Rattle.hub_sequence.proofs.Lists.{same-self, past-within, within-slot, count-append, placed-split}
 use Rattle.hub_sequence.proofs.ReadLaws.{walks-of, walks-behind}
 
 module _ {row : List ℕ} {x : ℕ} (t : Walks row x) where
@@ -52,13 +52,6 @@ pub walks-on : {row : List ℕ} {x : ℕ} → Walks row x → (at : ℕ) → 1 �
 walks-on {row} {x} t at h =
     byLess x maxSequence (λ i. i)
     (λ i. let e : along row x ≡ [] = walks-end t i in let z : count at (along row x) ≡ 0 = rw e in absurd (omega arith))
-
--- and if that is another one, the slot is to come behind it
-pub still-ahead : {row : List ℕ} {x : ℕ} → Walks row x → (at : ℕ) → 1 ≤ count at (along row x) → (x ≡ at → ⊥) →
-    1 ≤ count at (along row (getD row x 0))
-still-ahead {row} {x} t at h n =
-    let i : 1 ≤ count at (x ∷ along row (getD row x 0)) = rw (walks-next t (walks-on t at h) .0) at h in
-    omega (arith, same-other at x (λ e. n (sym e)))
 
 -- ---- the first slot
 

@@ -10,7 +10,7 @@ use hub_state::RESTARTS;
 use rules_routine::limits::MAX_DEVICES;
 use rules_routine::limits::MAX_SEQUENCE;
 ghost use mathlib.Core.Path.{_≡_};
-ghost use mathlib.Core.Bool.{true, false};
+ghost use mathlib.Core.Bool.{true};
 ghost use Prim.Native.Nat.{_<_};
 ghost use Rattle.rules_routine.specs.Limits.{maxDevices, maxSequence};
 ghost use Rattle.rules.specs.Tables.{put};

@@ -15,7 +15,7 @@ use Rattle.hub_sequence.specs.Links.{none, aheadOf, slotsOf, Stands}
 use Rattle.hub_sequence.specs.declared.Links.{Links}
 use Rattle.hub_sequence.proofs.Lists.{same-self, count-append, slots-around, without-around, off-upTo, off-rest}
 use Rattle.hub_sequence.proofs.ReadLaws.{once-taken, stands-slot, ahead-last, ahead-row}
-use Rattle.hub_state.specs.View.{settingsOf, upOf, marksOf, rowsOf, stepAt, stepsFrom, stepsAt, restartsAt, memberAt, membersOf}
+use Rattle.hub_state.specs.View.{settingsOf, marksOf, rowsOf, stepAt, stepsFrom, stepsAt, restartsAt, memberAt, membersOf}
 use Rattle.hub_state.specs.View.{stateOf}
 use Rattle.hub_state.specs.View.{there}
 use Rattle.hub_state.specs.Valid.{StepOk, StateOk}
@@ -33,10 +33,6 @@ module _ (h : HubState) where
   pub state-settled : stateOf h .settledAt ≡ settingsOf (h .«settled_at»)
   unfolding stateOf
   state-settled = refl
-
-  pub state-up : stateOf h .up ≡ upOf (h .up)
-  unfolding stateOf
-  state-up = refl
 
   -- whether a device is up, in the row and past it
   pub up-read : (d : ℕ) (z : Bool) → d < length (h .up) → getD (h .up) d z ≡ stateOf h .up d
@@ -138,11 +134,6 @@ module _ (h : HubState) (x : ℕ) (v : StateOk h) (s : Stands (h .links) x) wher
       ap (map (memberAt h)) (without-around x (slotsOf (h .links)) s)
       ∙ map-append (memberAt h) (upTo x (slotsOf (h .links))) (rest x (slotsOf (h .links)))
 
-  -- its id is not 0
-  pub id-some : 0 < there h x .it .id
-  unfolding there memberAt
-  id-some = v .slots-ok x s .has-id
-
 -- ---- the id of the last
 
 pub last-id : (h : HubState) (y : ℕ) (l : List ℕ) → getD (h .ids) (lastOr y l) 0 ≡ lastIdOr (memberAt h y .id) (map (memberAt h) l)
@@ -199,13 +190,6 @@ map-same f g (y ∷ l) e =
     let b = map-same f g l (λ z i. e z (omega arith)) in
     λ i. a i ∷ b i
 
--- the same links, and the same routines
-pub same-members : (h r : HubState) → r .links ≡ h .links → ((y : ℕ) → Stands (h .links) y → memberAt r y ≡ memberAt h y) →
-    membersOf r ≡ membersOf h
-unfolding membersOf
-same-members h r k o =
-    ap (λ (l : Links). map (memberAt r) (slotsOf l)) k ∙ map-same (memberAt r) (memberAt h) (slotsOf (h .links)) o
-
 -- Of the other slots it is enough to know those that are taken: a free one may hold any numbers.
 module _ (h r : HubState) (x : ℕ) (v : StateOk h) (s : Stands (h .links) x)
     (o : (y : ℕ) → Stands (h .links) y → (y ≡ x → ⊥) → memberAt r y ≡ memberAt h y)
@@ -241,14 +225,6 @@ module _ (h r : HubState) (x : ℕ) (v : StateOk h) (s : Stands (h .links) x)
         ∙ ap (map (memberAt r)) (slots-around x (slotsOf (h .links)) s)
         ∙ map-append (memberAt r) slotsAhead (x ∷ slotsBehind)
         ∙ (λ i. same-ahead i ++ (e i ∷ same-behind i))
-
-    -- the routine in one slot left
-    pub left-taken : slotsOf (r .links) ≡ without x (slotsOf (h .links)) → membersOf r ≡ there h x .ahead ++ there h x .behind
-    unfolding membersOf there
-    left-taken k =
-        ap (map (memberAt r)) (k ∙ without-around x (slotsOf (h .links)) s)
-        ∙ map-append (memberAt r) slotsAhead slotsBehind
-        ∙ (λ i. same-ahead i ++ same-behind i)
 
 -- the same where every other slot is known
 pub changed-slot : (h r : HubState) (x : ℕ) (m : Member) → StateOk h → Stands (h .links) x → r .links ≡ h .links → memberAt r x ≡ m →

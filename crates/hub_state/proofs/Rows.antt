@@ -1,8 +1,8 @@
 -- The rows of commands and of restarts: how a slot's part of them is read, and what a store in a row changes of it. Assumes nothing.
 use mathlib.Core.Path.{_≡_, refl, sym, ap, _∙_}
 use mathlib.Core.Bool.{Bool, true, false}
-use mathlib.Core.List.{List, [], _∷_, map}
-use mathlib.Core.Option.{Option, none, some}
+use mathlib.Core.List.{List, _∷_}
+use mathlib.Core.Option.{none, some}
 use Prim.Native.Nat.{ℕ, zero, suc, _+_, _*_, _-_, _≤_, _<_}
 use native.Mathlib.Omega.{arith}
 use borrow.Author.Tests.{eq-eqb, ne-eqb, eqb-true, eqb-false, ltb-true, lt-ltb, le-ltb}
@@ -11,13 +11,10 @@ use lib.IntN.{ℤ, pos}
 use lib.ListN.{length, take, drop, getD, set}
 use lib.Seq.{getD-set-same, getD-set-other}
 use Rattle.rules_routine.specs.Choice.{if_then_else_}
-use Rattle.rules_routine.specs.Limits.{maxDevices, maxCommands, maxSequence}
-use Rattle.rules_routine.specs.Routine.{zeroCommand}
-use Rattle.rules_routine.specs.declared.Command.{Command}
+use Rattle.rules_routine.specs.Limits.{maxDevices, maxSequence}
 use Rattle.rules_routine.proofs.RoutineLaws.{byTest, any-default}
 use Rattle.rules.specs.State.{Status, to-do, in-flight, was-done, was-skipped, was-held, was-not-held, Step}
 use Rattle.rules.specs.Progress.{isToDo, isInFlight, isDone, isAnswered, countsAsNotHeld, skipsNext, flight, withStatus}
-use Rattle.rules.specs.Submit.{stepOf}
 use Rattle.rules.proofs.Lists.{byIf, t≠f}
 use Rattle.hub_sequence.proofs.Tables.{byEq}
 use Rattle.hub_state.specs.View.{noRestart, isRestart, restartOf, toDoCode, inFlightCode, doneCode, heldCode, notHeldCode, statusOf}
@@ -32,20 +29,6 @@ module _ (rows : Rows) (u : ℤ) (k : ℕ) where
   pub step-device : stepAt rows u k .command .device ≡ getD (rows .devices) k 0
   unfolding stepAt
   step-device = refl
-
-  pub step-command :
-      stepAt rows u k .command ≡ record {
-        device = getD (rows .devices) k 0;
-        tag = getD (rows .tags) k 0;
-        setting =
-            getD (rows .settings) k (pos 0);
-      }
-  unfolding stepAt
-  step-command = refl
-
-  pub step-status : stepAt rows u k .status ≡ statusOf (getD (rows .stages) k 0) u
-  unfolding stepAt
-  step-status = refl
 
 -- the same entries
 pub step-same : (rows other : Rows) (u : ℤ) (k : ℕ) → getD (other .devices) k 0 ≡ getD (rows .devices) k 0 →
@@ -237,42 +220,6 @@ steps-other rows other u v k (suc n) h =
     let r = steps-other rows other u v (suc k) n (λ j a b. h j (omega arith) (omega arith)) in
     λ i. e i ∷ r i
 
--- the same entries at each place
-pub steps-same : (rows other : Rows) (u : ℤ) (k n : ℕ) →
-    ((j : ℕ) → k ≤ j → j < k + n → getD (other .devices) j 0 ≡ getD (rows .devices) j 0) →
-    ((j : ℕ) → k ≤ j → j < k + n → getD (other .tags) j 0 ≡ getD (rows .tags) j 0) →
-    ((j : ℕ) → k ≤ j → j < k + n → getD (other .settings) j (pos 0) ≡ getD (rows .settings) j (pos 0)) →
-    ((j : ℕ) → k ≤ j → j < k + n → getD (other .stages) j 0 ≡ getD (rows .stages) j 0) → stepsFrom other u k n ≡ stepsFrom rows u k n
-steps-same rows other u k n a b c d =
-    steps-other rows other u u k n (λ j h i. step-same rows other u j (a j h i) (b j h i) (c j h i) (d j h i))
-
--- the commands of a newcomer, all to do
-step-new : (rows : Rows) (u : ℤ) (k : ℕ) (x : Command) → getD (rows .devices) k 0 ≡ x .device → getD (rows .tags) k 0 ≡ x .tag →
-    getD (rows .settings) k (pos 0) ≡ x .setting → getD (rows .stages) k 0 ≡ toDoCode → stepAt rows u k ≡ stepOf x
-unfolding stepAt
-step-new rows u k x a b c d = let e = status-to-do (getD (rows .stages) k 0) u d in
-    λ i. record { command = record { device = a i; tag = b i; setting = c i }; status = e i }
-
-pub steps-new : (rows : Rows) (u : ℤ) (k : ℕ) (cs : List Command) →
-    ((j : ℕ) → j < length cs → getD (rows .devices) (k + j) 0 ≡ getD cs j zeroCommand .device) →
-    ((j : ℕ) → j < length cs → getD (rows .tags) (k + j) 0 ≡ getD cs j zeroCommand .tag) →
-    ((j : ℕ) → j < length cs → getD (rows .settings) (k + j) (pos 0) ≡ getD cs j zeroCommand .setting) →
-    ((j : ℕ) → j < length cs → getD (rows .stages) (k + j) 0 ≡ toDoCode) → stepsFrom rows u k (length cs) ≡ map stepOf cs
-steps-new rows u k [] a b c d = refl
-steps-new rows u k (x ∷ cs) a b c d =
-    let at : k + 0 ≡ k = omega arith in
-    let on : (j : ℕ) → k + suc j ≡ suc k + j = λ j. omega arith in
-    let z : 0 < length (x ∷ cs) = omega arith in
-    let e = step-new rows u k x (ap (λ (m : ℕ). getD (rows .devices) m 0) (sym at) ∙ a 0 z)
-    (ap (λ (m : ℕ). getD (rows .tags) m 0) (sym at) ∙ b 0 z)
-    (ap (λ (m : ℕ). getD (rows .settings) m (pos 0)) (sym at) ∙ c 0 z) (ap (λ (m : ℕ). getD (rows .stages) m 0) (sym at) ∙ d 0 z) in
-    let r = steps-new rows u (suc k) cs
-    (λ j i. ap (λ (m : ℕ). getD (rows .devices) m 0) (sym (on j)) ∙ a (suc j) (omega arith))
-    (λ j i. ap (λ (m : ℕ). getD (rows .tags) m 0) (sym (on j)) ∙ b (suc j) (omega arith))
-    (λ j i. ap (λ (m : ℕ). getD (rows .settings) m (pos 0)) (sym (on j)) ∙ c (suc j) (omega arith))
-    (λ j i. ap (λ (m : ℕ). getD (rows .stages) m 0) (sym (on j)) ∙ d (suc j) (omega arith)) in
-    λ i. e i ∷ r i
-
 -- the due setting of one in flight does not matter where none is
 pub steps-due : (rows : Rows) (u v : ℤ) (k n : ℕ) → flight (stepsFrom rows u k n) ≡ none → stepsFrom rows v k n ≡ stepsFrom rows u k n
 steps-due rows u v k zero e = refl
@@ -333,10 +280,6 @@ steps-staged rows u v k n j code a h q = staged-at rows u v k n j (k + j) code r
 pub same-place : (x y d e : ℕ) → d < maxDevices → e < maxDevices → x * maxDevices + d ≡ y * maxDevices + e → (x ≡ y) × (d ≡ e)
 same-place x y d e h i q = let z : x ≡ y = omega arith in let w : d ≡ e = omega arith in (z, w)
 
--- the same of commands
-pub same-command : (x y j i : ℕ) → j < maxCommands → i < maxCommands → x * maxCommands + j ≡ y * maxCommands + i → (x ≡ y) × (j ≡ i)
-same-command x y j i h k q = let z : x ≡ y = omega arith in let w : j ≡ i = omega arith in (z, w)
-
 -- ---- restarts
 
 pub restart-some : (v : ℤ) → isRestart v ≡ true → restartOf v ≡ some v
@@ -354,15 +297,6 @@ pub restarts-read : (row : List ℤ) (x d : ℕ) (z : ℤ) → length row ≡ ma
     restartsAt row x d ≡ restartOf (getD row (x * maxDevices + d) z)
 unfolding restartsAt
 restarts-read row x d z l h i = rw (lt-ltb d maxDevices i) (ap restartOf (any-default row (x * maxDevices + d) noRestart z (omega arith)))
-
--- a newcomer has none
-pub restarts-new : (row : List ℤ) (x : ℕ) → ((d : ℕ) → d < maxDevices → getD row (x * maxDevices + d) noRestart ≡ noRestart) →
-    restartsAt row x ≡ (λ d. none)
-unfolding restartsAt
-restarts-new row x h = λ i d. none-at d i
-  where
-    none-at : (d : ℕ) → (if ltb d maxDevices then restartOf (getD row (x * maxDevices + d) noRestart) else none) ≡ none
-    none-at d = byIf (λ (o : Option ℤ). o ≡ none) (ltb d maxDevices) (λ t. ap restartOf (h d (ltb-true d maxDevices t))) (λ t. refl)
 
 module _ (row : List ℤ) (y e : ℕ) (v : ℤ) (i : e < maxDevices) where
   -- another slot's, or another device's

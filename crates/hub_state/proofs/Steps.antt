@@ -29,11 +29,6 @@ flies d x = isOn d x && isInFlight (x .status)
 
 -- ---- a changed status
 
-pub length-setStatus : (i : ℕ) (st : Status) (l : List Step) → length (setStatus i st l) ≡ length l
-length-setStatus i st [] = refl
-length-setStatus zero st (x ∷ l) = refl
-length-setStatus (suc i) st (x ∷ l) = ap suc (length-setStatus i st l)
-
 -- the devices stay
 pub each-setStatus : (i : ℕ) (st : Status) (l : List Step) → Each StepOk l → Each StepOk (setStatus i st l)
 each-setStatus i st [] h = h
@@ -215,13 +210,6 @@ flights-all n l a h d = flights-none n l a (flight-all n l a h) d
 
 -- ---- the first that is not answered
 
-pub open-unanswered : (n : ℕ) (l : List Step) → AnsweredUpTo n l → (x : Step) (r : List Step) → drop n l ≡ x ∷ r →
-    isAnswered (x .status) ≡ false
-open-unanswered zero [] a x r e = no-steps x r e
-open-unanswered zero (y ∷ l) a x r e = ap (λ (z : Step). isAnswered (z .status)) (sym (same-first y x l r e)) ∙ a .0
-open-unanswered (suc n) [] a x r e = absurd a
-open-unanswered (suc n) (y ∷ l) a x r e = open-unanswered n l (a .1) x r e
-
 pub flights-open : (n : ℕ) (l : List Step) → AnsweredUpTo n l → (x : Step) (r : List Step) → drop n l ≡ x ∷ r → (d : ℕ) →
     anyOf (flies d) l ≡ flies d x
 flights-open zero [] a x r e d = no-steps x r e
@@ -258,10 +246,6 @@ advance-to-do zero (y ∷ l) a x r e t st = rw (first-to-do y x (same-first y x 
 advance-to-do (suc n) [] a x r e t st = absurd a
 advance-to-do (suc n) (y ∷ l) a x r e t st =
     rw (answered-is (y .status) (a .0) .0) (ap (λ (m : List Step). y ∷ m) (advance-to-do n l (a .1) x r e t st))
-
-pub flights-to-do : (n : ℕ) (l : List Step) → AnsweredUpTo n l → (x : Step) (r : List Step) → drop n l ≡ x ∷ r →
-    isInFlight (x .status) ≡ false → (d : ℕ) → anyOf (flies d) l ≡ false
-flights-to-do n l a x r e t d = flights-none n l a (flight-to-do n l a x r e t) d
 
 -- it is skipped if the one before it, the last that is answered, skips it
 abbrev pub lastSkips : Bool → List Step → Bool
@@ -304,11 +288,6 @@ flight-sent zero (y ∷ l) a x r e u t =
 flight-sent (suc n) [] a x r e u t = absurd a
 flight-sent (suc n) (y ∷ l) a x r e u t =
     flight-past y (y .status) (flight l) (answered-is (y .status) (a .0) .1) ∙ flight-sent n l (a .1) x r e u t
-
-pub flights-sent : (n : ℕ) (l : List Step) → AnsweredUpTo n l → (x : Step) (r : List Step) → drop n l ≡ x ∷ r → (u : ℤ) →
-    x .status ≡ in-flight u →
-    (d : ℕ) → anyOf (flies d) l ≡ eqb (x .command .device) d
-flights-sent n l a x r e u t d = flights-some n l a (record { command = x .command; dueThen = u }) (flight-sent n l a x r e u t) d
 
 pub answer-sent : (n : ℕ) (l : List Step) → AnsweredUpTo n l → (x : Step) (r : List Step) → drop n l ≡ x ∷ r → (u : ℤ) →
     x .status ≡ in-flight u →

@@ -111,11 +111,6 @@ module _ (q : Member → Bool) where
       sym (any-own i a x b (subst (λ j. NotIn j (ids (a ++ b))) (sym z) n) ∙ own-has i x (sym z)))
       (λ y. e i ∙ sym (any-drop i a x b (other-has i x (λ w. t≠f (sym (eq-eqb i (x .member .id) (sym w)) ∙ y)))))
 
-  -- x comes, and does not pass
-  pub tells-idle : (t : ℕ → Bool) (a : List Group) (x : Group) (b : List Group) → q (x .member) ≡ false → Tells q t (a ++ b) →
-      Tells q t (a ++ (x ∷ b))
-  tells-idle t a x b f e i = e i ∙ sym (any-drop i a x b (idle-has i x f))
-
   -- what is committed does not pass
   pub tells-held : ((g : Group) → g .member .committed ≡ true → q (g .member) ≡ false) → (t : ℕ → Bool) (k : List Group) → Tells q t k →
       Tells q t (stillHeld k)

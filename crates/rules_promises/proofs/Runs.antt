@@ -9,7 +9,7 @@ use lib.Dec.{eqb}
 use lib.IntN.{ℤ, pos}
 use Rattle.rules_routine.specs.Choice.{if_then_else_}
 use Rattle.rules.specs.Tables.{anyOf, Each}
-use Rattle.rules.specs.State.{Step, Member, State}
+use Rattle.rules.specs.State.{Step, State}
 use Rattle.rules.specs.Progress.{isOn, isDone}
 use Rattle.rules.specs.Due.{afterSteps, afterRestart, afterMember, afterMembers}
 use Rattle.rules.specs.Order.{isOf}
@@ -17,7 +17,7 @@ use Rattle.rules.specs.Order.{Event, failure-of, restart-of, Entry, routine, ev
 use Rattle.rules.specs.Submit.{pass}
 use Rattle.rules.specs.HubOrder.{doneSteps}
 use Rattle.rules.specs.Attach.{later, attachTo, oneRestart}
-use Rattle.rules.proofs.Lists.{or-left, or-right, eqb-sym, fold-++, each-mid, each-drop}
+use Rattle.rules.proofs.Lists.{or-left, or-right, eqb-sym, each-mid, each-drop}
 use Rattle.rules_promises.proofs.Groups.{Group, members, flat, lastRestart, passAll, addEvents, leaving, addEvent, attachEvent}
 use Rattle.rules_promises.proofs.Groups.{added-is}
 use Rattle.rules_promises.proofs.Same.{Pairwise, pairs-each, pairs-placed, pairs-last, pairs-attached}

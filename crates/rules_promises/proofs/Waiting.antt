@@ -169,22 +169,6 @@ abbrev stateThen : State → List Told → State
 stateThen s [] = s
 stateThen s (t ∷ l) = stateThen (resultOf s (t .call) .state) l
 
-answered-left : (s : State) (a b : List Told) → AsAnswered s (a ++ b) → AsAnswered s a
-answered-left s [] b h = tt
-answered-left s (t ∷ a) b h = (h .0, answered-left (resultOf s (t .call) .state) a b (h .1))
-
-answered-right : (s : State) (a b : List Told) → AsAnswered s (a ++ b) → AsAnswered (stateThen s a) b
-answered-right s [] b h = h
-answered-right s (t ∷ a) b h = answered-right (resultOf s (t .call) .state) a b (h .1)
-
-answered-calls : (s : State) (cs : List Call) → AsAnswered s (callsTold s cs)
-answered-calls s [] = tt
-answered-calls s (c ∷ cs) = (refl, answered-calls (resultOf s c .state) cs)
-
-told-++ : (h a b : List Told) → toldThen h (a ++ b) ≡ toldThen (toldThen h a) b
-told-++ h [] b = refl
-told-++ h (t ∷ a) b = told-++ (t ∷ h) a b
-
 -- there is such a hub, and this holds of its groups
 abbrev Reached : ℕ → ℕ → State → List Told → (List Group → Type 0) → Type 0
 Reached k i s h P = (now : Now k i s h) × P (now .groups)

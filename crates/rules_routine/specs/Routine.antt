@@ -21,9 +21,6 @@ use Rattle.rules_routine.specs.declared.Verdict.the-variants.{Accepted}
 abbrev pub mustTag : ℕ
 mustTag = 0
 
-abbrev pub bestEffortTag : ℕ
-bestEffortTag = 1
-
 abbrev pub conditionTag : ℕ
 conditionTag = 2
 

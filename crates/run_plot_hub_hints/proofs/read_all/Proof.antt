@@ -1,7 +1,6 @@
 -- `run_plot_hub_hints::read_all` is safe and ends, by its turns, and leaves a valid hub. Assumes nothing.
 use Prim.Native.Nat.{_≤_, _<_}
 use mathlib.Core.Path.{_≡_}
-use native.Mathlib.Omega.{arith}
 use lib.ListN.{length}
 use Rattle.hub.specs.Valid.{Valid}
 use borrow.Author.Needs.{needs}

@@ -4,7 +4,6 @@ use mathlib.Core.Path.{_≡_}
 use native.Mathlib.Omega.{arith}
 use lib.ListN.{length, drop, length-drop}
 use Rattle.line_rules.specs.Text.{lineEnd}
-use Rattle.line_rules.specs.Pieces.{reach}
 use Rattle.line_rules.proofs.LineLaws.{reach-within}
 use Rattle.hub.specs.Valid.{Valid}
 use borrow.Author.Needs.{needs}

@@ -1,8 +1,7 @@
 -- `run_plot_hub_hints::take_part` is safe and ends, and leaves a valid hub. Assumes nothing.
 use Prim.Native.Nat.{_≤_}
 use native.Mathlib.Omega.{arith}
-use lib.ListN.{length, take, length-take}
-use Rattle.line_parts.specs.Parts.{wholeLines}
+use lib.ListN.{take, length-take}
 use Rattle.line_parts.proofs.PartLaws.{whole-within}
 use borrow.Author.Needs.{needs}
 use Rattle.run_plot_hub_hints.proofs.take_part.Statement.{statement}
