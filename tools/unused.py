@@ -6,18 +6,17 @@
     tools/unused.py FILE...        only what these files bring in and do not use
     tools/unused.py --fix FILE...  takes that out
 
-What is there for its own sake, and all that it names, is in use: the theorems that `tools/specification` lists, what contracts name, the
+What is there for its own sake, and all that it names, is in use: the theorems that docs/STATEMENTS.md lists, what contracts name, the
 proofs that the check asks for, files of examples and controls, and of the code programs and what C calls. A guess from the text: prove
 afterwards. Exit status 1: something was found.
 """
-import importlib.machinery
-import importlib.util
 import os
 import re
 import sys
 
 TOOLS = os.path.dirname(os.path.abspath(__file__))
 sys.path[:0] = [TOOLS]
+from specification_page import statements  # noqa: E402
 from specification_page.source import BLOCK, SIGNATURE, tokens_of  # noqa: E402
 
 GROUP = re.compile(r"^((?:ghost )?use )([^\s{;]+)\.\{([^}]*)\}(;?)\n", re.M)
@@ -264,10 +263,8 @@ def listed(root, ending):
 
 
 def theorems_of(root):
-    loader = importlib.machinery.SourceFileLoader("specification", os.path.join(root, "tools", "specification"))
-    module = importlib.util.module_from_spec(importlib.util.spec_from_loader("specification", loader))
-    loader.exec_module(module)
-    return module.THEOREMS
+    with open(os.path.join(root, statements.PAGE), encoding="utf-8") as page:
+        return statements.theorems(page.read())
 
 
 def everything(root):
