@@ -103,7 +103,7 @@ returns-7 : tie.Need-returns-7
 returns-7 c =
     let b = c .before .before in
     let a = b .before .before .args in
-    (c .backs-if2 .ensures .0, backs-as (a .state) (a .decision) (b .change3 .given .1) (c .backs-if2 .ensures .1))
+    (c .put-backs-if2 .ensures .0, backs-as (a .state) (a .decision) (b .change3 .given .1) (c .put-backs-if2 .ensures .1))
 
 pub put-backs-of-spec : {M : Type 1} → statement M
 put-backs-of-spec =
