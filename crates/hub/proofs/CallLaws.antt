@@ -16,6 +16,7 @@ use Rattle.rules.specs.State.{State}
 use Rattle.rules.specs.Answers.{Back, Result}
 use Rattle.rules.specs.Settle.{settle, settling}
 use Rattle.rules.proofs.Lists.{t≠f}
+use Rattle.hub_sequence.specs.Links.{StandsOrNone}
 use Rattle.hub_answers.specs.View.{oneOf, eventAbortOf, answerOf, putBacksOf, putBacksIn, PutBacksOk, changesNothing}
 use Rattle.hub_answers.specs.declared.Answer.{Answer}
 use Rattle.hub_answers.specs.declared.Answer.the-variants.{Refused, Placed, Wait, Sent, Done, Skipped, Committed, Aborted, Down, Up}
@@ -24,6 +25,10 @@ use Rattle.hub_answers.specs.declared.Answer.the-variants.{Held, NotHeld}
 use Rattle.hub_answers.specs.declared.PutBacks.{PutBacks}
 use Rattle.hub_answers.proofs.Answer.{the-type}
 use Rattle.hub_state.specs.View.{stateOf, firstCommitted}
+use Rattle.hub_state.specs.Valid.{StateOk}
+use Rattle.hub_state.specs.Unmoved.{Unmoved, InPlace, OnlyLeave}
+use Rattle.hub_apply.specs.Contract.{Places}
+use Rattle.hub_apply.proofs.PlaceLaws.{places-unmoved, places-run}
 use Rattle.hub_abort.specs.PutBacks.{downIf}
 use Rattle.hub_state.specs.Contract.{halfwayIn, putBacksStopped, downWith, appliedTo, backsBy, ChangeOk, putBacksOfDecision, toldBy}
 use Rattle.hub_state.specs.Contract.{settledUnlessNothing, resultBy, Decides}
@@ -32,10 +37,11 @@ use Rattle.hub_state.specs.declared.Change.{Change}
 use Rattle.hub_state.specs.declared.Change.the-variants.{Nothing, Stage, Commit, Join, Abort, Fail, Restart}
 use Rattle.hub_state.specs.declared.Decision.{Decision}
 use Rattle.hub_state.proofs.DecisionLaws.{settle-idle}
+use Rattle.hub_state.proofs.UnmovedLaws.{itself-in-place, in-place-leaves, settle-then, none-joined}
 use Rattle.hub.specs.View.{view, answersIn}
 use Rattle.hub.specs.Valid.{Valid}
 use Rattle.hub.specs.Contract.{Gives}
-use Rattle.hub.specs.Carrying.{LeavingOk, Carries, settlesAfter}
+use Rattle.hub.specs.Carrying.{LeavingOk, MovesNobody, OnlySettle, Carries, settlesAfter}
 use Rattle.hub.specs.declared.Hub.{Hub}
 use Rattle.hub.specs.declared.Outcome.{Outcome}
 
@@ -135,13 +141,14 @@ module _ (h : Hub) (cs : List Command) (d : Decision) (backs : PutBacks) (n : Hu
 
   -- what is given, where this is the hub in the end
   wraps-gives : (r : Hub) (o : Outcome) → Wraps r d backs o → Valid r →
-      record { state = view r; answers = toldBy (h .state) d } ≡ resultBy (h .state) cs d → (changesNothing (d .answer) ≡ true → r ≡ h) →
-      Gives h o (resultBy (h .state) cs d)
-  wraps-gives r o w v e s = record {
+      record { state = view r; answers = toldBy (h .state) d } ≡ resultBy (h .state) cs d → Unmoved (h .state) (r .state) →
+      (changesNothing (d .answer) ≡ true → r ≡ h) → Gives h o (resultBy (h .state) cs d)
+  wraps-gives r o w v e u s = record {
     valid = subst Valid (sym (w .0)) v;
     gives = (λ i. record { state = view (w .0 i); answers = told r o w i }) ∙ e;
     backs-fit = subst PutBacksOk (sym (w .3)) fit;
     backs-told = ap putBacksOf (w .3) ∙ are ∙ k .backs-told ∙ sym (ap putBacksIn (told r o w));
+    unmoved = subst (λ (x : Hub). Unmoved (h .state) (x .state)) (sym (w .0)) u;
     same-hub = λ t. w .0 ∙ s (sym (ap changesNothing (w .2)) ∙ t);
   }
 
@@ -154,11 +161,14 @@ module _ (h : Hub) (cs : List Command) (d : Decision) (backs : PutBacks) (n : Hu
       ∙ ap (λ (s : State). record { state = settle s; answers = toldBy (h .state) d }) (sym (c .gives))
 
   pub settled-gives : (r : Hub) (o : Outcome) → Wraps r d backs o → settlesAfter (d .answer) (view n) ≡ true → Valid r →
-      view r ≡ settle (view n) → Gives h o (resultBy (h .state) cs d)
-  settled-gives r o w e v g =
+      view r ≡ settle (view n) → OnlySettle (n .state) (r .state) → Gives h o (resultBy (h .state) cs d)
+  settled-gives r o w e v g q =
       let f : changesNothing (d .answer) ≡ false = changed (changesNothing (d .answer)) (firstCommitted (view n .sequence)) e in
       wraps-gives r o w v
-      (ap (λ (s : State). record { state = s; answers = toldBy (h .state) d }) g ∙ sym (settled-result f)) (λ t. t≠f (sym t ∙ f))
+      (ap (λ (s : State). record { state = s; answers = toldBy (h .state) d }) g ∙ sym (settled-result f))
+      (settle-then (h .state) (n .state) (r .state) (c .moves-nobody .unmoved) (c .moves-nobody .joined-run) (q .only-leave)
+      (q .left-committed))
+      (λ t. t≠f (sym t ∙ f))
 
   pub stands-gives : (o : Outcome) → Wraps n d backs o → settlesAfter (d .answer) (view n) ≡ false → Gives h o (resultBy (h .state) cs d)
   stands-gives o w e =
@@ -170,12 +180,14 @@ module _ (h : Hub) (cs : List Command) (d : Decision) (backs : PutBacks) (n : Hu
       (ap (λ (s : State). record { state = s; answers = toldBy (h .state) d }) (ap view same)
       ∙ sym (ap (λ (x : Change). settledUnlessNothing x (record { state = appliedTo (h .state) cs x; answers = toldBy (h .state) d }))
       nothing))
+      (c .moves-nobody .unmoved)
       (λ _. same))
       (λ f _.
       wraps-gives n o w (c .valid)
       (ap (λ (s : State). record { state = s; answers = toldBy (h .state) d })
       (sym (settle-idle (view n) (sym (first-decides (d .answer) (view n) f) ∙ e)))
       ∙ sym (settled-result f))
+      (c .moves-nobody .unmoved)
       (λ t. t≠f (sym t ∙ f)))
       refl
 
@@ -194,14 +206,37 @@ pub backs-down : (h : HubState) (d : Decision) {x y : ℕ} {l : List Back} → d
     l ≡ putBacksStopped x (downIf (stateOf h) x) (halfwayIn h y) → l ≡ putBacksOfDecision h d
 backs-down h d {x} {y} e i f = backs-as h d e (f ∙ ap (λ (s : State). putBacksStopped x s (halfwayIn h y)) (down-is (stateOf h) x i))
 
+-- nobody is moved where some may leave and nobody joins, and where nobody does either
+pub leave-moves : (h r : HubState) → OnlyLeave h r → MovesNobody h r
+leave-moves h r p = record { unmoved = p .unmoved; joined-run = none-joined h r p }
+
+pub stay-moves : (h r : HubState) → StateOk h → InPlace h r → MovesNobody h r
+stay-moves h r v p = leave-moves h r (in-place-leaves h r v p)
+
+pub place-moves : (h : HubState) {cs : List Command} {after : ℕ} (r : HubState) → StateOk h → StandsOrNone (h .links) after →
+    Places h cs after r → MovesNobody h r
+place-moves h r v k p = record { unmoved = places-unmoved h _ _ r v k p; joined-run = places-run h _ _ r v k p }
+
+pub itself-moves : (h : HubState) → StateOk h → MovesNobody h h
+itself-moves h v = stay-moves h h v (itself-in-place h)
+
 -- a change that is this one is carried out
 pub carries-as : {h : Hub} {cs : List Command} {c x : Change} {r : Hub} → c ≡ x → (x ≡ Nothing → ⊥) → Valid r →
-    view r ≡ appliedTo (h .state) cs x →
-    Carries h cs c r
-carries-as {h} {cs} e n v g = record { valid = v; gives = g ∙ sym (ap (appliedTo (h .state) cs) e); same-hub = λ k. absurd (n (sym e ∙ k)) }
+    view r ≡ appliedTo (h .state) cs x → MovesNobody (h .state) (r .state) → Carries h cs c r
+carries-as {h} {cs} e n v g m = record {
+  valid = v;
+  gives = g ∙ sym (ap (appliedTo (h .state) cs) e);
+  moves-nobody = m;
+  same-hub = λ k. absurd (n (sym e ∙ k));
+}
 
 pub carries-nothing : {h : Hub} {cs : List Command} {c : Change} → c ≡ Nothing → Valid h → Carries h cs c h
-carries-nothing {h} {cs} e v = record { valid = v; gives = sym (ap (appliedTo (h .state) cs) e); same-hub = λ _. refl }
+carries-nothing {h} {cs} e v = record {
+  valid = v;
+  gives = sym (ap (appliedTo (h .state) cs) e);
+  moves-nobody = itself-moves (h .state) v;
+  same-hub = λ _. refl;
+}
 
 -- ---- calls that submit nothing
 

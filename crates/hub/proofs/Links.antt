@@ -1,8 +1,9 @@
 -- The links are the sequence: document 02, item 8, along every chain of the hub's calls. Assumes nothing.
 use mathlib.Core.Path.{_≡_, refl, sym, ap, ap₂, _∙_}
-use mathlib.Core.List.{List, [], _∷_, map, reverse, reverseAux}
+use mathlib.Core.List.{List, [], _∷_, _++_, map, reverse, reverseAux}
 use Prim.Native.Nat.{ℕ}
 use native.Mathlib.Omega.{arith}
+use lib.IntN.{ℤ}
 use Rattle.rules_routine.specs.declared.Verdict.{Verdict}
 use Rattle.rules_routine.specs.declared.Verdict.the-variants.{Accepted, Refused}
 use Rattle.rules.specs.State.{Member, State}
@@ -14,11 +15,13 @@ use Rattle.hub_sequence.specs.Links.{slotsOf}
 use Rattle.hub_sequence.proofs.Lists.{count-reverse-onto}
 use Rattle.hub_sequence.proofs.ReadLaws.{back-reversed}
 use Rattle.hub_state.specs.View.{memberAt, membersOf, stateOf}
+use Rattle.hub_state.specs.Unmoved.{Unmoved}
 use Rattle.hub.specs.View.{view}
 use Rattle.hub.specs.Valid.{Valid}
-use Rattle.hub.specs.Demand3.{HubAct, called, device-takes, callOf, Chain, hubAfter}
-use Rattle.hub.specs.Links.{callsIn, answersAlong, packedAnswers, KeepsPacked, LinksAreTheSequence}
+use Rattle.hub.specs.Demand3.{HubCall, HubAct, called, device-takes, callOf, Chain, hubAfter}
+use Rattle.hub.specs.Links.{callsIn, answersAlong, packedAnswers, KeepsPacked, LinksAreTheSequence, NothingMoves}
 use Rattle.hub.specs.declared.Hub.{Hub}
+use Rattle.hub.specs.declared.Outcome.{Outcome}
 use Rattle.hub.proofs.Theorem.{met, chain-valid, opens-as}
 
 -- ---- the other way
@@ -67,3 +70,14 @@ links-are-the-sequence n k first o op accepted acts ch =
     let e = opened-as n k first (view (o .hub)) (opens-as n k first o op accepted) in
     let r = along (o .hub) (newHub n k first) acts e ch in
     (r .0, keeps (hubAfter (o .hub) acts) (stateAfter (newHub n k first) (callsIn acts)) (chain-valid (o .hub) acts (op .valid) ch) (r .1))
+
+-- ---- nobody is moved
+
+unmoved-at : (h : Hub) (before later : List HubAct) (c : HubCall) (p : Outcome) (v : ℤ) → Chain h (before ++ (called c p v ∷ later)) →
+    Unmoved (hubAfter h before .state) (p .hub .state)
+unmoved-at h [] later c p v ch = met h c p (ch .0) .unmoved
+unmoved-at h (called d q w ∷ l) later c p v ch = unmoved-at (q .hub) l later c p v (ch .1)
+unmoved-at h (device-takes d j ∷ l) later c p v ch = unmoved-at h l later c p v ch
+
+pub nothing-moves : NothingMoves
+nothing-moves n k first o op accepted before later c p v ch = unmoved-at (o .hub) before later c p v ch

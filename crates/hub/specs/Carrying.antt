@@ -12,6 +12,7 @@ use Rattle.hub_answers.specs.declared.Answer.{Answer}
 use Rattle.hub_sequence.specs.Links.{Stands}
 use Rattle.hub_state.specs.View.{isRestart, firstCommitted}
 use Rattle.hub_state.specs.Contract.{appliedTo, StandsOrPast}
+use Rattle.hub_state.specs.Unmoved.{Unmoved, OnlyLeave, LeftCommitted, JoinedRun}
 use Rattle.hub_state.specs.declared.HubState.{HubState}
 use Rattle.hub_state.specs.declared.Change.{Change}
 use Rattle.hub_state.specs.declared.Change.the-variants.{Nothing, Stage, Commit, Join, Abort, Fail, Restart}
@@ -29,10 +30,21 @@ LeavingOk h (Abort x) = Stands (h .links) x
 LeavingOk h (Fail d x) = (d < maxDevices) × StandsOrPast h x
 LeavingOk h (Restart d v x) = (d < maxDevices) × (isRestart v ≡ true) × StandsOrPast h x
 
+-- A change moves nobody; and who has joined by it runs, so that settling does not take it in the same call.
+pub record MovesNobody (h r : HubState) : Type 0 where
+  pub unmoved : Unmoved h r
+  pub joined-run : JoinedRun h r
+
+-- Settling moves nobody: some may leave, all of them committed, and nobody joins.
+pub record OnlySettle (h r : HubState) : Type 0 where
+  pub only-leave : OnlyLeave h r
+  pub left-committed : LeftCommitted h r
+
 -- The change of a decision on hub h is carried out; where it changes nothing it is the same hub, whole.
 pub record Carries (h : Hub) (cs : List Command) (c : Change) (r : Hub) : Type 0 where
   pub valid : Valid r
   pub gives : view r ≡ appliedTo (h .state) cs c
+  pub moves-nobody : MovesNobody (h .state) (r .state)
   pub same-hub : c ≡ Nothing → r ≡ h
 
 -- Does a routine settle after this answer? Document 01, "Settling": "After each call, while the first in the sequence is committed"; but a

@@ -17,6 +17,7 @@ use Rattle.rules.specs.Events.{failureOf, restartOf}
 use Rattle.rules.specs.Cancel.{cancelOf}
 use Rattle.rules.specs.Limit.{limitOf}
 use Rattle.hub_answers.specs.View.{putBacksOf, putBacksIn, PutBacksOk, changesNothing}
+use Rattle.hub_state.specs.Unmoved.{Unmoved}
 use Rattle.hub.specs.View.{view, answersIn, resultIn}
 use Rattle.hub.specs.Valid.{Valid}
 use Rattle.hub.specs.declared.Hub.{Hub}
@@ -31,12 +32,14 @@ pub record Opens (n k first : ℕ) (o : Opened) : Type 0 where
   pub no-hub : (r : Refusal) → o .verdict ≡ Refused r → (view (o .hub) ≡ closedHub) × StaysClosed (view (o .hub))
 
 -- A call on the hub h gives what the rules give: the answers and, as the rules see it, the next hub, which is valid again. Its list of
--- put-backs fits its array and is that of the answers. Where nothing changes, it is the same hub, whole.
+-- put-backs fits its array and is that of the answers. No routine is moved (document 02, item 8). Where nothing changes, it is the same
+-- hub, whole.
 pub record Gives (h : Hub) (o : Outcome) (result : Result) : Type 0 where
   pub valid : Valid (o .hub)
   pub gives : resultIn o ≡ result
   pub backs-fit : PutBacksOk (o .«put_backs»)
   pub backs-told : putBacksOf (o .«put_backs») ≡ putBacksIn (answersIn o)
+  pub unmoved : Unmoved (h .state) (o .hub .state)
   pub same-hub : changesNothing (o .answer) ≡ true → o .hub ≡ h
 
 abbrev pub Submitted : Hub → Routine → Outcome → Type 0

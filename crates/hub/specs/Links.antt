@@ -1,11 +1,13 @@
 -- Document 02, item 8, "Links for the sequence": from an opening on, along every chain of calls, the answers and the sequence read along
 -- the links are those of a packed list, which is how the rules keep it; along the other links it is the same list from its end; and the
--- links run through each held routine a single time. What a single placement or leaving changes is a contract: `Joins` and `Leaves` of
--- crate `hub_sequence`, `Places` of crate `hub_apply`, `LeavesHub` of crate `hub_settle`. The proof is `links-are-the-sequence` of
--- `proofs/Links.antt`. Assumes nothing.
+-- links run through each held routine a single time. The proof is `links-are-the-sequence` of `proofs/Links.antt`. "A single placement or
+-- leaving changes no links but its own and its neighbours', and moves no other routine": of one placement and one leaving that is a
+-- contract, `Joins` and `Leaves` of crate `hub_sequence`, `Places` of crate `hub_apply`, `LeavesHub` of crate `hub_settle`; of each call of
+-- a chain, with the settling that follows, it is `NothingMoves`, proved as `nothing-moves`. Assumes nothing.
 use mathlib.Core.Path.{_≡_}
-use mathlib.Core.List.{List, [], _∷_, map, reverse}
+use mathlib.Core.List.{List, [], _∷_, _++_, map, reverse}
 use Prim.Native.Nat.{ℕ, _+_}
+use lib.IntN.{ℤ}
 use Rattle.rules_routine.specs.declared.Verdict.the-variants.{Accepted}
 use Rattle.rules.specs.State.{Member, State}
 use Rattle.rules.specs.Answers.{Call, Answer as Told}
@@ -14,11 +16,13 @@ use Rattle.rules.specs.Calls.{resultOf, stateAfter}
 use Rattle.hub_sequence.specs.Lists.{count}
 use Rattle.hub_sequence.specs.Links.{slotsOf, backOf, freeOf, within}
 use Rattle.hub_state.specs.View.{memberAt}
+use Rattle.hub_state.specs.Unmoved.{Unmoved}
 use Rattle.hub.specs.View.{answersIn}
 use Rattle.hub.specs.Contract.{Opens}
-use Rattle.hub.specs.Demand3.{HubAct, called, device-takes, callOf, Chain, hubAfter}
+use Rattle.hub.specs.Demand3.{HubCall, HubAct, called, device-takes, callOf, Chain, hubAfter}
 use Rattle.hub.specs.declared.Hub.{Hub}
 use Rattle.hub.specs.declared.Opened.{Opened}
+use Rattle.hub.specs.declared.Outcome.{Outcome}
 
 -- The calls of a chain, and what their outcomes answer.
 abbrev pub callsIn : List HubAct → List Call
@@ -57,3 +61,11 @@ LinksAreTheSequence =
     (n k first : ℕ) (o : Opened) → Opens n k first o → o .verdict ≡ Accepted → (acts : List HubAct) → Chain (o .hub) acts →
     (answersAlong acts ≡ packedAnswers (newHub n k first) (callsIn acts))
     × KeepsPacked (hubAfter (o .hub) acts) (stateAfter (newHub n k first) (callsIn acts) .sequence)
+
+-- For every accepted opening, every chain of calls and each call in it, from the hub before that call to the hub after it: a routine that
+-- is taken before and after is in the same slot, and a link is the same unless its slot, or one at its other end, has joined or left.
+abbrev pub NothingMoves : Type 0
+NothingMoves =
+    (n k first : ℕ) (o : Opened) → Opens n k first o → o .verdict ≡ Accepted →
+    (before later : List HubAct) (c : HubCall) (p : Outcome) (v : ℤ) → Chain (o .hub) (before ++ (called c p v ∷ later)) →
+    Unmoved (hubAfter (o .hub) before .state) (p .hub .state)

@@ -42,7 +42,7 @@ ghost use Rattle.hub_state.specs.Contract.{JoinOk, Decides, putBacksOfDecision}
 ghost use Rattle.hub.specs.View.{view};
 ghost use Rattle.hub.specs.Valid.{Valid};
 ghost use Rattle.hub.specs.Contract.{Opens, Submitted, Turned, Reported, Cancelled, Failed, Restarted, Limited};
-ghost use Rattle.hub.specs.Carrying.{LeavingOk};
+ghost use Rattle.hub.specs.Carrying.{LeavingOk, MovesNobody, OnlySettle};
 
 // A hub. Others hold it and hand it on; nobody else can make one, look into it or change it.
 pub struct Hub {
@@ -268,7 +268,7 @@ pub fn decide_restart(hub: Hub, device: u8, setting: i16) -> Decision
 // A command comes to a stage.
 pub fn with_stage(hub: Hub, change: Staged) -> Hub
     requires { ⌜ (Valid hub) × (StageOk (hub .state) change) ⌝ }
-    ensures { λ r. ⌜ (Valid r) × (view r ≡ staged (hub .state) change) ⌝ }
+    ensures { λ r. ⌜ (Valid r) × (view r ≡ staged (hub .state) change) × (MovesNobody (hub .state) (r .state)) ⌝ }
 {
     let state = hub.state;
     let next = hub_apply::with_stage(state, change);
@@ -278,7 +278,7 @@ pub fn with_stage(hub: Hub, change: Staged) -> Hub
 // The routine in a slot commits.
 pub fn with_commit(hub: Hub, at: usize) -> Hub
     requires { ⌜ (Valid hub) × (Stands (hub .state .links) at) ⌝ }
-    ensures { λ r. ⌜ (Valid r) × (view r ≡ committedAt (hub .state) at) ⌝ }
+    ensures { λ r. ⌜ (Valid r) × (view r ≡ committedAt (hub .state) at) × (MovesNobody (hub .state) (r .state)) ⌝ }
 {
     let state = hub.state;
     let next = hub_apply::with_commit(state, at);
@@ -288,7 +288,8 @@ pub fn with_commit(hub: Hub, at: usize) -> Hub
 // A routine joins the sequence behind a slot.
 pub fn with_routine(hub: Hub, after: u8, routine: Routine) -> Hub
     requires { ⌜ (Valid hub) × (JoinOk (hub .state) (commandsOf routine) after) ⌝ }
-    ensures { λ r. ⌜ (Valid r) × (view r ≡ joinedBehind (hub .state) (commandsOf routine) after) ⌝ }
+    ensures { λ r. ⌜ (Valid r) × (view r ≡ joinedBehind (hub .state) (commandsOf routine) after)
+        × (MovesNobody (hub .state) (r .state)) ⌝ }
 {
     let state = hub.state;
     let next = hub_apply::with_routine(state, after, routine);
@@ -298,7 +299,7 @@ pub fn with_routine(hub: Hub, after: u8, routine: Routine) -> Hub
 // The routine in a slot aborts.
 pub fn with_abort(hub: Hub, at: usize) -> Hub
     requires { ⌜ (Valid hub) × (Stands (hub .state .links) at) ⌝ }
-    ensures { λ r. ⌜ (Valid r) × (view r ≡ leave (view hub) (there (hub .state) at)) ⌝ }
+    ensures { λ r. ⌜ (Valid r) × (view r ≡ leave (view hub) (there (hub .state) at)) × (MovesNobody (hub .state) (r .state)) ⌝ }
 {
     let state = hub.state;
     let next = hub_settle::left(state, at);
@@ -308,7 +309,8 @@ pub fn with_abort(hub: Hub, at: usize) -> Hub
 // A device fails; the routine in a slot, if there is one, aborts by that or loses what is left there.
 pub fn with_failure(hub: Hub, device: u8, slot: usize) -> Hub
     requires { ⌜ (Valid hub) × (device < maxDevices) × (StandsOrPast (hub .state) slot) ⌝ }
-    ensures { λ r. ⌜ (Valid r) × (view r ≡ stoppedBy device (downWith (view hub) device) (halfwayIn (hub .state) slot)) ⌝ }
+    ensures { λ r. ⌜ (Valid r) × (view r ≡ stoppedBy device (downWith (view hub) device) (halfwayIn (hub .state) slot))
+        × (MovesNobody (hub .state) (r .state)) ⌝ }
 {
     let state = hub.state;
     let next = hub_events::with_failure(state, device, slot);
@@ -318,7 +320,8 @@ pub fn with_failure(hub: Hub, device: u8, slot: usize) -> Hub
 // A device restarts; the routine in a slot, if there is one, aborts by that or loses what is left there.
 pub fn with_restart(hub: Hub, device: u8, setting: i16, slot: usize) -> Hub
     requires { ⌜ (Valid hub) × (device < maxDevices) × (isRestart setting ≡ true) × (StandsOrPast (hub .state) slot) ⌝ }
-    ensures { λ r. ⌜ (Valid r) × (view r ≡ upWith (stoppedBy device (view hub) (halfwayIn (hub .state) slot)) device setting) ⌝ }
+    ensures { λ r. ⌜ (Valid r) × (view r ≡ upWith (stoppedBy device (view hub) (halfwayIn (hub .state) slot)) device setting)
+        × (MovesNobody (hub .state) (r .state)) ⌝ }
 {
     let state = hub.state;
     let next = hub_events::with_restart(state, device, setting, slot);
@@ -346,7 +349,7 @@ pub fn settles(hub: Hub) -> bool
 // The committed routines at the front settle.
 pub fn settle(hub: Hub) -> Hub
     requires { ⌜ Valid hub ⌝ }
-    ensures { λ r. ⌜ (Valid r) × (view r ≡ settle (view hub)) ⌝ }
+    ensures { λ r. ⌜ (Valid r) × (view r ≡ settle (view hub)) × (OnlySettle (hub .state) (r .state)) ⌝ }
 {
     let state = hub.state;
     let next = settling::settled_state(state);

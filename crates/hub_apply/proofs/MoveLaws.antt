@@ -13,10 +13,12 @@ use Rattle.hub_sequence.specs.Links.{Stands}
 use Rattle.hub_sequence.proofs.Tables.{byEq}
 use Rattle.hub_state.specs.View.{rowsOf, stepsAt, memberAt, membersOf, there}
 use Rattle.hub_state.specs.Valid.{StepOk, AnsweredUpTo, SlotOk, StateOk}
+use Rattle.hub_state.specs.Unmoved.{InPlace}
 use Rattle.hub_state.specs.Unanswered.{answeredAt}
 use Rattle.hub_state.specs.declared.HubState.{HubState}
 use Rattle.hub_state.proofs.Codes.{CodesUpTo, upto-codes}
 use Rattle.hub_state.proofs.Members.{changed-taken, counts-most}
+use Rattle.hub_state.proofs.UnmovedLaws.{commands-any}
 
 -- the rows with another number of answered commands, due settings of then, stages and marks
 abbrev pub movedRows : HubState → List ℕ → List ℤ → List ℕ → List ℕ → HubState
@@ -40,6 +42,16 @@ movedRows h answered due stage mark = record {
   up = h .up;
   mark = mark;
 }
+
+-- every routine is where it was, with its commands
+pub move-in-place : (h : HubState) (answered : List ℕ) (due : List ℤ) (stage mark : List ℕ) →
+    InPlace h (movedRows h answered due stage mark)
+unfolding memberAt stepsAt
+move-in-place h answered due stage mark =
+    record {
+      links = refl;
+      routines = λ x _. record { same-id = refl; same-commands = commands-any (rowsOf h) stage _ _ _ (getD (h .counts) x 0) };
+    }
 
 -- The commands of a slot are these, so many of them answered; every other slot is as it was.
 pub record Moved (h : HubState) (x : ℕ) (answered : List ℕ) (due : List ℤ) (stage mark : List ℕ) (l : List Step) : Type 0 where

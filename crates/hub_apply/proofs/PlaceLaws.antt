@@ -18,24 +18,27 @@ use Rattle.rules_routine.specs.declared.Routine.{Routine}
 use Rattle.rules_routine.proofs.RoutineLaws.{byTest, length-commandsOf, commandsOf-held}
 use Rattle.rules.specs.State.{Member}
 use Rattle.rules.specs.Tables.{Each}
+use Rattle.rules.specs.Progress.{commandsIn}
 use Rattle.rules.specs.Sequence.{isRunning}
 use Rattle.rules.specs.Submit.{pass, stepOf, newcomer}
 use Rattle.hub_sequence.specs.Lists.{same, count, through, past}
-use Rattle.hub_sequence.specs.Links.{none as noSlot, slotsOf, Stands}
+use Rattle.hub_sequence.specs.Links.{none as noSlot, slotsOf, Stands, StandsOrNone}
 use Rattle.hub_sequence.specs.Contract.{CanJoin, Joins}
 use Rattle.hub_sequence.specs.declared.Joined.{Joined}
 use Rattle.hub_sequence.proofs.Tables.{byEq}
 use Rattle.hub_sequence.proofs.Lists.{same-other, count-append, count-placed, placed-split, through-past}
 use Rattle.hub_sequence.proofs.ReadLaws.{once-taken}
+use Rattle.hub_sequence.proofs.StayLaws.{byStands, held-or-new, joins-stay}
 use Rattle.hub_sequence.proofs.WalkLaws.{behind-joined}
 use Rattle.hub_state.specs.View.{noRestart, restartOf, toDoCode, statusOf, Rows, rowsOf, stepAt, stepsFrom, stepsAt, restartsAt, memberAt}
 use Rattle.hub_state.specs.View.{membersOf, stateOf}
 use Rattle.hub_state.specs.Valid.{CanPass, SlotOk, StateOk}
 use Rattle.hub_state.specs.Contract.{joinedBehind, JoinOk}
+use Rattle.hub_state.specs.Unmoved.{SameRoutine, Unmoved, JoinedRun}
 use Rattle.hub_state.specs.declared.HubState.{HubState}
 use Rattle.hub_state.proofs.Steps.{new-upto, new-fit}
 use Rattle.hub_state.proofs.Rows.{step-same, steps-other, restart-none, same-place}
-use Rattle.hub_state.proofs.Members.{map-same, counts-most, member-passed, member-committed}
+use Rattle.hub_state.proofs.Members.{map-same, counts-most, member-id, member-passed, member-committed}
 use Rattle.hub_apply.specs.Fill.{Fills, commandIn, CanFill, behindSlot, CanPassBehind, onceMore, PassesBehind}
 use Rattle.hub_apply.specs.Contract.{withPassed, Places}
 
@@ -364,5 +367,48 @@ module _ (h : HubState) (q : Routine) (after : ℕ) (v : StateOk h) (ok : JoinOk
             valid = valid-now;
             gives = state-now;
             links = subst (λ (s : ℕ). Joins (h .links) after (record { links = j .links; slot = s })) (a .slot-is) a;
+            it = subst (λ (s : ℕ). memberAt now s ≡ newcomer (h .«next_id») cs) (a .slot-is) member-new;
             others = λ x t. member-stays x t ∙ ap (λ (n : ℕ). withPassed n (memberAt h x)) (sym (member-passed now x));
           }
+
+-- ---- nobody else is moved
+
+module _ (h : HubState) (cs : List Command) (after : ℕ) (r : HubState) (v : StateOk h) (k : StandsOrNone (h .links) after)
+    (p : Places h cs after r)
+  where
+    abbrev joined : Joined
+    joined = record { links = r .links; slot = h .links .free }
+
+    stays-same : (x : ℕ) → Stands (h .links) x → SameRoutine (memberAt h x) (memberAt r x)
+    stays-same x t = let e = p .others x t in
+        record { same-id = ap (λ (m : Member). m .id) e; same-commands = ap (λ (m : Member). commandsIn (m .steps)) e }
+
+    -- who is taken now and was not is the newcomer
+    is-new : (x : ℕ) → Stands (r .links) x → (Stands (h .links) x → ⊥) → memberAt r x ≡ newcomer (h .«next_id») cs
+    is-new x t n =
+        byEq x (h .links .free)
+        (λ e. ap (memberAt r) e ∙ p .it)
+        (λ m. absurd (n (held-or-new (h .links) after joined k (p .links) x t m)))
+
+    new-id : (x : ℕ) → Stands (r .links) x → (Stands (h .links) x → ⊥) → memberAt r x .id ≡ h .«next_id»
+    unfolding newcomer
+    new-id x t n = ap (λ (m : Member). m .id) (is-new x t n)
+
+    pub places-run : JoinedRun h r
+    unfolding newcomer
+    places-run x t n = ap (λ (m : Member). m .committed) (is-new x t n)
+
+    -- the newcomer's id is above all others
+    places-slot : (x y : ℕ) → Stands (h .links) x → Stands (r .links) y → memberAt r y .id ≡ memberAt h x .id → x ≡ y
+    places-slot x y t u e =
+        byStands (h .links) y
+        (λ s. v .ids-differ x y t s (sym (member-id h x) ∙ sym e ∙ stays-same y s .same-id ∙ member-id h y))
+        (λ n. absurd (omega (arith, new-id y u n, e, member-id h x, v .ids-below x t)))
+
+    pub places-unmoved : Unmoved h r
+    places-unmoved =
+        record {
+          same-slot = places-slot;
+          same-routine = λ x t _. stays-same x t;
+          links = joins-stay (h .links) after joined k (p .links);
+        }

@@ -13,13 +13,15 @@ use Rattle.rules.specs.Events.{skipLeft, skipRest}
 use Rattle.hub_sequence.specs.Links.{Stands}
 use Rattle.hub_state.specs.View.{rowsOf, stepsAt, memberAt, membersOf, stateOf, there}
 use Rattle.hub_state.specs.Valid.{AnsweredUpTo, StateOk}
+use Rattle.hub_state.specs.Unmoved.{InPlace}
 use Rattle.hub_state.specs.declared.HubState.{HubState}
 use Rattle.hub_state.proofs.Rows.{withStages, step-same, steps-other}
 use Rattle.hub_state.proofs.Codes.{codes-upto}
 use Rattle.hub_state.proofs.Members.{stands-below}
 use Rattle.hub_apply.specs.Stages.{FirstUnanswered, SkipsLeft}
 use Rattle.hub_apply.proofs.CodeLaws.{codes-skipped, steps-skipped, each-skipLeft}
-use Rattle.hub_apply.proofs.MoveLaws.{movedRows, Moved, move-valid, move-sequence, fromOf, openOf, endOf, come-codes, places-apart}
+use Rattle.hub_apply.proofs.MoveLaws.{movedRows, move-in-place, Moved, move-valid, move-sequence, fromOf, openOf, endOf}
+use Rattle.hub_apply.proofs.MoveLaws.{come-codes, places-apart}
 
 module _ (h : HubState) (x d : ℕ) (v : StateOk h) (st : Stands (h .links) x) (long : length (h .answered) ≡ maxSequence)
     (stage : List ℕ) (s : SkipsLeft (h .stage) (h .device) d (fromOf x) (endOf h x) stage) (r : ℕ)
@@ -65,9 +67,10 @@ module _ (h : HubState) (x d : ℕ) (v : StateOk h) (st : Stands (h .links) x) (
     unfolding there memberAt
     skips-sequence = move-sequence h x v st skips-moved
 
-    pub skips-applied : (StateOk nowSkipped) × (stateOf nowSkipped ≡ skipRest d (stateOf h) (there h x))
+    pub skips-applied : (StateOk nowSkipped) × (stateOf nowSkipped ≡ skipRest d (stateOf h) (there h x)) × (InPlace h nowSkipped)
     unfolding stateOf skipRest
     skips-applied = (
       move-valid h x v st skips-moved,
       ap (λ (l : List Member). withSequence (stateOf h) l) skips-sequence,
+      move-in-place h newAnswered (h .«due_then») stage (h .mark),
     )

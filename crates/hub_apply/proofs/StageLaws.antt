@@ -23,6 +23,7 @@ use Rattle.hub_state.specs.View.{there}
 use Rattle.hub_state.specs.View.{marksOf}
 use Rattle.hub_state.specs.Valid.{AnsweredUpTo, StateOk}
 use Rattle.hub_state.specs.Contract.{setStatus, staged, committedAt, StageOk}
+use Rattle.hub_state.specs.Unmoved.{InPlace}
 use Rattle.hub_state.specs.Unanswered.{answeredAt}
 use Rattle.hub_state.specs.declared.HubState.{HubState}
 use Rattle.hub_state.specs.declared.Staged.{Staged}
@@ -32,7 +33,8 @@ use Rattle.hub_state.proofs.Codes.{codes-upto}
 use Rattle.hub_state.proofs.Members.{changed-taken, length-steps, stands-below, place-within}
 use Rattle.hub_apply.specs.Stages.{FirstUnanswered}
 use Rattle.hub_apply.proofs.CodeLaws.{codes-answered}
-use Rattle.hub_apply.proofs.MoveLaws.{movedRows, Moved, move-valid, move-sequence, fromOf, openOf, endOf, come-codes, places-apart}
+use Rattle.hub_apply.proofs.MoveLaws.{movedRows, move-in-place, Moved, move-valid, move-sequence, fromOf, openOf, endOf}
+use Rattle.hub_apply.proofs.MoveLaws.{come-codes, places-apart}
 
 -- ---- a routine commits
 
@@ -85,11 +87,16 @@ module _ (h : HubState) (x : ℕ) (v : StateOk h) (s : Stands (h .links) x) (n :
         ids-differ = v .ids-differ;
       }
 
-  pub commit-applied : (StateOk nowCommitted) × (stateOf nowCommitted ≡ committedAt h x)
+  commit-in-place : InPlace h nowCommitted
+  unfolding memberAt stepsAt
+  commit-in-place = record { links = refl; routines = λ y _. record { same-id = refl; same-commands = refl } }
+
+  pub commit-applied : (StateOk nowCommitted) × (stateOf nowCommitted ≡ committedAt h x) × (InPlace h nowCommitted)
   unfolding stateOf committedAt
   commit-applied = (
     commit-valid,
     ap (λ (l : List Member). withSequence (stateOf h) l) (changed-taken h nowCommitted x v s commit-others _ refl commit-it),
+    commit-in-place,
   )
 
 -- ---- a command comes to a stage
@@ -196,11 +203,12 @@ module _ (h : HubState) (c : Staged) (v : StateOk h) (ok : StageOk h c) where
       stage-sequence = move-sequence h (c .at) v (ok .stands) stage-moved
 
       pub stage-applied : marksOf mark ≡ (if c .begins then put (marksOf (h .mark)) (c .device) (c .id) else marksOf (h .mark)) →
-          (StateOk nowStaged) × (stateOf nowStaged ≡ staged h c)
+          (StateOk nowStaged) × (stateOf nowStaged ≡ staged h c) × (InPlace h nowStaged)
       unfolding stateOf staged
       stage-applied e = (
         move-valid h (c .at) v (ok .stands) stage-moved,
         (λ i. withMark (withSequence (stateOf h) (stage-sequence i)) (e i)),
+        move-in-place h answered newDue newStages mark,
       )
 
 -- ---- the marks

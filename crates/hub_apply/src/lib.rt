@@ -20,6 +20,7 @@ ghost use Rattle.rules.specs.Events.{skipRest};
 ghost use Rattle.hub_sequence.specs.Links.{Stands};
 ghost use Rattle.hub_state.specs.View.{stateOf, there};
 ghost use Rattle.hub_state.specs.Valid.{StateOk};
+ghost use Rattle.hub_state.specs.Unmoved.{InPlace};
 ghost use Rattle.hub_state.specs.Contract.{staged, committedAt, StageOk, JoinOk};
 ghost use Rattle.hub_apply.specs.Contract.{Places};
 ghost use Rattle.hub_apply.specs.Stages.{FirstUnanswered, SkipsLeft};
@@ -42,7 +43,7 @@ fn first_unanswered<'a>(stage: &'a [u8; STEPS], from: usize, end: usize) -> usiz
 // The first command that is not answered comes to a stage, and its device to the routine's mark if that begins it.
 pub fn with_stage(state: HubState, change: Staged) -> HubState
     requires { ⌜ (StateOk state) × (StageOk state change) ⌝ }
-    ensures { λ r. ⌜ (StateOk r) × (stateOf r ≡ staged state change) ⌝ }
+    ensures { λ r. ⌜ (StateOk r) × (stateOf r ≡ staged state change) × (InPlace state r) ⌝ }
 {
     let devices = state.devices;
     let pass_limit = state.pass_limit;
@@ -126,7 +127,7 @@ fn skip_left<'a>(
 // An event of a device: the commands of the routine in a slot that are left on it are skipped (document 02, item 3).
 pub fn with_skips(state: HubState, at: usize, wanted: u8) -> HubState
     requires { ⌜ (StateOk state) × (Stands (state .links) at) ⌝ }
-    ensures { λ r. ⌜ (StateOk r) × (stateOf r ≡ skipRest wanted (stateOf state) (there state at)) ⌝ }
+    ensures { λ r. ⌜ (StateOk r) × (stateOf r ≡ skipRest wanted (stateOf state) (there state at)) × (InPlace state r) ⌝ }
 {
     let devices = state.devices;
     let pass_limit = state.pass_limit;
@@ -177,7 +178,7 @@ pub fn with_skips(state: HubState, at: usize, wanted: u8) -> HubState
 // "No command left: committed."
 pub fn with_commit(state: HubState, at: usize) -> HubState
     requires { ⌜ (StateOk state) × (Stands (state .links) at) ⌝ }
-    ensures { λ r. ⌜ (StateOk r) × (stateOf r ≡ committedAt state at) ⌝ }
+    ensures { λ r. ⌜ (StateOk r) × (stateOf r ≡ committedAt state at) × (InPlace state r) ⌝ }
 {
     let devices = state.devices;
     let pass_limit = state.pass_limit;

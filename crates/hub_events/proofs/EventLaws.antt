@@ -36,14 +36,17 @@ use Rattle.hub_answers.specs.declared.PutBacks.{PutBacks}
 use Rattle.hub_state.specs.View.{noRestart, isRestart, memberAt, stateOf, there}
 use Rattle.hub_state.specs.Valid.{StateOk}
 use Rattle.hub_state.specs.Contract.{putBacksLeft, halfwayIn, stoppedBy, putBacksStopped, downWith, upWith, StandsOrPast, Decides}
+use Rattle.hub_state.specs.Unmoved.{InPlace, OnlyLeave}
 use Rattle.hub_state.specs.declared.HubState.{HubState}
 use Rattle.hub_state.specs.declared.Place.{Place}
 use Rattle.hub_state.specs.declared.Place.the-variants.{At, Nowhere}
 use Rattle.hub_state.specs.declared.Change.the-variants.{Fail, Restart}
 use Rattle.hub_state.proofs.Members.{state-mark, member-id, there-it, stands-below}
+use Rattle.hub_state.proofs.UnmovedLaws.{same-routine-as, itself-in-place, in-place-leaves, leave-then}
 use Rattle.hub_search.specs.Contract.{Finds}
 use Rattle.hub_search.proofs.Found.{found-as, stands-at}
 use Rattle.hub_settle.specs.Contract.{LeavesHub}
+use Rattle.hub_settle.proofs.LeaveLaws.{leaves-unmoved}
 use Rattle.hub_events.specs.Contract.{abortTold, IsHalfway}
 use Rattle.hub_events.specs.declared.Affected.{Affected}
 
@@ -291,28 +294,31 @@ module _ (s : State) (d : ℕ) (v : ℤ) where
 module _ (h : HubState) (x d : ℕ) where
   -- what comes of the routine that is halfway, if there is one
   abbrev pub Stops : HubState → Type 0
-  Stops r = (StateOk r) × (stateOf r ≡ stoppedBy d (stateOf h) (halfwayIn h x))
+  Stops r = (StateOk r) × (stateOf r ≡ stoppedBy d (stateOf h) (halfwayIn h x)) × (OnlyLeave h r)
 
   -- there is none
   pub none-stops : StateOk h → maxSequence ≤ x → Stops h
-  none-stops v i = (v, ap (stoppedBy d (stateOf h)) (sym (half-past h x i)))
+  none-stops v i = (v, ap (stoppedBy d (stateOf h)) (sym (half-past h x i)), in-place-leaves h h v (itself-in-place h))
 
   -- t: is a must of the one in this slot left?
   module _ (i : x < maxSequence) (t : Bool) (k : t ≡ mustLeft d (memberAt h x)) where
     -- it aborts
-    pub one-leaves : t ≡ true → (r : HubState) → LeavesHub h x r → Stops r
-    one-leaves y r a = (
+    pub one-leaves : StateOk h → StandsOrPast h x → t ≡ true → (r : HubState) → LeavesHub h x r → Stops r
+    one-leaves v s y r a = (
       a .valid,
       a .gives ∙ sym (stop-leaves d (stateOf h) (there h x) (must-there h x d k ∙ y))
           ∙ ap (stoppedBy d (stateOf h)) (sym (half-there h x i)),
+      leaves-unmoved h x r v (s i) a,
     )
 
     -- what is left is skipped
-    pub one-skips : t ≡ false → (r : HubState) → (StateOk r) × (stateOf r ≡ skipRest d (stateOf h) (there h x)) → Stops r
-    one-skips n r a = (
+    pub one-skips : StateOk h → t ≡ false → (r : HubState) →
+        (StateOk r) × (stateOf r ≡ skipRest d (stateOf h) (there h x)) × (InPlace h r) → Stops r
+    one-skips v n r a = (
       a .0,
       a .1 ∙ sym (stop-skips d (stateOf h) (there h x) (must-there h x d k ∙ n))
           ∙ ap (stoppedBy d (stateOf h)) (sym (half-there h x i)),
+      in-place-leaves h r v (a .2),
     )
 
   -- what its abort puts back, in the state s
@@ -339,9 +345,27 @@ module _ (h : HubState) (x d : ℕ) where
 pub stands-down : (h g : HubState) (x : ℕ) → g .links ≡ h .links → StandsOrPast h x → StandsOrPast g x
 stands-down h g x k s i = subst (λ (l : Links). Stands l x) (sym k) (s i)
 
-pub failure-stops : (h g : HubState) (d x : ℕ) → stateOf g ≡ downWith (stateOf h) d → there g ≡ there h → (r : HubState) → Stops g x d r →
-    (StateOk r) × (stateOf r ≡ stoppedBy d (downWith (stateOf h) d) (halfwayIn h x))
-failure-stops h g d x e t r a = (a .0, a .1 ∙ (λ i. stoppedBy d (e i) (if ltb x maxSequence then some (t i x) else none)))
+-- whether a device is up changes nothing else
+up-leaves : (h g : HubState) → StateOk h → g .links ≡ h .links → there g ≡ there h → OnlyLeave h g
+up-leaves h g v k t =
+    in-place-leaves h g v
+    (record {
+      links = k;
+      routines = λ x _. same-routine-as (sym (there-it g x) ∙ (λ i. t i x .it) ∙ there-it h x);
+    })
+
+pub failure-stops : (h g : HubState) (d x : ℕ) → StateOk h → stateOf g ≡ downWith (stateOf h) d → g .links ≡ h .links →
+    there g ≡ there h → (r : HubState) → Stops g x d r →
+    (StateOk r) × (stateOf r ≡ stoppedBy d (downWith (stateOf h) d) (halfwayIn h x)) × (OnlyLeave h r)
+failure-stops h g d x v e k t r a = (
+  a .0,
+  a .1 ∙ (λ i. stoppedBy d (e i) (if ltb x maxSequence then some (t i x) else none)),
+  leave-then h g r (up-leaves h g v k t) (a .2),
+)
+
+pub restart-leaves : (h g t u : HubState) → OnlyLeave h g → StateOk g → InPlace g t → StateOk t → u .links ≡ t .links →
+    there u ≡ there t → OnlyLeave h u
+restart-leaves h g t u p v q w k e = leave-then h g u p (leave-then g t u (in-place-leaves g t v q) (up-leaves t u w k e))
 
 -- g: after the abort or the skips, if there are any; t: with the restart attached; u: with the device up
 pub restart-gives : (h g t u : HubState) (x d : ℕ) (v : ℤ) → Stops h x d g →

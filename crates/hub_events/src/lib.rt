@@ -23,6 +23,7 @@ ghost use Rattle.rules.specs.Events.{failureOf, restartOf};
 ghost use Rattle.hub_answers.specs.View.{putBacksOf, PutBacksOk};
 ghost use Rattle.hub_state.specs.View.{isRestart, stateOf};
 ghost use Rattle.hub_state.specs.Valid.{StateOk};
+ghost use Rattle.hub_state.specs.Unmoved.{OnlyLeave};
 ghost use Rattle.hub_state.specs.Contract.{halfwayIn, stoppedBy, putBacksStopped, downWith, upWith, StandsOrPast, Decides};
 ghost use Rattle.hub_abort.specs.PutBacks.{downIf};
 ghost use Rattle.hub_events.specs.Contract.{IsHalfway};
@@ -135,7 +136,8 @@ pub fn put_backs_if(state: HubState, slot: usize, device: u8, down: u8) -> PutBa
 // called by both, keeps two states off the stack.)
 pub fn with_failure(state: HubState, device: u8, slot: usize) -> HubState
     requires { ⌜ (StateOk state) × (device < maxDevices) × (StandsOrPast state slot) ⌝ }
-    ensures { λ r. ⌜ (StateOk r) × (stateOf r ≡ stoppedBy device (downWith (stateOf state) device) (halfwayIn state slot)) ⌝ }
+    ensures { λ r. ⌜ (StateOk r) × (stateOf r ≡ stoppedBy device (downWith (stateOf state) device) (halfwayIn state slot))
+        × (OnlyLeave state r) ⌝ }
 {
     let mut next = hub_settle::with_up(state, device, false);
     if slot < MAX_SEQUENCE {
@@ -153,7 +155,8 @@ pub fn with_failure(state: HubState, device: u8, slot: usize) -> HubState
 // The abort, or the skips; the event is attached to D's mark; "On a restart D then becomes up at the setting it reports."
 pub fn with_restart(state: HubState, device: u8, setting: i16, slot: usize) -> HubState
     requires { ⌜ (StateOk state) × (device < maxDevices) × (isRestart setting ≡ true) × (StandsOrPast state slot) ⌝ }
-    ensures { λ r. ⌜ (StateOk r) × (stateOf r ≡ upWith (stoppedBy device (stateOf state) (halfwayIn state slot)) device setting) ⌝ }
+    ensures { λ r. ⌜ (StateOk r) × (stateOf r ≡ upWith (stoppedBy device (stateOf state) (halfwayIn state slot)) device setting)
+        × (OnlyLeave state r) ⌝ }
 {
     let mut next = state;
     if slot < MAX_SEQUENCE {

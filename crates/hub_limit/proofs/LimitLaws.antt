@@ -17,7 +17,9 @@ use Rattle.rules.proofs.LimitLaws.{limit-passes, limit-turned-down}
 use Rattle.hub_answers.specs.declared.Answer.the-variants.{Refused, Limited}
 use Rattle.hub_state.specs.View.{stepsAt, memberAt, membersOf, stateOf}
 use Rattle.hub_state.specs.Valid.{StateOk}
+use Rattle.hub_state.specs.Unmoved.{InPlace}
 use Rattle.hub_state.specs.declared.HubState.{HubState}
+use Rattle.hub_state.proofs.UnmovedLaws.{itself-in-place}
 use Rattle.hub_limit.specs.Contract.{Limits}
 
 -- one law for each way out of the check
@@ -50,7 +52,8 @@ withLimit h k = record {
   mark = h .mark;
 }
 
-pub limited-state : (h : HubState) (k : ℕ) → StateOk h → StateOk (withLimit h k) × (stateOf (withLimit h k) ≡ withPassLimit (stateOf h) k)
+pub limited-state : (h : HubState) (k : ℕ) → StateOk h →
+    (StateOk (withLimit h k)) × (stateOf (withLimit h k) ≡ withPassLimit (stateOf h) k) × (InPlace h (withLimit h k))
 unfolding stateOf membersOf memberAt stepsAt
 limited-state h k v = (
   record {
@@ -64,14 +67,16 @@ limited-state h k v = (
     ids-differ = v .ids-differ;
   },
   refl,
+  record { links = refl; routines = λ x _. record { same-id = refl; same-commands = refl } },
 )
 
 module _ (h : HubState) (k : ℕ) (verdict : Verdict) (made : verdict ≡ limitCheck k) where
   -- it is in force
-  pub limits-fine : (next : HubState) → StateOk next → stateOf next ≡ withPassLimit (stateOf h) k → verdict ≡ Accepted →
+  pub limits-fine : (next : HubState) → StateOk next → stateOf next ≡ withPassLimit (stateOf h) k → InPlace h next → verdict ≡ Accepted →
       Limits h k (record { state = next; answer = Limited k })
-  limits-fine next v e a = record {
+  limits-fine next v e p a = record {
     valid = v;
+    in-place = p;
     gives = ap (λ (s : State). record { state = s; answers = limited k ∷ [] }) e ∙ sym (limit-passes (stateOf h) k (sym made ∙ a));
     same-state = λ z. t≠f (sym z);
   }
@@ -79,4 +84,9 @@ module _ (h : HubState) (k : ℕ) (verdict : Verdict) (made : verdict ≡ limitC
   -- it is turned down
   pub limits-not : (r : Refusal) → StateOk h → verdict ≡ TurnedDown r → Limits h k (record { state = h; answer = Refused r })
   limits-not r v a =
-      record { valid = v; gives = sym (limit-turned-down (stateOf h) k r (sym made ∙ a)); same-state = λ _. refl }
+      record {
+        valid = v;
+        gives = sym (limit-turned-down (stateOf h) k r (sym made ∙ a));
+        in-place = itself-in-place h;
+        same-state = λ _. refl;
+      }

@@ -10,6 +10,7 @@ ghost use Rattle.rules.specs.Open.{limitCheck};
 ghost use Rattle.rules.specs.Limit.{withPassLimit};
 ghost use Rattle.hub_state.specs.View.{stateOf};
 ghost use Rattle.hub_state.specs.Valid.{StateOk};
+ghost use Rattle.hub_state.specs.Unmoved.{InPlace};
 ghost use Rattle.hub_limit.specs.Contract.{Limits};
 
 // What comes of it: the state, and the answer.
@@ -31,7 +32,7 @@ pub fn check(pass_limit: u8) -> Verdict
 // "Every routine keeps its count": K alone changes.
 fn with_limit(state: HubState, pass_limit: u8) -> HubState
     requires { ⌜ StateOk state ⌝ }
-    ensures { λ r. ⌜ (StateOk r) × (stateOf r ≡ withPassLimit (stateOf state) «pass_limit») ⌝ }
+    ensures { λ r. ⌜ (StateOk r) × (stateOf r ≡ withPassLimit (stateOf state) «pass_limit») × (InPlace state r) ⌝ }
 {
     let mut next = state;
     next.pass_limit = pass_limit;

@@ -70,6 +70,12 @@ module _ {k : Links} {l f : List ℕ} {s : ℕ} (v : Keeps k l (s ∷ f)) (after
     pub join-keeps-ahead : (x : ℕ) → (x ≡ s → ⊥) → (x ≡ behindOf k after → ⊥) → aheadOf r x ≡ aheadOf k x
     join-keeps-ahead x n m = at a x ∙ put-other newAhead (behindOf k after) s x m ∙ put-other (aheadOf k) s after x n
 
+    pub join-behind-after : behindOf r after ≡ s
+    join-behind-after = at b after ∙ put-same newBehind after s
+
+    pub join-ahead-next : aheadOf r (behindOf k after) ≡ s
+    join-ahead-next = at a (behindOf k after) ∙ put-same newAhead (behindOf k after) s
+
     pub join-keeps : r .free ≡ behindOf k s → r .taken ≡ k .taken + 1 → Keeps r (placed after s none l) f
     join-keeps g c =
         let t = new-slot in
@@ -80,10 +86,10 @@ module _ {k : Links} {l f : List ℕ} {s : ℕ} (v : Keeps k l (s ∷ f)) (after
         record {
           linked = path-join after s join-keeps-behind
               (λ x n m. join-keeps-ahead x n (λ e. m (ap (aheadOf k) e ∙ back)))
-              (at b after ∙ put-same newBehind after s)
+              join-behind-after
               (at a s ∙ put-other newAhead (behindOf k after) s s off-next ∙ put-same (aheadOf k) s after)
               (at b s ∙ put-other newBehind after s s off-after ∙ put-same (behindOf k) s (behindOf k after))
-              (at a (behindOf k after) ∙ put-same newAhead (behindOf k after) s)
+              join-ahead-next
               (v .linked) (λ e. u (sym e)) (omega (arith, same-other s none u)) (o .0);
           spare = rw g (chain-past-join after s join-keeps-behind (chain-rest (v .spare)) (t .1) (omega arith));
           once = λ x. omega (arith, v .once x, count-placed after s x none l h);
@@ -151,6 +157,8 @@ module _ (k : Links) (after : ℕ) (r : Links) {next : ℕ} (p : CanJoin k after
           slot-is = refl;
           fresh = new-slot u after i .0;
           taken = c;
+          behind-after = join-behind-after u after i r b a;
+          ahead-next = join-ahead-next u after i r b a;
           behind = join-keeps-behind u after i r b a;
           ahead = join-keeps-ahead u after i r b a;
         }

@@ -6,3 +6,4 @@ pub mod WalkLaws
 pub mod EmptyLaws
 pub mod JoinLaws
 pub mod LeaveLaws
+pub mod StayLaws

@@ -26,8 +26,8 @@ pub record CanJoin (k : Links) (after : ℕ) : Type 0 where
   pub room : k .taken < maxSequence
   pub place : StandsOrNone k after
 
--- The slot was free, and stands directly behind `after`. Of all links only the new slot's and its neighbours' are others; `none` counts as
--- a neighbour, so that the frame speaks of `first` and `last` too.
+-- The slot was free, and stands directly behind `after` and ahead of the one that stood there. Of all links only the new slot's and its
+-- neighbours' are others; `none` counts as a neighbour, so that the frame speaks of `first` and `last` too.
 pub record Joins (k : Links) (after : ℕ) (r : Joined) : Type 0 where
   pub valid : LinksOk (r .links)
   pub slots : slotsOf (r .links) ≡ placed after (r .slot) none (slotsOf k)
@@ -35,6 +35,8 @@ pub record Joins (k : Links) (after : ℕ) (r : Joined) : Type 0 where
   pub slot-is : r .slot ≡ k .free
   pub fresh : count (r .slot) (slotsOf k) ≡ 0
   pub taken : r .links .taken ≡ k .taken + 1
+  pub behind-after : behindOf (r .links) after ≡ r .slot
+  pub ahead-next : aheadOf (r .links) (behindOf k after) ≡ r .slot
   pub behind : (x : ℕ) → (x ≡ r .slot → ⊥) → (x ≡ after → ⊥) → behindOf (r .links) x ≡ behindOf k x
   pub ahead : (x : ℕ) → (x ≡ r .slot → ⊥) → (x ≡ behindOf k after → ⊥) → aheadOf (r .links) x ≡ aheadOf k x
 

@@ -1,8 +1,12 @@
--- The readings run by computation: slots 2, 0, 1 are taken in this order, and 3 is the first that is free. Assumes nothing.
+-- The readings run by computation: slots 2, 0, 1 are taken in this order, and 3 is the first that is free. And what the frame of the links
+-- turns down. Assumes nothing.
+use Prim.Native.Nat.{ℕ}
+use native.Mathlib.Omega.{arith}
 use mathlib.Core.Path.{_≡_, refl}
 use mathlib.Core.List.{[], _∷_}
 use Rattle.hub_sequence.specs.Lists.{placed, through, past, without, upTo, rest, lastOr}
 use Rattle.hub_sequence.specs.Links.{none, along, walk, linkOf, behindOf, aheadOf, rowWith, endWith, slotsOf, backOf, freeOf}
+use Rattle.hub_sequence.specs.Stays.{Stays, LinksStay}
 use Rattle.hub_sequence.specs.declared.Links.{Links}
 
 abbrev three : Links
@@ -92,3 +96,30 @@ last-ahead = refl
 
 last-of-none : lastOr none [] ≡ none
 last-of-none = refl
+
+-- ---- what `LinksStay` turns down
+
+-- The link ahead of a free slot, which nobody reads, is written.
+abbrev written : Links
+written =
+    record {
+      ahead = 2 ∷ 0 ∷ none ∷ 1 ∷ [];
+      behind = 1 ∷ none ∷ 0 ∷ 5 ∷ none ∷ 4 ∷ [];
+      first = 2;
+      last = 1;
+      free = 3;
+      taken = 3;
+    }
+
+-- Every reading is as it was.
+back-written : backOf written ≡ backOf three
+unfolding along walk
+back-written = refl
+
+stays-written : (x : ℕ) → Stays three written x
+stays-written x = ((λ s. s), (λ s. s))
+
+is-written : LinksStay three written → ⊥
+unfolding linkOf
+is-written l =
+    let e : _≡_ {A = ℕ} 1 0 = l .ahead 3 (stays-written 3) (stays-written 0) (stays-written 1) in omega arith

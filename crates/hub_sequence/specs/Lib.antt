@@ -1,4 +1,5 @@
 pub mod Lists
 pub mod Links
 pub mod Contract
+pub mod Stays
 pub mod Examples

@@ -21,22 +21,16 @@ use Rattle.hub_sequence.specs.Contract.{Leaves}
 use Rattle.hub_sequence.specs.declared.Links.{Links}
 use Rattle.hub_sequence.proofs.Tables.{byEq}
 use Rattle.hub_sequence.proofs.Lists.{same-self, same-eq, same-other, count-without, count-append, slots-around, off-upTo}
+use Rattle.hub_sequence.proofs.StayLaws.{stood}
 use Rattle.hub_sequence.proofs.ReadLaws.{once-taken, stands-slot, ahead-last, ahead-row}
 use Rattle.hub_state.specs.View.{settingsOf, marksOf, stepsAt, restartsAt, memberAt, membersOf, stateOf, there}
 use Rattle.hub_state.specs.Valid.{StateOk}
+use Rattle.hub_state.specs.Unmoved.{SameRoutine, OnlyLeave}
 use Rattle.hub_state.specs.declared.HubState.{HubState}
 use Rattle.hub_state.proofs.Members.{member-id, member-restarts, member-same, map-same, there-left, id-in-row, id-not-in-row, last-in}
+use Rattle.hub_state.proofs.UnmovedLaws.{leaves-only}
 use Rattle.hub_settle.specs.Contract.{LeavesHub, MovesRestarts}
 use Rattle.hub_settle.proofs.StateLaws.{tablesIn, valid-linked, attach-zero, attach-routine, attachedIn, attached-each}
-
--- ---- the links without it
-
-module _ (k : Links) (at : ℕ) (r : Links) (s : Stands k at) (e : Leaves k at r) where
-  -- a slot that still stands stood before
-  pub stood : (x : ℕ) → Stands r x → Stands k x
-  stood x t =
-      let c : count x (slotsOf r) ≡ count x (without at (slotsOf k)) = ap (count x) (e .slots) in
-      omega (arith, count-without at x (slotsOf k) s)
 
 -- ---- the slot before it
 
@@ -116,7 +110,7 @@ module _ (h : HubState) (at : ℕ) (k : Links) (row table : List ℤ) (mark : Li
     events = restartsAt (h .restarts) at
 
     gone-valid : StateOk gone
-    gone-valid = valid-linked h row table (h .up) mark v k (e .valid) (stood (h .links) at k s e)
+    gone-valid = valid-linked h row table (h .up) mark v k (e .valid) (stood (h .links) at k (v .links-ok) s e)
 
     -- the state before its events are attached
     abbrev moved : ℕ → State
@@ -199,3 +193,16 @@ module _ (h : HubState) (at : ℕ) (k : Links) (row table : List ℤ) (mark : Li
           links = e;
           others = λ x u _. first-each x ∙ first-others x u;
         }
+
+-- ---- nobody else is moved
+
+attached-same : (e : ℕ → Option ℤ) (m : Member) (t : Bool) → SameRoutine m (if t then attachTo e m else m)
+unfolding attachTo
+attached-same e m true = record { same-id = refl; same-commands = refl }
+attached-same e m false = record { same-id = refl; same-commands = refl }
+
+pub leaves-unmoved : (h : HubState) (at : ℕ) (r : HubState) → StateOk h → Stands (h .links) at → LeavesHub h at r → OnlyLeave h r
+leaves-unmoved h at r v s e =
+    leaves-only h at r v s (e .links)
+    (λ x t n. subst (SameRoutine (memberAt h x)) (sym (e .others x t n))
+    (attached-same (memberAt h at .restarts) (memberAt h x) (eqb x (aheadOf (h .links) at))))

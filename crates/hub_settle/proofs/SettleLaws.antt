@@ -19,17 +19,21 @@ use Rattle.hub_sequence.specs.Links.{along, slotsOf, Stands}
 use Rattle.hub_sequence.specs.Contract.{Leaves}
 use Rattle.hub_sequence.specs.declared.Links.{Links}
 use Rattle.hub_sequence.proofs.Lists.{without-first}
+use Rattle.hub_sequence.proofs.Tables.{byEq}
+use Rattle.hub_sequence.proofs.StayLaws.{byStands, stood, still-stands}
 use Rattle.hub_sequence.proofs.WalkLaws.{first-slot, first-stands, no-first}
 use Rattle.hub_state.specs.View.{settingsOf, marksOf, firstCommitted, rowsOf, stepsFrom, stepsAt, restartsAt, memberAt, membersOf, stateOf}
 use Rattle.hub_state.specs.Valid.{StateOk}
+use Rattle.hub_state.specs.Unmoved.{OnlyLeave, LeftCommitted}
 use Rattle.hub_state.specs.declared.HubState.{HubState}
 use Rattle.hub_state.proofs.Steps.{done-upto}
 use Rattle.hub_state.proofs.Rows.{take-stepsFrom}
-use Rattle.hub_state.proofs.Members.{answered-most, counts-most, device-within}
+use Rattle.hub_state.proofs.Members.{member-committed, answered-most, counts-most, device-within}
 use Rattle.hub_state.proofs.DecisionLaws.{settle-idle}
+use Rattle.hub_state.proofs.UnmovedLaws.{same-routine-as, itself-in-place, in-place-leaves, leaves-only, leave-then}
 use Rattle.hub_due.specs.Contract.{AfterDone, DevicesFit}
+use Rattle.hub_settle.specs.Contract.{SettlesHub}
 use Rattle.hub_settle.proofs.StateLaws.{tablesIn, valid-linked}
-use Rattle.hub_settle.proofs.LeaveLaws.{stood}
 
 -- ---- the places of a routine's answered commands
 
@@ -117,7 +121,23 @@ module _ (h : HubState) (x : ℕ) (after : List ℤ) (mark : List ℕ) (k : Link
     joined = tablesIn h k (h .restarts) after (h .up) mark
 
     joined-valid : StateOk joined
-    joined-valid = valid-linked h (h .restarts) after (h .up) mark v k (e .valid) (stood (h .links) x k (stands-first h x v q f) e)
+    joined-valid =
+        valid-linked h (h .restarts) after (h .up) mark v k (e .valid) (stood (h .links) x k (v .links-ok) (stands-first h x v q f) e)
+
+    -- every routine is in the slot where it was
+    joined-same : (y : ℕ) → memberAt joined y ≡ memberAt h y
+    unfolding memberAt stepsAt
+    joined-same y = refl
+
+    joined-leaves : OnlyLeave h joined
+    joined-leaves = leaves-only h x joined v (stands-first h x v q f) e (λ y _ _. same-routine-as (joined-same y))
+
+    -- who has left is the first, which is committed
+    joined-left : getD (h .committed) x false ≡ true → LeftCommitted h joined
+    joined-left c y t n =
+        byEq y x
+        (λ i. member-committed h y ∙ ap (λ (z : ℕ). getD (h .committed) z false) i ∙ c)
+        (λ o. absurd (n (still-stands (h .links) x k (v .links-ok) (stands-first h x v q f) e y t o)))
 
     joined-behind : stateOf joined .sequence ≡ map (memberAt h) (behind h x v q f)
     unfolding stateOf membersOf memberAt stepsAt
@@ -148,6 +168,20 @@ pub record Settling (whole h : HubState) (i : ℕ) : Type 0 where
   pub valid : StateOk h
   pub first-is : i ≡ h .links .first
   pub same-end : settle (stateOf h) ≡ settle (stateOf whole)
+  pub same : (x : ℕ) → memberAt h x ≡ memberAt whole x
+  pub only-leave : OnlyLeave whole h
+  pub left-committed : LeftCommitted whole h
+
+-- before the first has settled
+pub settling-none : (h : HubState) → StateOk h → Settling h h (h .links .first)
+settling-none h v = record {
+  valid = v;
+  first-is = refl;
+  same-end = refl;
+  same = λ x. refl;
+  only-leave = in-place-leaves h h v (itself-in-place h);
+  left-committed = λ x s n. absurd (n s);
+}
 
 module _ (whole h : HubState) (i : ℕ) (s : Settling whole h i) where
   pub settling-more : (done after : List ℤ) (mark : List ℕ) (k : Links) → i < maxSequence → getD (h .committed) i false ≡ true →
@@ -162,16 +196,27 @@ module _ (whole h : HubState) (i : ℕ) (s : Settling whole h i) where
       record {
         valid = joined-valid h i after mark k v q f e;
         first-is = refl;
-        same-end = joined-settles h i after mark k v q f e c w m
-            ∙ s .same-end;
+        same-end = joined-settles h i after mark k v q f e c w m ∙ s .same-end;
+        same = λ x. joined-same h i after mark k v q f e x ∙ s .same x;
+        only-leave = leave-then whole h _ (s .only-leave) (joined-leaves h i after mark k v q f e);
+        left-committed = λ x t n.
+            byStands (h .links) x
+            (λ u. ap (λ (m : Member). m .committed) (sym (s .same x)) ∙ joined-left h i after mark k v q f e c x u n)
+            (s .left-committed x t);
       }
 
-  settling-ends : firstCommitted (stateOf h .sequence) ≡ false → stateOf h ≡ settle (stateOf whole)
-  settling-ends e = sym (settle-idle (stateOf h) e) ∙ s .same-end
+  settling-ends : firstCommitted (stateOf h .sequence) ≡ false → SettlesHub whole h
+  settling-ends e = record {
+    valid = s .valid;
+    gives = sym (settle-idle (stateOf h) e) ∙ s .same-end;
+    only-leave = s .only-leave;
+    others = λ x _. s .same x;
+    left-committed = s .left-committed;
+  }
 
   -- the first is not committed, or there is none
-  pub settling-runs : i < maxSequence → getD (h .committed) i false ≡ false → stateOf h ≡ settle (stateOf whole)
+  pub settling-runs : i < maxSequence → getD (h .committed) i false ≡ false → SettlesHub whole h
   settling-runs f c = settling-ends (sym (settles-first h i (s .valid) (s .first-is) f) ∙ c)
 
-  pub settling-empty : maxSequence ≤ i → stateOf h ≡ settle (stateOf whole)
+  pub settling-empty : maxSequence ≤ i → SettlesHub whole h
   settling-empty f = settling-ends (sym (settles-none h i (s .valid) (s .first-is) f))

@@ -20,6 +20,7 @@ use Rattle.hub_sequence.specs.declared.Links.{Links}
 use Rattle.hub_sequence.proofs.Tables.{byEq}
 use Rattle.hub_state.specs.View.{settingsOf, stepsAt, restartsAt, memberAt, membersOf, stateOf, there}
 use Rattle.hub_state.specs.Valid.{StateOk}
+use Rattle.hub_state.specs.Unmoved.{InPlace}
 use Rattle.hub_state.specs.declared.HubState.{HubState}
 use Rattle.hub_state.specs.declared.Place.the-variants.{At, Nowhere}
 use Rattle.hub_state.proofs.Members.{there-it, changed-slot}
@@ -68,6 +69,12 @@ module _ (h : HubState) (restarts settled : List ℤ) (up : List Bool) (mark : L
 
   pub valid-tables : StateOk (tablesIn h (h .links) restarts settled up mark)
   valid-tables = valid-linked (h .links) (v .links-ok) (λ x s. s)
+
+-- every routine is where it was
+pub tables-in-place : (h : HubState) (restarts settled : List ℤ) (up : List Bool) (mark : List ℕ) →
+    InPlace h (tablesIn h (h .links) restarts settled up mark)
+unfolding memberAt stepsAt
+tables-in-place h restarts settled up mark = record { links = refl; routines = λ x _. record { same-id = refl; same-commands = refl } }
 
 -- a device becomes up or down
 module _ (h : HubState) (d : ℕ) (b : Bool) (l : d < length (h .up)) where

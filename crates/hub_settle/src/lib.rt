@@ -19,6 +19,7 @@ ghost use Rattle.rules.specs.Attach.{oneRestart, attach};
 ghost use Rattle.hub_sequence.specs.Links.{Stands};
 ghost use Rattle.hub_state.specs.View.{marksOf, isRestart, stateOf, there};
 ghost use Rattle.hub_state.specs.Valid.{StateOk};
+ghost use Rattle.hub_state.specs.Unmoved.{InPlace};
 ghost use Rattle.hub_settle.specs.Contract.{LeavesHub, MovesRestarts};
 
 // Marks that were one id become another.
@@ -115,7 +116,7 @@ pub fn left(state: HubState, at: usize) -> HubState
 // A restart of one device, attached to an id: to 0, the settled part, or to the routine that has it.
 pub fn attached(state: HubState, id: u32, device: u8, setting: i16) -> HubState
     requires { ⌜ (StateOk state) × (device < maxDevices) × (isRestart setting ≡ true) ⌝ }
-    ensures { λ r. ⌜ (StateOk r) × (stateOf r ≡ attach id (oneRestart device setting) (stateOf state)) ⌝ }
+    ensures { λ r. ⌜ (StateOk r) × (stateOf r ≡ attach id (oneRestart device setting) (stateOf state)) × (InPlace state r) ⌝ }
 {
     let d = device as usize;
     let mut changed = state;

@@ -6,9 +6,9 @@ use hub_state::HubState;
 use rules_routine::limits::MAX_COMMANDS;
 use rules_routine::limits::MAX_SEQUENCE;
 ghost use mathlib.Core.Path.{_≡_};
-ghost use Rattle.rules.specs.Settle.{settle};
 ghost use Rattle.hub_state.specs.View.{stateOf, firstCommitted};
 ghost use Rattle.hub_state.specs.Valid.{StateOk};
+ghost use Rattle.hub_settle.specs.Contract.{SettlesHub};
 
 // Is the first in the sequence committed?
 pub fn settles(state: HubState) -> bool
@@ -26,7 +26,7 @@ pub fn settles(state: HubState) -> bool
 
 pub fn settled_state(state: HubState) -> HubState
     requires { ⌜ StateOk state ⌝ }
-    ensures { λ r. ⌜ (StateOk r) × (stateOf r ≡ settle (stateOf state)) ⌝ }
+    ensures { λ r. ⌜ SettlesHub state r ⌝ }
 {
     let devices = state.devices;
     let pass_limit = state.pass_limit;

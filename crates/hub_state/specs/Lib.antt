@@ -1,4 +1,6 @@
 pub mod View
 pub mod Valid
 pub mod Contract
+pub mod Unmoved
 pub mod Unanswered
+pub mod Examples

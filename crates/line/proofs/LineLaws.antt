@@ -45,7 +45,8 @@ use Rattle.hub_state.proofs.DecisionLaws.{settle-idle}
 use Rattle.hub.specs.View.{view}
 use Rattle.hub.specs.Valid.{Valid}
 use Rattle.hub.specs.Contract.{Opens}
-use Rattle.hub.specs.Carrying.{LeavingOk, Carries}
+use Rattle.hub.specs.Carrying.{LeavingOk, MovesNobody, Carries}
+use Rattle.hub.proofs.CallLaws.{itself-moves}
 use Rattle.hub.specs.declared.Hub.{Hub}
 use Rattle.hub.specs.declared.Opened.{Opened}
 use Rattle.line_rules.specs.Text.{bytes}
@@ -308,7 +309,12 @@ change-as h cs e k = subst (λ (y : Change). ChangeOk h cs y) e k
 -- and makes the change
 pub carries-nothing : (h : Hub) (cs : List Command) {c : Change} → Valid h → c ≡ Nothing → Carries h cs c h
 carries-nothing h cs v e =
-    record { valid = v; gives = ap (λ (y : Change). appliedTo (h .state) cs y) (sym e); same-hub = λ _. refl }
+    record {
+      valid = v;
+      gives = ap (λ (y : Change). appliedTo (h .state) cs y) (sym e);
+      moves-nobody = itself-moves (h .state) v;
+      same-hub = λ _. refl;
+    }
 
 abbrev isChange : Change → Bool
 isChange Nothing = false
@@ -320,10 +326,11 @@ isChange (Fail d x) = true
 isChange (Restart d v x) = true
 
 pub carries : (h : Hub) (cs : List Command) {c : Change} (x : Change) {next : Hub} → c ≡ x → isChange x ≡ true →
-    (Valid next) × (view next ≡ appliedTo (h .state) cs x) → Carries h cs c next
+    (Valid next) × (view next ≡ appliedTo (h .state) cs x) × (MovesNobody (h .state) (next .state)) → Carries h cs c next
 carries h cs x e t k = record {
   valid = k .0;
   gives = k .1 ∙ ap (λ (y : Change). appliedTo (h .state) cs y) (sym e);
+  moves-nobody = k .2;
   same-hub = λ z. t≠f (sym t ∙ ap isChange (sym e ∙ z));
 }
 

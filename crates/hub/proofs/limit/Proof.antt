@@ -13,7 +13,7 @@ no-put-backs-requires c κs = search needs
 returns : tie.Need-returns
 returns c =
     let b = c .no-put-backs .ensures in
-    limits-hub _ _ _ _ (c .before .before .set-limit .ensures) (b .0) (b .1)
+    limits-hub _ _ _ _ (c .before .before .before .before .pre) (c .before .before .set-limit .ensures) (b .0) (b .1)
 
 pub limit-spec : {M : Type 1} → statement M
 limit-spec = tie.close (tie.spec set-limit-requires no-put-backs-requires returns)

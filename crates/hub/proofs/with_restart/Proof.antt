@@ -5,8 +5,8 @@ use mir.Val.{toZ, ofZ}
 use mir.Syntax.{w16}
 use borrow.Author.Needs.{needs}
 use Rattle.hub_state.specs.View.{stateOf}
-use Rattle.hub_state.specs.Valid.{StateOk}
 use Rattle.hub_state.specs.Contract.{halfwayIn, stoppedBy, upWith}
+use Rattle.hub.proofs.CallLaws.{leave-moves}
 use Rattle.hub.proofs.with_restart.Statement.{statement}
 use Rattle.hub.proofs.with_restart.Tie as tie
 
@@ -17,13 +17,16 @@ returns : tie.Need-returns
 returns c =
     let a = c .before .before .args in
     let e : toZ w16 (ofZ w16 (a .setting)) ≡ a .setting = search needs in
-    subst
-    (λ (v : ℤ).
-    StateOk (c .with-restart .result)
-    × (stateOf (c .with-restart .result) ≡ upWith (stoppedBy (a .device) (stateOf (a .hub .state)) (halfwayIn (a .hub .state) (a .slot)))
-    (a .device) v))
-    e
-    (c .with-restart .ensures)
+    let w = c .with-restart .ensures in (
+      w .0,
+      subst
+          (λ (v : ℤ).
+          stateOf (c .with-restart .result) ≡ upWith (stoppedBy (a .device) (stateOf (a .hub .state)) (halfwayIn (a .hub .state) (a .slot)))
+          (a .device) v)
+          e
+          (w .1),
+      leave-moves (a .hub .state) (c .with-restart .result) (w .2),
+    )
 
 pub with-restart-spec : {M : Type 1} → statement M
 with-restart-spec = tie.close (tie.spec with-restart-requires returns)

@@ -35,26 +35,30 @@ returns c =
     let m = c .before .before in
     let i = m .before in
     let u = i .before .with-up in
-    let a = i .before .before .args in
-    failure-stops (a .state) (u .result) (a .device) (a .slot) (u .ensures .1) (u .ensures .3) (c .left .result)
-    (one-leaves (u .result) (a .slot) (a .device) (i .if1 .taken) (m .must-left .result) (m .must-left .ensures) (c .before .if2 .taken)
-    (c .left .result) (c .left .ensures))
+    let s = i .before .before in
+    let a = s .args in
+    failure-stops (a .state) (u .result) (a .device) (a .slot) (s .pre .0) (u .ensures .1) (u .ensures .2) (u .ensures .3) (c .left .result)
+    (one-leaves (u .result) (a .slot) (a .device) (i .if1 .taken) (m .must-left .result) (m .must-left .ensures) (u .ensures .0)
+    (stands-down (a .state) (u .result) (a .slot) (u .ensures .2) (s .pre .2)) (c .before .if2 .taken) (c .left .result) (c .left .ensures))
 
 returns-2 : tie.Need-returns-2
 returns-2 c =
     let m = c .before .before in
     let i = m .before in
     let u = i .before .with-up in
-    let a = i .before .before .args in
-    failure-stops (a .state) (u .result) (a .device) (a .slot) (u .ensures .1) (u .ensures .3) (c .with-skips .result)
-    (one-skips (u .result) (a .slot) (a .device) (i .if1 .taken) (m .must-left .result) (m .must-left .ensures) (c .before .if2 .left)
-    (c .with-skips .result) (c .with-skips .ensures))
+    let s = i .before .before in
+    let a = s .args in
+    failure-stops (a .state) (u .result) (a .device) (a .slot) (s .pre .0) (u .ensures .1) (u .ensures .2) (u .ensures .3)
+    (c .with-skips .result)
+    (one-skips (u .result) (a .slot) (a .device) (i .if1 .taken) (m .must-left .result) (m .must-left .ensures) (u .ensures .0)
+    (c .before .if2 .left) (c .with-skips .result) (c .with-skips .ensures))
 
 returns-3 : tie.Need-returns-3
 returns-3 c =
     let u = c .before .with-up in
-    let a = c .before .before .args in
-    failure-stops (a .state) (u .result) (a .device) (a .slot) (u .ensures .1) (u .ensures .3) (u .result)
+    let s = c .before .before in
+    let a = s .args in
+    failure-stops (a .state) (u .result) (a .device) (a .slot) (s .pre .0) (u .ensures .1) (u .ensures .2) (u .ensures .3) (u .result)
     (none-stops (u .result) (a .slot) (a .device) (u .ensures .0) (c .if1 .left))
 
 pub with-failure-spec : {M : Type 1} → statement M

@@ -7,7 +7,7 @@ use lib.ListN.{getD}
 use mir.Facts.{toZ-ofZ}
 use Rattle.rules.specs.Attach.{oneRestart, attach}
 use Rattle.hub_state.specs.View.{isRestart, stateOf}
-use Rattle.hub_events.proofs.EventLaws.{Stops, one-leaves, one-skips, none-stops, restart-gives}
+use Rattle.hub_events.proofs.EventLaws.{Stops, one-leaves, one-skips, none-stops, restart-leaves, restart-gives}
 use Rattle.hub_events.proofs.with_restart.Statement.{statement}
 use Rattle.hub_events.proofs.with_restart.Tie as tie
 
@@ -31,11 +31,11 @@ stops c =
     let a = s .args in
     let P = Stops (a .state) (a .slot) (a .device) in
     ⊎-elim
-    (λ w. subst P (sym (w .4)) (one-leaves (a .state) (a .slot) (a .device) (w .0 .taken) (w .1 .result) (w .1 .ensures) (w .2 .taken)
-    (w .3 .result) (w .3 .ensures)))
+    (λ w. subst P (sym (w .4)) (one-leaves (a .state) (a .slot) (a .device) (w .0 .taken) (w .1 .result) (w .1 .ensures) (s .pre .0)
+    (s .pre .3) (w .2 .taken) (w .3 .result) (w .3 .ensures)))
     (⊎-elim
-    (λ w. subst P (sym (w .4)) (one-skips (a .state) (a .slot) (a .device) (w .0 .taken) (w .1 .result) (w .1 .ensures) (w .2 .left)
-    (w .3 .result) (w .3 .ensures)))
+    (λ w. subst P (sym (w .4)) (one-skips (a .state) (a .slot) (a .device) (w .0 .taken) (w .1 .result) (w .1 .ensures) (s .pre .0)
+    (w .2 .left) (w .3 .result) (w .3 .ensures)))
     (λ w. subst P (sym (w .1)) (none-stops (a .state) (a .slot) (a .device) (s .pre .0) (w .0 .left))))
     (c .if1 .came)
 
@@ -67,6 +67,8 @@ returns c =
           (t .attached .ensures .1
           ∙ ap (λ (v : ℤ). attach (getD (g .mark) (a .device) 0) (oneRestart (a .device) v) (stateOf g)) (toZ-ofZ (s .fits .setting)))
           (c .with-up .ensures .1),
+      restart-leaves (a .state) g (t .attached .result) (c .with-up .result) (stops n .2) (stops n .0) (t .attached .ensures .2)
+          (t .attached .ensures .0) (c .with-up .ensures .2) (c .with-up .ensures .3),
     )
 
 pub with-restart-spec : {M : Type 1} → statement M

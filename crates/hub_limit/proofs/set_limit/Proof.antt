@@ -20,7 +20,7 @@ returns : tie.Need-returns
 returns c =
     let k = c .before .before in
     let w = k .before .with-limit .ensures in
-    limits-fine _ _ _ (k .check .ensures) _ (w .0) (w .1) (c .enum-told .given .1)
+    limits-fine _ _ _ (k .check .ensures) _ (w .0) (w .1) (w .2) (c .enum-told .given .1)
 
 returns-2 : tie.Need-returns-2
 returns-2 c =

@@ -11,8 +11,9 @@ use Rattle.rules_routine.proofs.RoutineLaws.{length-mapped}
 use Rattle.hub_sequence.proofs.ReadLaws.{stands-slot}
 use Rattle.hub_search.specs.Contract.{hasId, Finds}
 use Rattle.hub_state.specs.declared.Place.the-variants.{At, Nowhere}
+use Rattle.hub_state.proofs.UnmovedLaws.{itself-in-place}
 use Rattle.hub_settle.proofs.RestartLaws.{attaches-one}
-use Rattle.hub_settle.proofs.StateLaws.{valid-tables, attach-settled, attach-nowhere, attach-at, settles-one}
+use Rattle.hub_settle.proofs.StateLaws.{valid-tables, tables-in-place, attach-settled, attach-nowhere, attach-at, settles-one}
 use Rattle.hub_settle.proofs.attached.Statement.{statement}
 use Rattle.hub_settle.proofs.attached.Tie as tie
 
@@ -38,6 +39,7 @@ returns c =
       rw z
           (attach-settled (a .state) (a .id) _ _ (c .if1 .taken)
           (settles-one (a .state .«settled_at») (a .device) (a .setting) (omega arith))),
+      tables-in-place (a .state) _ _ _ _,
     )
 
 with-id-requires : tie.Need-with-id-requires
@@ -55,7 +57,7 @@ returns-2 c =
     let s = w .before .before in
     let f : Finds (s .args .state) (hasId (s .args .id)) Nowhere =
     subst (Finds (s .args .state) (hasId (s .args .id))) (c .enum-told .given .1) (w .with-id .ensures) in
-    (s .pre .0, attach-nowhere (s .args .state) (s .args .id) _ (w .before .if1 .left) f)
+    (s .pre .0, attach-nowhere (s .args .state) (s .args .id) _ (w .before .if1 .left) f, itself-in-place (s .args .state))
 
 -- ---- the routine is found
 
@@ -102,6 +104,7 @@ returns-3 c =
           (attach-at (a .state) (a .id) _ _ _
           (attaches-one (a .state .restarts) _ (a .device) (a .setting) (long s .1) (slot c) (s .pre .1) (s .pre .2)) (e .if1 .left)
           (s .pre .0) (found c)),
+      tables-in-place (a .state) _ _ _ _,
     )
 
 pub attached-spec : {M : Type 1} → statement M

@@ -32,6 +32,7 @@ returns c =
     settled-gives (a .hub) (commandsOf (a .routine)) (a .decision) (p .put-backs .result) (n .changed .result) (p .before .pre .1) (b .0)
     (b .1) (n .changed .ensures) _ _ (c .outcome-with .ensures)
     (sym (d .is-due .ensures) ∙ c .before .before .if1 .taken) (c .before .settle .ensures .0) (c .before .settle .ensures .1)
+    (c .before .settle .ensures .2)
 
 outcome-with-requires-2 : tie.Need-outcome-with-requires-2
 outcome-with-requires-2 c κs = search needs

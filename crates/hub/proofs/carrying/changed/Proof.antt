@@ -77,27 +77,27 @@ returns c = carries-nothing (c .enum-told .given .1) (c .before .before .pre .0)
 returns-2 : tie.Need-returns-2
 returns-2 c =
     carries-as (c .before .before .change .given .1) (λ e. let z : _≡_ {A = ℕ} 0 1 = cc in omega arith) (c .with-stage .ensures .0)
-    (c .with-stage .ensures .1)
+    (c .with-stage .ensures .1) (c .with-stage .ensures .2)
 
 returns-3 : tie.Need-returns-3
 returns-3 c =
     carries-as (c .before .before .change2 .given .1) (λ e. let z : _≡_ {A = ℕ} 0 1 = cc in omega arith) (c .with-commit .ensures .0)
-    (c .with-commit .ensures .1)
+    (c .with-commit .ensures .1) (c .with-commit .ensures .2)
 
 returns-4 : tie.Need-returns-4
 returns-4 c =
     carries-as (c .before .before .change3 .given .1) (λ e. let z : _≡_ {A = ℕ} 0 1 = cc in omega arith) (c .with-routine .ensures .0)
-    (c .with-routine .ensures .1)
+    (c .with-routine .ensures .1) (c .with-routine .ensures .2)
 
 returns-5 : tie.Need-returns-5
 returns-5 c =
     carries-as (c .before .before .change4 .given .1) (λ e. let z : _≡_ {A = ℕ} 0 1 = cc in omega arith) (c .with-abort .ensures .0)
-    (c .with-abort .ensures .1)
+    (c .with-abort .ensures .1) (c .with-abort .ensures .2)
 
 returns-6 : tie.Need-returns-6
 returns-6 c =
     carries-as (c .before .before .change5 .given .1) (λ e. let z : _≡_ {A = ℕ} 0 1 = cc in omega arith) (c .with-failure .ensures .0)
-    (c .with-failure .ensures .1)
+    (c .with-failure .ensures .1) (c .with-failure .ensures .2)
 
 returns-7 : tie.Need-returns-7
 returns-7 c =
@@ -108,6 +108,7 @@ returns-7 c =
     (subst (λ (z : ℤ). view (c .with-restart .result) ≡ upWith (stoppedBy (x .0) (view (a .hub)) (halfwayIn (a .hub .state) (x .1 .1 .0)))
     (x .0) z)
     (same-setting (c .before)) (c .with-restart .ensures .1))
+    (c .with-restart .ensures .2)
 
 pub changed-spec : {M : Type 1} → statement M
 changed-spec =

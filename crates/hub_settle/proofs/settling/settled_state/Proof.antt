@@ -4,14 +4,14 @@ use borrow.Author.Needs.{needs}
 use Prim.Native.Nat.{_*_, _≤_}
 use native.Mathlib.Omega.{arith}
 use borrow.Author.Tests.{not-true, not-false}
-use mathlib.Core.Path.{_≡_, refl}
+use mathlib.Core.Path.{_≡_}
 use lib.ListN.{length, getD}
 use Rattle.rules_routine.specs.Limits.{maxDevices, maxCommands, maxSequence}
 use Rattle.rules_routine.proofs.RoutineLaws.{length-mapped}
 use Rattle.hub_sequence.specs.Links.{Stands}
 use Rattle.hub_state.specs.declared.HubState.{HubState}
 use Rattle.hub_settle.proofs.StateLaws.{tablesIn}
-use Rattle.hub_settle.proofs.SettleLaws.{Settling, answered-fit, done-fit, stands-first, settling-more, settling-runs}
+use Rattle.hub_settle.proofs.SettleLaws.{Settling, answered-fit, done-fit, stands-first, settling-none, settling-more, settling-runs}
 use Rattle.hub_settle.proofs.SettleLaws.{settling-empty}
 use Rattle.hub_settle.proofs.settling.settled_state.Statement.{statement}
 use Rattle.hub_settle.proofs.settling.settled_state.Tie as tie
@@ -74,7 +74,7 @@ loop-holds : tie.Need-loop-holds Inv-loop μ-loop
 loop-holds c =
     let s = c .before .before .before .before .before .before .before .before .before .before .before .before .before .before .before
     .before in
-    record { valid = s .pre; first-is = refl; same-end = refl }
+    settling-none (s .args .state) (s .pre)
 
 array-read-if1 : tie.Need-array-read-if1 Inv-loop μ-loop
 array-read-if1 c = c .loop-test .taken
@@ -149,16 +149,13 @@ loop-again c =
 returns : tie.Need-returns Inv-loop μ-loop
 returns c =
     let b = c .before in
-    (b .loop .inv .valid, settling-empty (start b .args .state) (now b) (b .loop .i) (b .loop .inv) (c .loop-test .left))
+    settling-empty (start b .args .state) (now b) (b .loop .i) (b .loop .inv) (c .loop-test .left)
 
 returns-2 : tie.Need-returns-2 Inv-loop μ-loop
 returns-2 c =
     let l = c .before in
-    let b = l .before in (
-      b .loop .inv .valid,
-      settling-runs (start b .args .state) (now b) (b .loop .i) (b .loop .inv) (l .loop-test .taken)
-          (not-true _ (c .if1 .taken)),
-    )
+    let b = l .before in
+    settling-runs (start b .args .state) (now b) (b .loop .i) (b .loop .inv) (l .loop-test .taken) (not-true _ (c .if1 .taken))
 
 pub settled-state-spec : {M : Type 1} → statement M
 settled-state-spec =

@@ -176,7 +176,8 @@ line-prints c =
     (sym (w .7 .ensures) ∙ w .8 .left))
     (w .5 .ensures) (room x) (w .9) (w .10) (w .11))
     (⊎-elim
-    (λ w. prints (leaves-settled (record { before = _; if4 = w .11 }) (w .12 .result) (w .12 .ensures)) (w .5 .ensures) (room x)
+    (λ w. prints (leaves-settled (record { before = _; if4 = w .11 }) (w .12 .result) (w .12 .ensures .0, w .12 .ensures .1))
+    (w .5 .ensures) (room x)
     (w .13) (w .14) (w .15))
     (⊎-elim
     (λ w. prints (leaves-joined (record { before = _; if3 = w .9 })) (w .5 .ensures) (room x) (w .10) (w .11) (w .12))

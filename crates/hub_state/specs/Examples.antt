@@ -1,0 +1,50 @@
+-- What `Unmoved` turns down, by computation: the one routine that is taken is moved to another slot, and to the rules it is the same hub.
+-- Assumes nothing.
+use mathlib.Core.Path.{_≡_, refl}
+use mathlib.Core.List.{[], _∷_}
+use Prim.Native.Nat.{ℕ}
+use native.Mathlib.Omega.{arith}
+use Rattle.hub_sequence.specs.Lists.{same}
+use Rattle.hub_sequence.specs.Links.{none, along, walk, Stands}
+use Rattle.hub_state.specs.View.{stepsAt, restartsAt, memberAt, membersOf, stateOf}
+use Rattle.hub_state.specs.Unmoved.{Unmoved}
+use Rattle.hub_state.specs.declared.HubState.{HubState}
+
+-- A hub that holds a routine with id 7, of no commands, in the slot x.
+abbrev heldIn : ℕ → HubState
+heldIn x = record {
+  devices = 1;
+  «pass_limit» = 0;
+  «next_id» = 8;
+  links = record { ahead = none ∷ none ∷ []; behind = none ∷ none ∷ []; first = x; last = x; free = none; held = 1 };
+  ids = 7 ∷ 7 ∷ [];
+  passed = [];
+  committed = [];
+  counts = [];
+  answered = [];
+  «due_then» = [];
+  device = [];
+  tag = [];
+  setting = [];
+  stage = [];
+  restarts = [];
+  «settled_at» = [];
+  up = [];
+  mark = [];
+}
+
+same-to-the-rules : stateOf (heldIn 0) ≡ stateOf (heldIn 1)
+unfolding stateOf membersOf memberAt stepsAt restartsAt along walk
+same-to-the-rules = refl
+
+held-0 : Stands (heldIn 0 .links) 0
+unfolding along walk same
+held-0 = omega arith
+
+held-1 : Stands (heldIn 1 .links) 1
+unfolding along walk same
+held-1 = omega arith
+
+is-moved : Unmoved (heldIn 0) (heldIn 1) → ⊥
+unfolding memberAt
+is-moved u = let e : _≡_ {A = ℕ} 0 1 = u .same-slot 0 1 held-0 held-1 refl in omega arith
