@@ -13,7 +13,9 @@ use Rattle.rules_routine.specs.declared.Command.{Command}
 use Rattle.rules_routine.specs.declared.Routine.{Routine}
 use Rattle.rules_routine.proofs.RoutineLaws.{byTest}
 use Rattle.rules.specs.State.{State}
-use Rattle.rules.specs.Answers.{Back, Result}
+use Rattle.rules.specs.Answers.{Back, Call, Result}
+use Rattle.rules.specs.Calls.{resultOf}
+use Rattle.rules.specs.Rounds.{KeepsLimit}
 use Rattle.rules.specs.Settle.{settle, settling}
 use Rattle.rules.proofs.Lists.{t≠f}
 use Rattle.hub_sequence.specs.Links.{StandsOrNone}
@@ -42,6 +44,7 @@ use Rattle.hub.specs.View.{view, answersIn}
 use Rattle.hub.specs.Valid.{Valid}
 use Rattle.hub.specs.Contract.{Gives}
 use Rattle.hub.specs.Carrying.{LeavingOk, MovesNobody, OnlySettle, Carries, settlesAfter}
+use Rattle.hub.specs.Decided.{DecidedOn, Decided}
 use Rattle.hub.specs.declared.Hub.{Hub}
 use Rattle.hub.specs.declared.Outcome.{Outcome}
 
@@ -90,8 +93,16 @@ changed : (t u : Bool) → (if t then false else u) ≡ true → t ≡ false
 changed true u e = t≠f (sym e)
 changed false u e = refl
 
--- ---- what may be asked about its put-backs
+-- ---- what was decided can be applied
 
+pub decided-ok : {h : Hub} {cs : List Command} {c : Change} → Decided h cs c → ChangeOk (h .state) cs c
+decided-ok {h} {cs} k = subst (ChangeOk (h .state) cs) (k .change-is) (k .made .decides .change-ok)
+
+-- by another word for the change
+pub decided-as : {h : Hub} {cs : List Command} {c x : Change} → c ≡ x → Decided h cs c → Decided h cs x
+decided-as e k = record { decision = k .decision; made = k .made; change-is = k .change-is ∙ e }
+
+-- and asked about its put-backs
 pub leaving-ok : (h : HubState) (cs : List Command) (c : Change) → ChangeOk h cs c → LeavingOk h c
 leaving-ok h cs Nothing k = tt
 leaving-ok h cs (Stage x) k = tt
@@ -244,9 +255,13 @@ no-commands : (r : Routine) → r ≡ noRoutine → [] ≡ commandsOf r
 unfolding commandsOf routineOf
 no-commands r e = sym (ap commandsOf e)
 
-pub decides-none : {h : HubState} {d : Decision} {result : Result} (r : Routine) → r ≡ noRoutine → Decides h [] d result →
-    Decides h (commandsOf r) d (resultBy h (commandsOf r) d)
-decides-none {h} {d} r e k = subst (λ (cs : List Command). Decides h cs d (resultBy h cs d)) (no-commands r e) (decides-itself k)
+pub decided-none : {h : Hub} {d : Decision} (c : Call) (r : Routine) → KeepsLimit c → r ≡ noRoutine →
+    Decides (h .state) [] d (resultOf (view h) c) → DecidedOn h (commandsOf r) d
+decided-none {h} {d} c r n e k = record {
+  call = c;
+  no-limit = n;
+  decides = subst (λ (cs : List Command). Decides (h .state) cs d (resultOf (view h) c)) (no-commands r e) k;
+}
 
 pub gives-none : {h : Hub} {o : Outcome} {d : Decision} {result : Result} (r : Routine) → r ≡ noRoutine → Decides (h .state) [] d result →
     Gives h o (resultBy (h .state) (commandsOf r) d) → Gives h o result

@@ -2,7 +2,9 @@ pub mod View
 pub mod Valid
 pub mod Contract
 pub mod Carrying
+pub mod Decided
 pub mod Demand3
 pub mod Links
+pub mod TwoSteps
 pub mod Exact
 pub mod Rounds

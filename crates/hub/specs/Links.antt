@@ -55,12 +55,17 @@ pub record KeepsPacked (h : Hub) (packed : List Member) : Type 0 where
   pub once : (x : ℕ) → count x (slotsOf (h .state .links)) + count x (freeOf (h .state .links)) ≡ within x
   pub once-back : (x : ℕ) → count x (backOf (h .state .links)) ≡ count x (slotsOf (h .state .links))
 
+-- From the opening's hub h on, the answers and the links are those of the packed list.
+abbrev pub LinksKeep : ℕ → ℕ → ℕ → Hub → List HubAct → Type 0
+LinksKeep n k first h acts =
+    (answersAlong acts ≡ packedAnswers (newHub n k first) (callsIn acts))
+    × KeepsPacked (hubAfter h acts) (stateAfter (newHub n k first) (callsIn acts) .sequence)
+
 -- For every accepted opening and every chain of calls.
 abbrev pub LinksAreTheSequence : Type 0
 LinksAreTheSequence =
     (n k first : ℕ) (o : Opened) → Opens n k first o → o .verdict ≡ Accepted → (acts : List HubAct) → Chain (o .hub) acts →
-    (answersAlong acts ≡ packedAnswers (newHub n k first) (callsIn acts))
-    × KeepsPacked (hubAfter (o .hub) acts) (stateAfter (newHub n k first) (callsIn acts) .sequence)
+    LinksKeep n k first (o .hub) acts
 
 -- For every accepted opening, every chain of calls and each call in it, from the hub before that call to the hub after it: a routine that
 -- is taken before and after is in the same slot, and a link is the same unless its slot, or one at its other end, has joined or left.

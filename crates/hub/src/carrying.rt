@@ -12,11 +12,12 @@ ghost use mathlib.Core.Path.{_≡_};
 ghost use Rattle.rules_routine.specs.Routine.{commandsOf};
 ghost use Rattle.hub_answers.specs.View.{putBacksOf, PutBacksOk};
 ghost use Rattle.hub_state.specs.Valid.{StateOk};
-ghost use Rattle.hub_state.specs.Contract.{ChangeOk, Decides, resultBy, putBacksOfDecision};
+ghost use Rattle.hub_state.specs.Contract.{resultBy, putBacksOfDecision};
 ghost use Rattle.hub.specs.View.{view};
 ghost use Rattle.hub.specs.Valid.{Valid};
 ghost use Rattle.hub.specs.Contract.{Gives};
 ghost use Rattle.hub.specs.Carrying.{LeavingOk, Carries, settlesAfter};
+ghost use Rattle.hub.specs.Decided.{DecidedOn, Decided};
 
 // No device fails.
 const NO_DEVICE: u8 = MAX_DEVICES as u8;
@@ -46,7 +47,7 @@ pub fn put_backs_of(state: HubState, decision: Decision) -> PutBacks
 
 // The hub after a change that was decided on it. It is not settled yet.
 fn changed(hub: Hub, change: Change, routine: Routine) -> Hub
-    requires { ⌜ (Valid hub) × (ChangeOk (hub .state) (commandsOf routine) change) ⌝ }
+    requires { ⌜ (Valid hub) × (Decided hub (commandsOf routine) change) ⌝ }
     ensures { λ r. ⌜ Carries hub (commandsOf routine) change r ⌝ }
 {
     match change {
@@ -90,8 +91,7 @@ fn outcome_with(hub: Hub, decision: Decision, backs: PutBacks) -> Outcome
 
 // What is put back, the change, then settling.
 pub fn carried_out(hub: Hub, decision: Decision, routine: Routine) -> Outcome
-    requires { ⌜ (Valid hub)
-        × (Decides (hub .state) (commandsOf routine) decision (resultBy (hub .state) (commandsOf routine) decision)) ⌝ }
+    requires { ⌜ (Valid hub) × (DecidedOn hub (commandsOf routine) decision) ⌝ }
     ensures { λ r. ⌜ Gives hub r (resultBy (hub .state) (commandsOf routine) decision) ⌝ }
 {
     let backs = crate::put_backs(hub, decision);

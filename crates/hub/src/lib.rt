@@ -16,11 +16,8 @@ use hub_state::readers;
 use rules_routine::Routine;
 use rules_routine::Verdict;
 ghost use mathlib.Core.Path.{_≡_};
-ghost use mathlib.Core.Bool.{true};
 ghost use mathlib.Core.List.{[]};
-ghost use Prim.Native.Nat.{_<_};
 ghost use lib.ListN.{length};
-ghost use Rattle.rules_routine.specs.Limits.{maxDevices};
 ghost use Rattle.rules_routine.specs.Routine.{commandsOf};
 ghost use Rattle.rules.specs.Abort.{leave};
 ghost use Rattle.rules.specs.Cancel.{cancelOf};
@@ -33,16 +30,16 @@ ghost use Rattle.rules.specs.Settle.{settle};
 ghost use Rattle.rules.specs.Submit.{submitOf};
 ghost use Rattle.rules.specs.Turn.{turnOf};
 ghost use Rattle.rules.specs.Calls.{StaysClosed};
-ghost use Rattle.hub_sequence.specs.Links.{Stands};
 ghost use Rattle.hub_answers.specs.View.{putBacksOf, PutBacksOk};
-ghost use Rattle.hub_state.specs.View.{isRestart, there, firstCommitted};
-ghost use Rattle.hub_state.specs.Contract.{staged, committedAt, joinedBehind, halfwayIn, stoppedBy, downWith, upWith, StandsOrPast};
-ghost use Rattle.hub_state.specs.Contract.{StageOk};
-ghost use Rattle.hub_state.specs.Contract.{JoinOk, Decides, putBacksOfDecision};
+ghost use Rattle.hub_state.specs.View.{there, firstCommitted};
+ghost use Rattle.hub_state.specs.Contract.{staged, committedAt, joinedBehind, halfwayIn, stoppedBy, downWith, upWith};
+ghost use Rattle.hub_state.specs.Contract.{Decides, putBacksOfDecision};
+ghost use Rattle.hub_state.specs.declared.Change.the-variants.{Stage, Commit, Join, Abort, Fail, Restart};
 ghost use Rattle.hub.specs.View.{view};
 ghost use Rattle.hub.specs.Valid.{Valid};
 ghost use Rattle.hub.specs.Contract.{Opens, Submitted, Turned, Reported, Cancelled, Failed, Restarted, Limited};
-ghost use Rattle.hub.specs.Carrying.{LeavingOk, MovesNobody, OnlySettle};
+ghost use Rattle.hub.specs.Carrying.{MovesNobody, OnlySettle};
+ghost use Rattle.hub.specs.Decided.{Decided, WasDecidedOn, WasDecided};
 
 // A hub. Others hold it and hand it on; nobody else can make one, look into it or change it.
 pub struct Hub {
@@ -267,7 +264,7 @@ pub fn decide_restart(hub: Hub, device: u8, setting: i16) -> Decision
 
 // A command comes to a stage.
 pub fn with_stage(hub: Hub, change: Staged) -> Hub
-    requires { ⌜ (Valid hub) × (StageOk (hub .state) change) ⌝ }
+    requires { ⌜ (Valid hub) × (WasDecided hub (Stage change)) ⌝ }
     ensures { λ r. ⌜ (Valid r) × (view r ≡ staged (hub .state) change) × (MovesNobody (hub .state) (r .state)) ⌝ }
 {
     let state = hub.state;
@@ -277,7 +274,7 @@ pub fn with_stage(hub: Hub, change: Staged) -> Hub
 
 // The routine in a slot commits.
 pub fn with_commit(hub: Hub, at: usize) -> Hub
-    requires { ⌜ (Valid hub) × (Stands (hub .state .links) at) ⌝ }
+    requires { ⌜ (Valid hub) × (WasDecided hub (Commit at)) ⌝ }
     ensures { λ r. ⌜ (Valid r) × (view r ≡ committedAt (hub .state) at) × (MovesNobody (hub .state) (r .state)) ⌝ }
 {
     let state = hub.state;
@@ -287,7 +284,7 @@ pub fn with_commit(hub: Hub, at: usize) -> Hub
 
 // A routine joins the sequence behind a slot.
 pub fn with_routine(hub: Hub, after: u8, routine: Routine) -> Hub
-    requires { ⌜ (Valid hub) × (JoinOk (hub .state) (commandsOf routine) after) ⌝ }
+    requires { ⌜ (Valid hub) × (Decided hub (commandsOf routine) (Join after)) ⌝ }
     ensures { λ r. ⌜ (Valid r) × (view r ≡ joinedBehind (hub .state) (commandsOf routine) after)
         × (MovesNobody (hub .state) (r .state)) ⌝ }
 {
@@ -298,7 +295,7 @@ pub fn with_routine(hub: Hub, after: u8, routine: Routine) -> Hub
 
 // The routine in a slot aborts.
 pub fn with_abort(hub: Hub, at: usize) -> Hub
-    requires { ⌜ (Valid hub) × (Stands (hub .state .links) at) ⌝ }
+    requires { ⌜ (Valid hub) × (WasDecided hub (Abort at)) ⌝ }
     ensures { λ r. ⌜ (Valid r) × (view r ≡ leave (view hub) (there (hub .state) at)) × (MovesNobody (hub .state) (r .state)) ⌝ }
 {
     let state = hub.state;
@@ -308,7 +305,7 @@ pub fn with_abort(hub: Hub, at: usize) -> Hub
 
 // A device fails; the routine in a slot, if there is one, aborts by that or loses what is left there.
 pub fn with_failure(hub: Hub, device: u8, slot: usize) -> Hub
-    requires { ⌜ (Valid hub) × (device < maxDevices) × (StandsOrPast (hub .state) slot) ⌝ }
+    requires { ⌜ (Valid hub) × (WasDecided hub (Fail device slot)) ⌝ }
     ensures { λ r. ⌜ (Valid r) × (view r ≡ stoppedBy device (downWith (view hub) device) (halfwayIn (hub .state) slot))
         × (MovesNobody (hub .state) (r .state)) ⌝ }
 {
@@ -319,7 +316,7 @@ pub fn with_failure(hub: Hub, device: u8, slot: usize) -> Hub
 
 // A device restarts; the routine in a slot, if there is one, aborts by that or loses what is left there.
 pub fn with_restart(hub: Hub, device: u8, setting: i16, slot: usize) -> Hub
-    requires { ⌜ (Valid hub) × (device < maxDevices) × (isRestart setting ≡ true) × (StandsOrPast (hub .state) slot) ⌝ }
+    requires { ⌜ (Valid hub) × (WasDecided hub (Restart device setting slot)) ⌝ }
     ensures { λ r. ⌜ (Valid r) × (view r ≡ upWith (stoppedBy device (view hub) (halfwayIn (hub .state) slot)) device setting)
         × (MovesNobody (hub .state) (r .state)) ⌝ }
 {
@@ -330,7 +327,7 @@ pub fn with_restart(hub: Hub, device: u8, setting: i16, slot: usize) -> Hub
 
 // What a decision puts back: by the abort that it brings, or by its answer.
 pub fn put_backs(hub: Hub, decision: Decision) -> PutBacks
-    requires { ⌜ (Valid hub) × (LeavingOk (hub .state) (decision .change)) ⌝ }
+    requires { ⌜ (Valid hub) × (WasDecidedOn hub decision) ⌝ }
     ensures { λ r. ⌜ (PutBacksOk r) × (putBacksOf r ≡ putBacksOfDecision (hub .state) decision) ⌝ }
 {
     let state = hub.state;

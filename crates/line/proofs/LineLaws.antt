@@ -31,13 +31,13 @@ use Rattle.rules.specs.Settle.{settle, settling}
 use Rattle.rules.specs.Submit.{blocks, upToLast, place, submitOf}
 use Rattle.rules.specs.Sequence.{lastIdOr}
 use Rattle.rules.specs.Calls.{resultOf}
+use Rattle.rules.specs.Rounds.{KeepsLimit}
 use Rattle.rules.proofs.Lists.{t≠f}
 use Rattle.rules_promises.proofs.Theorem.{devices-kept}
 use Rattle.hub_submit.proofs.SubmitLaws.{check-routine}
 use Rattle.hub_answers.specs.View.{changesNothing}
 use Rattle.hub_state.specs.View.{firstCommitted}
-use Rattle.hub_state.specs.Contract.{appliedTo, ChangeOk, toldBy, settledUnlessNothing, Decides}
-use Rattle.hub_state.specs.declared.HubState.{HubState}
+use Rattle.hub_state.specs.Contract.{appliedTo, toldBy, settledUnlessNothing, Decides}
 use Rattle.hub_state.specs.declared.Change.{Change}
 use Rattle.hub_state.specs.declared.Change.the-variants.{Nothing, Stage, Commit, Join, Abort, Fail, Restart}
 use Rattle.hub_state.specs.declared.Decision.{Decision}
@@ -45,7 +45,8 @@ use Rattle.hub_state.proofs.DecisionLaws.{settle-idle}
 use Rattle.hub.specs.View.{view}
 use Rattle.hub.specs.Valid.{Valid}
 use Rattle.hub.specs.Contract.{Opens}
-use Rattle.hub.specs.Carrying.{LeavingOk, MovesNobody, Carries}
+use Rattle.hub.specs.Carrying.{MovesNobody, Carries}
+use Rattle.hub.specs.Decided.{DecidedOn}
 use Rattle.hub.proofs.CallLaws.{itself-moves}
 use Rattle.hub.specs.declared.Hub.{Hub}
 use Rattle.hub.specs.declared.Opened.{Opened}
@@ -56,6 +57,7 @@ use Rattle.line_rules.specs.Printing.{asLine, answersText}
 use Rattle.line_rules.specs.Program.{printsUnread, printsOpening, printsResult, printsCall, step}
 use Rattle.line_read.specs.View.{together, callAs, routineAs, readAs}
 use Rattle.line_read.specs.declared.Call.{Call}
+use Rattle.line_read.specs.declared.Call.the-variants.{Submit, Turn, Report, Cancel, Fail as Failure, Restart as Restarted}
 use Rattle.line_read.specs.declared.Line.{Line}
 use Rattle.line_read.specs.declared.Line.the-variants.{Open, Calling, Unread}
 use Rattle.line_read.proofs.Line.{the-type as line-type}
@@ -292,21 +294,21 @@ module _ (h : Hub) (q : Said) (n k first : ℕ) (e : heardOf (readAs q .line) (v
 
 -- ---- a call: its change is made, and then the hub settles
 
--- what is asked before it is told what is put back
-pub leaving-ok : (h : HubState) (cs : List Command) (c : Change) → ChangeOk h cs c → LeavingOk h c
-leaving-ok h cs Nothing k = tt
-leaving-ok h cs (Stage c) k = tt
-leaving-ok h cs (Commit x) k = tt
-leaving-ok h cs (Join after) k = tt
-leaving-ok h cs (Abort x) k = k
-leaving-ok h cs (Fail d x) k = k
-leaving-ok h cs (Restart d v x) k = k
+-- no line makes a new pass limit
+keeps-limit : (c : Call) (r : Routine) → KeepsLimit (callIn c r)
+keeps-limit Submit r = tt
+keeps-limit (Turn i) r = tt
+keeps-limit (Report i code) r = tt
+keeps-limit (Cancel i) r = tt
+keeps-limit (Failure d) r = tt
+keeps-limit (Restarted d v) r = tt
 
--- an applier asks for no more than the decision has
-pub change-as : (h : HubState) (cs : List Command) {c x : Change} → c ≡ x → ChangeOk h cs c → ChangeOk h cs x
-change-as h cs e k = subst (λ (y : Change). ChangeOk h cs y) e k
+-- what was decided on the hub, for those who ask
+pub decided-on : (h : Hub) (c : Call) (r : Routine) {d : Decision} →
+    Decides (h .state) (commandsOf r) d (resultOf (view h) (callIn c r)) → DecidedOn h (commandsOf r) d
+decided-on h c r k = record { call = callIn c r; no-limit = keeps-limit c r; decides = k }
 
--- and makes the change
+-- an applier makes the change
 pub carries-nothing : (h : Hub) (cs : List Command) {c : Change} → Valid h → c ≡ Nothing → Carries h cs c h
 carries-nothing h cs v e =
     record {

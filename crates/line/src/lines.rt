@@ -17,13 +17,13 @@ ghost use lib.ListN.{length};
 ghost use Rattle.rules_routine.specs.Routine.{commandsOf};
 ghost use Rattle.rules.specs.Calls.{resultOf};
 ghost use Rattle.hub_answers.specs.View.{putBacksOf, answersOf, PutBacksOk, changesNothing};
-ghost use Rattle.hub_state.specs.Contract.{toldBy, WellTold, Decides};
+ghost use Rattle.hub_state.specs.Contract.{toldBy, Decides};
 ghost use Rattle.line_rules.specs.Printing.{answersText};
 ghost use Rattle.line_rules.specs.Program.{endText};
 ghost use Rattle.line_print.specs.Put.{maxText, PutShort};
 ghost use Rattle.hub.specs.View.{view};
 ghost use Rattle.hub.specs.Valid.{Valid};
-ghost use Rattle.hub.specs.Carrying.{LeavingOk};
+ghost use Rattle.hub.specs.Decided.{WasDecidedOn};
 ghost use Rattle.line.specs.View.{hubIn, heardOf, callIn, FitsCall};
 ghost use Rattle.line.specs.Contract.{maxEnd, ReadsNext, isAccepted, openingText, isAbort, BacksOnce};
 
@@ -163,8 +163,7 @@ fn put_aborts(text: &mut [u8], first: EventAbort, answer: Answer, backs: PutBack
 
 // The answers of a call.
 pub fn put_answers(text: &mut [u8], hub: Hub, decision: Decision) -> usize
-    requires { ⌜ (Valid hub) × (LeavingOk (hub .state) (decision .change))
-        × (WellTold (decision .first) (decision .answer) (decision .change)) × (maxText ≤ length (now text)) ⌝ }
+    requires { ⌜ (Valid hub) × (WasDecidedOn hub decision) × (maxText ≤ length (now text)) ⌝ }
     ensures { λ r. ⌜ PutShort maxText (now (text .entry)) (now (text .exit)) 0 r (answersText (toldBy (hub .state) decision)) ⌝ }
 {
     let first = decision.first;

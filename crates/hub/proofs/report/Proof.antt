@@ -1,6 +1,7 @@
 -- `hub::report` meets its contract. Assumes nothing.
 use borrow.Author.Needs.{needs}
-use Rattle.hub.proofs.CallLaws.{decides-none, gives-none}
+use Rattle.rules.specs.Answers.{report}
+use Rattle.hub.proofs.CallLaws.{decided-none, gives-none}
 use Rattle.hub.proofs.report.Statement.{statement}
 use Rattle.hub.proofs.report.Tie as tie
 
@@ -11,7 +12,7 @@ empty-requires : tie.Need-empty-requires
 empty-requires c κs = search needs
 
 carried-out-requires : tie.Need-carried-out-requires
-carried-out-requires c κs = (c .before .before .pre, decides-none _ (c .empty .ensures) (c .before .decide-report .ensures))
+carried-out-requires c κs = (c .before .before .pre, decided-none (report _ _) _ tt (c .empty .ensures) (c .before .decide-report .ensures))
 
 returns : tie.Need-returns
 returns c =

@@ -5,10 +5,11 @@ use lib.IntN.{ℤ}
 use mir.Val.{toZ, ofZ}
 use mir.Syntax.{w16}
 use borrow.Author.Needs.{needs}
+use Rattle.rules.specs.Answers.{restart}
 use Rattle.rules.specs.Events.{restartOf}
 use Rattle.hub_state.specs.Contract.{Decides}
 use Rattle.hub.specs.View.{view}
-use Rattle.hub.proofs.CallLaws.{decides-none, gives-none}
+use Rattle.hub.proofs.CallLaws.{decided-none, gives-none}
 use Rattle.hub.proofs.restart.Statement.{statement}
 use Rattle.hub.proofs.restart.Tie as tie
 
@@ -28,7 +29,7 @@ decided c =
     (c .decide-restart .ensures)
 
 carried-out-requires : tie.Need-carried-out-requires
-carried-out-requires c κs = (c .before .before .pre, decides-none _ (c .empty .ensures) (decided (c .before)))
+carried-out-requires c κs = (c .before .before .pre, decided-none (restart _ _) _ tt (c .empty .ensures) (decided (c .before)))
 
 returns : tie.Need-returns
 returns c =

@@ -1,11 +1,11 @@
 -- `hub::with_commit` meets its contract. Assumes nothing.
 use borrow.Author.Needs.{needs}
-use Rattle.hub.proofs.CallLaws.{stay-moves}
+use Rattle.hub.proofs.CallLaws.{stay-moves, decided-ok}
 use Rattle.hub.proofs.with_commit.Statement.{statement}
 use Rattle.hub.proofs.with_commit.Tie as tie
 
 with-commit-requires : tie.Need-with-commit-requires
-with-commit-requires c κs = search needs
+with-commit-requires c κs = (c .before .pre .0, decided-ok (c .before .pre .1 .1))
 
 returns : tie.Need-returns
 returns c =

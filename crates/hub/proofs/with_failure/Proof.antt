@@ -1,11 +1,13 @@
 -- `hub::with_failure` meets its contract. Assumes nothing.
 use borrow.Author.Needs.{needs}
-use Rattle.hub.proofs.CallLaws.{leave-moves}
+use Rattle.hub.proofs.CallLaws.{leave-moves, decided-ok}
 use Rattle.hub.proofs.with_failure.Statement.{statement}
 use Rattle.hub.proofs.with_failure.Tie as tie
 
 with-failure-requires : tie.Need-with-failure-requires
-with-failure-requires c κs = search needs
+with-failure-requires c κs =
+    let k = decided-ok (c .before .pre .1 .1) in
+    (c .before .pre .0, k .0, k .1)
 
 returns : tie.Need-returns
 returns c =

@@ -1,11 +1,11 @@
 -- `hub::with_stage` meets its contract. Assumes nothing.
 use borrow.Author.Needs.{needs}
-use Rattle.hub.proofs.CallLaws.{stay-moves}
+use Rattle.hub.proofs.CallLaws.{stay-moves, decided-ok}
 use Rattle.hub.proofs.with_stage.Statement.{statement}
 use Rattle.hub.proofs.with_stage.Tie as tie
 
 with-stage-requires : tie.Need-with-stage-requires
-with-stage-requires c κs = search needs
+with-stage-requires c κs = (c .before .pre .0, decided-ok (c .before .pre .1 .1))
 
 returns : tie.Need-returns
 returns c =

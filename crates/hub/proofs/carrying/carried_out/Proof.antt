@@ -1,17 +1,18 @@
 -- `hub::carrying::carried_out` meets its contract. Assumes nothing.
 use borrow.Author.Needs.{needs}
-use mathlib.Core.Path.{sym, _∙_}
+use mathlib.Core.Path.{refl, sym, _∙_}
 use Rattle.rules_routine.specs.Routine.{commandsOf}
-use Rattle.hub.proofs.CallLaws.{leaving-ok, settled-gives, stands-gives}
+use Rattle.hub.proofs.CallLaws.{decides-itself, settled-gives, stands-gives}
 use Rattle.hub.proofs.carrying.carried_out.Statement.{statement}
 use Rattle.hub.proofs.carrying.carried_out.Tie as tie
 
 put-backs-requires : tie.Need-put-backs-requires
-put-backs-requires c κs =
-    (c .pre .0, leaving-ok (c .args .hub .state) (commandsOf (c .args .routine)) (c .args .decision .change) (c .pre .1 .change-ok))
+put-backs-requires c κs = (c .pre .0, (commandsOf (c .args .routine), c .pre .1))
 
 changed-requires : tie.Need-changed-requires
-changed-requires c κs = search needs
+changed-requires c κs =
+    let p = c .before .pre in
+    (p .0, record { decision = _; made = p .1; change-is = refl })
 
 is-due-requires : tie.Need-is-due-requires
 is-due-requires c κs = search needs
@@ -29,7 +30,8 @@ returns c =
     let p = n .before in
     let b = p .put-backs .ensures in
     let a = p .before .args in
-    settled-gives (a .hub) (commandsOf (a .routine)) (a .decision) (p .put-backs .result) (n .changed .result) (p .before .pre .1) (b .0)
+    settled-gives (a .hub) (commandsOf (a .routine)) (a .decision) (p .put-backs .result) (n .changed .result)
+    (decides-itself (p .before .pre .1 .decides)) (b .0)
     (b .1) (n .changed .ensures) _ _ (c .outcome-with .ensures)
     (sym (d .is-due .ensures) ∙ c .before .before .if1 .taken) (c .before .settle .ensures .0) (c .before .settle .ensures .1)
     (c .before .settle .ensures .2)
@@ -44,7 +46,8 @@ returns-2 c =
     let p = n .before in
     let b = p .put-backs .ensures in
     let a = p .before .args in
-    stands-gives (a .hub) (commandsOf (a .routine)) (a .decision) (p .put-backs .result) (n .changed .result) (p .before .pre .1) (b .0)
+    stands-gives (a .hub) (commandsOf (a .routine)) (a .decision) (p .put-backs .result) (n .changed .result)
+    (decides-itself (p .before .pre .1 .decides)) (b .0)
     (b .1) (n .changed .ensures) _ (c .outcome-with2 .ensures)
     (sym (d .is-due .ensures) ∙ c .before .if1 .left)
 

@@ -1,16 +1,15 @@
 -- `hub::carrying::changed` meets its contract. Assumes nothing.
-use mathlib.Core.Path.{_≡_, sym, subst}
-use mathlib.Core.Bool.{true}
+use mathlib.Core.Path.{_≡_, sym, ap, _∙_, subst}
 use lib.IntN.{ℤ}
 use mir.Val.{toZ, ofZ}
 use mir.Syntax.{w16}
 use Prim.Native.Nat.{ℕ}
 use native.Mathlib.Omega.{arith}
 use borrow.Author.Needs.{needs}
-use Rattle.hub_state.specs.View.{isRestart}
-use Rattle.hub_state.specs.Contract.{halfwayIn, stoppedBy, upWith, ChangeOk}
+use Rattle.hub_state.specs.Contract.{halfwayIn, stoppedBy, upWith}
+use Rattle.hub_state.specs.declared.Change.the-variants.{Restart}
 use Rattle.hub.specs.View.{view}
-use Rattle.hub.proofs.CallLaws.{carries-as, carries-nothing}
+use Rattle.hub.proofs.CallLaws.{decided-as, carries-as, carries-nothing}
 use Rattle.hub.proofs.carrying.changed.Statement.{statement}
 use Rattle.hub.proofs.carrying.changed.Tie as tie
 
@@ -23,7 +22,7 @@ enum-known-change c = search needs
 with-stage-requires : tie.Need-with-stage-requires
 with-stage-requires c κs =
     let p = c .before .before .before .pre in
-    (p .0, subst (ChangeOk _ _) (c .before .change .given .1) (p .1))
+    (p .0, (_, decided-as (c .before .change .given .1) (p .1)))
 
 enum-known-change-2 : tie.Need-enum-known-change-2
 enum-known-change-2 c = search needs
@@ -31,7 +30,7 @@ enum-known-change-2 c = search needs
 with-commit-requires : tie.Need-with-commit-requires
 with-commit-requires c κs =
     let p = c .before .before .before .pre in
-    (p .0, subst (ChangeOk _ _) (c .before .change2 .given .1) (p .1))
+    (p .0, (_, decided-as (c .before .change2 .given .1) (p .1)))
 
 enum-known-change-3 : tie.Need-enum-known-change-3
 enum-known-change-3 c = search needs
@@ -39,7 +38,7 @@ enum-known-change-3 c = search needs
 with-routine-requires : tie.Need-with-routine-requires
 with-routine-requires c κs =
     let p = c .before .before .before .pre in
-    (p .0, subst (ChangeOk _ _) (c .before .change3 .given .1) (p .1))
+    (p .0, decided-as (c .before .change3 .given .1) (p .1))
 
 enum-known-change-4 : tie.Need-enum-known-change-4
 enum-known-change-4 c = search needs
@@ -47,7 +46,7 @@ enum-known-change-4 c = search needs
 with-abort-requires : tie.Need-with-abort-requires
 with-abort-requires c κs =
     let p = c .before .before .before .pre in
-    (p .0, subst (ChangeOk _ _) (c .before .change4 .given .1) (p .1))
+    (p .0, (_, decided-as (c .before .change4 .given .1) (p .1)))
 
 enum-known-change-5 : tie.Need-enum-known-change-5
 enum-known-change-5 c = search needs
@@ -55,8 +54,7 @@ enum-known-change-5 c = search needs
 with-failure-requires : tie.Need-with-failure-requires
 with-failure-requires c κs =
     let p = c .before .before .before .pre in
-    let q = subst (ChangeOk _ _) (c .before .change5 .given .1) (p .1) in
-    (p .0, q .0, q .1)
+    (p .0, (_, decided-as (c .before .change5 .given .1) (p .1)))
 
 enum-known-change-6 : tie.Need-enum-known-change-6
 enum-known-change-6 c = search needs
@@ -68,8 +66,9 @@ same-setting c = search needs
 with-restart-requires : tie.Need-with-restart-requires
 with-restart-requires c κs =
     let p = c .before .before .before .pre in
-    let q = subst (ChangeOk _ _) (c .before .change6 .given .1) (p .1) in
-    (p .0, q .0, subst (λ (z : ℤ). isRestart z ≡ true) (sym (same-setting c)) (q .1), q .2)
+    let x = c .before .change6 .given .0 in
+    let e = ap (λ (z : ℤ). Restart (x .0) z (x .1 .1 .0)) (sym (same-setting c)) in
+    (p .0, (_, decided-as (c .before .change6 .given .1 ∙ e) (p .1)))
 
 returns : tie.Need-returns
 returns c = carries-nothing (c .enum-told .given .1) (c .before .before .pre .0)

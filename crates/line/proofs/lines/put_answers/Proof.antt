@@ -17,9 +17,9 @@ put-aborts-requires c κs =
     let t = b .before in
     let s = t .before .before .before in
     let d = s .args .decision in (
-      s .pre .3,
+      s .pre .2,
       b .put-backs .ensures .0,
-      backs-once (d .first) (d .answer) (d .change) _ (s .pre .2) (sym (t .before .aborts .ensures) ∙ t .if1 .taken),
+      backs-once (d .first) (d .answer) (d .change) _ (s .pre .1 .1 .decides .well-told) (sym (t .before .aborts .ensures) ∙ t .if1 .taken),
     )
 
 same-length : tie.Need-same-length
@@ -43,7 +43,7 @@ returns-2 c =
     let p = c .before .before in
     let e = p .before .before in
     let s = e .before .before .before in
-    put-told (s .args .hub .state) (s .args .decision) (s .pre .2) (sym (e .before .aborts .ensures) ∙ e .if1 .left)
+    put-told (s .args .hub .state) (s .args .decision) (s .pre .1 .1 .decides .well-told) (sym (e .before .aborts .ensures) ∙ e .if1 .left)
     (p .put-answer .ensures)
 
 pub put-answers-spec : {M : Type 1} → statement M

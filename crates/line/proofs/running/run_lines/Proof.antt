@@ -8,12 +8,12 @@ use native.Mathlib.Omega.{arith}
 use borrow.Author.Tests.{not-true, not-false}
 use mir.Syntax.{w16}
 use mir.Val.{toZ, ofZ}
+use lib.IntN.{ℤ}
 use lib.ListN.{length, take, drop}
 use Rattle.rules_routine.specs.Routine.{commandsOf}
 use Rattle.rules_routine.specs.declared.Command.{Command}
 use Rattle.rules.specs.Settle.{settle}
-use Rattle.hub_state.specs.View.{isRestart}
-use Rattle.hub_state.specs.Contract.{ChangeOk, toldBy}
+use Rattle.hub_state.specs.Contract.{toldBy}
 use Rattle.hub_state.specs.declared.Change.{Change}
 use Rattle.hub_state.specs.declared.Change.the-variants.{Stage, Commit, Join, Abort, Fail, Restart}
 use Rattle.line_rules.specs.Reading.{Line as Said, readLine}
@@ -24,10 +24,11 @@ use Rattle.line_print.specs.Put.{maxText}
 use Rattle.hub.specs.View.{view}
 use Rattle.hub.specs.Valid.{Valid}
 use Rattle.hub.specs.Carrying.{Carries}
+use Rattle.hub.specs.Decided.{DecidedOn, Decided}
 use Rattle.hub.specs.declared.Hub.{Hub}
 use Rattle.line.specs.View.{heardOf}
 use Rattle.line.proofs.LineLaws.{Does, does-unread, does-open, does-not-open, does-settle, does-change, does-same, fits-line}
-use Rattle.line.proofs.LineLaws.{leaving-ok, change-as, carries-nothing, carries, carries-as}
+use Rattle.line.proofs.LineLaws.{decided-on, carries-nothing, carries, carries-as}
 use Rattle.line.proofs.Told.{same-room}
 use Rattle.line.proofs.Loops.{Prints, prints, printed-fits, printed-long, goes}
 use Rattle.line.proofs.Loops.{Ran, ran-none, ran-more, ran-length, ran-past, ran-all, end-within}
@@ -104,11 +105,15 @@ calls d = heard (heard-of d) ∙ d .before .before .said2 .given .1
 abbrev commandsAt : tie.After-decided Inv-loop μ-loop → List Command
 commandsAt d = commandsOf (line-of (heard-of d) .next-line .result .routine)
 
+-- what it comes to was decided on the hub
+decided-now : (d : tie.After-decided Inv-loop μ-loop) → DecidedOn (nowAt (line-of (heard-of d))) (commandsAt d) (d .decided .result)
+decided-now d = decided-on _ (d .before .before .said2 .given .0 .0) _ (d .decided .ensures)
+
 -- its change can be made
 change-is : (y : tie.After-text6 Inv-loop μ-loop) (c : Change) →
     let d = decided-of y in
-    d .decided .result .change ≡ c → ChangeOk (nowAt (line-of (heard-of d)) .state) (commandsAt d) c
-change-is y c e = change-as _ _ e (decided-of y .decided .ensures .change-ok)
+    d .decided .result .change ≡ c → Decided (nowAt (line-of (heard-of d))) (commandsAt d) c
+change-is y c e = record { decision = _; made = decided-now (decided-of y); change-is = e }
 
 -- and is made
 made : (m : tie.At-match2-came Inv-loop μ-loop) →
@@ -243,8 +248,7 @@ put-answers-requires c κs =
     let d = c .before in
     let x = heard-of d in (
       valid x,
-      leaving-ok (nowAt (line-of x) .state) (commandsAt d) (d .decided .result .change) (d .decided .ensures .change-ok),
-      d .decided .ensures .well-told,
+      (commandsAt d, decided-now d),
       omega (arith, room x),
     )
 
@@ -258,7 +262,7 @@ with-stage-requires : tie.Need-with-stage-requires Inv-loop μ-loop
 with-stage-requires c κs =
     let y = c .before .before .before in
     let k = change-is y (Stage _) (c .before .change .given .1) in
-    (valid (heard-of (decided-of y)), k)
+    (valid (heard-of (decided-of y)), (_, k))
 
 enum-known-change-2 : tie.Need-enum-known-change-2 Inv-loop μ-loop
 enum-known-change-2 c = search needs
@@ -267,7 +271,7 @@ with-commit-requires : tie.Need-with-commit-requires Inv-loop μ-loop
 with-commit-requires c κs =
     let y = c .before .before .before in
     let k = change-is y (Commit _) (c .before .change2 .given .1) in
-    (valid (heard-of (decided-of y)), k)
+    (valid (heard-of (decided-of y)), (_, k))
 
 enum-known-change-3 : tie.Need-enum-known-change-3 Inv-loop μ-loop
 enum-known-change-3 c = search needs
@@ -285,7 +289,7 @@ with-abort-requires : tie.Need-with-abort-requires Inv-loop μ-loop
 with-abort-requires c κs =
     let y = c .before .before .before in
     let k = change-is y (Abort _) (c .before .change4 .given .1) in
-    (valid (heard-of (decided-of y)), k)
+    (valid (heard-of (decided-of y)), (_, k))
 
 enum-known-change-5 : tie.Need-enum-known-change-5 Inv-loop μ-loop
 enum-known-change-5 c = search needs
@@ -294,7 +298,7 @@ with-failure-requires : tie.Need-with-failure-requires Inv-loop μ-loop
 with-failure-requires c κs =
     let y = c .before .before .before in
     let k = change-is y (Fail _ _) (c .before .change5 .given .1) in
-    (valid (heard-of (decided-of y)), k .0, k .1)
+    (valid (heard-of (decided-of y)), (_, k))
 
 enum-known-change-6 : tie.Need-enum-known-change-6 Inv-loop μ-loop
 enum-known-change-6 c = search needs
@@ -302,10 +306,11 @@ enum-known-change-6 c = search needs
 with-restart-requires : tie.Need-with-restart-requires Inv-loop μ-loop
 with-restart-requires c κs =
     let y = c .before .before .before in
-    let v = c .before .change6 .given .0 .1 .0 in
+    let x = c .before .change6 .given .0 in
+    let v = x .1 .0 in
     let held : toZ w16 (ofZ w16 v) ≡ v = search needs in
-    let k = change-is y (Restart _ _ _) (c .before .change6 .given .1) in
-    (valid (heard-of (decided-of y)), k .0, ap isRestart held ∙ k .1, k .2)
+    let k = change-is y (Restart _ _ _) (c .before .change6 .given .1 ∙ ap (λ (z : ℤ). Restart (x .0) z (x .1 .1 .0)) (sym held)) in
+    (valid (heard-of (decided-of y)), (_, k))
 
 keeps-hub-requires : tie.Need-keeps-hub-requires Inv-loop μ-loop
 keeps-hub-requires c κs = search needs

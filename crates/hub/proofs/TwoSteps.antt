@@ -1,0 +1,60 @@
+-- Calls in two steps give what the calls give, and demand 3 holds along chains of them. Assumes nothing.
+use mathlib.Core.Path.{refl, subst}
+use mathlib.Core.Bool.{Bool}
+use mathlib.Core.List.{[], _∷_}
+use mathlib.Core.Logic.{⊎-elim}
+use Rattle.rules_routine.proofs.RoutineLaws.{byTest}
+use Rattle.rules.specs.Calls.{resultOf}
+use Rattle.hub_state.specs.Contract.{resultBy}
+use Rattle.hub.specs.View.{view}
+use Rattle.hub.specs.Contract.{Gives}
+use Rattle.hub.specs.Carrying.{settlesAfter}
+use Rattle.hub.specs.Demand3.{HubCall, submits, turns, reports, fails, restarts, cancels, limits, callOf, Meets, called}
+use Rattle.hub.specs.Demand3.{device-takes}
+use Rattle.hub.specs.TwoSteps.{AppliedMeets, AppliedChains, AppliedDemand3}
+use Rattle.hub.specs.declared.Hub.{Hub}
+use Rattle.hub.specs.declared.Outcome.{Outcome}
+use Rattle.hub.proofs.CallLaws.{decides-itself, settled-gives, stands-gives}
+use Rattle.hub.proofs.Theorem.{hub-demand-3, hub-replay, hub-readers, hub-list}
+use Rattle.hub.proofs.Links.{links-are-the-sequence}
+
+-- the contract of a call is that it gives what the rules give
+meets : (h : Hub) (c : HubCall) (o : Outcome) → Gives h o (resultOf (view h) (callOf c)) → Meets h c o
+meets h (submits r) o g = g
+meets h (turns i) o g = g
+meets h (reports i code) o g = g
+meets h (fails d) o g = g
+meets h (restarts d v) o g = g
+meets h (cancels i) o g = g
+meets h (limits k) o g = g
+
+-- Deciding, applying and settling.
+pub applied-meets : AppliedMeets
+applied-meets h c o a =
+    let k = decides-itself (a .decides) in
+    meets h c o
+    (subst (Gives h o) (a .decides .gives)
+    (byTest (λ (_ : Bool). Gives h o (resultBy (h .state) (a .commands) (a .decision)))
+    (settlesAfter (a .decision .answer) (view (a .made)))
+    (λ t.
+    let s = a .settles .settled t in
+    settled-gives h (a .commands) (a .decision) (o .«put_backs») (a .made) k (a .backs-fit) (a .backs-are) (a .carries) (o .hub) o
+    (refl, a .first-is, a .answer-is, refl) t (s .0) (s .1))
+    (λ f. stands-gives h (a .commands) (a .decision) (o .«put_backs») (a .made) k (a .backs-fit) (a .backs-are) (a .carries) o
+    (a .settles .stays f, a .first-is, a .answer-is, refl) f)))
+
+pub applied-chains : AppliedChains
+applied-chains h [] ch = tt
+applied-chains h (called c o v ∷ l) ch = (⊎-elim (λ m. m) (applied-meets h c o) (ch .0), applied-chains (o .hub) l (ch .1))
+applied-chains h (device-takes d k ∷ l) ch = applied-chains h l ch
+
+-- Demand 3, the replay, the readers and the links along such chains.
+pub applied-demand-3 : AppliedDemand3
+applied-demand-3 n k first o op accepted acts any =
+    let ch = applied-chains (o .hub) acts any in record {
+      demand-3 = hub-demand-3 n k first o op accepted acts ch;
+      replay = hub-replay n k first o op accepted acts ch;
+      readers = hub-readers n k first o op accepted acts ch;
+      list = hub-list n k first o op accepted acts ch;
+      links = links-are-the-sequence n k first o op accepted acts ch;
+    }
