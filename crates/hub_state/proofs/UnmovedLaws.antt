@@ -50,7 +50,7 @@ in-place-leaves h r v p =
         same-routine = λ x t _. p .routines x t;
         links = same-stay (h .links) (r .links) (p .links);
       };
-      held-before = o;
+      taken-before = o;
     }
 
 pub in-place : (h r : HubState) → StateOk h → InPlace h r → Unmoved h r
@@ -73,7 +73,7 @@ leaves-only h at r v s e p =
         same-routine = q;
         links = leaves-stay (h .links) at (r .links) (v .links-ok) s e;
       };
-      held-before = o;
+      taken-before = o;
     }
 
 -- ---- one part after the other
@@ -85,17 +85,17 @@ pub unmoved-then : (h m r : HubState) → Unmoved h m → OnlyLeave m r →
     ((x : ℕ) → Stands (m .links) x → (Stands (h .links) x → ⊥) → Stands (r .links) x) → Unmoved h r
 unmoved-then h m r p q j = record {
   same-slot = λ x y t u e.
-      p .same-slot x y t (q .held-before y u) (sym (q .unmoved .same-routine y (q .held-before y u) u .same-id) ∙ e);
+      p .same-slot x y t (q .taken-before y u) (sym (q .unmoved .same-routine y (q .taken-before y u) u .same-id) ∙ e);
   same-routine = λ x t u.
-      let w = q .held-before x u in
+      let w = q .taken-before x u in
       same-routine-then (p .same-routine x t w) (q .unmoved .same-routine x w u);
-  links = stay-then (h .links) (m .links) (r .links) j (q .held-before) (p .links) (q .unmoved .links);
+  links = stay-then (h .links) (m .links) (r .links) j (q .taken-before) (p .links) (q .unmoved .links);
 }
 
 pub leave-then : (h m r : HubState) → OnlyLeave h m → OnlyLeave m r → OnlyLeave h r
 leave-then h m r p q = record {
-  unmoved = unmoved-then h m r (p .unmoved) q (λ x s t. absurd (t (p .held-before x s)));
-  held-before = λ x s. p .held-before x (q .held-before x s);
+  unmoved = unmoved-then h m r (p .unmoved) q (λ x s t. absurd (t (p .taken-before x s)));
+  taken-before = λ x s. p .taken-before x (q .taken-before x s);
 }
 
 -- who joins runs, and who settles is committed
@@ -105,4 +105,4 @@ settle-then h m r p j q c =
 
 -- where nobody joins
 pub none-joined : (h r : HubState) → OnlyLeave h r → JoinedRun h r
-none-joined h r p x s t = absurd (t (p .held-before x s))
+none-joined h r p x s t = absurd (t (p .taken-before x s))

@@ -11,12 +11,12 @@ use Rattle.hub_state.specs.Unmoved.{Unmoved}
 use Rattle.hub_state.specs.declared.HubState.{HubState}
 
 -- A hub that holds a routine with id 7, of no commands, in the slot x.
-abbrev heldIn : ℕ → HubState
-heldIn x = record {
+abbrev takenIn : ℕ → HubState
+takenIn x = record {
   devices = 1;
   «pass_limit» = 0;
   «next_id» = 8;
-  links = record { ahead = none ∷ none ∷ []; behind = none ∷ none ∷ []; first = x; last = x; free = none; held = 1 };
+  links = record { ahead = none ∷ none ∷ []; behind = none ∷ none ∷ []; first = x; last = x; free = none; taken = 1 };
   ids = 7 ∷ 7 ∷ [];
   passed = [];
   committed = [];
@@ -33,18 +33,18 @@ heldIn x = record {
   mark = [];
 }
 
-same-to-the-rules : stateOf (heldIn 0) ≡ stateOf (heldIn 1)
+same-to-the-rules : stateOf (takenIn 0) ≡ stateOf (takenIn 1)
 unfolding stateOf membersOf memberAt stepsAt restartsAt along walk
 same-to-the-rules = refl
 
-held-0 : Stands (heldIn 0 .links) 0
+taken-0 : Stands (takenIn 0 .links) 0
 unfolding along walk same
-held-0 = omega arith
+taken-0 = omega arith
 
-held-1 : Stands (heldIn 1 .links) 1
+taken-1 : Stands (takenIn 1 .links) 1
 unfolding along walk same
-held-1 = omega arith
+taken-1 = omega arith
 
-is-moved : Unmoved (heldIn 0) (heldIn 1) → ⊥
+is-moved : Unmoved (takenIn 0) (takenIn 1) → ⊥
 unfolding memberAt
-is-moved u = let e : _≡_ {A = ℕ} 0 1 = u .same-slot 0 1 held-0 held-1 refl in omega arith
+is-moved u = let e : _≡_ {A = ℕ} 0 1 = u .same-slot 0 1 taken-0 taken-1 refl in omega arith

@@ -33,7 +33,7 @@ pub record InPlace (h r : HubState) : Type 0 where
 -- Some may leave, and nobody joins.
 pub record OnlyLeave (h r : HubState) : Type 0 where
   pub unmoved : Unmoved h r
-  pub held-before : (x : ℕ) → Stands (r .links) x → Stands (h .links) x
+  pub taken-before : (x : ℕ) → Stands (r .links) x → Stands (h .links) x
 
 -- Who has left was committed: who settles.
 abbrev pub LeftCommitted : HubState → HubState → Type 0
