@@ -10,7 +10,6 @@ use Rattle.hub_answers.specs.declared.PutBacks.{PutBacks}
 use Rattle.hub_state.specs.View.{stateOf}
 use Rattle.hub_state.specs.declared.HubState.{HubState}
 use Rattle.hub_state.proofs.DecisionLaws.{no-put-backs}
-use Rattle.hub_state.proofs.UnmovedLaws.{in-place}
 use Rattle.hub_limit.specs.Contract.{Limits}
 use Rattle.hub_limit.specs.declared.NewLimit.{NewLimit}
 use Rattle.hub.specs.Valid.{Valid}
@@ -25,6 +24,6 @@ limits-hub h k l b v g n e = record {
   gives = ap (λ (m : List Back). record { state = stateOf (l .state); answers = answerOf (l .answer) m ∷ [] }) e ∙ g .gives;
   backs-fit = omega arith;
   backs-told = e ∙ no-put-backs (l .answer) ∙ sym (ap (λ (m : List Back). putBacksIn (answerOf (l .answer) m ∷ [])) e);
-  unmoved = in-place (h .state) (l .state) v (g .in-place);
+  unmoved = g .unmoved;
   same-hub = λ z. ap (λ (s : HubState). record { state = s }) (g .same-state z);
 }

@@ -1,10 +1,10 @@
 -- Laws for the proofs of the opening. Assumes nothing.
 use mathlib.Core.Path.{_≡_, refl, sym, ap, _∙_, subst}
-use mathlib.Core.Bool.{true, false, _||_}
+use mathlib.Core.Bool.{true, false}
 use mathlib.Core.List.{map}
 use Prim.Native.Nat.{ℕ, zero, suc, _*_, _<_, _≤_}
 use native.Mathlib.Omega.{arith}
-use borrow.Author.Tests.{lt-ltb, le-ltb, ltb-false, eq-eqb, ne-eqb, eqb-false}
+use borrow.Author.Tests.{ltb-false, eq-eqb, ne-eqb, eqb-false}
 use lib.Dec.{eqb, ltb}
 use lib.IntN.{pos}
 use lib.ListN.{replicate, getD}
@@ -14,7 +14,8 @@ use Rattle.rules_routine.specs.declared.Refusal.{Refusal}
 use Rattle.rules_routine.specs.declared.Verdict.{Verdict}
 use Rattle.rules_routine.specs.declared.Verdict.the-variants.{Accepted, Refused as TurnedDown}
 use Rattle.rules_routine.proofs.RoutineLaws.{both-accept, not-refused, or-false}
-use Rattle.rules.specs.Open.{limitCheck, openCheck, newHub, closedHub, openIf, openOf}
+use Rattle.rules.specs.Open.{devicesCheck, limitCheck, openCheck, newHub, closedHub, openIf, openOf}
+use Rattle.rules.specs.Limit.{newLimitCheck}
 use Rattle.rules.specs.Calls.{StaysClosed}
 use Rattle.rules.proofs.Closed.{closed-stays}
 use Rattle.hub_sequence.specs.Lists.{count}
@@ -38,42 +39,36 @@ all-same (suc n) v (suc d) = all-same n v d
 
 -- what calls on the hub of no devices come to
 pub stays-closed : (h : Hub) → view h ≡ closedHub → StaysClosed (view h)
-stays-closed h e = subst StaysClosed (sym e) (closed-stays 0)
+stays-closed h e = subst StaysClosed (sym e) closed-stays
 
 module _ (n k first : ℕ) where
+  -- 1 and 2 are tested together, then 3
+  open-then : (v : Verdict) → newLimitCheck n k ≡ v → openCheck n k first ≡ (v andThen refuse first-id-0 when eqb first 0)
+  unfolding openCheck
+  open-then v e =
+      grouped (devicesCheck n) (limitCheck k) (refuse first-id-0 when eqb first 0)
+      ∙ ap (λ (x : Verdict). x andThen refuse first-id-0 when eqb first 0) e
+    where
+      grouped : (x y z : Verdict) → (x andThen y andThen z) ≡ ((x andThen y) andThen z)
+      grouped Accepted y z = refl
+      grouped (TurnedDown r) y z = refl
+
   -- one law for each way out of the check
-  pub open-no-devices : n ≡ 0 → openCheck n k first ≡ TurnedDown (refusalOf devices-out-of-range)
-  unfolding openCheck
-  open-no-devices h = simp (eq-eqb n 0 h)
+  pub open-out : (r : Refusal) → newLimitCheck n k ≡ TurnedDown r → openCheck n k first ≡ TurnedDown r
+  open-out r e = open-then (TurnedDown r) e
 
-  pub open-many-devices : maxDevices < n → openCheck n k first ≡ TurnedDown (refusalOf devices-out-of-range)
-  unfolding openCheck
-  open-many-devices h = simp (ne-eqb n 0 (λ e. omega arith), lt-ltb maxDevices n h)
+  pub open-first-id : newLimitCheck n k ≡ Accepted → first ≡ 0 → openCheck n k first ≡ TurnedDown (refusalOf first-id-0)
+  open-first-id e f = open-then Accepted e ∙ simp (eq-eqb first 0 f)
 
-  pub open-pass-limit : 0 < n → n ≤ maxDevices → (r : Refusal) → limitCheck k ≡ TurnedDown r → openCheck n k first ≡ TurnedDown r
-  unfolding openCheck
-  open-pass-limit h m r p =
-      simp (ne-eqb n 0 (λ e. omega arith), le-ltb maxDevices n m) (ap (λ (v : Verdict). v andThen refuse first-id-0 when eqb first 0) p)
-
-  pub open-first-id : 0 < n → n ≤ maxDevices → limitCheck k ≡ Accepted → first ≡ 0 → openCheck n k first ≡ TurnedDown (refusalOf first-id-0)
-  unfolding openCheck
-  open-first-id h m p f =
-      simp (ne-eqb n 0 (λ e. omega arith), le-ltb maxDevices n m, eq-eqb first 0 f)
-      (ap (λ (v : Verdict). v andThen TurnedDown (refusalOf first-id-0)) p)
-
-  pub open-fine : 0 < n → n ≤ maxDevices → limitCheck k ≡ Accepted → 0 < first → openCheck n k first ≡ Accepted
-  unfolding openCheck
-  open-fine h m p f =
-      simp (ne-eqb n 0 (λ e. omega arith), le-ltb maxDevices n m, ne-eqb first 0 (λ e. omega arith))
-      (ap (λ (v : Verdict). v andThen Accepted) p)
+  pub open-fine : newLimitCheck n k ≡ Accepted → 0 < first → openCheck n k first ≡ Accepted
+  open-fine e f = open-then Accepted e ∙ simp (ne-eqb first 0 (λ e. omega arith))
 
   -- an accepted opening has these in range
   pub open-fits : openCheck n k first ≡ Accepted → (n ≤ maxDevices) × (0 < first)
   unfolding openCheck
   open-fits e =
-      let devices = refuse devices-out-of-range when (eqb n 0 || ltb maxDevices n) in
       let id = refuse first-id-0 when eqb first 0 in
-      let a = both-accept devices (limitCheck k andThen id) e in
+      let a = both-accept (devicesCheck n) (limitCheck k andThen id) e in
       let b = both-accept (limitCheck k) id (a .1) in
       let m = ltb-false maxDevices n (or-false (eqb n 0) (ltb maxDevices n) (not-refused devices-out-of-range _ (a .0)) .1) in
       let f = eqb-false first 0 (not-refused first-id-0 _ (b .1)) in

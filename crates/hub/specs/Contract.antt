@@ -24,8 +24,8 @@ use Rattle.hub.specs.declared.Hub.{Hub}
 use Rattle.hub.specs.declared.Opened.{Opened}
 use Rattle.hub.specs.declared.Outcome.{Outcome}
 
--- The opening is accepted, with the hub that the rules give, or turned down as they say. "no hub made": beside a refusal
--- stands the hub of no devices, on which every call is turned down, but a new pass limit, which leaves a hub of no devices.
+-- The opening is accepted, with the hub that the rules give, or turned down as they say. "no hub made": beside a refusal stands the hub of
+-- no devices, on which every call is turned down.
 pub record Opens (n k first : ℕ) (o : Opened) : Type 0 where
   pub valid : Valid (o .hub)
   pub gives : openIf (o .verdict) (view (o .hub)) ≡ openOf n k first

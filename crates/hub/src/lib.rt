@@ -1,7 +1,7 @@
 // The plot hub, by value: document 01, "The steps". Here stand the public calls with their contracts. A call decides, on a hub that stays
 // as it is, what it comes to (crates `hub_submit`, `hub_turn`, `hub_report`, `hub_events` and, the cancel, `hub_abort`); an applier makes
 // the next hub (crates `hub_apply`, `hub_settle`, `hub_events`), which then settles. Only a new pass limit (crate `hub_limit`) is made at
-// once. `specs/` reads a hub as the state of the rules, and an outcome as their answers.
+// once, settling included. `specs/` reads a hub as the state of the rules, and an outcome as their answers.
 mod carrying;
 mod opening;
 
@@ -141,7 +141,7 @@ pub fn restart(hub: Hub, device: u8, setting: i16) -> Outcome
     carrying::carried_out(hub, decision, routine)
 }
 
-// A new pass limit for a hub that goes on: document 02, item 13. "a K above 8 gets 2".
+// A new pass limit for a hub that goes on: document 02, item 13. "a K above 8 gets 2"; before that, where no hub was made, 1.
 pub fn limit(hub: Hub, pass_limit: u8) -> Outcome
     requires { ⌜ Valid hub ⌝ }
     ensures { λ r. ⌜ Limited hub «pass_limit» r ⌝ }
@@ -198,7 +198,7 @@ pub fn due_settings(hub: Hub, list: &mut [i16]) -> Verdict
     hub_due_list::put_settings(state, list)
 }
 
-// A hub of no devices: one that is not opened. Every call on it is turned down, but a new pass limit, which leaves a hub of no devices.
+// A hub of no devices: one that is not opened. Every call on it is turned down.
 pub fn closed() -> Hub
     ensures { λ r. ⌜ (Valid r) × (view r ≡ closedHub) × (StaysClosed (view r)) ⌝ }
 {

@@ -8,7 +8,6 @@ use rules_routine::Refusal;
 use rules_routine::Verdict;
 use rules_routine::limits::MAX_DEVICES;
 use rules_routine::limits::MAX_SEQUENCE;
-use rules_routine::refusals::DEVICES_OUT_OF_RANGE;
 use rules_routine::refusals::FIRST_ID_0;
 ghost use mathlib.Core.Path.{_≡_};
 ghost use Prim.Native.Nat.{_<_, _≤_};
@@ -21,15 +20,9 @@ ghost use Rattle.hub.specs.Valid.{Valid};
 pub fn check(devices: u8, pass_limit: u8, first_id: u32) -> Verdict
     ensures { λ r. ⌜ r ≡ openCheck devices «pass_limit» «first_id» ⌝ }
 {
-    if devices == 0 {
-        return Verdict::Refused(Refusal::Number(DEVICES_OUT_OF_RANGE));
-    }
-    if MAX_DEVICES < devices as usize {
-        return Verdict::Refused(Refusal::Number(DEVICES_OUT_OF_RANGE));
-    }
-    let limited = hub_limit::check(pass_limit);
-    let Verdict::Accepted = limited else {
-        return limited;
+    let ranges = hub_limit::check(devices, pass_limit);
+    let Verdict::Accepted = ranges else {
+        return ranges;
     };
     if first_id == 0 {
         return Verdict::Refused(Refusal::Number(FIRST_ID_0));

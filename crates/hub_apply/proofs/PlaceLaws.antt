@@ -28,7 +28,7 @@ use Rattle.hub_sequence.specs.declared.Joined.{Joined}
 use Rattle.hub_sequence.proofs.Tables.{byEq}
 use Rattle.hub_sequence.proofs.Lists.{same-other, count-append, count-placed, placed-split, through-past}
 use Rattle.hub_sequence.proofs.ReadLaws.{once-taken}
-use Rattle.hub_sequence.proofs.StayLaws.{byStands, held-or-new, joins-stay}
+use Rattle.hub_sequence.proofs.StayLaws.{byStands, taken-or-new, joins-stay}
 use Rattle.hub_sequence.proofs.WalkLaws.{behind-joined}
 use Rattle.hub_state.specs.View.{noRestart, restartOf, toDoCode, statusOf, Rows, rowsOf, stepAt, stepsFrom, stepsAt, restartsAt, memberAt}
 use Rattle.hub_state.specs.View.{membersOf, stateOf}
@@ -388,7 +388,7 @@ module _ (h : HubState) (cs : List Command) (after : ℕ) (r : HubState) (v : St
     is-new x t n =
         byEq x (h .links .free)
         (λ e. ap (memberAt r) e ∙ p .it)
-        (λ m. absurd (n (held-or-new (h .links) after joined k (p .links) x t m)))
+        (λ m. absurd (n (taken-or-new (h .links) after joined k (p .links) x t m)))
 
     new-id : (x : ℕ) → Stands (r .links) x → (Stands (h .links) x → ⊥) → memberAt r x .id ≡ h .«next_id»
     unfolding newcomer

@@ -7,7 +7,7 @@ use Rattle.rules.specs.Limit.{limitOf}
 use Rattle.hub_answers.specs.View.{answerOf, changesNothing}
 use Rattle.hub_state.specs.View.{stateOf}
 use Rattle.hub_state.specs.Valid.{StateOk}
-use Rattle.hub_state.specs.Unmoved.{InPlace}
+use Rattle.hub_state.specs.Unmoved.{Unmoved}
 use Rattle.hub_state.specs.declared.HubState.{HubState}
 use Rattle.hub_limit.specs.declared.NewLimit.{NewLimit}
 
@@ -15,5 +15,5 @@ use Rattle.hub_limit.specs.declared.NewLimit.{NewLimit}
 pub record Limits (h : HubState) (k : ℕ) (r : NewLimit) : Type 0 where
   pub valid : StateOk (r .state)
   pub gives : record { state = stateOf (r .state); answers = answerOf (r .answer) [] ∷ [] } ≡ limitOf (stateOf h) k
-  pub in-place : InPlace h (r .state)
+  pub unmoved : Unmoved h (r .state)
   pub same-state : changesNothing (r .answer) ≡ true → r .state ≡ h

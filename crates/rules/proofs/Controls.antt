@@ -1,13 +1,14 @@
 -- Worlds in which a wrong rule shows: each is computed, and one of the three parts of demand 3 fails in it as soon as the rule is changed
--- as the edit of the same name in `must-fail/` does. (`failed_never_puts_back` shows in `failedAfterChange` of `Worlds.antt`.) Assumes
--- nothing.
+-- as the edit of the same name in `must-fail/` does. (`failed_never_puts_back` shows in `failedAfterChange` of `Worlds.antt`.) At the end:
+-- answers that the statements exclude, so that a weaker statement shows. Assumes nothing.
 use mathlib.Core.Path.{refl, sym}
-use mathlib.Core.Logic.{inl, inr}
+use mathlib.Core.Logic.{_⊎_, inl, inr}
 use mathlib.Core.List.{List, [], _∷_, _++_}
 use lib.IntN.{pos}
-use Rattle.rules.specs.Answers.{submit, turn, report, failure, restart, cancel}
+use Rattle.rules.specs.Answers.{Call, submit, turn, report, failure, restart, cancel, Answer, placed, send, skipped, not-held, down}
 use Rattle.rules.specs.Open.{newHub}
-use Rattle.rules.specs.Order.{failure-of, event, entries}
+use Rattle.rules.specs.History.{Told, accountsOf}
+use Rattle.rules.specs.Order.{failure-of, event, entries, orderOf}
 use Rattle.rules.specs.Serial.{allUp}
 use Rattle.rules.specs.World.{World, Act, calls, takes-one, accounts, worldAfterAll, Truthful, newWorld}
 use Rattle.rules.specs.Demand3.{orderIn, Begins, CommandsStand}
@@ -215,7 +216,7 @@ restart-aborts = tt
 -- skip_sets_no_mark: 1 has skipped 0 as down: the restart stands behind it. Ahead of it, the skipped command would find 0 up.
 pub skip-begins : Stands (call (failure 0) ∷ call (submit (best 0 (pos 5) ∷ [])) ∷ call (turn 1) ∷ call (restart 0 (pos 0)) ∷ [])
 unfolding calcWorld
-skip-begins = (refl, (inr refl, tt), tt)
+skip-begins = (refl, (inr (refl, refl), tt), tt)
 
 -- marks_stay_settled: 1 has settled and the mark of 0 is 0, so the failure of 0 comes last in the settled part. Attached to 1, it would get
 -- in ahead of 2, which has settled too.
@@ -263,7 +264,7 @@ pub unbegun-keeps :
     Stands (call (submit (must 1 (pos 5) ∷ best 0 (pos 6) ∷ must 1 (pos 7) ∷ [])) ∷ call (turn 1) ∷ takes-one 1 0 ∷ call
     (report 1 0) ∷ call (failure 0) ∷ call (turn 1) ∷ call (turn 1) ∷ takes-one 1 0 ∷ call (report 1 0) ∷ [])
 unfolding calcWorld
-unbegun-keeps = (refl, (refl, (inr refl, (refl, tt))), tt)
+unbegun-keeps = (refl, (refl, (inr (refl, refl), (refl, tt))), tt)
 
 -- late_report_counts: the lamp has failed, and the routine has sent the shelter's second command, which is not taken. A late done report
 -- on the lamp's, which was, would be accepted for the shelter's, and breaks the premise: the server must drop it. So would a late failed
@@ -314,3 +315,41 @@ pub skipped-skips :
     ∷ call (report 1 0) ∷ [])
 unfolding calcWorld
 skipped-skips = ((tt, (tt, tt)), tt)
+
+-- ---- what the statements exclude: answers that no hub of these rules gives, the latest first
+
+-- neither ground holds
+neither : {A B : Type 0} → A ⊎ B → (A → ⊥) → (B → ⊥) → ⊥
+neither (inl a) f g = f a
+neither (inr b) f g = g b
+
+abbrev answering : Call → Answer → Told
+answering c x = record { call = c; answers = x ∷ [] }
+
+abbrev StandsIn : List Told → Type 0
+StandsIn h = CommandsStand (accountsOf h) (entries (orderOf h)) allUp
+
+-- must_skipped_as_down: a must on a device that is down is skipped by its turn, and its routine goes on
+pub must-not-skipped :
+    StandsIn (answering (turn 1) (skipped 1 []) ∷ answering (submit (must 0 (pos 5) ∷ [])) (placed 1 0)
+    ∷ answering (failure 0) (down 0 0) ∷ []) →
+    ⊥
+unfolding calcWorld
+must-not-skipped h = neither (h .1 .0) (λ skips. t≠f (sym skips)) (λ is. t≠f (is .1))
+
+-- skipped_though_done: a command is skipped that was reported done, and whose device is up
+pub done-not-skipped :
+    StandsIn (answering (report 1 0) (skipped 1 []) ∷ answering (turn 1) (send 1 (best 0 (pos 5)))
+    ∷ answering (submit (best 0 (pos 5) ∷ [])) (placed 1 0) ∷ []) →
+    ⊥
+unfolding calcWorld
+done-not-skipped h = neither (h .1 .0) (λ skips. t≠f (sym skips)) (λ is. t≠f (is .0))
+
+-- a command is sent after a condition that did not hold, and reported failed
+pub not-held-not-sent :
+    (let h = answering (report 1 1) (skipped 1 []) ∷ answering (turn 1) (send 1 (best 1 (pos 5))) ∷ answering (turn 1) (not-held 1)
+    ∷ answering (submit (condition 0 (pos 20) ∷ best 1 (pos 5) ∷ [])) (placed 1 0) ∷ [] in
+    Replays (accountsOf h) (entries (orderOf h)) allUp) →
+    ⊥
+unfolding calcWorld
+not-held-not-sent h = t≠f (h .0 .1 .0 .1)

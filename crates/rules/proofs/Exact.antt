@@ -40,24 +40,25 @@ use Rattle.rules.specs.Progress.{isMust, next, nextCountsAsMust, nextIsS
 use Rattle.rules.specs.Sequence.{Found, onto, find, isRunning, runs, withUp}
 use Rattle.rules.specs.Settle.{settling}
 use Rattle.rules.specs.Abort.{abort}
-use Rattle.rules.specs.Open.{opened, not-opened, limitCheck, openCheck, newHub, openIf, openOf}
+use Rattle.rules.specs.Open.{opened, not-opened, openCheck, newHub, openIf, openOf}
 use Rattle.rules.specs.Submit.{submitCheck, submitOf}
 use Rattle.rules.specs.Turn.{firstHolding, commitTurn, sendTurn, skipTurn, isHeld, heldTurn, notHeldTurn, proceedUp, proceed, waitOr}
 use Rattle.rules.specs.Turn.{turnNext, turnFlight, turnFound, turnOf}
 use Rattle.rules.specs.Report.{codeDone, codeFailed, doneReport, skipReport, reported, reportFlight, reportFound, reportOf}
 use Rattle.rules.specs.Events.{isHalfway, mustLeft, stopIfAny, stopHalfway, failureResult, restartResult, failureOf, restartOf}
 use Rattle.rules.specs.Cancel.{cancelFound, cancelOf}
-use Rattle.rules.specs.Limit.{withPassLimit, limitOf}
+use Rattle.rules.specs.Limit.{newLimitCheck, limitOf}
 use Rattle.rules.specs.Calls.{resultOf}
 use Rattle.rules.specs.Causes.{RunsUnder, NoneRunsUnder, InFlight, OneInFlight, NoneInFlight, IsRefusal, openingCauses, callCauses}
 use Rattle.rules.specs.Causes.{OpeningCause, devices-are-out, limit-is-out, id-is-0}
 use Rattle.rules.specs.Causes.{CallCause, routine-is-out, is-full, ids-are-used-up, turn-of-none, cancel-of-none, report-on-none}
 use Rattle.rules.specs.Causes.{one-flies}
 use Rattle.rules.specs.Causes.{none-flies, code-is-out, failure-is-out, restart-is-out, is-down, is-up, restart-setting-is-out}
-use Rattle.rules.specs.Causes.{new-limit-is-out}
+use Rattle.rules.specs.Causes.{no-hub-to-limit, new-limit-is-out}
 use Rattle.rules.specs.Causes.{ExactOpening, ExactCall, ExactSubmission, ExactTurn, ExactReport, ExactCancel, ExactFailure}
 use Rattle.rules.specs.Causes.{ExactRestart, ExactLimit}
 use Rattle.rules.proofs.Lists.{byIf, t≠f}
+use Rattle.rules.proofs.LimitLaws.{inForce}
 
 -- ---- the first of a list
 
@@ -509,16 +510,23 @@ restart-judged s d v = judged-unless (restartVerdict s d v) s (settling (restart
 
 -- ---- a new pass limit
 
+no-hub-said : (s : State) (k : ℕ) → CallCause s (limit k) devices-out-of-range → (s .devices ≡ 0) ⊎ (maxDevices < s .devices)
+no-hub-said s k (no-hub-to-limit h) = h
+
 new-limit-said : (s : State) (k : ℕ) → CallCause s (limit k) pass-limit-out-of-range → highestPassLimit < k
 new-limit-said s k (new-limit-is-out h) = h
 
-limit-outcome : (s : State) (k : ℕ) → Outcome (CallCause s (limit k)) itself (callCauses (limit k)) (limitCheck k)
+limit-outcome : (s : State) (k : ℕ) → Outcome (CallCause s (limit k)) itself (callCauses (limit k)) (newLimitCheck (s .devices) k)
 limit-outcome s k =
-    one (CallCause s (limit k)) itself pass-limit-out-of-range _ (agree (less highestPassLimit k) new-limit-is-out (new-limit-said s k))
+    let H = CallCause s (limit k) in
+    let n = s .devices in
+    join H itself
+    (one H itself devices-out-of-range _ (agree (either _ _ (same n 0) (less maxDevices n)) no-hub-to-limit (no-hub-said s k)))
+    (λ _. one H itself pass-limit-out-of-range _ (agree (less highestPassLimit k) new-limit-is-out (new-limit-said s k)))
 
-limit-judged : (s : State) (k : ℕ) → Judged (limitCheck k) s (limitOf s k)
+limit-judged : (s : State) (k : ℕ) → Judged (newLimitCheck (s .devices) k) s (limitOf s k)
 unfolding limitOf
-limit-judged s k = judged-unless (limitCheck k) s (record { state = withPassLimit s k; answers = limited k ∷ [] }) (no-refusal _ refl, tt)
+limit-judged s k = judged-unless (newLimitCheck (s .devices) k) s (inForce s k) (no-refusal _ refl, tt)
 
 -- ---- the theorems
 
@@ -530,7 +538,7 @@ judge s (report i code) = report-verdicted s i code
 judge s (failure d) = record { verdict = failureVerdict s d; made = failure-outcome s d; judged = failure-judged s d }
 judge s (restart d v) = record { verdict = restartVerdict s d v; made = restart-outcome s d v; judged = restart-judged s d v }
 judge s (cancel i) = cancel-verdicted s i
-judge s (limit k) = record { verdict = limitCheck k; made = limit-outcome s k; judged = limit-judged s k }
+judge s (limit k) = record { verdict = newLimitCheck (s .devices) k; made = limit-outcome s k; judged = limit-judged s k }
 
 pub exact-calls : (s : State) (c : Call) → ExactCall s c
 exact-calls s c = let j = judge s c in exact-call s c (j .verdict) (j .made) (j .judged)

@@ -7,18 +7,18 @@ use Rattle.rules_routine.specs.declared.Verdict.{Verdict}
 use Rattle.rules_routine.specs.declared.Verdict.the-variants.{Accepted, Refused}
 use Rattle.rules.specs.State.{State}
 use Rattle.rules.specs.Answers.{limited, Result, turnedDown, unlessRefused}
-use Rattle.rules.specs.Open.{limitCheck}
-use Rattle.rules.specs.Limit.{withPassLimit, limitOf}
+use Rattle.rules.specs.Settle.{settling}
+use Rattle.rules.specs.Limit.{newLimitCheck, withPassLimit, limitOf}
 
 module _ (s : State) (k : ℕ) where
   -- what comes of it if it passes
-  abbrev inForce : Result
-  inForce = record { state = withPassLimit s k; answers = limited k ∷ [] }
+  abbrev pub inForce : Result
+  inForce = settling (record { state = withPassLimit s k; answers = limited k ∷ [] })
 
-  pub limit-passes : limitCheck k ≡ Accepted → limitOf s k ≡ record { state = withPassLimit s k; answers = limited k ∷ [] }
+  pub limit-passes : newLimitCheck (s .devices) k ≡ Accepted → limitOf s k ≡ inForce
   unfolding limitOf
   limit-passes e = ap (λ (v : Verdict). unlessRefused v s inForce) e
 
-  pub limit-turned-down : (r : Refusal) → limitCheck k ≡ Refused r → limitOf s k ≡ turnedDown r s
+  pub limit-turned-down : (r : Refusal) → newLimitCheck (s .devices) k ≡ Refused r → limitOf s k ≡ turnedDown r s
   unfolding limitOf
   limit-turned-down r e = ap (λ (v : Verdict). unlessRefused v s inForce) e

@@ -351,7 +351,7 @@ lamp-restarts = record {
   ready = refl;
   settings-are = refl;
   serial-is = refl;
-  stands = (refl, (inr refl, (refl, ((refl, refl), tt))), tt);
+  stands = (refl, (inr (refl, refl), (refl, ((refl, refl), tt))), tt);
 }
 
 -- ---- water only if dry (document 02, item 4)
@@ -438,7 +438,7 @@ holds-by-restart = (
     ready = refl;
     settings-are = refl;
     serial-is = refl;
-    stands = (refl, (inr refl, (refl, tt)), (refl, (refl, (refl, tt)), tt));
+    stands = (refl, (inr (refl, refl), (refl, tt)), (refl, (refl, (refl, tt)), tt));
   },
   ((tt, ((refl, refl), tt)), (((refl, refl, refl), ((refl, refl), tt)), tt)),
 )

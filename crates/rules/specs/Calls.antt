@@ -1,12 +1,9 @@
 -- All calls: from a state and a call to the answers and the next state. Assumes nothing.
 use mathlib.Core.Path.{_≡_}
-use mathlib.Core.Logic.{_⊎_}
 use mathlib.Core.List.{List, [], _∷_}
-use Prim.Native.Nat.{ℕ}
 use Rattle.rules_routine.specs.declared.Refusal.{Refusal}
 use Rattle.rules.specs.State.{State}
-use Rattle.rules.specs.Answers.{Call, submit, turn, report, failure, restart, cancel, limit, limited, Result, turnedDown}
-use Rattle.rules.specs.Open.{closedWith}
+use Rattle.rules.specs.Answers.{Call, submit, turn, report, failure, restart, cancel, limit, Result, turnedDown}
 use Rattle.rules.specs.Submit.{submitOf}
 use Rattle.rules.specs.Turn.{turnOf}
 use Rattle.rules.specs.Report.{reportOf}
@@ -31,11 +28,6 @@ stateAfter s (c ∷ l) = stateAfter (resultOf s c .state) l
 abbrev pub IsTurnedDown : State → Call → Type 0
 IsTurnedDown s c = (r : Refusal) × (resultOf s c ≡ turnedDown r s)
 
--- It is a new pass limit, and all that comes of it is a hub of no devices again.
-abbrev pub IsClosedAgain : State → Call → Type 0
-IsClosedAgain s c = (k : ℕ) × (c ≡ limit k) × (resultOf s c ≡ record { state = closedWith k; answers = limited k ∷ [] })
-
--- A hub on which every call is turned down, but a new pass limit, which leaves such a hub. That `closedWith k` is one is `closed-stays` of
--- `proofs/Closed.antt`.
+-- A hub on which every call is turned down. That `closedHub` is one is `closed-stays` of `proofs/Closed.antt`.
 abbrev pub StaysClosed : State → Type 0
-StaysClosed s = (c : Call) → IsTurnedDown s c ⊎ IsClosedAgain s c
+StaysClosed s = (c : Call) → IsTurnedDown s c

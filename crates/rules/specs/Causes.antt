@@ -80,6 +80,8 @@ pub data CallCause (s : State) : Call → Cause → Type 0 where
   none-flies : {i code : ℕ} → NoneInFlight s i → CallCause s (report i code) none-in-flight
   -- 13: "report code above 1"
   code-is-out : {i code : ℕ} → codeFailed < code → CallCause s (report i code) report-code-out-of-range
+  -- 1: "N not 1 to 32", of the hub that shall have a new pass limit: where no hub was made
+  no-hub-to-limit : {k : ℕ} → (s .devices ≡ 0) ⊎ (maxDevices < s .devices) → CallCause s (limit k) devices-out-of-range
   -- 2: "K above 8", of a new pass limit
   new-limit-is-out : {k : ℕ} → highestPassLimit < k → CallCause s (limit k) pass-limit-out-of-range
   -- 14: "failure or restart, device not below N"
@@ -99,7 +101,7 @@ abbrev pub openingCauses : List Cause
 openingCauses = devices-out-of-range ∷ pass-limit-out-of-range ∷ first-id-0 ∷ []
 
 -- "Submission: 4; then the commands in turn, each 5, 6, 7", and 22 (document 02, item 4); "then 8, 9. Turn: 10, 11. Cancel: 10. Report: 10,
--- 12, 13. Failure: 14, 15. Restart: 14, 16, 17." A new pass limit (document 02, item 13): 2.
+-- 12, 13. Failure: 14, 15. Restart: 14, 16, 17." A new pass limit (document 02, item 13): 1, 2.
 abbrev pub callCauses : Call → List Cause
 callCauses (submit cs) = routineCauses ++ (sequence-full ∷ ids-used-up ∷ [])
 callCauses (turn i) = not-running ∷ turn-in-flight ∷ []
@@ -107,7 +109,7 @@ callCauses (cancel i) = not-running ∷ []
 callCauses (report i code) = not-running ∷ none-in-flight ∷ report-code-out-of-range ∷ []
 callCauses (failure d) = event-device ∷ failure-of-down ∷ []
 callCauses (restart d v) = event-device ∷ restart-of-up ∷ restart-setting ∷ []
-callCauses (limit k) = pass-limit-out-of-range ∷ []
+callCauses (limit k) = devices-out-of-range ∷ pass-limit-out-of-range ∷ []
 
 -- ---- each number under its cause alone
 

@@ -53,10 +53,12 @@ SettledStands w acts =
     Begins (orderIn (worldAfterAll w before) .settled) (entries (orderIn (worldAfterAll w acts)))
 
 -- Part 3, where commands stand. Document 01, The hub's order: "In it every done command finds its device up; every skipped one was reported
--- failed or finds it down." Document 02, item 3, has "a third ground for a skipped command", a best-effort one: an event of its device,
--- which "follows the routine in the order". Item 4 has "further grounds": a command after a condition that did not hold or was skipped; a
--- condition is skipped as its device is down, or by an event, with the tag of the command after it. One that was not skipped finds its
--- device up; that it then has the outcome that it had live is the statement of `Replay.antt`.
+-- failed or finds it down." Where it finds it down it is no must: "If D is down, a must aborts R and a best-effort is skipped" (Turn of R).
+-- Document 02, item 3, has "a third ground for a skipped command", a best-effort one: an event of its device, which "follows the routine in
+-- the order". Item 4 has "further grounds": a command, must or best-effort, after a condition that did not hold or was skipped; a condition
+-- is skipped as its device is down ("the following command decides: must aborts, best-effort skips the condition"), or by an event, with
+-- the tag of the command after it. One that was not skipped finds its device up; that it then has the outcome that it had live is the
+-- statement of `Replay.antt`.
 
 -- The events behind a routine and before the next one, in what stands behind it.
 abbrev pub eventsNext : List Entry → List Event
@@ -84,7 +86,7 @@ abbrev pub Finds : List Event → ℕ → Bool → Bool → Bool → Outcome →
 Finds behind d isUp skipping must not-yet = Unit {0}
 Finds behind d isUp skipping must reported-done = isUp ≡ true
 Finds behind d isUp skipping must reported-failed = Unit {0}
-Finds behind d isUp skipping must not-sent = (skipping ≡ true) ⊎ (isUp ≡ false)
+Finds behind d isUp skipping must not-sent = (skipping ≡ true) ⊎ ((isUp ≡ false) × (must ≡ false))
 Finds behind d isUp skipping must by-event = (must ≡ false) × (anyOf (isOf d) behind ≡ true)
 Finds behind d isUp skipping must found-held = isUp ≡ true
 Finds behind d isUp skipping must found-not-held = isUp ≡ true

@@ -11,6 +11,7 @@ use Rattle.rules.specs.Tables.{anyOf, put}
 use Rattle.rules.specs.Answers.{Call, submit, turn, report, failure, restart, cancel, limit, Answer, refused, placed, wait, send}
 use Rattle.rules.specs.Answers.{done}
 use Rattle.rules.specs.Answers.{skipped, held, not-held, committed, aborted, down, up, limited}
+use Rattle.rules.specs.Report.{codeFailed}
 
 pub record Told : Type 0 where
   pub call : Call
@@ -64,11 +65,12 @@ submittedBy (restart d v) = []
 submittedBy (cancel i) = []
 submittedBy (limit k) = []
 
--- A command is skipped by a report or by a turn.
+-- A command is skipped by a report or by a turn. Document 01, Report on R: "Code 1, failed: a must aborts R, a best-effort is skipped". A
+-- `skipped` that answers a report of another code has not that ground: it must have one of those of a command that was not sent.
 abbrev pub skippedBy : Call → Outcome
 skippedBy (submit cs) = not-sent
 skippedBy (turn i) = not-sent
-skippedBy (report i code) = reported-failed
+skippedBy (report i code) = if eqb code codeFailed then reported-failed else not-sent
 skippedBy (failure d) = not-sent
 skippedBy (restart d v) = not-sent
 skippedBy (cancel i) = not-sent

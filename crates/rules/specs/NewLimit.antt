@@ -1,20 +1,22 @@
--- Document 02, item 13: what is claimed of new pass limits besides their refusal (`Causes.antt`), demand 3 and the waiting promise. The
--- proofs are `limit-tells-nothing`, `nothing-to-settle`, `passed-below` and `passes-in-range` of crate `rules_promises`. Assumes nothing.
+-- Document 02, item 13: what is claimed of new pass limits besides their refusals (`Causes.antt`), demand 3 and the waiting promise. The
+-- proofs are `limit-tells-nothing`, `nothing-to-settle`, `limit-changes-k`, `passed-below` and `passes-in-range` of crate `rules_promises`.
+-- Assumes nothing.
 use mathlib.Core.Path.{_≡_}
 use mathlib.Core.Bool.{true}
-use mathlib.Core.List.{List, _∷_, _++_, map}
+use mathlib.Core.List.{List, [], _∷_, _++_, map}
 use Prim.Native.Nat.{ℕ, _<_, _≤_}
 use lib.IntN.{ℤ}
 use Rattle.rules_routine.specs.declared.Command.{Command}
 use Rattle.rules.specs.Tables.{Each}
 use Rattle.rules_routine.specs.Limits.{highestPassLimit}
 use Rattle.rules.specs.State.{Member, State}
-use Rattle.rules.specs.Answers.{Call, limit}
+use Rattle.rules.specs.Answers.{Call, limit, limited}
 use Rattle.rules.specs.Sequence.{isRunning}
 use Rattle.rules.specs.Settle.{settle}
 use Rattle.rules.specs.Submit.{pass, newcomer, place}
 use Rattle.rules.specs.Open.{opened, openOf}
-use Rattle.rules.specs.Calls.{stateAfter}
+use Rattle.rules.specs.Limit.{withPassLimit}
+use Rattle.rules.specs.Calls.{resultOf, stateAfter}
 use Rattle.rules.specs.History.{workingOf}
 use Rattle.rules.specs.World.{World, Act, calls, accounts, worldAfter, worldAfterAll, newWorld}
 use Rattle.rules.specs.Demand3.{orderIn}
@@ -39,6 +41,13 @@ NothingToSettle =
     (n k first : ℕ) (s : State) → openOf n k first ≡ opened s → (acts : List Act) →
     let now = worldAfterAll (newWorld s) acts .state in
     settle now ≡ now
+
+-- "No id, mark, setting or place changes": after every list a new pass limit that is not too high is in force, and K alone changes by it.
+abbrev pub LimitChangesK : Type 0
+LimitChangesK =
+    (n k first : ℕ) (s : State) → openOf n k first ≡ opened s → (acts : List Act) (new : ℕ) → new ≤ highestPassLimit →
+    let now = worldAfterAll (newWorld s) acts .state in
+    resultOf now (limit new) ≡ record { state = withPassLimit now new; answers = limited new ∷ [] }
 
 abbrev pub PassedLessThan : ℕ → Member → Type 0
 PassedLessThan k m = isRunning m ≡ true → m .passed < k

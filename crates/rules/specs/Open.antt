@@ -16,13 +16,16 @@ pub data Opening : Type 0 where
   opened : State → Opening
   not-opened : Refusal → Opening
 
--- "K above 8": of an opening, and of a new pass limit.
+-- "N not 1 to 32", and "K above 8": of an opening, and of a new pass limit (`Limit.antt`).
+abbrev pub devicesCheck : ℕ → Verdict
+devicesCheck n = refuse devices-out-of-range when (eqb n 0 || ltb maxDevices n)
+
 abbrev pub limitCheck : ℕ → Verdict
 limitCheck k = refuse pass-limit-out-of-range when ltb highestPassLimit k
 
 unfoldable pub openCheck : ℕ → ℕ → ℕ → Verdict
 openCheck n k first =
-    refuse devices-out-of-range when (eqb n 0 || ltb maxDevices n)
+    devicesCheck n
     andThen limitCheck k
     andThen refuse first-id-0 when eqb first 0
 
@@ -31,13 +34,10 @@ unfoldable pub newHub : ℕ → ℕ → ℕ → State
 newHub n k first =
     record { devices = n; passLimit = k; nextId = first; sequence = []; settledAt = λ d. pos 0; up = λ d. true; mark = λ d. 0 }
 
--- No hub, where a hub has to stand: beside a refused opening, and before an accepted one. It has no devices; what calls on it come to is
--- `StaysClosed` of `Calls.antt`.
-abbrev pub closedWith : ℕ → State
-closedWith k = newHub 0 k 1
-
+-- No hub, where a hub has to stand: beside a refused opening, and before an accepted one. It has no devices, and every call on it is turned
+-- down (`StaysClosed` of `Calls.antt`).
 abbrev pub closedHub : State
-closedHub = closedWith 0
+closedHub = newHub 0 0 1
 
 abbrev pub openIf : Verdict → State → Opening
 openIf Accepted s = opened s

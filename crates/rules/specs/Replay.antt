@@ -18,11 +18,12 @@ use Rattle.rules.specs.Demand3.{orderIn, committedPart, skipsFollowing, 
 
 -- A command that was answered so, where the run has its device at t; `skipping`: did the condition before it skip it? A condition that was
 -- not skipped finds its device up, and its setting below the number exactly if it did not hold. No other command was answered as a
--- condition is, nor a condition as a command that is sent; and what a condition skips was not done.
+-- condition is, nor a condition as a command that is sent; and what a condition skips was not sent, so that it was reported neither done
+-- nor failed.
 abbrev pub Replayed : Bool → Command → DeviceState → Outcome → Type 0
 Replayed skipping c t not-yet = Unit {0}
 Replayed skipping c t reported-done = (isCondition c ≡ false) × (skipping ≡ false)
-Replayed skipping c t reported-failed = isCondition c ≡ false
+Replayed skipping c t reported-failed = (isCondition c ≡ false) × (skipping ≡ false)
 Replayed skipping c t not-sent = Unit {0}
 Replayed skipping c t by-event = Unit {0}
 Replayed skipping c t found-held = (isCondition c ≡ true) × (t .up ≡ true) × (ltZ (t .setting) (c .setting) ≡ false)

@@ -330,7 +330,7 @@ event-tells s x j c y a l {k = k} n h t v w =
 
 -- the outcome of a command that was not sent is that of its status
 pub pass-agrees : {s : State} {g : Group} {c : Command} {st : Status} → Passes s g c st → Agree st (passOutcome st)
-pass-agrees (is-down u) = is-not-sent
+pass-agrees (is-down u m) = is-not-sent
 pass-agrees (is-off u) = is-not-sent
 pass-agrees (does-hold u k h) = is-held
 pass-agrees (does-not u k h) = is-not-held
@@ -402,7 +402,7 @@ accounts-moves s a l h u t (dones i code ga g gb x e n r f q) =
     around s a _ ga g gb w v (with g (doneMember g))
     (answered-tells a g (with g (doneMember g)) reported-done refl refl (done-step (g .member) y x f .flight-is)
     (agree-flight reported-done was-done is-done x (o .agrees) y f) o)
-accounts-moves s a l h u t (misses i code ga g gb x e n r f q) =
+accounts-moves s a l h u t (misses i ga g gb x e n r f) =
     let w = subst (HubOk s) e h in
     let v = subst (Each (AccountTells a)) e t in
     let o = each-mid (AccountTells a) ga g gb v in
@@ -467,7 +467,7 @@ unsent-moves s a l h u (sends j ga g gb c f n r k q x v plain on) i e =
 unsent-moves s a l h u (passes j ga g gb c f n r k q x st v) i e =
     ap (λ b. b i .sends) (pass-noted j st (g .member .id) a) ∙ put-answered a (g .member .id) (passOutcome st) i ∙ u i e
 unsent-moves s a l h u (dones j code ga g gb x f n r k q) i e = put-answered a (g .member .id) reported-done i ∙ u i e
-unsent-moves s a l h u (misses j code ga g gb x f n r k q) i e = put-answered a (g .member .id) reported-failed i ∙ u i e
+unsent-moves s a l h u (misses j ga g gb x f n r k) i e = put-answered a (g .member .id) reported-failed i ∙ u i e
 unsent-moves s a l h u (aborts c ga g gb f r k) i e = put-sends a (g .member .id) _ refl i ∙ u i e
 unsent-moves s a l h u (fails d r lead k n v g) i e =
     happens-sends _ (failure d) d (down d (r .state .mark d)) a l (λ b. refl) g i
@@ -501,7 +501,7 @@ working-moves s w l e (sends i ga g gb c f n r k q x u plain on) d = e d
 working-moves s w l e (passes i ga g gb c f n r k q x st u) d =
     by-answer (λ x. workingAfter x w d ≡ s .up d) (g .member .id) (e d) (e d) (e d) st
 working-moves s w l e (dones i code ga g gb x f n r k q) d = e d
-working-moves s w l e (misses i code ga g gb x f n r k q) d = e d
+working-moves s w l e (misses i ga g gb x f n r k) d = e d
 working-moves s w l e (aborts c ga g gb f r k) d = e d
 working-moves s w l e (fails x r lead k n u g) d =
     ap (λ f. f d) (working-++ (r .answers) (down x (r .state .mark x) ∷ []) w ∙ ap (λ f. put f x false) (gone-working _ x w l g))

@@ -181,7 +181,7 @@ passes-spares : (s : State) (a : List Group) (g : Group) (b : List Group) (c : C
     ((d : ℕ) → c .device ≢ d → askedOn d (passedMember st g .steps) ≡ askedOn d (g .member .steps)) →
     doneSteps (passedMember st g .steps) ≡ doneSteps (g .member .steps) →
     AllPairs Spares (a ++ (g ∷ b)) → AllPairs Spares (a ++ (with g (passedMember st g) ∷ b))
-passes-spares s a g b c (is-down u) f same other done = spares-same a g _ b refl (same refl) done
+passes-spares s a g b c (is-down u m) f same other done = spares-same a g _ b refl (same refl) done
 passes-spares s a g b c (is-off u) f same other done = spares-same a g _ b refl (same refl) done
 passes-spares s a g b c (does-hold u k y) f same other done = condition-spares s a g b c _ k f refl other done
 passes-spares s a g b c (does-not u k y) f same other done = condition-spares s a g b c _ k f refl other done
@@ -257,7 +257,7 @@ spares-moves s l h w (dones i code a g b x e n r f q) =
                 go : (l : List Command) → anyOf (isFor d) (l ++ (x .command ∷ [])) ≡ anyOf (isFor d) l
                 go [] = rw (ne-eqb (x .command .device) d p) refl
                 go (c ∷ l) = ap (λ b. isFor d c || b) (go l)
-spares-moves s l h w (misses i code a g b x e n r f q) =
+spares-moves s l h w (misses i a g b x e n r f) =
     let t = in-turn s a g b (subst (HubOk s) e h) in
     spares-same a g (with g (failedMember g)) b refl (fail-step (g .member) t x f .same-asked) (fail-done (g .member) t x f)
     (subst (AllPairs Spares) e w)
@@ -321,7 +321,7 @@ plain-moves s l h w (passes i a g b c e n r f q x st u) =
 plain-moves s l h w (dones i code a g b x e n r f q) =
     each-swap FlightIsPlain a g (with g (doneMember g)) b (subst (Each FlightIsPlain) e w)
     (grounded-plain _ (done-step (g .member) (in-turn s a g b (subst (HubOk s) e h)) x f .flight-is))
-plain-moves s l h w (misses i code a g b x e n r f q) =
+plain-moves s l h w (misses i a g b x e n r f) =
     each-swap FlightIsPlain a g (with g (failedMember g)) b (subst (Each FlightIsPlain) e w)
     (grounded-plain _ (fail-step (g .member) (in-turn s a g b (subst (HubOk s) e h)) x f .flight-is))
 plain-moves s l h w (aborts c a g b e r k) =

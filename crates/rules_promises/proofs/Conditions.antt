@@ -58,72 +58,97 @@ use Rattle.rules_promises.proofs.Fits.{AtFirst, at-next, at-flight}
 use Rattle.rules_promises.proofs.Stands.{flat-at, up-clear, entry-ids, openPart}
 use Rattle.rules_promises.proofs.Asked.{AllPairs, pairs-around, Spares, set-is, set-unasked, FlightIsPlain}
 
--- ---- what is answered as a condition is one, and what a condition skips is not done
+-- ---- what is answered as a condition is one, and what a condition skips is not sent
 
 abbrev pub Tagged : Bool → Command → Outcome → Type 0
 Tagged skipping c not-yet = Unit {0}
 Tagged skipping c reported-done = (isCondition c ≡ false) × (skipping ≡ false)
-Tagged skipping c reported-failed = isCondition c ≡ false
+Tagged skipping c reported-failed = (isCondition c ≡ false) × (skipping ≡ false)
 Tagged skipping c not-sent = Unit {0}
 Tagged skipping c by-event = Unit {0}
 Tagged skipping c found-held = isCondition c ≡ true
 Tagged skipping c found-not-held = isCondition c ≡ true
 
+abbrev isFailed : Outcome → Bool
+isFailed not-yet = false
+isFailed reported-done = false
+isFailed reported-failed = true
+isFailed not-sent = false
+isFailed by-event = false
+isFailed found-held = false
+isFailed found-not-held = false
+
+abbrev NotFailed : Noted → Type 0
+NotFailed x = isFailed (x .outcome) ≡ false
+
+-- and behind one that is left none was reported failed
 abbrev pub AllTagged : Bool → List Noted → Type 0
 AllTagged skipping [] = Unit {0}
-AllTagged skipping (x ∷ l) = Tagged skipping (x .command) (x .outcome) × AllTagged (skipsFollowing x) l
+AllTagged skipping (x ∷ l) =
+    Tagged skipping (x .command) (x .outcome) × (isLeft (x .outcome) ≡ true → Each NotFailed l) × AllTagged (skipsFollowing x) l
 
--- behind the first command that is left none is done: they may stand behind any other
-tagged-behind : (b c : Bool) {l : List Noted} {k : List Step} → AllAgree l k → AllBehind k → AllTagged b l → AllTagged c l
-tagged-behind b c no-command w h = tt
-tagged-behind b c (one-more x is-to-do a) w h = h
-tagged-behind b c (one-more x is-in-flight a) w h = t≠f (sym (w .0))
-tagged-behind b c (one-more x is-done a) w h = t≠f (sym (w .0))
-tagged-behind b c (one-more x is-failed a) w h = h
-tagged-behind b c (one-more x is-not-sent a) w h = h
-tagged-behind b c (one-more x is-by-event a) w h = h
-tagged-behind b c (one-more x is-held a) w h = t≠f (sym (w .0))
-tagged-behind b c (one-more x is-not-held a) w h = t≠f (sym (w .0))
+-- behind the first command that is left none is done or reported failed: they may stand behind any other
+tagged-behind : (b c : Bool) {l : List Noted} {k : List Step} → AllAgree l k → AllBehind k → Each NotFailed l → AllTagged b l →
+    AllTagged c l
+tagged-behind b c no-command w n h = tt
+tagged-behind b c (one-more x is-to-do a) w n h = h
+tagged-behind b c (one-more x is-in-flight a) w n h = t≠f (sym (w .0))
+tagged-behind b c (one-more x is-done a) w n h = t≠f (sym (w .0))
+tagged-behind b c (one-more x is-failed a) w n h = t≠f (n .0)
+tagged-behind b c (one-more x is-not-sent a) w n h = h
+tagged-behind b c (one-more x is-by-event a) w n h = h
+tagged-behind b c (one-more x is-held a) w n h = t≠f (sym (w .0))
+tagged-behind b c (one-more x is-not-held a) w n h = t≠f (sym (w .0))
 
 tagged-first : (o : Outcome) (b : Bool) {l : List Noted} {k : List Step} → AllAgree l k → InTurn k → AllTagged b l →
     AtFirst (λ c skipping _. Tagged skipping c o) b l → AllTagged b (noteFirst o l)
 tagged-first o b no-command t h p = tt
-tagged-first o b (one-more c is-to-do a) t h p = (p, tagged-behind (isCondition c && false) _ a t (h .1))
-tagged-first o b (one-more c is-in-flight a) t h p = (p, tagged-behind (isCondition c && false) _ a t (h .1))
-tagged-first o b (one-more c is-done a) t h p = (h .0, tagged-first o _ a t (h .1) p)
-tagged-first o b (one-more c is-failed a) t h p = (h .0, tagged-first o _ a t (h .1) p)
-tagged-first o b (one-more c is-not-sent a) t h p = (h .0, tagged-first o _ a t (h .1) p)
-tagged-first o b (one-more c is-by-event a) t h p = (h .0, tagged-first o _ a t (h .1) p)
-tagged-first o b (one-more c is-held a) t h p = (h .0, tagged-first o _ a t (h .1) p)
-tagged-first o b (one-more c is-not-held a) t h p = (h .0, tagged-first o _ a t (h .1) p)
+tagged-first o b (one-more c is-to-do a) t h p =
+    (p, (λ _. h .1 refl), tagged-behind (isCondition c && false) _ a t (h .1 refl) (h .2))
+tagged-first o b (one-more c is-in-flight a) t h p =
+    (p, (λ _. h .1 refl), tagged-behind (isCondition c && false) _ a t (h .1 refl) (h .2))
+tagged-first o b (one-more c is-done a) t h p = (h .0, (λ e. t≠f (sym e)), tagged-first o _ a t (h .2) p)
+tagged-first o b (one-more c is-failed a) t h p = (h .0, (λ e. t≠f (sym e)), tagged-first o _ a t (h .2) p)
+tagged-first o b (one-more c is-not-sent a) t h p = (h .0, (λ e. t≠f (sym e)), tagged-first o _ a t (h .2) p)
+tagged-first o b (one-more c is-by-event a) t h p = (h .0, (λ e. t≠f (sym e)), tagged-first o _ a t (h .2) p)
+tagged-first o b (one-more c is-held a) t h p = (h .0, (λ e. t≠f (sym e)), tagged-first o _ a t (h .2) p)
+tagged-first o b (one-more c is-not-held a) t h p = (h .0, (λ e. t≠f (sym e)), tagged-first o _ a t (h .2) p)
 
 -- an event of d skips what is left on it
 module _ (d : ℕ) where
-  skip-or-stay : (t : Bool) (b : Bool) (c : Command) (l : List Noted) → AllTagged (isCondition c && true) l →
+  skip-or-stay : (t : Bool) (b : Bool) (c : Command) (l : List Noted) → Each NotFailed l → AllTagged (isCondition c && true) l →
       AllTagged (isCondition c && false) l → AllTagged b ((if t then notedAs by-event c else notedAs not-yet c) ∷ l)
-  skip-or-stay true b c l h k = (tt, h)
-  skip-or-stay false b c l h k = (tt, k)
+  skip-or-stay true b c l n h k = (tt, (λ _. n), h)
+  skip-or-stay false b c l n h k = (tt, (λ _. n), k)
+
+  none-failed : (l : List Noted) → Each NotFailed l → Each NotFailed (noteLeft d l)
+  none-failed [] n = tt
+  none-failed (x ∷ l) n = (byIf NotFailed (isFor d (x .command) && isLeft (x .outcome)) (λ _. refl) (λ _. n .0), none-failed l (n .1))
 
   tagged-left : (b : Bool) {l : List Noted} {k : List Step} → AllAgree l k → InTurn k → AllTagged b l → AllTagged b (noteLeft d l)
   tagged-left b no-command t h = tt
   tagged-left b (one-more c {l = l} {k = k} is-to-do a) t h =
-      skip-or-stay (isFor d c && true) b c (noteLeft d l)
-      (tagged-left _ a (behind-turn k t) (tagged-behind (isCondition c && false) _ a t (h .1)))
-      (tagged-left _ a (behind-turn k t) (h .1))
+      skip-or-stay (isFor d c && true) b c (noteLeft d l) (none-failed l (h .1 refl))
+      (tagged-left _ a (behind-turn k t) (tagged-behind (isCondition c && false) _ a t (h .1 refl) (h .2)))
+      (tagged-left _ a (behind-turn k t) (h .2))
   tagged-left b (one-more c {l = l} {k = k} is-in-flight a) t h =
-      skip-or-stay (isFor d c && true) b c (noteLeft d l)
-      (tagged-left _ a (behind-turn k t) (tagged-behind (isCondition c && false) _ a t (h .1)))
-      (tagged-left _ a (behind-turn k t) (h .1))
-  tagged-left b (one-more c is-done a) t h = rw (and-false (isFor d c)) (h .0, tagged-left _ a t (h .1))
-  tagged-left b (one-more c is-failed a) t h = rw (and-false (isFor d c)) (h .0, tagged-left _ a t (h .1))
-  tagged-left b (one-more c is-not-sent a) t h = rw (and-false (isFor d c)) (h .0, tagged-left _ a t (h .1))
-  tagged-left b (one-more c is-by-event a) t h = rw (and-false (isFor d c)) (h .0, tagged-left _ a t (h .1))
-  tagged-left b (one-more c is-held a) t h = rw (and-false (isFor d c)) (h .0, tagged-left _ a t (h .1))
-  tagged-left b (one-more c is-not-held a) t h = rw (and-false (isFor d c)) (h .0, tagged-left _ a t (h .1))
+      skip-or-stay (isFor d c && true) b c (noteLeft d l) (none-failed l (h .1 refl))
+      (tagged-left _ a (behind-turn k t) (tagged-behind (isCondition c && false) _ a t (h .1 refl) (h .2)))
+      (tagged-left _ a (behind-turn k t) (h .2))
+  tagged-left b (one-more c is-done a) t h = rw (and-false (isFor d c)) (h .0, (λ e. t≠f (sym e)), tagged-left _ a t (h .2))
+  tagged-left b (one-more c is-failed a) t h = rw (and-false (isFor d c)) (h .0, (λ e. t≠f (sym e)), tagged-left _ a t (h .2))
+  tagged-left b (one-more c is-not-sent a) t h = rw (and-false (isFor d c)) (h .0, (λ e. t≠f (sym e)), tagged-left _ a t (h .2))
+  tagged-left b (one-more c is-by-event a) t h = rw (and-false (isFor d c)) (h .0, (λ e. t≠f (sym e)), tagged-left _ a t (h .2))
+  tagged-left b (one-more c is-held a) t h = rw (and-false (isFor d c)) (h .0, (λ e. t≠f (sym e)), tagged-left _ a t (h .2))
+  tagged-left b (one-more c is-not-held a) t h = rw (and-false (isFor d c)) (h .0, (λ e. t≠f (sym e)), tagged-left _ a t (h .2))
+
+new-failed : (cs : List Command) → Each NotFailed (map (notedAs not-yet) cs)
+new-failed [] = tt
+new-failed (c ∷ cs) = (refl, new-failed cs)
 
 tagged-new : (b : Bool) (cs : List Command) → AllTagged b (map (notedAs not-yet) cs)
 tagged-new b [] = tt
-tagged-new b (c ∷ cs) = (tt, tagged-new _ cs)
+tagged-new b (c ∷ cs) = (tt, (λ _. new-failed cs), tagged-new _ cs)
 
 -- of every id
 abbrev pub TaggedAll : (ℕ → Account) → Type 0
@@ -183,12 +208,12 @@ module _ (s : State) (a : ℕ → Account) (l : List Group) (h : HubOk s l) (run
       (each-mid (AccountTells a) x g y (subst (Each (AccountTells a)) e t) .agrees) k q (tag _ u)))
     where
       tag : (b : Bool) {st : Status} → Passes s g c st → Tagged b c (passOutcome st)
-      tag b (is-down u) = tt
+      tag b (is-down u m) = tt
       tag b (is-off u) = tt
       tag b (does-hold u k z) = k
       tag b (does-not u k z) = k
   tagged-moves (dones i code x g y v e n r k q) = flight-tagged x g y e reported-done v k (λ p z. (p, z))
-  tagged-moves (misses i code x g y v e n r k q) = flight-tagged x g y e reported-failed v k (λ p z. p)
+  tagged-moves (misses i x g y v e n r k) = flight-tagged x g y e reported-failed v k (λ p z. (p, z))
   tagged-moves (aborts c x g y e r k) = tagged-put a (g .member .id) (endedAccount (a (g .member .id))) w (w (g .member .id))
   tagged-moves (fails d r lead k n u g) =
       happens-tagged (withUp s (put (s .up) d false)) (failure d) d (down d (r .state .mark d)) a l (λ b. refl)
@@ -546,7 +571,7 @@ module _ (s : State) (o : Order) (a : ℕ → Account) (x : List Group) (g : Gro
     where
       found : (d : ℕ) → c .device ≡ d → {st : Status} → Passes s g c st →
           FoundAs (c .setting) (upHere d) (setCommands d (doneSteps (g .member .steps)) (setHere d)) (passOutcome st)
-      found d q (is-down u) = tt
+      found d q (is-down u m) = tt
       found d q (is-off u) = tt
       found d q (does-hold u k z) = subst Held q (
         up-clear s o x g y (f .order) (c .device) clear ∙ u,
@@ -688,7 +713,7 @@ moves-on s o a l f t (passes i x g y c e j r n b m st u) = λ _.
     (replays-passes s o a x g y w c st u n b (turn-clear s x g y c (w .hub) b n m)
     (skip-step (g .member) (in-turn s x g y (w .hub)) c st (passing u) b n .same-done))
 moves-on s o a l f t (dones i code x g y v e j r n b) = λ _. replays-dones s o a x g y (subst (λ l. Before s o a l) e f) v n
-moves-on s o a l f t (misses i code x g y v e j r n b) = λ _.
+moves-on s o a l f t (misses i x g y v e j r n) = λ _.
     let w = subst (λ l. Before s o a l) e f in
     let k = in-turn s x g y (w .hub) in
     replays-changes s o a x g y w (failedMember g) (answeredAccount reported-failed (a (g .member .id))) refl

@@ -9,7 +9,7 @@ use Rattle.rules_routine.specs.declared.Command.{Command}
 use Rattle.rules.specs.State.{State}
 use Rattle.rules.specs.Answers.{Call, report, Result}
 use Rattle.rules.specs.Progress.{Flight, flight}
-use Rattle.rules.specs.Report.{codeDone, skipReport}
+use Rattle.rules.specs.Report.{codeDone, codeFailed, skipReport}
 use Rattle.rules.specs.History.{Account}
 use Rattle.rules.specs.Order.{Event}
 use Rattle.rules.specs.World.{Device}
@@ -50,13 +50,13 @@ device-moves d s a l ds v n h e t w z f p (dones i code x g y m q j _ u b) =
     device-dones s a x g y ds v (subst (HubOk s) q h) m u d i code (subst (Each EventsOk) q e)
     (reported-took a ds i code g m (each-mid (AccountTells a) x g y (subst (Each (AccountTells a)) q t)) p j u ∙ b)
     (subst (λ m. DeviceOk d s a m (ds d)) q w)
-device-moves d s a l ds v n h e t w z f p (misses i code x g y m q j _ u b) =
+device-moves d s a l ds v n h e t w z f p (misses i x g y m q j _ u) =
     let o = subst (HubOk s) q h in
     let up = each-mid (InFlightIsUp s) x g y (subst (Each (InFlightIsUp s)) q f) .flies-up (m .command .device)
     (flies-there (m .command .device) g (in-turn s x g y o) m u refl) in
-    subst (λ i. AfterCall d a ds v (report i code) (skipReport s (foundAt x g y) m) (x ++ (with g (failedMember g) ∷ y))) j
-    (device-misses s a x g y ds v o m u d code up
-    (reported-took a ds i code g m (each-mid (AccountTells a) x g y (subst (Each (AccountTells a)) q t)) p j u ∙ b)
+    subst (λ i. AfterCall d a ds v (report i codeFailed) (skipReport s (foundAt x g y) m) (x ++ (with g (failedMember g) ∷ y))) j
+    (device-misses s a x g y ds v o m u d up
+    (reported-took a ds i codeFailed g m (each-mid (AccountTells a) x g y (subst (Each (AccountTells a)) q t)) p j u)
     (subst (λ m. DeviceOk d s a m (ds d)) q w))
 device-moves d s a l ds v n h e t w z f p (aborts c x g y q _ u) =
     device-aborts d s a ds v c x g y n (subst (HubOk s) q h) (subst (λ m. DeviceOk d s a m (ds d)) q w) u

@@ -18,7 +18,7 @@ use Rattle.rules.specs.Progress.{inFlightOn, next, Flight, flight, withSteps}
 use Rattle.rules.specs.Due.{afterSteps, afterRestart, afterMember, afterMembers, due}
 use Rattle.rules.specs.Sequence.{lastIdOr, change}
 use Rattle.rules.specs.Turn.{firstHolding, commit, commitTurn, sendTurn}
-use Rattle.rules.specs.Report.{doneReport, backIfChanged, skippedState, skipReport}
+use Rattle.rules.specs.Report.{codeFailed, doneReport, backIfChanged, skippedState, skipReport}
 use Rattle.rules.specs.Submit.{blocks, upToLast, pastLast, pass, newcomer, place}
 use Rattle.rules.specs.History.{reported-done, reported-failed, Account, placedAccount, sentAccount, answeredAccount, noteAnswers}
 use Rattle.rules.specs.World.{Origin, sent-for, Message, Device, receives, putAllBack, without, drops, devicesAfter}
@@ -285,10 +285,10 @@ module _ (s : State) (a : ℕ → Account) (p : List Group) (g : Group) (q : Lis
         alike-drops (g .member .id) (missedAccounts (g .member .id) .sends) a missedAccounts (ds d) (ds d)
         (alike-answered reported-failed (g .member .id) a (ds d))
 
-    misses-other : (d code : ℕ) → x .command .device ≢ d →
-        Keeps d (report (g .member .id) code) (skipReport s (foundAt p g q) x) (failedMember g)
+    misses-other : (d : ℕ) → x .command .device ≢ d →
+        Keeps d (report (g .member .id) codeFailed) (skipReport s (foundAt p g q) x) (failedMember g)
     unfolding skipReport skippedState backIfChanged
-    misses-other d code n k =
+    misses-other d n k =
         subst (λ u. DeviceOk d missedState missedAccounts (p ++ (with g (failedMember g) ∷ q)) u) (sym not-back)
         (swaps d (failedMember g) missedState missedAccounts (dropped d) (flew-elsewhere d n)
         (record { no-flight-on = fail-step (g .member) steps-ok x e .flies d }) refl
@@ -299,10 +299,10 @@ module _ (s : State) (a : ℕ → Account) (p : List Group) (g : Group) (q : Lis
             (λ _. refl)
             (λ _. put-other dropped (x .command .device) _ d (λ z. n (sym z)))
 
-    misses-here : (code : ℕ) → s .up (x .command .device) ≡ true → tookLast a (g .member .id) (ds (x .command .device)) ≡ false →
-        Keeps (x .command .device) (report (g .member .id) code) (skipReport s (foundAt p g q) x) (failedMember g)
+    misses-here : s .up (x .command .device) ≡ true → tookLast a (g .member .id) (ds (x .command .device)) ≡ false →
+        Keeps (x .command .device) (report (g .member .id) codeFailed) (skipReport s (foundAt p g q) x) (failedMember g)
     unfolding skipReport skippedState backIfChanged
-    misses-here code y r k =
+    misses-here y r k =
         byIf (λ l. DeviceOk d missedState missedAccounts (p ++ (with g (failedMember g) ∷ q)) (putAllBack l dropped d))
         (sameSetting (due missedState d) (x .dueThen))
         (λ z. reaches (dropped d) old took
@@ -344,11 +344,12 @@ module _ (s : State) (a : ℕ → Account) (p : List Group) (g : Group) (q : Lis
             same = ap (λ n. sent-for (g .member .id) n) (put-answered a (g .member .id) reported-failed (g .member .id))
 
     -- the device is up: it may be sent a back, and to one that is down nothing is on its way
-    pub device-misses : (d code : ℕ) → s .up (x .command .device) ≡ true → tookLast a (g .member .id) (ds (x .command .device)) ≡ false →
-        Keeps d (report (g .member .id) code) (skipReport s (foundAt p g q) x) (failedMember g)
-    device-misses d code y r =
-        this-or-other (λ d. Keeps d (report (g .member .id) code) (skipReport s (foundAt p g q) x) (failedMember g)) (x .command .device) d
-        (misses-here code y r) (misses-other d code)
+    pub device-misses : (d : ℕ) → s .up (x .command .device) ≡ true → tookLast a (g .member .id) (ds (x .command .device)) ≡ false →
+        Keeps d (report (g .member .id) codeFailed) (skipReport s (foundAt p g q) x) (failedMember g)
+    device-misses d y r =
+        this-or-other (λ d. Keeps d (report (g .member .id) codeFailed) (skipReport s (foundAt p g q) x) (failedMember g))
+        (x .command .device) d
+        (misses-here y r) (misses-other d)
 
 -- ---- a routine is placed
 

@@ -28,7 +28,7 @@ abbrev pub FindsUp : Bool → Bool → Bool → Outcome → Type 0
 FindsUp isUp skipping must not-yet = Unit {0}
 FindsUp isUp skipping must reported-done = isUp ≡ true
 FindsUp isUp skipping must reported-failed = Unit {0}
-FindsUp isUp skipping must not-sent = (skipping ≡ true) ⊎ (isUp ≡ false)
+FindsUp isUp skipping must not-sent = (skipping ≡ true) ⊎ ((isUp ≡ false) × (must ≡ false))
 FindsUp isUp skipping must by-event = must ≡ false
 FindsUp isUp skipping must found-held = isUp ≡ true
 FindsUp isUp skipping must found-not-held = isUp ≡ true
@@ -65,7 +65,7 @@ finds-same a b skipping must not-yet e h = tt
 finds-same a b skipping must reported-done e h = sym (e refl) ∙ h
 finds-same a b skipping must reported-failed e h = tt
 finds-same a b skipping must not-sent e (inl h) = inl h
-finds-same a b skipping must not-sent e (inr h) = inr (sym (e refl) ∙ h)
+finds-same a b skipping must not-sent e (inr h) = inr (sym (e refl) ∙ h .0, h .1)
 finds-same a b skipping must by-event e h = h
 finds-same a b skipping must found-held e h = sym (e refl) ∙ h
 finds-same a b skipping must found-not-held e h = sym (e refl) ∙ h

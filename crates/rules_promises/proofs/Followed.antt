@@ -384,13 +384,13 @@ followed-moves s a p l h u t o f (passes i x g y c e j r n b m st v) =
     (answers s a p x g y (subst (Before s a p) e (record { ids-ok = o; parts = f })) _ (passOutcome st) (ground v) refl refl)
   where
     ground : {st : Status} → Passes s g c st → (c : Command) → Ground (g .events) c (passOutcome st)
-    ground (is-down k) c = tt
+    ground (is-down k m) c = tt
     ground (is-off k) c = tt
     ground (does-hold k w z) c = tt
     ground (does-not k w z) c = tt
 followed-moves s a p l h u t o f (dones i code x g y v e j r n b) =
     answers s a p x g y (subst (Before s a p) e (record { ids-ok = o; parts = f })) _ reported-done (λ c. tt) refl refl
-followed-moves s a p l h u t o f (misses i code x g y v e j r n b) =
+followed-moves s a p l h u t o f (misses i x g y v e j r n) =
     answers s a p x g y (subst (Before s a p) e (record { ids-ok = o; parts = f })) _ reported-failed (λ c. tt) refl refl
 followed-moves s a p l h u t o f (aborts c x g y e j n) = leaves s a p x g y (subst (Before s a p) e (record { ids-ok = o; parts = f }))
 followed-moves s a p l h u t o f (fails d r lead b n v g) =

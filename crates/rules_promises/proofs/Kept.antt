@@ -67,7 +67,7 @@ hub-moves s l h (commits i a g b e _ _ f x) = hub-commits s a g b (subst (HubOk 
 hub-moves s l h (sends i a g b c e _ r f x n _ plain on) = hub-sends s a g b c (subst (HubOk s) e h) r f x n
 hub-moves s l h (passes i a g b c e _ r f x n st pass) = hub-passes s a g b c st (passing pass) (subst (HubOk s) e h) r f x n
 hub-moves s l h (dones i code a g b x e _ r f _) = hub-dones s a g b x (subst (HubOk s) e h) r f
-hub-moves s l h (misses i code a g b x e _ r f _) = hub-misses s a g b x (subst (HubOk s) e h) r f
+hub-moves s l h (misses i a g b x e _ r f) = hub-misses s a g b x (subst (HubOk s) e h) r f
 hub-moves s l h (aborts c a g b e _ _) = hub-leaves s a g b (subst (HubOk s) e h)
 hub-moves s l h (fails d r lead k _ _ g) =
     let j = hub-gone (withUp s (put (s .up) d false)) d l (hub-up s (put (s .up) d false) l h) g in
@@ -153,7 +153,7 @@ flies-moves s l h f (passes i a g b c e _ _ n x _ st pass) =
 flies-moves s l h f (dones i code a g b x e _ _ q _) =
     lands s a g b (subst (Each (InFlightIsUp s)) e f) (doneReport s (foundAt a g b) .state) refl (doneMember g)
     (done-step (g .member) (in-turn s a g b (subst (HubOk s) e h)) x q .flies)
-flies-moves s l h f (misses i code a g b x e _ _ q _) =
+flies-moves s l h f (misses i a g b x e _ _ q) =
     lands s a g b (subst (Each (InFlightIsUp s)) e f) (skipReport s (foundAt a g b) x .state) refl (failedMember g)
     (fail-step (g .member) (in-turn s a g b (subst (HubOk s) e h)) x q .flies)
 flies-moves s l h f (aborts c a g b e _ _) =

@@ -17,6 +17,7 @@ use Rattle.rules.specs.Due.{due}
 use Rattle.rules.specs.Sequence.{isRunning}
 use Rattle.rules.specs.Submit.{newcomer}
 use Rattle.rules.specs.Turn.{commit}
+use Rattle.rules.specs.Report.{codeFailed}
 use Rattle.rules.specs.History.{Told}
 use Rattle.rules.specs.Order.{Event}
 use Rattle.rules.specs.Attach.{attachTo}
@@ -128,7 +129,7 @@ module _ (k i : ℕ) (s : State) (in-force : s .passLimit ≡ k) (h : List Told)
       let less = less-weight g (with g (doneMember g)) (x .command) r r (z .left-is) in
       subst (λ z. NotRaised k i z (a ++ (with g (doneMember g) ∷ b))) (sym e)
       (swapped k i a g (with g (doneMember g)) b refl refl refl (omega arith))
-  moves-at-most (misses j code a g b x e n r f q) of =
+  moves-at-most (misses j a g b x e n r f) of =
       let z = fail-step (g .member) (in-turn s a g b (subst (HubOk s) e (y .hub))) x f in
       let less = less-weight g (with g (failedMember g)) (x .command) r r (z .left-is) in
       subst (λ z. NotRaised k i z (a ++ (with g (failedMember g) ∷ b))) (sym e)
@@ -222,7 +223,7 @@ module _ (k : ℕ) (s : State) (h : List Told) (l : List Group) (y : Ready s h l
         head-kept j steps a g (with g (passedMember st g)) b (λ z. w (sym (n ∙ o) ∙ z)) (subst (HeadIs j steps) e hd)
     others-move i (dones _ code a g b x e n r f q) o w =
         head-kept j steps a g (with g (doneMember g)) b (λ z. w (sym (n ∙ o) ∙ z)) (subst (HeadIs j steps) e hd)
-    others-move i (misses _ code a g b x e n r f q) o w =
+    others-move i (misses _ a g b x e n r f) o w =
         head-kept j steps a g (with g (failedMember g)) b (λ z. w (sym (n ∙ o) ∙ z)) (subst (HeadIs j steps) e hd)
     others-move i (aborts _ a g b e r (by-turn _ n f)) o w =
         head-left j steps a g b (λ z. w (sym (n ∙ o) ∙ z)) (subst (HeadIs j steps) e hd)
@@ -268,9 +269,9 @@ module _ (k : ℕ) (s : State) (h : List Told) (l : List Group) (y : Ready s h l
         let z = done-step (g .member) (in-turn s a g b (subst (HubOk s) e (y .hub))) x f in
         own-less a g b e (n ∙ o) (report i code) (with g (doneMember g)) refl refl
         (less-weight g (with g (doneMember g)) (x .command) r r (z .left-is))
-    own-moves (misses i code a g b x e n r f q) o =
+    own-moves (misses i a g b x e n r f) o =
         let z = fail-step (g .member) (in-turn s a g b (subst (HubOk s) e (y .hub))) x f in
-        own-less a g b e (n ∙ o) (report i code) (with g (failedMember g)) refl refl
+        own-less a g b e (n ∙ o) (report i codeFailed) (with g (failedMember g)) refl refl
         (less-weight g (with g (failedMember g)) (x .command) r r (z .left-is))
     own-moves (aborts _ a g b e r (by-turn i n f)) o = own-gone a g b e (n ∙ o) (turn i) r
     own-moves (aborts _ a g b e r (by-report i code x n f q)) o = own-gone a g b e (n ∙ o) (report i code) r

@@ -17,7 +17,8 @@ use Rattle.rules.specs.Rounds.{begins, enoughRounds}
 use Rattle.rules.proofs.Schedules.{busyState, placedState, roundsOf, toldAfter, calcRounds, crowded, crowded-opens, crowded-placed}
 use Rattle.rules.proofs.Schedules.{tooFewRounds, raised, raised-opens, raised-placed, raisedTo, raised-limit, roundsRaised}
 use Rattle.rules.proofs.Schedules.{afterRaising}
-use Rattle.rules_promises.proofs.RoundsExist.{state-on, Promised, promised, rounds-told, changed-told, busy-state, told-runs}
+use Rattle.rules_promises.proofs.RoundsExist.{state-on, Promised, sitting-check, sitting-limit, promised, rounds-told, changed-told}
+use Rattle.rules_promises.proofs.RoundsExist.{busy-state, told-runs}
 use Rattle.rules_promises.proofs.RoundsExist.{changed-limit}
 use Rattle.rules.proofs.LimitLaws.{limit-passes}
 
@@ -66,15 +67,17 @@ counted-from-the-change =
     let after : stateAfter (placedState x) afterRaising ≡ busyState roundsRaised (x .newcomers) t =
     busy-state roundsRaised (x .newcomers) t in
     let told-raised =
-    changed-told x e [] 0 begins raisedTo (ap (λ (r : Result). r .answers) (limit-passes _ raisedTo refl)) raised-limit roundsRaised in
-    let told-lowered = changed-told x e afterRaising roundsRaised told-raised k (ap (λ (r : Result). r .answers) (limit-passes _ k refl))
+    changed-told x e [] 0 begins raisedTo
+    (ap (λ (r : Result). r .answers) (limit-passes _ raisedTo (sitting-check x [] raisedTo refl))) raised-limit roundsRaised in
+    let told-lowered = changed-told x e afterRaising roundsRaised told-raised k
+    (ap (λ (r : Result). r .answers) (limit-passes _ k (sitting-check x afterRaising k refl)))
     (ap (eqb k) (changed-limit x [] raisedTo roundsRaised refl)) 0 in (
       promised x e raised-placed afterRaising roundsRaised told-raised,
       omega arith,
       told-runs x e afterRaising _ after raised-still-runs,
       promised x e raised-placed (afterRaising ++ (limit k ∷ [])) 0 told-lowered,
       told-runs x e (afterRaising ++ (limit k ∷ [])) (withPassLimit (busyState roundsRaised (x .newcomers) t) k)
-          (state-on (placedState x) afterRaising (limit k ∷ []) ∙ ap (λ (s : State). resultOf s (limit k) .state) after
-          ∙ ap (λ (r : Result). r .state) (limit-passes (busyState roundsRaised (x .newcomers) t) k refl))
+          (state-on (placedState x) afterRaising (limit k ∷ []) ∙ sitting-limit x e afterRaising k refl
+          ∙ ap (λ (s : State). withPassLimit s k) after)
           raised-still-runs,
     )

@@ -486,7 +486,7 @@ order-moves s o n l h k t (dones i code a g b x e _ _ f _) =
     (done-gains (g .member) (in-turn s a g b (subst (HubOk s) e h)) x f
     ∙ ap (λ c. doneSteps (g .member .steps) ++ (c ∷ []))
     (sym (each-mid (AccountTells n) a g b (subst (λ m. Each (AccountTells n) m) e t) .sent-is x f)))
-order-moves s o n l h k t (misses i code a g b x e _ _ f _) =
+order-moves s o n l h k t (misses i a g b x e _ _ f) =
     order-untouched s o a g b (subst (λ m. OrderOk s o [] m) e k) _ _ _ (fail-done (g .member) (in-turn s a g b (subst (HubOk s) e h)) x f)
 order-moves s o n l h k t (aborts c a g b e _ _) = order-leaves s o a g b (subst (λ m. OrderOk s o [] m) e k)
 order-moves s o n l h k t (fails d r lead b _ _ g) =

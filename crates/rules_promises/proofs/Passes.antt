@@ -9,13 +9,14 @@ use lib.Dec.{leb, ltb, eqb}
 use Rattle.rules_routine.specs.Choice.{if_then_else_}
 use Rattle.rules_routine.specs.Refusals.{pass-limit-out-of-range}
 use Rattle.rules_routine.specs.declared.Command.{Command}
-use Rattle.rules_routine.proofs.RoutineLaws.{not-refused}
+use Rattle.rules_routine.proofs.RoutineLaws.{both-accept, not-refused}
 use Rattle.rules.specs.Tables.{anyOf, Each}
 use Rattle.rules_routine.specs.Limits.{highestPassLimit}
 use Rattle.rules.specs.State.{Member, State}
 use Rattle.rules.specs.Answers.{Call, Result}
 use Rattle.rules.specs.Sequence.{isRunning}
-use Rattle.rules.specs.Open.{opened, newHub, openOf}
+use Rattle.rules.specs.Open.{opened, devicesCheck, limitCheck, newHub, openOf}
+use Rattle.rules.specs.Limit.{withPassLimit}
 use Rattle.rules.specs.Submit.{blocks, upToLast, pastLast, pass, newcomer, place}
 use Rattle.rules.specs.Turn.{commit}
 use Rattle.rules.specs.Attach.{attachTo}
@@ -104,7 +105,7 @@ low-moves s l h w (commits i a g b e n r f q) = swap a g (with g (commit (g .mem
 low-moves s l h w (sends i a g b c e n r f q x u plain on) = swap a g (with g (sentMember s g c)) b (subst (Each LowCount) e w) refl
 low-moves s l h w (passes i a g b c e n r f q x st u) = swap a g (with g (passedMember st g)) b (subst (Each LowCount) e w) refl
 low-moves s l h w (dones i code a g b x e n r f q) = swap a g (with g (doneMember g)) b (subst (Each LowCount) e w) refl
-low-moves s l h w (misses i code a g b x e n r f q) = swap a g (with g (failedMember g)) b (subst (Each LowCount) e w) refl
+low-moves s l h w (misses i a g b x e n r f) = swap a g (with g (failedMember g)) b (subst (Each LowCount) e w) refl
 low-moves s l h w (aborts c a g b e r q) = low-leaving a g b (subst (Each LowCount) e w)
 low-moves s l h w (fails d r lead k n u g) = low-event (r .state .mark d) (failure-of d) k (low-gone _ d l w g)
 low-moves s l h w (restarts d v r lead k n u g) = low-event (r .state .mark d) (restart-of d v) k (low-gone s d l w g)
@@ -125,14 +126,17 @@ record Low (s : State) (l : List Group) : Type 0 where
 low-seen : (s : State) (l : List Group) → Low s l → {c : Call} {r : Result} → Seen s l c r → (k : List Group) × Low (r .state) k
 low-seen s l y (is-refused r) = (l, y)
 low-seen s l y (waits i a g b d condition j e n f) = (l, y)
-low-seen s l y (limits k e) = (
-  l,
-  record {
-    hub = hub-limit s k l (y .hub);
-    limit-low = ltb-false highestPassLimit k (not-refused pass-limit-out-of-range (ltb highestPassLimit k) e);
-    counts-low = y .counts-low;
-  },
-)
+low-seen s l y (limits k e) =
+    let new = withPassLimit s k in
+    let low = both-accept (devicesCheck (s .devices)) (limitCheck k) e .1 in (
+      stillHeld l,
+      record {
+        hub = hub-settles new l (hub-limit s k l (y .hub));
+        limit-low = subst (λ n. n ≤ highestPassLimit) (sym (ap (λ (x : Fixed). x .passLimit) (settle-fixed new)))
+            (ltb-false highestPassLimit k (not-refused pass-limit-out-of-range (ltb highestPassLimit k) low));
+        counts-low = each-held LowCount l (y .counts-low);
+      },
+    )
 low-seen s l y (moves {r = r} {k = k} v) = (
   stillHeld k,
   record {

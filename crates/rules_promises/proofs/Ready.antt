@@ -46,7 +46,7 @@ use Rattle.rules_promises.proofs.Running.{RunsTold, runs-moves, runs-he
 use Rattle.rules_promises.proofs.Accounts.{accounts-moves}
 use Rattle.rules_promises.proofs.Told.{FliesTold, flies-told, flies-held}
 use Rattle.rules_promises.proofs.Measure.{FewLeft}
-use Rattle.rules_promises.proofs.Theorem.{see-any, opening}
+use Rattle.rules_promises.proofs.Theorem.{settle-none, see-any, opening}
 
 -- ---- what holds between calls
 
@@ -106,7 +106,7 @@ few-left-moves s l h t (dones i code a g b x e n r f q) =
     let z = subst (Each FewLeft) e t in
     let y = done-step (g .member) (in-turn s a g b (subst (HubOk s) e h)) x f in
     each-swap FewLeft a g (with g (doneMember g)) b z (less-few-left g _ (x .command) (y .left-is) (each-mid FewLeft a g b z))
-few-left-moves s l h t (misses i code a g b x e n r f q) =
+few-left-moves s l h t (misses i a g b x e n r f) =
     let z = subst (Each FewLeft) e t in
     let y = fail-step (g .member) (in-turn s a g b (subst (HubOk s) e h)) x f in
     each-swap FewLeft a g (with g (failedMember g)) b z (less-few-left g _ (x .command) (y .left-is) (each-mid FewLeft a g b z))
@@ -126,7 +126,7 @@ fixed-moves s l (commits i a g b e n r f q) = (refl, omega arith)
 fixed-moves s l (sends i a g b c e n r f q w u plain on) = (refl, omega arith)
 fixed-moves s l (passes i a g b c e n r f q w st u) = (refl, omega arith)
 fixed-moves s l (dones i code a g b x e n r f q) = (refl, omega arith)
-fixed-moves s l (misses i code a g b x e n r f q) = (refl, omega arith)
+fixed-moves s l (misses i a g b x e n r f) = (refl, omega arith)
 fixed-moves s l (aborts c a g b e r q) = (refl, omega arith)
 fixed-moves s l (fails d r lead k n u g) =
     let f = gone-fixed _ d l g in
@@ -208,7 +208,7 @@ room-moves s l h t (commits i a g b e n r f q) = swapped-room a g (with g (commi
 room-moves s l h t (sends i a g b c e n r f q w u plain on) = swapped-room a g (with g (sentMember s g c)) b e t
 room-moves s l h t (passes i a g b c e n r f q w st u) = swapped-room a g (with g (passedMember st g)) b e t
 room-moves s l h t (dones i code a g b x e n r f q) = swapped-room a g (with g (doneMember g)) b e t
-room-moves s l h t (misses i code a g b x e n r f q) = swapped-room a g (with g (failedMember g)) b e t
+room-moves s l h t (misses i a g b x e n r f) = swapped-room a g (with g (failedMember g)) b e t
 room-moves s l h t (aborts c a g b e r k) = left-room a g b e t
 room-moves s l h t (fails d r lead k n u w) = event-room (r .state .mark d) (failure-of d) k (gone-room _ d l t w)
 room-moves s l h t (restarts d v r lead k n u w) = event-room (r .state .mark d) (restart-of d v) k (gone-room s d l t w)
@@ -256,18 +256,21 @@ untold s h l t a y = record {
   room = y .room;
 }
 
--- a new pass limit
+-- a new pass limit: nothing settles
 pub ready-limit : (s : State) (h : List Told) (l : List Group) → Ready s h l → (k : ℕ) →
-    Ready (withPassLimit s k) (saying (limit k) (limited k ∷ []) ∷ h) l
-ready-limit s h l y k = record {
-  hub = hub-limit s k l (y .hub);
-  first = y .first;
-  running-told = y .running-told;
-  tells = y .tells;
-  flying-told = y .flying-told;
-  few-left = y .few-left;
-  room = y .room;
-}
+    Ready (settle (withPassLimit s k)) (saying (limit k) (limited k ∷ []) ∷ h) l
+ready-limit s h l y k =
+    subst (λ t. Ready t (saying (limit k) (limited k ∷ []) ∷ h) l)
+    (sym (settle-none (withPassLimit s k) l (y .hub .sequence-is) (y .first)))
+    (record {
+      hub = hub-limit s k l (y .hub);
+      first = y .first;
+      running-told = y .running-told;
+      tells = y .tells;
+      flying-told = y .flying-told;
+      few-left = y .few-left;
+      room = y .room;
+    })
 
 pub ready-seen : (s : State) (h : List Told) (l : List Group) → Ready s h l → {c : Call} {r : Result} → Seen s l c r →
     (m : List Group) × Ready (r .state) (saying c (r .answers) ∷ h) m
@@ -319,7 +322,7 @@ limit-moves s l (sends i a g b c e m r f q w u plain on) n = refl
 limit-moves s l (passes i a g b c e m r f q w st u) n =
     by-answer (λ x. limitAfter x n ≡ n) (g .member .id) refl refl refl st
 limit-moves s l (dones i code a g b x e m r f q) n = refl
-limit-moves s l (misses i code a g b x e m r f q) n = refl
+limit-moves s l (misses i a g b x e m r f) n = refl
 limit-moves s l (aborts c a g b e r q) n = refl
 limit-moves s l (fails d r lead k m u g) n = gone-limit _ d l _ n g
 limit-moves s l (restarts d v r lead k m u g) n = gone-limit s d l _ n g
@@ -329,7 +332,7 @@ limit-seen : (s : State) (l : List Group) {c : Call} {r : Result} → Seen s l c
     (limitAfterAll (r .answers) (s .passLimit) ≡ r .state .passLimit) × (KeepsLimit c → (n : ℕ) → limitAfterAll (r .answers) n ≡ n)
 limit-seen s l (is-refused r) = (refl, λ _ n. refl)
 limit-seen s l (waits i a g b d condition j e n f) = (refl, λ _ n. refl)
-limit-seen s l (limits k e) = (refl, λ no n. absurd no)
+limit-seen s l (limits k e) = (sym (ap (λ (x : Fixed). x .passLimit) (settle-fixed (withPassLimit s k))), λ no n. absurd no)
 limit-seen s l (moves {r = r} v) = (
   limit-moves s l v (s .passLimit) ∙ sym (ap (λ (x : Fixed). x .passLimit) (settle-fixed (r .state)) ∙ fixed-moves s l v .0),
   λ _. limit-moves s l v,

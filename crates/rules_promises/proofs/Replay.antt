@@ -56,7 +56,7 @@ all-replayed b [] t g h = tt
 all-replayed b (x ∷ l) t g h = (
   replayed-is b (x .command) (t (x .command .device)) (x .outcome) (g .0)
       (h (x .command .device) .0 (eq-eqb (x .command .device) (x .command .device) refl)),
-  all-replayed (skipsFollowing x) l (afterNoted (x .outcome) (x .command) t) (g .1)
+  all-replayed (skipsFollowing x) l (afterNoted (x .outcome) (x .command) t) (g .2)
       (λ d. subst (λ b. RunsOn d l b (afterNoted (x .outcome) (x .command) t d .setting))
       (sym (ap (λ u. u d) (noted-up (x .outcome) (x .command) t)))
       (subst (RunsOn d l (t d .up)) (sym (noted-set d (x .command) (x .outcome) t)) (h d .1))),

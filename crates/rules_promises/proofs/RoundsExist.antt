@@ -20,7 +20,8 @@ use Rattle.rules.specs.Answers.{Call, submit, turn, report, limit, placed, limi
 use Rattle.rules.specs.Progress.{isMust, nextCountsAsMust, nextIsSkipped, isInFlight, next, Flight, flightOr, flight}
 use Rattle.rules.specs.Sequence.{Found, find, isRunning, runs}
 use Rattle.rules.specs.Abort.{abort}
-use Rattle.rules.specs.Open.{opened, limitCheck, openOf}
+use Rattle.rules.specs.Open.{opened, limitCheck, newHub, openOf}
+use Rattle.rules.specs.Limit.{newLimitCheck, withPassLimit}
 use Rattle.rules.specs.Turn.{firstHolding, commitTurn, sendTurn, skipTurn, isHeld, heldTurn, notHeldTurn, turnNext, waitOr}
 use Rattle.rules.specs.Turn.{turnFound, turnOf}
 use Rattle.rules.specs.Report.{codeDone, codeFailed, doneReport, skipReport, reported, reportFound, reportOf}
@@ -44,6 +45,7 @@ use Rattle.rules_promises.proofs.Running.{pass-noted, has, Tells, none-
 use Rattle.rules_promises.proofs.Ready.{Ready, saying, ready-seen, ready-opened, ready-calls, limit-kept, opened-limit}
 use Rattle.rules_promises.proofs.Waiting.{told-by-calls, state-calls, limit-is}
 use Rattle.rules.proofs.LimitLaws.{limit-passes}
+use Rattle.rules_promises.proofs.Theorem.{devices-kept, settle-none}
 use Rattle.rules_promises.proofs.Measured.{Asks}
 
 -- ---- the routines that a round is about
@@ -244,7 +246,7 @@ module _ (s : State) (h : List Told) (l : List Group) (i j : ℕ) (other : i ≢
   others-told o (moves (passes w a g b c e n r f q x st u)) =
       ap (λ k. k i) (pass-noted w st (g .member .id) (accountsOf h)) ∙ elsewhere (accountsOf h) g _ (n ∙ o)
   others-told o (moves (dones w code a g b x e n r f q)) = elsewhere (accountsOf h) g _ (n ∙ o)
-  others-told o (moves (misses w code a g b x e n r f q)) = elsewhere (accountsOf h) g _ (n ∙ o)
+  others-told o (moves (misses w a g b x e n r f)) = elsewhere (accountsOf h) g _ (n ∙ o)
   others-told o (moves (aborts _ a g b e r (by-turn w n f))) = elsewhere (accountsOf h) g _ (n ∙ o)
   others-told o (moves (aborts _ a g b e r (by-report w code x n f q))) = elsewhere (accountsOf h) g _ (n ∙ o)
   others-told o (moves (aborts _ a g b e r (by-cancel w n))) = absurd o
@@ -420,12 +422,32 @@ told-since x later =
     ap (λ l. toldThen [] (callsTold (opensAt x) l)) (sym (append-assoc (x .before) (submit (x .commands) ∷ []) later))
     ∙ told-on (opensAt x) [] (placing x) later
 
+-- calls keep the number of devices, so that a new pass limit is refused for its own sake alone
+devices-after : (s : State) (later : List Call) → stateAfter s later .devices ≡ s .devices
+devices-after s [] = refl
+devices-after s (c ∷ later) = devices-after (resultOf s c .state) later ∙ devices-kept s c
+
+pub sitting-check : (x : Sitting) (later : List Call) (k : ℕ) → limitCheck k ≡ Accepted →
+    newLimitCheck (stateAfter (placedState x) later .devices) k ≡ Accepted
+unfolding newHub
+sitting-check x later k a =
+    ap (λ n. newLimitCheck n k) (devices-after (placedState x) later ∙ devices-after (opensAt x) (placing x)) ∙ a
+
 module _ (x : Sitting) (e : openOf 1 (x .passLimit) 1 ≡ opened (opensAt x)) where
   ready-since : (later : List Call) →
       (l : List Group) × Ready (stateAfter (placedState x) later) (toldThen (toldAfter x []) (callsTold (placedState x) later)) l
   ready-since later =
       let r = ready-calls (opensAt x) [] [] (ready-opened 1 (x .passLimit) 1 (opensAt x) e) (placing x) in
       ready-calls (placedState x) (toldAfter x []) (r .0) (r .1) later
+
+  -- K alone changes
+  pub sitting-limit : (later : List Call) (k : ℕ) → limitCheck k ≡ Accepted →
+      resultOf (stateAfter (placedState x) later) (limit k) .state ≡ withPassLimit (stateAfter (placedState x) later) k
+  sitting-limit later k a =
+      let s = stateAfter (placedState x) later in
+      let r = ready-since later in
+      ap (λ (t : Result). t .state) (limit-passes s k (sitting-check x later k a))
+      ∙ settle-none (withPassLimit s k) (r .0) (r .1 .hub .sequence-is) (r .1 .first)
 
   -- n rounds
   pub rounds-told : (n : ℕ) →
@@ -529,6 +551,7 @@ changed-limit x earlier k n a =
     let r = resultOf (stateAfter s earlier) (limit k) in
     ap (limitTold (x .passLimit)) (told-on s (toldAfter x []) earlier (limit k ∷ busy n (x .newcomers) (r .state)))
     ∙ limit-kept (x .passLimit) k (r .state) (saying (limit k) (r .answers) ∷ h)
-    (ap (λ l. limitAfterAll l (limitTold (x .passLimit) h)) (ap (λ (x : Result). x .answers) (limit-passes (stateAfter s earlier) k a)))
+    (ap (λ l. limitAfterAll l (limitTold (x .passLimit) h))
+    (ap (λ (x : Result). x .answers) (limit-passes (stateAfter s earlier) k (sitting-check x earlier k a))))
     (busy n (x .newcomers) (r .state))
     (busy-keeps n (x .newcomers) (r .state))

@@ -233,7 +233,7 @@ runs-moves s a l h t (passes i ga g gb c e n r f q w st u) =
     (answers-running s a ga g gb (subst (HubOk s) e h) (subst (RunsTold a) e t) (passOutcome st) (with g (passedMember st g)) refl refl)
 runs-moves s a l h t (dones i code ga g gb x e n r f q) =
     answers-running s a ga g gb (subst (HubOk s) e h) (subst (RunsTold a) e t) reported-done (with g (doneMember g)) refl refl
-runs-moves s a l h t (misses i code ga g gb x e n r f q) =
+runs-moves s a l h t (misses i ga g gb x e n r f) =
     answers-running s a ga g gb (subst (HubOk s) e h) (subst (RunsTold a) e t) reported-failed (with g (failedMember g)) refl refl
 runs-moves s a l h t (aborts c ga g gb e r k) = stops-running s a ga g gb (subst (HubOk s) e h) (subst (RunsTold a) e t)
 runs-moves s a l h t (fails d r lead k n u w) =

@@ -365,7 +365,7 @@ stand-moves s o a l f t (passes i x g y c e j r n b m st u) =
   where
     ground : {isUp : Bool} → isUp ≡ s .up (c .device) → {st : Status} → Passes s g c st →
         FindsUp isUp (nextIsSkipped false (g .member .steps)) (nextCountsAsMust (g .member .steps)) (passOutcome st)
-    ground e (is-down k) = inr (e ∙ k)
+    ground e (is-down k m) = inr (e ∙ k, m)
     ground e (is-off k) = inl k
     ground e (does-hold k z v) = e ∙ k
     ground e (does-not k z v) = e ∙ k
@@ -377,7 +377,7 @@ stand-moves s o a l f t (dones i code x g y v e j r n b) =
     (fit-flight (upPast (o .settled) x) reported-done v (agrees s o a x g y w) k n
     (λ _ _. up-clear s o x g y (w .order) d (flight-clear s x g y v (w .hub) n)
     ∙ each-mid (InFlightIsUp s) x g y (w .flies) .flies-up d (done-step (g .member) k v n .flew d ∙ eq-eqb d d refl)))
-stand-moves s o a l f t (misses i code x g y v e j r n b) =
+stand-moves s o a l f t (misses i x g y v e j r n) =
     let w = subst (λ l. Before s o a l) e f in
     stand-changes s o a x g y w (failedMember g .steps) (g .member .committed) (answeredAccount reported-failed (a (g .member .id)))
     (fit-flight (upPast (o .settled) x) reported-failed v (agrees s o a x g y w) (in-turn s x g y (w .hub)) n (λ _ _. tt))

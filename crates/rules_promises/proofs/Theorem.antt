@@ -2,27 +2,27 @@
 -- nothing.
 use mathlib.Core.Path.{_≡_, refl, sym, ap, _∙_, subst}
 use mathlib.Core.Logic.{_≢_}
-use mathlib.Core.Bool.{Bool, true, false, not, _||_, or-true}
+use mathlib.Core.Bool.{Bool, true, false, not, or-true}
 use mathlib.Core.List.{List, [], _∷_, _++_, map, append-assoc, append-nil, tail-eq-of-cons-eq, nil≢cons}
 use Prim.Native.Nat.{ℕ, _<_, _≤_}
 use native.Mathlib.Omega.{arith}
-use borrow.Author.Tests.{ltb-false, eqb-true, eqb-false}
+use borrow.Author.Tests.{ltb-false, le-ltb, eqb-true, eqb-false}
 use lib.Dec.{ltb, eqb}
 use lib.IntN.{ℤ, pos}
-use Rattle.rules_routine.specs.Limits.{maxDevices, highestPassLimit}
-use Rattle.rules_routine.specs.Refusals.{devices-out-of-range, pass-limit-out-of-range, first-id-0, refuse_when_}
+use Rattle.rules_routine.specs.Refusals.{pass-limit-out-of-range, first-id-0, refuse_when_, _andThen_}
 use Rattle.rules_routine.specs.declared.Verdict.{Verdict}
 use Rattle.rules_routine.specs.declared.Verdict.the-variants.{Accepted, Refused}
 use Rattle.rules_routine.proofs.RoutineLaws.{both-accept, not-refused}
 use Rattle.rules.specs.Tables.{anyOf, Each}
+use Rattle.rules_routine.specs.Limits.{highestPassLimit}
 use Rattle.rules.specs.State.{Member, State}
 use Rattle.rules.specs.Answers.{Call, submit, turn, report, failure, restart, cancel, limit, Answer, refused, wait, limited, Result}
 use Rattle.rules.specs.Answers.{turnedDown, unlessRefused}
 use Rattle.rules.specs.Due.{due}
-use Rattle.rules.specs.Limit.{withPassLimit, limitOf}
+use Rattle.rules.specs.Limit.{newLimitCheck, withPassLimit, limitOf}
 use Rattle.rules.specs.Settle.{settleFrom, settle, settling}
 use Rattle.rules.specs.Abort.{leave, abort}
-use Rattle.rules.specs.Open.{opened, limitCheck, openCheck, newHub, openIf, openOf}
+use Rattle.rules.specs.Open.{opened, devicesCheck, limitCheck, openCheck, newHub, openIf, openOf}
 use Rattle.rules.specs.Submit.{place}
 use Rattle.rules.specs.Turn.{commitTurn, sendTurn}
 use Rattle.rules.specs.Report.{doneReport, skippedState, skipReport}
@@ -37,6 +37,7 @@ use Rattle.rules.specs.Replay.{ReplayStatement}
 use Rattle.rules.specs.HubOrder.{CommandsTold, entryOf, routinesIn, OrderIsHubs}
 use Rattle.rules.specs.Attach.{oneRestart, attach}
 use Rattle.rules.proofs.Lists.{byIf, t≠f, fold-++, anyOf-++}
+use Rattle.rules.proofs.LimitLaws.{limit-passes}
 use Rattle.rules_promises.proofs.Groups.{Group, members, alone, flat, stillHeld, each-held}
 use Rattle.rules_promises.proofs.Invariant.{unmarked, HubOk, InFlightIsUp, FirstRuns, OrderOk, AccountTells, backTo, ReachesSetting}
 use Rattle.rules_promises.proofs.Invariant.{has}
@@ -63,7 +64,7 @@ use Rattle.rules_promises.proofs.DeviceKept.{device-moves}
 use mathlib.Core.List.{map-append}
 use Rattle.rules_routine.specs.Causes.{NoneOf}
 use Rattle.rules.specs.Causes.{IdsDiffer}
-use Rattle.rules.specs.NewLimit.{NothingTold, LimitTellsNothing, NothingToSettle}
+use Rattle.rules.specs.NewLimit.{NothingTold, LimitTellsNothing, NothingToSettle, LimitChangesK}
 use Rattle.rules.specs.Sequence.{withSequence}
 use Rattle.rules_routine.specs.declared.Refusal.{Refusal}
 use Rattle.rules.proofs.Lists.{NotIn, IdsOk, ids-other}
@@ -129,7 +130,7 @@ moves-same s l (sends i a g b c e n r f q w u plain on) = (refl, refl)
 moves-same s l (passes i a g b c e n r f q w st u) =
     (by-answer (λ x. isAccepted (x ∷ []) ≡ true) (g .member .id) refl refl refl st, refl)
 moves-same s l (dones i code a g b x e n r f q) = (refl, refl)
-moves-same s l (misses i code a g b x e n r f q) = (refl, refl)
+moves-same s l (misses i a g b x e n r f) = (refl, refl)
 moves-same s l (aborts c a g b e r q) = (refl, refl)
 moves-same s l (fails d r lead k n u g) = (gone-accepted _ d l _ refl g, ap (λ (x : Fixed). x .devices) (gone-fixed _ d l g))
 moves-same s l (restarts d v r lead k n u g) = (
@@ -153,7 +154,7 @@ devices-kept s c = go (see-any s c)
     go : {c : Call} {r : Result} → Seen s (map alone (s .sequence)) c r → r .state .devices ≡ s .devices
     go (is-refused r) = refl
     go (waits i a g b d condition j w n f) = refl
-    go (limits k e) = refl
+    go (limits k e) = ap (λ (q : Fixed). q .devices) (settle-fixed (withPassLimit s k))
     go (moves {r = r} m) = ap (λ (q : Fixed). q .devices) (settle-fixed (r .state)) ∙ moves-same s (map alone (s .sequence)) m .1
 
 -- what holds after a call, and the settled part has only grown
@@ -181,6 +182,15 @@ untold P Q w c x h a k o = record {
   where
     same : moveBar (orderAfter c (accounts w) x (orderIn w)) ≡ orderIn w
     same = ap moveBar o ∙ bar-stays (w .state) (orderIn w) (h .groups) (h .known .order) (h .known .first)
+
+-- the first of the sequence runs, so that nothing settles
+pub settle-none : (s : State) (l : List Group) → s .sequence ≡ members l → FirstRuns l → settle s ≡ s
+unfolding settle
+settle-none s l e f = ap (settleFrom s) e ∙ go l f ∙ ap (withSequence s) (sym e)
+  where
+    go : (l : List Group) → FirstRuns l → settleFrom s (members l) ≡ withSequence s (members l)
+    go [] f = refl
+    go (g ∷ l) f = rw f refl
 
 -- the same world, with another pass limit
 abbrev withLimit : World → ℕ → World
@@ -284,7 +294,10 @@ seen P w c v h (is-refused r) = untold P _ w c (refused r) h refl refl refl
 seen P w _ v h (waits i a g b d condition j e n f) = untold P _ w (turn i) (wait (g .member .id) j) h refl refl refl
 seen P w _ v h (limits k e) =
     let n = untold P _ (withLimit w k) (limit k) (limited k) (holds-limit P w k h) refl refl refl in
-    record { next = n .next; grows = n .grows; same-devices = n .same-devices }
+    let same = settle-none (withPassLimit (w .state) k) (h .groups) (h .known .hub .sequence-is) (h .known .first) in
+    subst (λ s. Next (P × Premised w (limit k) (limited k ∷ [])) w
+    (afterCall w (limit k) v (record { state = s; answers = limited k ∷ [] })))
+    (sym same) (record { next = n .next; grows = n .grows; same-devices = n .same-devices })
 seen P w c v h (moves m) = told P w c v h m
 
 -- ---- any act
@@ -329,7 +342,7 @@ acts-hold P w (x ∷ l) h =
 
 -- the hub of an accepted opening
 pub opening : (n k first : ℕ) (s : State) → openOf n k first ≡ opened s →
-    (newHub n k first ≡ s) × (0 < first) × (k ≤ highestPassLimit)
+    (newHub n k first ≡ s) × (0 < first) × (k ≤ highestPassLimit) × (devicesCheck n ≡ Accepted)
 unfolding openCheck openOf
 opening n k first s e = go (openCheck n k first) refl e
   where
@@ -337,13 +350,14 @@ opening n k first s e = go (openCheck n k first) refl e
     positive i z = omega arith
 
     go : (v : Verdict) → openCheck n k first ≡ v → openIf v (newHub n k first) ≡ opened s →
-        (newHub n k first ≡ s) × (0 < first) × (k ≤ highestPassLimit)
+        (newHub n k first ≡ s) × (0 < first) × (k ≤ highestPassLimit) × (devicesCheck n ≡ Accepted)
     go Accepted q f =
-        let p = both-accept (refuse devices-out-of-range when (eqb n 0 || ltb maxDevices n)) _ q .1 in
-        let r = both-accept (limitCheck k) _ p in (
+        let p = both-accept (devicesCheck n) _ q in
+        let r = both-accept (limitCheck k) _ (p .1) in (
           cc,
           positive first (eqb-false first 0 (not-refused first-id-0 (eqb first 0) (r .1))),
           ltb-false highestPassLimit k (not-refused pass-limit-out-of-range (ltb highestPassLimit k) (r .0)),
+          p .0,
         )
     go (Refused r) q f = let z : _≡_ {A = ℕ} 0 1 = cc in absurd (omega arith)
 
@@ -548,7 +562,7 @@ ids-differ n k first s e acts a m b w =
 pub limit-tells-nothing : LimitTellsNothing
 unfolding limitOf
 limit-tells-nothing n k first s e acts new v =
-    byVerdict (λ (r : Result). NothingTold w (afterCall w (limit new) v r)) (limitCheck new)
+    byVerdict (λ (r : Result). NothingTold w (afterCall w (limit new) v r)) (newLimitCheck (w .state .devices) new)
     (record { same-order = same; same-accounts = refl; same-working = refl; same-devices = refl })
     (λ r. record { same-order = same; same-accounts = refl; same-working = refl; same-devices = refl })
   where
@@ -565,17 +579,21 @@ limit-tells-nothing n k first s e acts new v =
     byVerdict P Accepted a b = a
     byVerdict P (Refused y) a b = b y
 
--- the first of the sequence runs, so that nothing settles
-settle-none : (s : State) (l : List Group) → s .sequence ≡ members l → FirstRuns l → settle s ≡ s
-unfolding settle
-settle-none s l e f = ap (settleFrom s) e ∙ go l f ∙ ap (withSequence s) (sym e)
-  where
-    go : (l : List Group) → FirstRuns l → settleFrom s (members l) ≡ withSequence s (members l)
-    go [] f = refl
-    go (g ∷ l) f = rw f refl
-
 pub nothing-to-settle : NothingToSettle
 nothing-to-settle n k first s e acts =
     let w = worldAfterAll (newWorld s) acts in
     let h = acts-hold (Unit {0}) (newWorld s) acts (started n k first s e) .next in
     settle-none (w .state) (h .groups) (h .known .hub .sequence-is) (h .known .first)
+
+pub limit-changes-k : LimitChangesK
+unfolding newHub
+limit-changes-k n k first s e acts new low =
+    let w = worldAfterAll (newWorld s) acts in
+    let h = acts-hold (Unit {0}) (newWorld s) acts (started n k first s e) in
+    let o = opening n k first s e in
+    let fine : devicesCheck (w .state .devices) ≡ Accepted =
+    subst (λ d. devicesCheck d ≡ Accepted) (sym (h .same-devices ∙ sym (ap (λ (t : State). t .devices) (o .0)))) (o .3) in
+    limit-passes (w .state) new (ap (λ (v : Verdict). v andThen limitCheck new) fine
+    ∙ ap (λ b. refuse pass-limit-out-of-range when b) (le-ltb highestPassLimit new low))
+    ∙ ap (λ (t : State). record { state = t; answers = limited new ∷ [] })
+    (settle-none (withPassLimit (w .state) new) (h .next .groups) (h .next .known .hub .sequence-is) (h .next .known .first))

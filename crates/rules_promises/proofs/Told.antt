@@ -119,7 +119,7 @@ flies-told s a l h u v t (dones i code ga g gb x e n r z q) =
     let y = subst (HubOk s) e h in
     lands s a ga g gb y (subst (FliesTold a) e t) reported-done (with g (doneMember g)) refl
     (done-step (g .member) (in-turn s ga g gb y) x z .flight-is)
-flies-told s a l h u v t (misses i code ga g gb x e n r z q) =
+flies-told s a l h u v t (misses i ga g gb x e n r z) =
     let y = subst (HubOk s) e h in
     lands s a ga g gb y (subst (FliesTold a) e t) reported-failed (with g (failedMember g)) refl
     (fail-step (g .member) (in-turn s ga g gb y) x z .flight-is)

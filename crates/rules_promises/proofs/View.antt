@@ -1,15 +1,16 @@
--- Every call, seen once: it changes nothing, or the pass limit alone, or it does one of nine things to the state and the groups, and
+-- Every call, seen once: it changes nothing; or it changes the pass limit, or does one of nine things to the state and the groups, and
 -- settles. Assumes nothing.
 use mathlib.Core.Path.{_≡_, refl, sym, ap, _∙_, subst}
 use mathlib.Core.Bool.{Bool, true, false, not}
 use mathlib.Core.List.{List, [], _∷_, _++_}
 use mathlib.Core.Option.{Option, none, some}
 use Prim.Native.Nat.{ℕ}
-use borrow.Author.Tests.{eqb-true, not-true, not-false}
+use native.Mathlib.Omega.{arith}
+use borrow.Author.Tests.{eqb-true, eqb-false, ltb-false, not-true, not-false}
 use lib.Dec.{leb, ltb, eqb}
 use lib.IntN.{ℤ}
 use Rattle.rules_routine.specs.Range.{inRange}
-use Rattle.rules_routine.specs.Refusals.{report-code-out-of-range, failure-of-down, restart-of-up, restart-setting, refuse_when_, _andThen_}
+use Rattle.rules_routine.specs.Refusals.{failure-of-down, restart-of-up, restart-setting, refuse_when_, _andThen_}
 use Rattle.rules_routine.specs.Routine.{isCondition}
 use Rattle.rules_routine.specs.declared.Command.{Command}
 use Rattle.rules_routine.specs.declared.Refusal.{Refusal}
@@ -18,26 +19,26 @@ use Rattle.rules_routine.specs.declared.Verdict.the-variants.{Accepted, Refused
 use Rattle.rules.specs.Tables.{anyOf, put, Each}
 use Rattle.rules.specs.State.{Status, to-do, in-flight, was-done, was-skipped, was-held, was-not-held, Member, State}
 use Rattle.rules.specs.Answers.{Call, submit, turn, report, failure, restart, cancel, limit, Answer, refused, placed, wait, skipped}
-use Rattle.rules.specs.Answers.{held, not-held, down, up, limited, Result, unlessRefused}
+use Rattle.rules.specs.Answers.{held, not-held, down, up, Result, unlessRefused}
 use Rattle.rules.specs.Progress.{isMust, next, nextCountsAsMust, nextIsSkipped, Flight, flight, advance, answerFlight, withSteps}
 use Rattle.rules.specs.Due.{due}
 use Rattle.rules.specs.Sequence.{Found, onto, find, isRunning, runs, lastIdOr, withUp}
 use Rattle.rules.specs.Settle.{settling}
 use Rattle.rules.specs.Abort.{abort}
-use Rattle.rules.specs.Open.{limitCheck}
 use Rattle.rules.specs.Submit.{submitCheck, blocks, upToLast, pastLast, newcomer, place, submitOf}
 use Rattle.rules.specs.Turn.{firstHolding, commit, commitTurn, nextBecomes, sendTurn, skipTurn, isHeld, heldTurn, notHeldTurn}
 use Rattle.rules.specs.Turn.{waitOr, turnNext}
 use Rattle.rules.specs.Turn.{turnFlight, turnFound, turnOf}
-use Rattle.rules.specs.Report.{codeDone, codeFailed, doneReport, skipReport, reportFlight, reportFound, reportOf}
+use Rattle.rules.specs.Report.{codeDone, codeFailed, doneReport, skipReport, reported, reportFlight, reportFound, reportOf}
 use Rattle.rules.specs.Events.{isHalfway, mustLeft, skipLeft, skipRest, stopIfAny, stopHalfway, failureResult, restartResult}
 use Rattle.rules.specs.Events.{failureOf, restartOf}
 use Rattle.rules.specs.Cancel.{cancelFound, cancelOf}
-use Rattle.rules.specs.Limit.{withPassLimit, limitOf}
+use Rattle.rules.specs.Limit.{newLimitCheck, limitOf}
 use Rattle.rules.specs.Calls.{resultOf}
 use Rattle.rules.specs.Order.{Event, failure-of, restart-of}
 use Rattle.rules.specs.Attach.{attach, oneRestart}
 use Rattle.rules.proofs.Lists.{byIf, and-left, and-right, each-map}
+use Rattle.rules.proofs.LimitLaws.{inForce}
 use Rattle.rules_promises.proofs.Groups.{Group, members, alone, with, passAll, foundAt, leaving, leadOf, attachEvent, leadWith}
 use Rattle.rules_promises.proofs.Steps.{Passing}
 use Rattle.rules_promises.proofs.Invariant.{NotHalfway}
@@ -61,7 +62,7 @@ skippedLeft d g = withSteps (g .member) (skipLeft d (g .member .steps))
 
 -- why the next command, c, is answered without being sent, and how
 pub data Passes (s : State) (g : Group) (c : Command) : Status → Type 0 where
-  is-down : s .up (c .device) ≡ false → Passes s g c was-skipped
+  is-down : s .up (c .device) ≡ false → nextCountsAsMust (g .member .steps) ≡ false → Passes s g c was-skipped
   is-off : nextIsSkipped false (g .member .steps) ≡ true → Passes s g c was-skipped
   does-hold : s .up (c .device) ≡ true → isCondition c ≡ true → isHeld s c ≡ true → Passes s g c was-held
   does-not : s .up (c .device) ≡ true → isCondition c ≡ true → isHeld s c ≡ false → Passes s g c was-not-held
@@ -88,7 +89,7 @@ abbrev pub passTurn : State → Found → Command → Status → Result
 passTurn s f c st = record { state = nextBecomes s f c st; answers = passAnswer st (f .it .id) ∷ [] }
 
 pub passing : {s : State} {g : Group} {c : Command} {st : Status} → Passes s g c st → Passing st
-passing (is-down u) = record { answers-it = refl; not-done = refl }
+passing (is-down u m) = record { answers-it = refl; not-done = refl }
 passing (is-off u) = record { answers-it = refl; not-done = refl }
 passing (does-hold u k h) = record { answers-it = refl; not-done = refl }
 passing (does-not u k h) = record { answers-it = refl; not-done = refl }
@@ -134,10 +135,10 @@ pub data Moves (s : State) (l : List Group) : Call → Result → List Event →
       g .member .committed ≡ false →
       flight (g .member .steps) ≡ some x → eqb code codeDone ≡ true →
       Moves s l (report i code) (doneReport s (foundAt a g b)) [] (a ++ (with g (doneMember g) ∷ b))
-  misses : (i code : ℕ) (a : List Group) (g : Group) (b : List Group) (x : Flight) → l ≡ a ++ (g ∷ b) → g .member .id ≡ i →
+  misses : (i : ℕ) (a : List Group) (g : Group) (b : List Group) (x : Flight) → l ≡ a ++ (g ∷ b) → g .member .id ≡ i →
       g .member .committed ≡ false →
-      flight (g .member .steps) ≡ some x → eqb code codeDone ≡ false →
-      Moves s l (report i code) (skipReport s (foundAt a g b) x) [] (a ++ (with g (failedMember g) ∷ b))
+      flight (g .member .steps) ≡ some x →
+      Moves s l (report i codeFailed) (skipReport s (foundAt a g b) x) [] (a ++ (with g (failedMember g) ∷ b))
   aborts : (c : Call) (a : List Group) (g : Group) (b : List Group) → l ≡ a ++ (g ∷ b) → g .member .committed ≡ false → Aborts g c →
       Moves s l c (abort s (foundAt a g b)) (leadOf a g) (leaving a g b)
   fails : (d : ℕ) (r : Result) (lead : List Event) (k : List Group) → leb (s .devices) d ≡ false → s .up d ≡ true →
@@ -157,7 +158,7 @@ pub data Seen (s : State) (l : List Group) : Call → Result → Type 0 where
   waits : (i : ℕ) (a : List Group) (g : Group) (b : List Group) (d : ℕ) (condition : Bool) (j : ℕ) → l ≡ a ++ (g ∷ b) →
       g .member .id ≡ i → firstHolding d condition (members a) ≡ some j →
       Seen s l (turn i) (record { state = s; answers = wait (g .member .id) j ∷ [] })
-  limits : (k : ℕ) → limitCheck k ≡ Accepted → Seen s l (limit k) (record { state = withPassLimit s k; answers = limited k ∷ [] })
+  limits : (k : ℕ) → newLimitCheck (s .devices) k ≡ Accepted → Seen s l (limit k) (inForce s k)
   moves : {c : Call} {r : Result} {lead : List Event} {k : List Group} → Moves s l c r lead k → Seen s l c (settling r)
 
 -- ---- the groups that a call is about
@@ -261,7 +262,7 @@ module _ (s : State) {l : List Group} (i : ℕ) (a : List Group) (g : Group) (b 
           (λ y. moves (passes i a g b c w n u f e h was-not-held (does-not t k y))))
           (λ k. moves (sends i a g b c w n u f e h t k z)))
           (λ t. byIf Turned (nextCountsAsMust (g .member .steps)) (λ _. moves (aborts (turn i) a g b w u (by-turn i n f)))
-          (λ _. moves (passes i a g b c w n u f e h was-skipped (is-down t)))))
+          (λ m. moves (passes i a g b c w n u f e h was-skipped (is-down t m)))))
 
   turned : (o : Option Flight) → flight (g .member .steps) ≡ o → Seen s l (turn i) (turnFlight s (foundAt a g b) o)
   turned (some x) f = is-refused _
@@ -270,10 +271,17 @@ module _ (s : State) {l : List Group} (i : ℕ) (a : List Group) (g : Group) (b 
   told : (code : ℕ) (o : Option Flight) → flight (g .member .steps) ≡ o → Seen s l (report i code) (reportFlight s (foundAt a g b) code o)
   told code none e = is-refused _
   told code (some x) e =
-      unless s l (report i code) (refuse report-code-out-of-range when ltb codeFailed code)
-      (λ _. byIf (Seen s l (report i code)) (eqb code codeDone) (λ t. moves (dones i code a g b x w n u e t))
+      byIf (λ v. Seen s l (report i code) (unlessRefused v s (reported s (foundAt a g b) x code))) (ltb codeFailed code) (λ _. is-refused _)
+      (λ k. byIf (Seen s l (report i code)) (eqb code codeDone) (λ t. moves (dones i code a g b x w n u e t))
       (λ t. byIf (Seen s l (report i code)) (isMust (x .command)) (λ _. moves (aborts (report i code) a g b w u (by-report i code x n e t)))
-      (λ _. moves (misses i code a g b x w n u e t))))
+      (λ _. subst (λ c. Seen s l (report i c) (settling (skipReport s (foundAt a g b) x))) (failed k t)
+      (moves (misses i a g b x w n u e)))))
+    where
+      failed : ltb codeFailed code ≡ false → eqb code codeDone ≡ false → codeFailed ≡ code
+      failed k t =
+          let most = ltb-false codeFailed code k in
+          let other = eqb-false code codeDone t in
+          omega arith
 
 module _ (s : State) (l : List Group) (e : s .sequence ≡ members l) where
   see-submit : (cs : List Command) → Seen s l (submit cs) (submitOf s cs)
@@ -327,7 +335,7 @@ module _ (s : State) (l : List Group) (e : s .sequence ≡ members l) where
 -- a new pass limit
 see-limit : (s : State) (l : List Group) (k : ℕ) → Seen s l (limit k) (limitOf s k)
 unfolding limitOf
-see-limit s l k = unless s l (limit k) (limitCheck k) (λ v. limits k v)
+see-limit s l k = unless s l (limit k) (newLimitCheck (s .devices) k) (λ v. limits k v)
 
 pub see : (s : State) (l : List Group) → s .sequence ≡ members l → (c : Call) → Seen s l c (resultOf s c)
 see s l e (submit cs) = see-submit s l e cs

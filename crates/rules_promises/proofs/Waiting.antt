@@ -17,6 +17,7 @@ use Rattle.rules.specs.Answers.{Call, submit, turn, report, limit, refused, pla
 use Rattle.rules.specs.Progress.{Flight, flight}
 use Rattle.rules.specs.Sequence.{isRunning}
 use Rattle.rules.specs.Settle.{settle}
+use Rattle.rules.specs.Limit.{withPassLimit}
 use Rattle.rules.specs.Submit.{place}
 use Rattle.rules.specs.Turn.{firstHolding}
 use Rattle.rules.specs.Calls.{resultOf, stateAfter}
@@ -406,7 +407,12 @@ limited-now : (m i : ℕ) (s : State) (h : List Told) (now : Now m i s h) (k : �
     Reached k i (r .state) (saying (limit k) (r .answers) ∷ h) P
 limited-now m i s h now k (is-refused r) e P p = let z : _≡_ {A = ℕ} 0 1 = cc in absurd (omega arith)
 limited-now m i s h now k (limits _ a) e P p = (
-  record { groups = now .groups; ready = ready-limit s h (now .groups) (now .ready) k; in-force = refl; given = now .given },
+  record {
+    groups = now .groups;
+    ready = ready-limit s h (now .groups) (now .ready) k;
+    in-force = ap (λ (x : Fixed). x .passLimit) (settle-fixed (withPassLimit s k));
+    given = subst (λ (x : Fixed). i < x .nextId) (sym (settle-fixed (withPassLimit s k))) (now .given);
+  },
   p,
 )
 limited-now m i s h now k (moves (aborts _ a g b f r q)) e P p = absurd (unaborted q)

@@ -465,6 +465,7 @@ impl Hub {
             return refused(2);
         }
         self.pass_limit = pass_limit;
+        self.settle();
         Ok(Answer::Limited { pass_limit })
     }
 
