@@ -39,7 +39,7 @@ applied-meets h c o a =
     (λ t.
     let s = a .settles .settled t in
     settled-gives h (a .commands) (a .decision) (o .«put_backs») (a .made) k (a .backs-fit) (a .backs-are) (a .carries) (o .hub) o
-    (refl, a .first-is, a .answer-is, refl) t (s .0) (s .1))
+    (refl, a .first-is, a .answer-is, refl) t (s .0) (s .1) (s .2))
     (λ f. stands-gives h (a .commands) (a .decision) (o .«put_backs») (a .made) k (a .backs-fit) (a .backs-are) (a .carries) o
     (a .settles .stays f, a .first-is, a .answer-is, refl) f)))
 

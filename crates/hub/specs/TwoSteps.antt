@@ -19,7 +19,7 @@ use Rattle.hub_state.specs.declared.Decision.{Decision}
 use Rattle.hub.specs.View.{view}
 use Rattle.hub.specs.Valid.{Valid}
 use Rattle.hub.specs.Contract.{Opens}
-use Rattle.hub.specs.Carrying.{Carries, settlesAfter}
+use Rattle.hub.specs.Carrying.{OnlySettle, Carries, settlesAfter}
 use Rattle.hub.specs.Demand3.{HubCall, callOf, Meets, HubAct, called, device-takes, Chain, worldThenAll, newWorldOf, HubDemand3}
 use Rattle.hub.specs.Demand3.{ReadersTell, ListTells}
 use Rattle.hub.specs.Links.{LinksKeep}
@@ -27,9 +27,9 @@ use Rattle.hub.specs.declared.Hub.{Hub}
 use Rattle.hub.specs.declared.Opened.{Opened}
 use Rattle.hub.specs.declared.Outcome.{Outcome}
 
--- Hub m settles to r after this answer: where a routine settles, r is what `hub::settled` gives; else it is m.
+-- Hub m settles to r after this answer: where a routine settles, r is what `hub::settle` gives; else it is m.
 pub record SettlesTo (a : Answer) (m r : Hub) : Type 0 where
-  pub settled : settlesAfter a (view m) ≡ true → (Valid r) × (view r ≡ settle (view m))
+  pub settled : settlesAfter a (view m) ≡ true → (Valid r) × (view r ≡ settle (view m)) × (OnlySettle (m .state) (r .state))
   pub stays : settlesAfter a (view m) ≡ false → r ≡ m
 
 -- The outcome o of the call c on hub h, made in two steps. The call is decided (`hub::decide_submit`, `decide_turn`, ..; a new pass limit
