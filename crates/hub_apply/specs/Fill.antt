@@ -2,7 +2,8 @@
 use mathlib.Core.Path.{_≡_}
 use mathlib.Core.Bool.{Bool, false}
 use mathlib.Core.List.{List}
-use Prim.Native.Nat.{ℕ, suc, _+_, _≤_, _<_}
+use Prim.Native.Nat.{ℕ, suc, _+_, _*_, _≤_, _<_}
+use lib.IntN.{pos}
 use lib.ListN.{getD}
 use Rattle.rules_routine.specs.Choice.{if_then_else_}
 use Rattle.rules_routine.specs.Limits.{maxCommands, maxSequence}
@@ -13,6 +14,7 @@ use Rattle.hub_sequence.specs.Lists.{count}
 use Rattle.hub_sequence.specs.Links.{along, Walks}
 use Rattle.hub_sequence.specs.declared.Links.{Links}
 use Rattle.hub_state.specs.Valid.{highestPassed}
+use Rattle.hub_apply.specs.declared.fill.CommandRows.{CommandRows}
 
 -- ---- a slot's part of a row
 
@@ -28,6 +30,12 @@ commandIn q j = getD (q .commands) j zeroCommand
 pub record CanFill (slot : ℕ) (q : Routine) : Type 0 where
   pub slot-fits : slot < maxSequence
   pub few : q .count ≤ maxCommands
+
+-- The commands of the routine stand in the slot's part of each row.
+pub record FillsCommands (rows : CommandRows) (slot : ℕ) (q : Routine) (r : CommandRows) : Type 0 where
+  pub devices : Fills 0 (rows .device) (slot * maxCommands) (q .count) (λ j. commandIn q j .device) (r .device)
+  pub tags : Fills 0 (rows .tag) (slot * maxCommands) (q .count) (λ j. commandIn q j .tag) (r .tag)
+  pub settings : Fills (pos 0) (rows .setting) (slot * maxCommands) (q .count) (λ j. commandIn q j .setting) (r .setting)
 
 -- ---- pass counts
 

@@ -9,10 +9,9 @@ use rules_routine::limits::MAX_COMMANDS;
 use rules_routine::limits::MAX_DEVICES;
 use rules_routine::limits::MAX_SEQUENCE;
 ghost use Prim.Native.Nat.{_*_, _<_};
-ghost use lib.IntN.{pos};
 ghost use Rattle.rules_routine.specs.Limits.{maxCommands, maxDevices, maxSequence};
 ghost use Rattle.hub_state.specs.View.{toDoCode, noRestart};
-ghost use Rattle.hub_apply.specs.Fill.{Fills, commandIn, CanFill, CanPassBehind, PassesBehind};
+ghost use Rattle.hub_apply.specs.Fill.{Fills, FillsCommands, CanFill, CanPassBehind, PassesBehind};
 
 // "Every running routine now behind it has been passed once more." The newcomer itself was not passed.
 pub fn passed_behind(
@@ -37,59 +36,38 @@ pub fn passed_behind(
     passed
 }
 
-// The commands of a newcomer: their devices, their tags, their settings, each in a row of its own.
-pub fn with_devices(row: [u8; STEPS], slot: usize, routine: Routine) -> [u8; STEPS]
-    requires { ⌜ CanFill slot routine ⌝ }
-    ensures { λ r. ⌜ Fills 0 row (slot * maxCommands) (routine .count) (λ j. commandIn routine j .device) r ⌝ }
-{
-    let commands = routine.commands;
-    let count = routine.count;
-    let from = slot * MAX_COMMANDS;
-    let mut filled = row;
-    let mut j: usize = 0;
-    while j < count {
-        let command = commands[j];
-        let value = command.device;
-        filled[from + j] = value;
-        j += 1;
-    }
-    filled
+// The rows of the commands' devices, tags and settings.
+pub struct CommandRows {
+    pub device: [u8; STEPS],
+    pub tag: [u8; STEPS],
+    pub setting: [i16; STEPS],
 }
 
-pub fn with_tags(row: [u8; STEPS], slot: usize, routine: Routine) -> [u8; STEPS]
+// The commands of a newcomer, in their rows.
+pub fn with_commands(rows: CommandRows, slot: usize, routine: Routine) -> CommandRows
     requires { ⌜ CanFill slot routine ⌝ }
-    ensures { λ r. ⌜ Fills 0 row (slot * maxCommands) (routine .count) (λ j. commandIn routine j .tag) r ⌝ }
+    ensures { λ r. ⌜ FillsCommands rows slot routine r ⌝ }
 {
     let commands = routine.commands;
     let count = routine.count;
     let from = slot * MAX_COMMANDS;
-    let mut filled = row;
+    let mut device = rows.device;
+    let mut tag = rows.tag;
+    let mut setting = rows.setting;
     let mut j: usize = 0;
     while j < count {
         let command = commands[j];
-        let value = command.tag;
-        filled[from + j] = value;
+        let to = command.setting;
+        device[from + j] = command.device;
+        tag[from + j] = command.tag;
+        setting[from + j] = to;
         j += 1;
     }
-    filled
-}
-
-pub fn with_settings(row: [i16; STEPS], slot: usize, routine: Routine) -> [i16; STEPS]
-    requires { ⌜ CanFill slot routine ⌝ }
-    ensures { λ r. ⌜ Fills (pos 0) row (slot * maxCommands) (routine .count) (λ j. commandIn routine j .setting) r ⌝ }
-{
-    let commands = routine.commands;
-    let count = routine.count;
-    let from = slot * MAX_COMMANDS;
-    let mut filled = row;
-    let mut j: usize = 0;
-    while j < count {
-        let command = commands[j];
-        let value = command.setting;
-        filled[from + j] = value;
-        j += 1;
+    CommandRows {
+        device,
+        tag,
+        setting,
     }
-    filled
 }
 
 // All commands of a newcomer are to do.

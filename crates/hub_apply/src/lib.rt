@@ -3,6 +3,7 @@
 // stays is not copied.
 mod fill;
 
+use fill::CommandRows;
 use hub_sequence::order;
 use hub_state::DONE;
 use hub_state::HubState;
@@ -252,9 +253,15 @@ pub fn with_routine(state: HubState, after: u8, routine: Routine) -> HubState
     committed[slot] = false;
     counts[slot] = routine.count as u8;
     answered[slot] = 0;
-    let device = fill::with_devices(old_device, slot, routine);
-    let tag = fill::with_tags(old_tag, slot, routine);
-    let setting = fill::with_settings(old_setting, slot, routine);
+    let rows = CommandRows {
+        device: old_device,
+        tag: old_tag,
+        setting: old_setting,
+    };
+    let filled = fill::with_commands(rows, slot, routine);
+    let device = filled.device;
+    let tag = filled.tag;
+    let setting = filled.setting;
     let stage = fill::with_to_do(old_stage, slot);
     let restarts = fill::without_restarts(old_restarts, slot);
     HubState {

@@ -64,38 +64,30 @@ array-write-answered c = slot (joined (c .before .before))
 fill : (c : tie.After-join) → let s = start c in CanFill (c .join .result .slot) (s .args .routine)
 fill c = let s = start c in can-fill _ _ _ (s .pre .0) (s .pre .1) (c .join .result) (c .join .ensures)
 
-with-devices-requires : tie.Need-with-devices-requires
-with-devices-requires c κs = fill (joined (c .before .before))
-
-with-tags-requires : tie.Need-with-tags-requires
-with-tags-requires c κs = fill (joined (c .before .before .before))
-
-with-settings-requires : tie.Need-with-settings-requires
-with-settings-requires c κs = fill (joined (c .before .before .before .before))
+with-commands-requires : tie.Need-with-commands-requires
+with-commands-requires c κs = fill (joined (c .before .before))
 
 with-to-do-requires : tie.Need-with-to-do-requires
-with-to-do-requires c κs = slot (joined (c .before .before .before .before .before))
+with-to-do-requires c κs = slot (joined (c .before .before .before .before .before .before))
 
 without-restarts-requires : tie.Need-without-restarts-requires
-without-restarts-requires c κs = slot (joined (c .before .before .before .before .before .before))
+without-restarts-requires c κs = slot (joined (c .before .before .before .before .before .before .before))
 
-add-t43 : tie.Need-add-t43
-add-t43 c = let s = start (joined (c .before .before .before .before .before .before .before)) in let h = s .pre .1 .id-left in omega arith
+add-t45 : tie.Need-add-t45
+add-t45 c = let s = start (joined (c .before .before .before .before .before .before .before .before)) in let h = s .pre .1 .id-left in omega arith
 
 returns : tie.Need-returns
 returns c = let g = c .before in
-    let u = g .before in
-    let t = u .before in
-    let d = t .before in
+    let d = g .before .before .before .before in
     let p = d .before .before in
     let j = joined (p .before) in
     let s = start j in
     join-places _ _ _ (s .pre .0) (s .pre .1) (j .join .result) (j .join .ensures) _
     (record {
       passes = p .passed-behind .ensures;
-      devices = d .with-devices .ensures;
-      tags = t .with-tags .ensures;
-      settings = u .with-settings .ensures;
+      devices = d .with-commands .ensures .devices;
+      tags = d .with-commands .ensures .tags;
+      settings = d .with-commands .ensures .settings;
       stages = g .with-to-do .ensures;
       no-restart = c .without-restarts .ensures;
     })
@@ -115,10 +107,8 @@ with-routine-spec =
     cast-counts
     array-write-counts
     array-write-answered
-    with-devices-requires
-    with-tags-requires
-    with-settings-requires
+    with-commands-requires
     with-to-do-requires
     without-restarts-requires
-    add-t43
+    add-t45
     returns)
