@@ -8,7 +8,6 @@ mod opening;
 use hub_answers::Answer;
 use hub_answers::EventAbort;
 use hub_answers::PutBacks;
-use hub_settle::settling;
 use hub_state::Decision;
 use hub_state::HubState;
 use hub_state::Staged;
@@ -299,7 +298,7 @@ pub fn with_abort(hub: Hub, at: usize) -> Hub
     ensures { λ r. ⌜ (Valid r) × (view r ≡ leave (view hub) (there (hub .state) at)) × (MovesNobody (hub .state) (r .state)) ⌝ }
 {
     let state = hub.state;
-    let next = hub_settle::left(state, at);
+    let next = hub_settle::leave::leave(state, at);
     Hub { state: next }
 }
 
@@ -340,7 +339,7 @@ pub fn settles(hub: Hub) -> bool
     ensures { λ r. ⌜ r ≡ firstCommitted (view hub .sequence) ⌝ }
 {
     let state = hub.state;
-    settling::settles(state)
+    hub_settle::settle::settles(state)
 }
 
 // The committed routines at the front settle.
@@ -349,6 +348,6 @@ pub fn settle(hub: Hub) -> Hub
     ensures { λ r. ⌜ (Valid r) × (view r ≡ settle (view hub)) × (OnlySettle (hub .state) (r .state)) ⌝ }
 {
     let state = hub.state;
-    let next = settling::settled_state(state);
+    let next = hub_settle::settle::settle(state);
     Hub { state: next }
 }

@@ -132,6 +132,18 @@ pub fn put_backs_if(state: HubState, slot: usize, device: u8, down: u8) -> PutBa
     hub_answers::no_put_backs()
 }
 
+// A device becomes up or down.
+fn with_up(state: HubState, device: u8, is_up: bool) -> HubState
+    requires { ⌜ (StateOk state) × (device < maxDevices) ⌝ }
+    ensures { λ r. ⌜ (StateOk r) × (stateOf r ≡ withUp (stateOf state) (put (stateOf state .up) device «is_up»)) × (r .links ≡ state .links)
+        × (there r ≡ there state) ⌝ }
+{
+    let at = device as usize;
+    let mut changed = state;
+    changed.up[at] = is_up;
+    changed
+}
+
 // "On a failure D first becomes down." Then the abort, or the skips. (That both events have this in their own text, and not in a function
 // called by both, keeps two states off the stack.)
 pub fn with_failure(state: HubState, device: u8, slot: usize) -> HubState
@@ -139,10 +151,10 @@ pub fn with_failure(state: HubState, device: u8, slot: usize) -> HubState
     ensures { λ r. ⌜ (StateOk r) × (stateOf r ≡ stoppedBy device (downWith (stateOf state) device) (halfwayIn state slot))
         × (OnlyLeave state r) ⌝ }
 {
-    let mut next = hub_settle::with_up(state, device, false);
+    let mut next = with_up(state, device, false);
     if slot < MAX_SEQUENCE {
         if hub_search::must_left(next, slot, device) {
-            let left = hub_settle::left(next, slot);
+            let left = hub_settle::leave::leave(next, slot);
             next = left;
         } else {
             let skipped = hub_apply::with_skips(next, slot, device);
@@ -161,7 +173,7 @@ pub fn with_restart(state: HubState, device: u8, setting: i16, slot: usize) -> H
     let mut next = state;
     if slot < MAX_SEQUENCE {
         if hub_search::must_left(state, slot, device) {
-            let left = hub_settle::left(next, slot);
+            let left = hub_settle::leave::leave(next, slot);
             next = left;
         } else {
             let skipped = hub_apply::with_skips(next, slot, device);
@@ -170,6 +182,6 @@ pub fn with_restart(state: HubState, device: u8, setting: i16, slot: usize) -> H
     }
     let marks = next.mark;
     let d = device as usize;
-    let with_it = hub_settle::attached(next, marks[d], device, setting);
-    hub_settle::with_up(with_it, device, true)
+    let with_it = hub_settle::attach::attach(next, marks[d], device, setting);
+    with_up(with_it, device, true)
 }

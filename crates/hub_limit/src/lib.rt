@@ -1,6 +1,5 @@
 // A new pass limit: document 02, item 13, "New pass limit without a stop".
 use hub_answers::Answer;
-use hub_settle::settling;
 use hub_state::HubState;
 use rules_routine::Refusal;
 use rules_routine::Verdict;
@@ -46,7 +45,7 @@ fn with_limit(state: HubState, pass_limit: u8) -> HubState
 {
     let mut changed = state;
     changed.pass_limit = pass_limit;
-    settling::settled_state(changed)
+    hub_settle::settle::settle(changed)
 }
 
 // The call: K becomes the new one, or it is turned down and the state is the same.

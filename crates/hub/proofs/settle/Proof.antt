@@ -1,15 +1,15 @@
--- `hub::settled` meets its contract. Assumes nothing.
+-- `hub::settle` meets its contract. Assumes nothing.
 use borrow.Author.Needs.{needs}
-use Rattle.hub.proofs.settled.Statement.{statement}
-use Rattle.hub.proofs.settled.Tie as tie
+use Rattle.hub.proofs.settle.Statement.{statement}
+use Rattle.hub.proofs.settle.Tie as tie
 
-settled-state-requires : tie.Need-settle-state-requires
-settled-state-requires c κs = search needs
+settle-requires : tie.Need-settle-requires
+settle-requires c κs = search needs
 
 returns : tie.Need-returns
 returns c =
-    let w = c .settled-state .ensures in
+    let w = c .settle .ensures in
     (w .valid, w .gives, record { only-leave = w .only-leave; left-committed = w .left-committed })
 
-pub settled-spec : {M : Type 1} → statement M
-settled-spec = tie.close (tie.spec settled-state-requires returns)
+pub settle-spec : {M : Type 1} → statement M
+settle-spec = tie.close (tie.spec settle-requires returns)

@@ -14,8 +14,8 @@ must-left-requires c κs =
     let u = t .with-up in
     (u .ensures .0, stands-down (s .args .state) (u .result) (s .args .slot) (u .ensures .2) (s .pre .2) (c .if1 .taken))
 
-left-requires : tie.Need-left-requires
-left-requires c κs =
+leave-requires : tie.Need-leave-requires
+leave-requires c κs =
     let i = c .before .before in
     let t = i .before in
     let s = t .before in
@@ -37,9 +37,9 @@ returns c =
     let u = i .before .with-up in
     let s = i .before .before in
     let a = s .args in
-    failure-stops (a .state) (u .result) (a .device) (a .slot) (s .pre .0) (u .ensures .1) (u .ensures .2) (u .ensures .3) (c .left .result)
+    failure-stops (a .state) (u .result) (a .device) (a .slot) (s .pre .0) (u .ensures .1) (u .ensures .2) (u .ensures .3) (c .leave .result)
     (one-leaves (u .result) (a .slot) (a .device) (i .if1 .taken) (m .must-left .result) (m .must-left .ensures) (u .ensures .0)
-    (stands-down (a .state) (u .result) (a .slot) (u .ensures .2) (s .pre .2)) (c .before .if2 .taken) (c .left .result) (c .left .ensures))
+    (stands-down (a .state) (u .result) (a .slot) (u .ensures .2) (s .pre .2)) (c .before .if2 .taken) (c .leave .result) (c .leave .ensures))
 
 returns-2 : tie.Need-returns-2
 returns-2 c =
@@ -67,7 +67,7 @@ with-failure-spec =
     (tie.spec
     with-up-requires
     must-left-requires
-    left-requires
+    leave-requires
     with-skips-requires
     returns
     returns-2

@@ -14,8 +14,8 @@ use Rattle.hub_events.proofs.with_restart.Tie as tie
 must-left-requires : tie.Need-must-left-requires
 must-left-requires c κs = let p = c .before .pre in (p .0, p .3 (c .if1 .taken))
 
-left-requires : tie.Need-left-requires
-left-requires c κs =
+leave-requires : tie.Need-leave-requires
+leave-requires c κs =
     let t = c .before .before in
     let p = t .before .pre in (p .0, p .3 (t .if1 .taken))
 
@@ -45,8 +45,8 @@ mul-attached c = search needs
 array-read-attached : tie.Need-array-read-attached
 array-read-attached c = search needs
 
-attached-requires : tie.Need-attached-requires
-attached-requires c κs =
+attach-requires : tie.Need-attach-requires
+attach-requires c κs =
     let n = c .before in
     let s = n .before in
     let v = stops n .0 in
@@ -63,12 +63,12 @@ returns c =
     let a = s .args in
     let g = n .if1 .next in (
       c .with-up .ensures .0,
-      restart-gives (a .state) g (t .attached .result) (c .with-up .result) (a .slot) (a .device) (a .setting) (stops n)
-          (t .attached .ensures .1
+      restart-gives (a .state) g (t .attach .result) (c .with-up .result) (a .slot) (a .device) (a .setting) (stops n)
+          (t .attach .ensures .1
           ∙ ap (λ (v : ℤ). attach (getD (g .mark) (a .device) 0) (oneRestart (a .device) v) (stateOf g)) (toZ-ofZ (s .fits .setting)))
           (c .with-up .ensures .1),
-      restart-leaves (a .state) g (t .attached .result) (c .with-up .result) (stops n .2) (stops n .0) (t .attached .ensures .2)
-          (t .attached .ensures .0) (c .with-up .ensures .2) (c .with-up .ensures .3),
+      restart-leaves (a .state) g (t .attach .result) (c .with-up .result) (stops n .2) (stops n .0) (t .attach .ensures .2)
+          (t .attach .ensures .0) (c .with-up .ensures .2) (c .with-up .ensures .3),
     )
 
 pub with-restart-spec : {M : Type 1} → statement M
@@ -76,10 +76,10 @@ with-restart-spec =
     tie.close
     (tie.spec
     must-left-requires
-    left-requires
+    leave-requires
     with-skips-requires
     mul-attached
     array-read-attached
-    attached-requires
+    attach-requires
     with-up-requires
     returns)

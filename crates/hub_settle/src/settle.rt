@@ -24,7 +24,8 @@ pub fn settles(state: HubState) -> bool
     false
 }
 
-pub fn settled_state(state: HubState) -> HubState
+// The committed routines at the front settle.
+pub fn settle(state: HubState) -> HubState
     requires { ⌜ StateOk state ⌝ }
     ensures { λ r. ⌜ SettlesHub state r ⌝ }
 {

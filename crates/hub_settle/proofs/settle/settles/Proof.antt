@@ -1,9 +1,9 @@
--- `hub_settle::settling::settles` meets its contract. Assumes nothing.
+-- `hub_settle::settle::settles` meets its contract. Assumes nothing.
 use borrow.Author.Needs.{needs}
 use mathlib.Core.Path.{refl}
 use Rattle.hub_settle.proofs.SettleLaws.{settles-first, settles-none}
-use Rattle.hub_settle.proofs.settling.settles.Statement.{statement}
-use Rattle.hub_settle.proofs.settling.settles.Tie as tie
+use Rattle.hub_settle.proofs.settle.settles.Statement.{statement}
+use Rattle.hub_settle.proofs.settle.settles.Tie as tie
 
 cast-first : tie.Need-cast-first
 cast-first c = search needs

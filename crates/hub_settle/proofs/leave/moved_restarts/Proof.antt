@@ -1,4 +1,4 @@
--- `hub_settle::moved_restarts` meets its contract. Assumes nothing.
+-- `hub_settle::leave::moved_restarts` meets its contract. Assumes nothing.
 use borrow.Author.Needs.{needs}
 use Prim.Native.Nat.{_+_, _-_, _*_, _≤_}
 use native.Mathlib.Omega.{arith}
@@ -11,8 +11,8 @@ use lib.ListN.{length, getD, set, length-set}
 use Rattle.rules_routine.specs.Limits.{maxDevices, maxSequence}
 use Rattle.hub_due.proofs.Tables.{restart-bits, no-restart-bits}
 use Rattle.hub_settle.proofs.RestartLaws.{MovedUpTo, moved-none, moved-some, moved-skip, moved-all}
-use Rattle.hub_settle.proofs.moved_restarts.Statement.{statement}
-use Rattle.hub_settle.proofs.moved_restarts.Tie as tie
+use Rattle.hub_settle.proofs.leave.moved_restarts.Statement.{statement}
+use Rattle.hub_settle.proofs.leave.moved_restarts.Tie as tie
 
 abbrev Inv-loop : tie.InvT-loop
 Inv-loop from to row old new moved₀ d₀ moved d = (d ≤ maxDevices) × (length moved ≡ maxSequence * maxDevices)

@@ -1,4 +1,4 @@
--- `hub_settle::left` meets its contract: the routine leaves, and its events go to the one before it. Assumes nothing.
+-- `hub_settle::leave::leave` meets its contract: the routine leaves, and its events go to the one before it. Assumes nothing.
 use borrow.Author.Needs.{needs}
 use Prim.Native.Nat.{_*_, _<_}
 use native.Mathlib.Omega.{arith}
@@ -11,8 +11,8 @@ use Rattle.hub_sequence.proofs.ReadLaws.{stands-slot}
 use Rattle.hub_state.specs.View.{settingsOf}
 use Rattle.hub_settle.specs.Contract.{MovesRestarts}
 use Rattle.hub_settle.proofs.LeaveLaws.{before-other, leaves-behind, leaves-first}
-use Rattle.hub_settle.proofs.left.Statement.{statement}
-use Rattle.hub_settle.proofs.left.Tie as tie
+use Rattle.hub_settle.proofs.leave.leave.Statement.{statement}
+use Rattle.hub_settle.proofs.leave.leave.Tie as tie
 
 -- where the function starts
 abbrev start : tie.After-ahead → tie.Start
@@ -79,8 +79,8 @@ returns c =
     (ap settingsOf (w .3) ∙ w .2 .ensures) (w .4))
     (j .if1 .came)
 
-pub left-spec : {M : Type 1} → statement M
-left-spec =
+pub leave-spec : {M : Type 1} → statement M
+leave-spec =
     tie.close
     (tie.spec
     array-read-before

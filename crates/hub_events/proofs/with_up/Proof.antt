@@ -1,13 +1,13 @@
--- `hub_settle::with_up` meets its contract. Assumes nothing.
+-- `hub_events::with_up` meets its contract. Assumes nothing.
 use borrow.Author.Needs.{needs}
 use mathlib.Core.Path.{_≡_, refl}
 use lib.ListN.{length}
 use native.Mathlib.Omega.{arith}
 use Rattle.rules_routine.specs.Limits.{maxDevices}
 use Rattle.rules_routine.proofs.RoutineLaws.{length-mapped}
 use Rattle.hub_settle.proofs.StateLaws.{valid-tables, up-gives, up-there}
-use Rattle.hub_settle.proofs.with_up.Statement.{statement}
-use Rattle.hub_settle.proofs.with_up.Tie as tie
+use Rattle.hub_events.proofs.with_up.Statement.{statement}
+use Rattle.hub_events.proofs.with_up.Tie as tie
 
 element-write-changed : tie.Need-element-write-changed
 element-write-changed c = search needs

@@ -1,4 +1,4 @@
--- `hub_settle::attached` meets its contract. Assumes nothing.
+-- `hub_settle::attach::attach` meets its contract. Assumes nothing.
 use borrow.Author.Needs.{needs}
 use Prim.Native.Nat.{ℕ, _+_, _*_, _<_}
 use native.Mathlib.Omega.{arith}
@@ -14,8 +14,8 @@ use Rattle.hub_state.specs.declared.Place.the-variants.{At, Nowhere}
 use Rattle.hub_state.proofs.UnmovedLaws.{itself-in-place}
 use Rattle.hub_settle.proofs.RestartLaws.{attaches-one}
 use Rattle.hub_settle.proofs.StateLaws.{valid-tables, tables-in-place, attach-settled, attach-nowhere, attach-at, settles-one}
-use Rattle.hub_settle.proofs.attached.Statement.{statement}
-use Rattle.hub_settle.proofs.attached.Tie as tie
+use Rattle.hub_settle.proofs.attach.attach.Statement.{statement}
+use Rattle.hub_settle.proofs.attach.attach.Tie as tie
 
 -- the lengths of the rows
 long : (c : tie.Start) → (length (c .args .state .«settled_at») ≡ maxDevices)
@@ -107,8 +107,8 @@ returns-3 c =
       tables-in-place (a .state) _ _ _ _,
     )
 
-pub attached-spec : {M : Type 1} → statement M
-attached-spec =
+pub attach-spec : {M : Type 1} → statement M
+attach-spec =
     tie.close
     (tie.spec
     mul-setting

@@ -1,4 +1,4 @@
--- `hub_settle::settling::settled_state` meets its contract. The loop's invariant: what is settled so far settles to what the whole settles
+-- `hub_settle::settle::settle` meets its contract. The loop's invariant: what is settled so far settles to what the whole settles
 -- to. Assumes nothing.
 use borrow.Author.Needs.{needs}
 use Prim.Native.Nat.{_*_, _≤_}
@@ -13,8 +13,8 @@ use Rattle.hub_state.specs.declared.HubState.{HubState}
 use Rattle.hub_settle.proofs.StateLaws.{tablesIn}
 use Rattle.hub_settle.proofs.SettleLaws.{Settling, answered-fit, done-fit, stands-first, settling-none, settling-more, settling-runs}
 use Rattle.hub_settle.proofs.SettleLaws.{settling-empty}
-use Rattle.hub_settle.proofs.settling.settled_state.Statement.{statement}
-use Rattle.hub_settle.proofs.settling.settled_state.Tie as tie
+use Rattle.hub_settle.proofs.settle.settle.Statement.{statement}
+use Rattle.hub_settle.proofs.settle.settle.Tie as tie
 
 abbrev Inv-loop : tie.InvT-loop
 Inv-loop devices pass-limit next-id ids passed committed counts answered due-then device tag setting stage restarts up links₀ settled₀ mark₀
@@ -157,8 +157,8 @@ returns-2 c =
     let b = l .before in
     settling-runs (start b .args .state) (now b) (b .loop .i) (b .loop .inv) (l .loop-test .taken) (not-true _ (c .if1 .taken))
 
-pub settled-state-spec : {M : Type 1} → statement M
-settled-state-spec =
+pub settle-spec : {M : Type 1} → statement M
+settle-spec =
     tie.close
     (tie.spec
     Inv-loop
