@@ -39,11 +39,11 @@ stops c =
     (λ w. subst P (sym (w .1)) (none-stops (a .state) (a .slot) (a .device) (s .pre .0) (w .0 .left))))
     (c .if1 .came)
 
-mul-attached : tie.Need-mul-attached
-mul-attached c = search needs
+mul-attach : tie.Need-mul-attach
+mul-attach c = search needs
 
-array-read-attached : tie.Need-array-read-attached
-array-read-attached c = search needs
+array-read-attach : tie.Need-array-read-attach
+array-read-attach c = search needs
 
 attach-requires : tie.Need-attach-requires
 attach-requires c κs =
@@ -78,8 +78,8 @@ with-restart-spec =
     must-left-requires
     leave-requires
     with-skips-requires
-    mul-attached
-    array-read-attached
+    mul-attach
+    array-read-attach
     attach-requires
     with-up-requires
     returns)
