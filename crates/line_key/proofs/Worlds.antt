@@ -13,7 +13,8 @@ use Rattle.rules.specs.World.{World, Act, calls, takes-one, worldAfterAll, take
 use Rattle.rules.specs.Demand3.{NoneRuns, isBack}
 use Rattle.rules.specs.Examples.{must}
 use Rattle.rules.proofs.Lists.{this-or-other}
-use Rattle.rules.proofs.Worlds.{call, none-run}
+use Rattle.rules.proofs.Passages.{call}
+use Rattle.rules.proofs.Worlds.{none-run}
 use Rattle.line_rules.specs.Text.{bytes}
 use Rattle.line_key.specs.Key.{deviceLinesFrom, callsBy, callsIn, deviceIn, NoneToPutBack}
 use Rattle.line_key.specs.Examples.{calc, listingBehind}

@@ -8,7 +8,10 @@ pub mod Closed
 pub mod LimitLaws
 pub mod AllDue
 pub mod Exact
--- By computation: worlds that meet the premise, and worlds in which a wrong rule shows; schedules of the waiting promise.
+-- By computation: all worlds; those that meet the premise; those in which a wrong rule shows; schedules of the waiting promise.
+pub mod Passages
 pub mod Worlds
 pub mod Controls
 pub mod Schedules
+-- And what the statements exclude, so that none of them can say less.
+pub mod Refuted

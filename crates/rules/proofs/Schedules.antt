@@ -1,26 +1,24 @@
--- Schedules, computed: one in which a routine needs almost all the rounds of the waiting promise, and one in which wrong rules show.
--- That they are schedules is `is-schedule` of `RoundsExist.antt` of crate `rules_promises`. Assumes nothing.
+-- The waiting promise, computed: how many rounds it gives; what is no round; and schedules in which wrong rules show. That they are
+-- schedules is `is-schedule` of `RoundsExist.antt` of crate `rules_promises`. Assumes nothing.
 use mathlib.Core.Path.{_≡_, refl}
 use mathlib.Core.Bool.{Bool, true, false, not, _&&_}
 use mathlib.Core.List.{List, [], _∷_, _++_, map}
 use mathlib.Core.Option.{Option, none, some}
-use Prim.Native.Nat.{ℕ, zero, suc, _+_, _-_, _*_, _<_}
+use Prim.Native.Nat.{ℕ, zero, suc, _+_, _-_, _*_}
 use native.Mathlib.Omega.{arith}
 use lib.Dec.{eqb}
 use lib.IntN.{pos}
-use lib.ListN.{replicate}
 use Rattle.rules_routine.specs.Choice.{if_then_else_}
-use Rattle.rules_routine.specs.Limits.{maxCommands, highestPassLimit, maxSequence}
 use Rattle.rules_routine.specs.declared.Command.{Command}
 use Rattle.rules.specs.State.{Member, State}
 use Rattle.rules.specs.Answers.{Call, submit, turn, report, limit, placed}
 use Rattle.rules.specs.Progress.{Flight, flight}
 use Rattle.rules.specs.Sequence.{isRunning}
-use Rattle.rules.specs.Open.{opened, newHub, openOf}
+use Rattle.rules.specs.Open.{newHub}
 use Rattle.rules.specs.Report.{codeDone}
 use Rattle.rules.specs.Calls.{resultOf, stateAfter}
 use Rattle.rules.specs.History.{Told}
-use Rattle.rules.specs.Rounds.{callsTold, toldThen, Ended, limitTold, enoughRounds, EachOnce}
+use Rattle.rules.specs.Rounds.{callsTold, toldThen, Ended, enoughRounds, EachOnce}
 use Rattle.rules.specs.Examples.{calc, must}
 
 -- ---- a round, from the state
@@ -60,14 +58,6 @@ busy (suc n) cs s =
     let u = stateAfter t (turnsAt t) in
     submit cs ∷ (turnsAt t ++ (reportsAt allDone u ++ busy n cs (stateAfter u (reportsAt allDone u))))
 
--- the state that these leave
-abbrev pub busyState : ℕ → List Command → State → State
-busyState zero cs s = s
-busyState (suc n) cs s =
-    let t = resultOf s (submit cs) .state in
-    let u = stateAfter t (turnsAt t) in
-    busyState n cs (stateAfter u (reportsAt allDone u))
-
 -- one device, up; calls; then a routine is placed and the rounds begin, newcomers before each
 pub record Sitting : Type 0 where
   pub passLimit : ℕ
@@ -102,40 +92,12 @@ unfoldable pub calcRounds : Unit {0}
 unfolding calc isFlying isIdle
 calcRounds = tt
 
--- ---- a routine that needs almost all the rounds
+-- ---- how many rounds are promised
 
--- a routine of as many commands as may be, all on one device
-abbrev fullRoutine : List Command
-fullRoutine = replicate maxCommands (must 0 (pos 5))
-
--- with K = 2, as many full routines as may be held, on the same device: the last submitted stands last and has not been passed; newcomers,
--- as full as the others, then pass it twice
-abbrev pub crowded : Sitting
-crowded = record {
-  passLimit = 2;
-  before = replicate (maxSequence - 1) (submit fullRoutine);
-  commands = fullRoutine;
-  id = maxSequence;
-  follows = maxSequence - 3;
-  newcomers = fullRoutine;
-}
-
-pub crowded-opens : openOf 1 (crowded .passLimit) 1 ≡ opened (opensAt crowded)
-unfolding calcRounds
-crowded-opens = refl
-
-pub crowded-placed : resultOf (stateAfter (opensAt crowded) (crowded .before)) (submit (crowded .commands)) .answers
-    ≡ placed (crowded .id) (crowded .follows) ∷ []
-unfolding calcRounds
-crowded-placed = refl
-
--- so many rounds are not enough: with `maxCommands` for `maxCommands + 1` the promise would be false
-abbrev pub tooFewRounds : ℕ
-tooFewRounds = maxCommands * (maxSequence + crowded .passLimit)
-
--- more are promised; that it still runs after these is `needs-most` of crate `rules_promises`
-pub more-promised : tooFewRounds < enoughRounds (crowded .passLimit)
-more-promised = omega arith
+-- Document 02, item 1: "within 9 × (16 + K) rounds". The 9 and the 16 are the document's own numbers and stand here as such; the promise is
+-- worded by the capacities. That no fewer are enough is `needs-all` of crate `rules_promises`.
+pub as-many-as-documented : (k : ℕ) → enoughRounds k ≡ 9 * (16 + k)
+as-many-as-documented k = refl
 
 -- ---- what is no round
 
@@ -169,42 +131,6 @@ overtaken-placed = refl
 pub overtaken-ends : Ended (overtaken .id) (toldAfter overtaken (roundsOf overtaken (enoughRounds (overtaken .passLimit))))
 unfolding calcRounds
 overtaken-ends = refl
-
--- ---- a new pass limit
-
--- with K = 0, as many full routines as may be held, on one device, the last submitted last
-abbrev pub raised : Sitting
-raised = record {
-  passLimit = 0;
-  before = replicate (maxSequence - 1) (submit fullRoutine);
-  commands = fullRoutine;
-  id = maxSequence;
-  follows = maxSequence - 1;
-  newcomers = fullRoutine;
-}
-
-pub raised-opens : openOf 1 (raised .passLimit) 1 ≡ opened (opensAt raised)
-unfolding calcRounds
-raised-opens = refl
-
-pub raised-placed : resultOf (stateAfter (opensAt raised) (raised .before)) (submit (raised .commands)) .answers
-    ≡ placed (raised .id) (raised .follows) ∷ []
-unfolding calcRounds
-raised-placed = refl
-
--- then K is raised, and newcomers pass it as often as they may
-abbrev pub raisedTo : ℕ
-raisedTo = highestPassLimit
-
-pub raised-limit : eqb raisedTo (limitTold (raised .passLimit) (toldAfter raised [])) ≡ false
-unfolding calcRounds
-raised-limit = refl
-
-abbrev pub roundsRaised : ℕ
-roundsRaised = maxCommands * (maxSequence + raisedTo)
-
-abbrev pub afterRaising : List Call
-afterRaising = changed raised [] raisedTo roundsRaised
 
 -- ---- where a wrong rule about a lower pass limit shows
 

@@ -1,5 +1,5 @@
--- The theorem is not empty: worlds that meet the premise, end with no routine running and nothing left to put back, and pass through what
--- is hard. Each is computed; the theorem is not used. Assumes nothing.
+-- The theorem is not empty: worlds of `Passages.antt` that meet the premise, end with no routine running and nothing left to put back, and
+-- pass through what is hard. Each is computed; the theorem is not used. Assumes nothing.
 use mathlib.Core.Path.{_≡_, refl, sym, ap, _∙_}
 use mathlib.Core.Logic.{inl, inr}
 use mathlib.Core.Bool.{Bool, true, false, not, _&&_}
@@ -7,9 +7,8 @@ use mathlib.Core.List.{List, [], _∷_, _++_}
 use Prim.Native.Nat.{ℕ, zero, suc}
 use lib.Dec.{eqb}
 use lib.IntN.{ℤ, pos, negsuc}
-use lib.ListN.{take}
 use Rattle.rules.specs.Tables.{anyOf, Each}
-use Rattle.rules.specs.Answers.{Call, submit, turn, report, failure, restart, cancel, limit, Answer, refused, placed, wait, send}
+use Rattle.rules.specs.Answers.{Call, Answer, refused, placed, wait, send}
 use Rattle.rules.specs.Answers.{done, skipped, held, not-held, committed, aborted, down, up, limited}
 use Rattle.rules_routine.specs.declared.Refusal.the-variants.{Number}
 use Rattle.rules.specs.Open.{opened, newHub, openOf}
@@ -17,26 +16,18 @@ use Rattle.rules.specs.History.{reported-done, found-held, found-not-hel
 use Rattle.rules.specs.History.{hasBegun, noteAnswer, noteAnswers, accountsOf, workingOf}
 use Rattle.rules.specs.Order.{putAfter, entries, moveBar}
 use Rattle.rules.specs.Serial.{DeviceState, allUp, serialRun}
-use Rattle.rules.specs.World.{put-back, sent-for, World, Act, calls, takes-one, accounts, worldAfterAll, taken, PremiseAll, newWorld}
+use Rattle.rules.specs.World.{put-back, sent-for, World, accounts, taken, PremiseAll, newWorld}
 use Rattle.rules.specs.Demand3.{orderIn, NoneRuns, isBack, committedPart, CommandsStand}
 use Rattle.rules.specs.Replay.{Replays}
-use Rattle.rules.specs.Examples.{calc, must, best, condition, back}
+use Rattle.rules.specs.Examples.{calc, back}
+use Rattle.rules.proofs.Passages.{Passage, after, endOf, takenLate, overtaken, failedInFlight, restartedElsewhere, failedAfterChange}
+use Rattle.rules.proofs.Passages.{limitedAnew, lampFails, lampRestarts, waitsForSet, holdsByRestart, aheadAborts, skippedByEvent}
 use Rattle.rules.proofs.Lists.{byIf, t≠f, this-or-other, put-other, put-keeps, each-left, each-right, IsNot, NotIn}
 
 -- all that a computation with worlds opens
 unfoldable pub calcWorld : Unit {0}
 unfolding calc putAfter moveBar taken
 calcWorld = tt
-
--- an opening and what happens; the settings that the devices have in the end
-pub record Passage : Type 0 where
-  pub devices : ℕ
-  pub passLimit : ℕ
-  pub acts : List Act
-  pub settings : List ℤ
-
-abbrev pub endOf : Passage → World
-endOf p = worldAfterAll (newWorld (newHub (p .devices) (p .passLimit) 1)) (p .acts)
 
 -- of the `left` devices from d on: does it work, with nothing left that puts it back? its setting; what the serial run gives it
 abbrev pub readyFrom : World → ℕ → ℕ → Bool
@@ -55,19 +46,15 @@ abbrev pub upAt : List ℤ → List DeviceState
 upAt [] = []
 upAt (v ∷ l) = record { up = true; setting = v } ∷ upAt l
 
--- everything that the theorem asks of it holds, and what the theorem says of it
-pub record Passes (p : Passage) : Type 0 where
+-- everything that the theorem asks of it holds, and what the theorem says of it: these settings in the end
+pub record Passes (p : Passage) (settings : List ℤ) : Type 0 where
   pub accepted : openOf (p .devices) (p .passLimit) 1 ≡ opened (newHub (p .devices) (p .passLimit) 1)
   pub premise : PremiseAll (newWorld (newHub (p .devices) (p .passLimit) 1)) (p .acts)
   pub none-runs : NoneRuns (endOf p)
   pub ready : readyFrom (endOf p) 0 (p .devices) ≡ true
-  pub settings-are : settingsFrom (endOf p) 0 (p .devices) ≡ p .settings
-  pub serial-is : statesFrom (endOf p) 0 (p .devices) ≡ upAt (p .settings)
+  pub settings-are : settingsFrom (endOf p) 0 (p .devices) ≡ settings
+  pub serial-is : statesFrom (endOf p) 0 (p .devices) ≡ upAt settings
   pub stands : CommandsStand (accounts (endOf p)) (entries (orderIn (endOf p))) allUp
-
--- a call that leaves no device at another setting
-abbrev pub call : Call → Act
-call c = calls c (pos 0)
 
 -- ---- no routine runs: told of the ids that were placed
 
@@ -134,16 +121,9 @@ none-run w h i = go (placedIn (w .history)) h (never-placed i (w .history))
     go [] h k = k tt
     go (j ∷ l) h k = this-or-other (λ i. accounts w i .running ≡ false) j i (h .0) (λ n. go l (h .1) (λ m. k (n, m)))
 
--- A send is taken only after its routine was cancelled; then what puts the device back is taken.
-abbrev pub takenLate : Passage
-takenLate = record {
-  devices = 1;
-  passLimit = 0;
-  acts = call (submit (must 0 (pos 50) ∷ [])) ∷ call (turn 1) ∷ call (cancel 1) ∷ takes-one 0 0 ∷ takes-one 0 0 ∷ [];
-  settings = pos 0 ∷ [];
-}
+-- ---- worlds that end
 
-pub taken-late : Passes takenLate
+pub taken-late : Passes takenLate (pos 0 ∷ [])
 unfolding calcWorld
 taken-late = record {
   accepted = refl;
@@ -155,18 +135,7 @@ taken-late = record {
   stands = tt;
 }
 
--- What puts a device back is overtaken by a later send, which was done.
-abbrev pub overtaken : Passage
-overtaken = record {
-  devices = 2;
-  passLimit = 8;
-  acts = call (submit (must 0 (pos 50) ∷ must 1 (pos 20) ∷ [])) ∷ call (turn 1) ∷ takes-one 0 0 ∷ call (report 1 0) ∷ call (cancel 1) ∷ call
-      (submit (must 0 (pos 70) ∷ [])) ∷ call (turn 2)
-      ∷ takes-one 0 1 ∷ call (report 2 0) ∷ call (turn 2) ∷ [];
-  settings = pos 70 ∷ pos 0 ∷ [];
-}
-
-pub overtaken-passes : Passes overtaken
+pub overtaken-passes : Passes overtaken (pos 70 ∷ pos 0 ∷ [])
 unfolding calcWorld
 overtaken-passes = record {
   accepted = refl;
@@ -178,16 +147,7 @@ overtaken-passes = record {
   stands = (refl, (refl, tt), tt);
 }
 
--- A failure with a command in flight leaves another setting, 33, which no command gave; the restart reports it.
-abbrev pub failedInFlight : Passage
-failedInFlight = record {
-  devices = 1;
-  passLimit = 0;
-  acts = call (submit (must 0 (pos 50) ∷ [])) ∷ call (turn 1) ∷ calls (failure 0) (pos 33) ∷ call (restart 0 (pos 33)) ∷ [];
-  settings = pos 33 ∷ [];
-}
-
-pub failed-in-flight : Passes failedInFlight
+pub failed-in-flight : Passes failedInFlight (pos 33 ∷ [])
 unfolding calcWorld
 failed-in-flight = record {
   accepted = refl;
@@ -199,19 +159,7 @@ failed-in-flight = record {
   stands = tt;
 }
 
--- A restart at a setting that no command gave, behind a committed routine and ahead of another; refused calls in between, whatever they
--- say.
-abbrev pub restartedElsewhere : Passage
-restartedElsewhere = record {
-  devices = 1;
-  passLimit = 0;
-  acts = call (submit (must 0 (pos 50) ∷ [])) ∷ call (turn 1) ∷ takes-one 0 0 ∷ call (report 1 0) ∷ call (report 1 0) ∷ call
-      (restart 0 (pos 9)) ∷ calls (failure 0) (negsuc 6)
-      ∷ call (turn 1) ∷ call (failure 0) ∷ call (restart 0 (negsuc 6)) ∷ [];
-  settings = negsuc 6 ∷ [];
-}
-
-pub restarted-elsewhere : Passes restartedElsewhere
+pub restarted-elsewhere : Passes restartedElsewhere (negsuc 6 ∷ [])
 unfolding calcWorld
 restarted-elsewhere = record {
   accepted = refl;
@@ -232,18 +180,7 @@ restarted-elsewhere = record {
   stands = (refl, (refl, tt), tt);
 }
 
--- A best-effort command is reported failed after the due setting changed under it.
-abbrev pub failedAfterChange : Passage
-failedAfterChange = record {
-  devices = 2;
-  passLimit = 8;
-  acts = call (submit (must 0 (pos 50) ∷ must 1 (pos 20) ∷ [])) ∷ call (turn 1) ∷ takes-one 0 0 ∷ call (report 1 0) ∷ call
-      (submit (best 0 (pos 70) ∷ [])) ∷ call (turn 2) ∷ call (cancel 1)
-      ∷ call (report 2 1) ∷ takes-one 0 0 ∷ call (turn 2) ∷ [];
-  settings = pos 0 ∷ pos 0 ∷ [];
-}
-
-pub failed-after-change : Passes failedAfterChange
+pub failed-after-change : Passes failedAfterChange (pos 0 ∷ pos 0 ∷ [])
 unfolding calcWorld
 failed-after-change = record {
   accepted = refl;
@@ -255,19 +192,7 @@ failed-after-change = record {
   stands = (refl, (tt, tt), tt);
 }
 
--- The pass limit becomes another before a placement, while a command is in flight, and is refused: by the new one routine 2 passes 1, whose
--- setting stands last. With the K of the opening it would have been the other way.
-abbrev pub limitedAnew : Passage
-limitedAnew = record {
-  devices = 1;
-  passLimit = 0;
-  acts = call (submit (must 0 (pos 50) ∷ [])) ∷ call (limit 1) ∷ call (submit (must 0 (pos 70) ∷ [])) ∷ call (turn 2) ∷ call
-      (limit 0) ∷ takes-one 0 0 ∷ call (report 2 0) ∷ call (limit 9)
-      ∷ call (turn 2) ∷ call (turn 1) ∷ takes-one 0 0 ∷ call (report 1 0) ∷ call (turn 1) ∷ [];
-  settings = pos 50 ∷ [];
-}
-
-pub limited-anew : Passes limitedAnew
+pub limited-anew : Passes limitedAnew (pos 50 ∷ [])
 unfolding calcWorld
 limited-anew = record {
   accepted = refl;
@@ -294,19 +219,7 @@ limited-anew = record {
   stands = (refl, (refl, tt), (refl, (refl, tt), tt));
 }
 
--- A lamp, device 0, is in flight and has taken its setting when it fails (document 02, item 3): what is left on it is skipped, its routine
--- goes on with the shelter, device 1, and commits. Late reports, a done and a failed one, are refused.
-abbrev pub lampFails : Passage
-lampFails = record {
-  devices = 2;
-  passLimit = 0;
-  acts = call (submit (best 0 (pos 50) ∷ must 1 (pos 20) ∷ best 0 (pos 60) ∷ [])) ∷ call (turn 1) ∷ takes-one 0 0 ∷ calls
-      (failure 0) (pos 33) ∷ call (report 1 0) ∷ call (turn 1) ∷ takes-one 1 0
-      ∷ call (report 1 0) ∷ call (turn 1) ∷ call (report 1 1) ∷ call (restart 0 (pos 33)) ∷ [];
-  settings = pos 33 ∷ pos 20 ∷ [];
-}
-
-pub lamp-fails : Passes lampFails
+pub lamp-fails : Passes lampFails (pos 33 ∷ pos 20 ∷ [])
 unfolding calcWorld
 lamp-fails = record {
   accepted = refl;
@@ -330,19 +243,7 @@ lamp-fails = record {
   stands = (refl, ((refl, refl), (refl, ((refl, refl), tt))), tt);
 }
 
--- A lamp that is down is skipped, and restarts: what is left on it is skipped, too. The first command finds it down, the other one has the
--- restart behind its routine.
-abbrev pub lampRestarts : Passage
-lampRestarts = record {
-  devices = 2;
-  passLimit = 0;
-  acts = calls (failure 0) (pos 33) ∷ call (submit (best 0 (pos 5) ∷ must 1 (pos 20) ∷ best 0 (pos 6) ∷ [])) ∷ call (turn 1) ∷ call
-      (restart 0 (pos 33)) ∷ call (turn 1) ∷ takes-one 1 0
-      ∷ call (report 1 0) ∷ call (turn 1) ∷ [];
-  settings = pos 33 ∷ pos 20 ∷ [];
-}
-
-pub lamp-restarts : Passes lampRestarts
+pub lamp-restarts : Passes lampRestarts (pos 33 ∷ pos 20 ∷ [])
 unfolding calcWorld
 lamp-restarts = record {
   accepted = refl;
@@ -360,18 +261,7 @@ lamp-restarts = record {
 abbrev pub ReplaysIn : Passage → Type 0
 ReplaysIn p = Replays (accounts (endOf p)) (entries (orderIn (endOf p))) allUp
 
--- Routine 1 has done device 0 and finished it: the condition of 2 waits for it, by the second cause alone, and then holds.
-abbrev pub waitsForSet : Passage
-waitsForSet = record {
-  devices = 2;
-  passLimit = 0;
-  acts = call (submit (must 0 (pos 30) ∷ must 1 (pos 1) ∷ [])) ∷ call (turn 1) ∷ takes-one 0 0 ∷ call (report 1 0) ∷ call
-      (submit (condition 0 (pos 20) ∷ must 1 (pos 5) ∷ [])) ∷ call (turn 2) ∷ call (turn 1) ∷ takes-one 1 0 ∷ call (report 1 0) ∷ call
-      (turn 2) ∷ call (turn 1) ∷ call (turn 2) ∷ call (turn 2) ∷ takes-one 1 0 ∷ call (report 2 0) ∷ call (turn 2) ∷ [];
-  settings = pos 30 ∷ pos 5 ∷ [];
-}
-
-pub waits-for-set : Passes waitsForSet × ReplaysIn waitsForSet
+pub waits-for-set : Passes waitsForSet (pos 30 ∷ pos 5 ∷ []) × ReplaysIn waitsForSet
 unfolding calcWorld
 waits-for-set = (
   record {
@@ -404,19 +294,7 @@ waits-for-set = (
   (((refl, refl), ((refl, refl), tt)), (((refl, refl, refl), ((refl, refl), tt)), tt)),
 )
 
--- Device 0 is down for routine 1, and restarts at 25 behind it: the condition of 2 holds because of that, while 1 runs.
-abbrev pub holdsByRestart : Passage
-holdsByRestart = record {
-  devices = 2;
-  passLimit = 0;
-  acts = calls (failure 0) (pos 25) ∷ call (submit (best 0 (pos 3) ∷ must 1 (pos 1) ∷ [])) ∷ call (turn 1) ∷ call
-      (restart 0 (pos 25)) ∷ call
-      (submit (condition 0 (pos 20) ∷ must 1 (pos 7) ∷ [])) ∷ call (turn 2) ∷ call (turn 1) ∷ takes-one 1 0 ∷ call (report 1 0) ∷ call
-      (turn 1) ∷ call (turn 2) ∷ takes-one 1 0 ∷ call (report 2 0) ∷ call (turn 2) ∷ [];
-  settings = pos 25 ∷ pos 7 ∷ [];
-}
-
-pub holds-by-restart : Passes holdsByRestart × ReplaysIn holdsByRestart
+pub holds-by-restart : Passes holdsByRestart (pos 25 ∷ pos 7 ∷ []) × ReplaysIn holdsByRestart
 unfolding calcWorld
 holds-by-restart = (
   record {
@@ -443,19 +321,7 @@ holds-by-restart = (
   ((tt, ((refl, refl), tt)), (((refl, refl, refl), ((refl, refl), tt)), tt)),
 )
 
--- The same, but routine 1 is cancelled once the condition held: the restart behind it stays, and the condition holds still.
-abbrev pub aheadAborts : Passage
-aheadAborts = record {
-  devices = 2;
-  passLimit = 0;
-  acts = calls (failure 0) (pos 25) ∷ call (submit (best 0 (pos 3) ∷ must 1 (pos 1) ∷ [])) ∷ call (turn 1) ∷ call
-      (restart 0 (pos 25)) ∷ call
-      (submit (condition 0 (pos 20) ∷ must 0 (pos 7) ∷ [])) ∷ call (turn 2) ∷ call (cancel 1) ∷ call (turn 2) ∷ takes-one 0 0 ∷ call
-      (report 2 0) ∷ call (turn 2) ∷ [];
-  settings = pos 7 ∷ pos 0 ∷ [];
-}
-
-pub ahead-aborts : Passes aheadAborts × ReplaysIn aheadAborts
+pub ahead-aborts : Passes aheadAborts (pos 7 ∷ pos 0 ∷ []) × ReplaysIn aheadAborts
 unfolding calcWorld
 ahead-aborts = (
   record {
@@ -473,19 +339,7 @@ ahead-aborts = (
   (((refl, refl, refl), ((refl, refl), tt)), tt),
 )
 
--- Device 0 fails when the condition on it is left, with a best-effort command after it: the condition is skipped by that, and its command
--- at its turn, though its device, 1, is up.
-abbrev pub skippedByEvent : Passage
-skippedByEvent = record {
-  devices = 2;
-  passLimit = 0;
-  acts = call (submit (must 0 (pos 9) ∷ condition 0 (pos 5) ∷ best 1 (pos 5) ∷ must 1 (pos 6) ∷ [])) ∷ call (turn 1) ∷ takes-one 0 0 ∷ call
-      (report 1 0) ∷ calls (failure 0) (pos 33) ∷ call (turn 1) ∷ call (turn 1) ∷ takes-one 1 0 ∷ call (report 1 0) ∷ call (turn 1) ∷ call
-      (restart 0 (pos 33)) ∷ [];
-  settings = pos 33 ∷ pos 6 ∷ [];
-}
-
-pub skipped-by-event : Passes skippedByEvent × ReplaysIn skippedByEvent
+pub skipped-by-event : Passes skippedByEvent (pos 33 ∷ pos 6 ∷ []) × ReplaysIn skippedByEvent
 unfolding calcWorld
 skipped-by-event = (
   record {
@@ -503,9 +357,7 @@ skipped-by-event = (
   (((refl, refl), (tt, (tt, ((refl, refl), tt)))), tt),
 )
 
--- the world after the first n acts
-abbrev pub after : ℕ → Passage → World
-after n p = worldAfterAll (newWorld (newHub (p .devices) (p .passLimit) 1)) (take n (p .acts))
+-- ---- on their way
 
 abbrev lastAnswers : List Told → List Answer
 lastAnswers [] = []

@@ -38,13 +38,15 @@ pub mod DeviceKept
 -- Demand 3.
 pub mod Theorem
 -- The waiting promise (document 02, items 1 and 13): what is told is what the hub holds; the measure that falls; what holds between calls;
--- what a call does to the measure; the promise; rounds exist; it is not weak. The computed schedules stand in crate `rules`.
+-- what a call does to the measure; the promise; rounds exist; a row in which only the first goes on; no fewer rounds are enough. Schedules
+-- in which wrong rules show stand in crate `rules`.
 pub mod Told
 pub mod Measure
 pub mod Ready
 pub mod Measured
 pub mod Waiting
 pub mod RoundsExist
-pub mod NotWeak
+pub mod LateRounds
+pub mod NoFewer
 -- New pass limits (document 02, item 13): the counts stay in range.
 pub mod Passes

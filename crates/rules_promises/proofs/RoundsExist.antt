@@ -12,9 +12,9 @@ use lib.Dec.{eqb}
 use Rattle.rules_routine.specs.Choice.{if_then_else_}
 use Rattle.rules_routine.specs.Routine.{isCondition}
 use Rattle.rules_routine.specs.declared.Command.{Command}
-use Rattle.rules_routine.specs.declared.Verdict.the-variants.{Accepted}
 use Rattle.rules_routine.proofs.RoutineLaws.{byTest}
-use Rattle.rules.specs.Tables.{anyOf, put, Each}
+use Rattle.rules.specs.Tables.{anyOf, put}
+use Rattle.rules_routine.specs.declared.Verdict.the-variants.{Accepted}
 use Rattle.rules.specs.State.{Status, to-do, in-flight, was-done, was-skipped, was-held, was-not-held, Step, Member, State}
 use Rattle.rules.specs.Answers.{Call, submit, turn, report, limit, placed, limited, Result}
 use Rattle.rules.specs.Progress.{isMust, nextCountsAsMust, nextIsSkipped, isInFlight, next, Flight, flightOr, flight}
@@ -29,20 +29,20 @@ use Rattle.rules.specs.Calls.{resultOf, stateAfter}
 use Rattle.rules.specs.History.{Told, Account, accountsOf}
 use Rattle.rules.specs.World.{isAccepted}
 use Rattle.rules.specs.Rounds.{callsTold, toldThen, flyingOf, idleOf, limitTold, acceptedIn, times, EachOnce, Round, a-submission}
-use Rattle.rules.specs.Rounds.{limitAfterAll, KeepsLimit, Schedule, begins, between, a-new-limit, a-round, enoughRounds, ToldIsHeld}
+use Rattle.rules.specs.Rounds.{Schedule, begins, between, a-new-limit, a-round, enoughRounds, ToldIsHeld}
 use Rattle.rules.specs.Rounds.{AnyOrder, RoundsExist}
-use Rattle.rules.proofs.Lists.{byIf, t≠f, and-left, and-right, put-other, each-++, each-left, IsNot, NotIn, IdsOk}
+use Rattle.rules.proofs.Lists.{byIf, t≠f, and-left, and-right, put-other, each-left, IsNot, NotIn, IdsOk}
 use Rattle.rules_promises.proofs.Groups.{Group, members, ids, foundAt, ids-++, other-ids}
 use Rattle.rules_promises.proofs.Invariant.{HubOk}
 use Rattle.rules_promises.proofs.View.{by-turn, by-report, by-cancel, places, commits, sends, passes, dones, misses, aborts}
 use Rattle.rules_promises.proofs.View.{fails, restarts, Seen, is-refused, waits, limits, moves, see}
-use Rattle.rules.proofs.Schedules.{hasFlight, isFlying, isIdle, idsWith, turnsAt, reportsAt, allDone, busy, busyState, Sitting}
+use Rattle.rules.proofs.Schedules.{hasFlight, isFlying, isIdle, idsWith, turnsAt, reportsAt, allDone, busy, Sitting}
 use Rattle.rules.proofs.Schedules.{opensAt}
 use Rattle.rules.proofs.Schedules.{placing, placedState, roundsOf, changed, toldAfter}
 use Rattle.rules.proofs.Schedules.{lowered, loweredTo, afterLowering, lowered-placed}
 use Rattle.rules.proofs.Schedules.{overtaken, overtaken-placed, calcRounds}
 use Rattle.rules_promises.proofs.Running.{pass-noted, has, Tells, none-has}
-use Rattle.rules_promises.proofs.Ready.{Ready, saying, ready-seen, ready-opened, ready-calls, limit-kept, opened-limit}
+use Rattle.rules_promises.proofs.Ready.{Ready, saying, ready-seen, ready-opened, ready-calls, opened-limit}
 use Rattle.rules_promises.proofs.Waiting.{told-by-calls, state-calls, limit-is}
 use Rattle.rules.proofs.LimitLaws.{limit-passes}
 use Rattle.rules_promises.proofs.Theorem.{devices-kept, settle-none}
@@ -320,7 +320,7 @@ turns-made s h l y js once =
 module _ (codes : ℕ → ℕ) (fit : (i : ℕ) → codes i ≤ codeFailed) (s : State) (h : List Told) (l : List Group) (y : Ready s h l)
     (ts : List ℕ) (each-turn : EachOnce (idleOf h) ts) (rs : List ℕ)
     (each-report : EachOnce (flyingOf (toldThen h (callsTold s (map turn ts)))) rs) where
-  halves-made :
+  pub halves-made :
       let u = stateAfter s (map turn ts) in
       let reports = map (λ i. report i (codes i)) rs in
       (acceptedIn (callsTold u reports) ≡ reports)
@@ -331,7 +331,7 @@ module _ (codes : ℕ → ℕ) (fit : (i : ℕ) → codes i ≤ codeFailed) (s :
       (λ h t i. ap (λ (x : Account). x .flying)) (stateAfter s (map turn ts)) (toldThen h (callsTold s (map turn ts))) (t .1) (t .2) rs
       (λ i. let e = each-report i in omega arith)
 
-  is-round : Round h (callsTold s (map turn ts)) (callsTold (stateAfter s (map turn ts)) (map (λ i. report i (codes i)) rs))
+  pub is-round : Round h (callsTold s (map turn ts)) (callsTold (stateAfter s (map turn ts)) (map (λ i. report i (codes i)) rs))
   is-round = record {
     turned = ts;
     turns-are = turns-made s h l y ts each-turn .0;
@@ -349,10 +349,10 @@ any-order n k first s e calls codes fit ts each-turn rs each-report =
 
 -- in the sequence's order
 module _ (s : State) (h : List Told) (l : List Group) (y : Ready s h l) where
-  idle-once : EachOnce (idleOf h) (idsWith isIdle (s .sequence))
+  pub idle-once : EachOnce (idleOf h) (idsWith isIdle (s .sequence))
   idle-once = once-in isIdle (idleOf h) s h l y (idle-told s h l y)
 
-  flying-once : EachOnce (flyingOf h) (idsWith isFlying (s .sequence))
+  pub flying-once : EachOnce (flyingOf h) (idsWith isFlying (s .sequence))
   flying-once = once-in isFlying (flyingOf h) s h l y (y .flying-told)
 
 flying-after : (s : State) (h : List Told) (l : List Group) → Ready s h l →
@@ -376,7 +376,7 @@ rounds-exist n k first s e calls codes fit =
 -- ---- schedules
 
 -- what calls tell, and then others
-told-on : (s : State) (h : List Told) (a b : List Call) →
+pub told-on : (s : State) (h : List Told) (a b : List Call) →
     toldThen h (callsTold s (a ++ b)) ≡ toldThen (toldThen h (callsTold s a)) (callsTold (stateAfter s a) b)
 told-on s h [] b = refl
 told-on s h (c ∷ a) b = told-on (resultOf s c .state) (saying c (resultOf s c .answers) ∷ h) a b
@@ -417,7 +417,7 @@ pub record Promised (x : Sitting) (later : List Call) (n : ℕ) : Type 0 where
   pub schedule : Schedule (x .passLimit) (toldAfter x []) (toldAfter x later) n
 
 -- what is told, from the submission on
-told-since : (x : Sitting) (later : List Call) → toldAfter x later ≡ toldThen (toldAfter x []) (callsTold (placedState x) later)
+pub told-since : (x : Sitting) (later : List Call) → toldAfter x later ≡ toldThen (toldAfter x []) (callsTold (placedState x) later)
 told-since x later =
     ap (λ l. toldThen [] (callsTold (opensAt x) l)) (sym (append-assoc (x .before) (submit (x .commands) ∷ []) later))
     ∙ told-on (opensAt x) [] (placing x) later
@@ -434,7 +434,7 @@ sitting-check x later k a =
     ap (λ n. newLimitCheck n k) (devices-after (placedState x) later ∙ devices-after (opensAt x) (placing x)) ∙ a
 
 module _ (x : Sitting) (e : openOf 1 (x .passLimit) 1 ≡ opened (opensAt x)) where
-  ready-since : (later : List Call) →
+  pub ready-since : (later : List Call) →
       (l : List Group) × Ready (stateAfter (placedState x) later) (toldThen (toldAfter x []) (callsTold (placedState x) later)) l
   ready-since later =
       let r = ready-calls (opensAt x) [] [] (ready-opened 1 (x .passLimit) 1 (opensAt x) e) (placing x) in
@@ -489,14 +489,6 @@ module _ (x : Sitting) (e : openOf 1 (x .passLimit) 1 ≡ opened (opensAt x)) wh
 
 -- ---- who still runs
 
-pub busy-state : (n : ℕ) (cs : List Command) (s : State) → stateAfter s (busy n cs s) ≡ busyState n cs s
-busy-state zero cs s = refl
-busy-state (suc n) cs s =
-    let t = resultOf s (submit cs) .state in
-    let u = stateAfter t (turnsAt t) in
-    let v = stateAfter u (reportsAt allDone u) in
-    state-on t (turnsAt t) (reportsAt allDone u ++ busy n cs v) ∙ state-on u (reportsAt allDone u) (busy n cs v) ∙ busy-state n cs v
-
 state-since : (x : Sitting) (later : List Call) → stateAfter (opensAt x) (x .before ++ (submit (x .commands) ∷ later))
     ≡ stateAfter (placedState x) later
 state-since x later =
@@ -521,37 +513,3 @@ wrong-rules-show =
       promised lowered refl lowered-placed afterLowering (enoughRounds loweredTo)
           (changed-told lowered refl (roundsOf lowered 2) 2 (rounds-told lowered refl 2) loweredTo refl refl (enoughRounds loweredTo)),
     )
-
--- the pass limit of the schedule's end
-turns-keep : (l : List ℕ) → Each KeepsLimit (map turn l)
-turns-keep [] = tt
-turns-keep (i ∷ l) = (tt, turns-keep l)
-
-reports-keep : (codes : ℕ → ℕ) (l : List ℕ) → Each KeepsLimit (map (λ i. report i (codes i)) l)
-reports-keep codes [] = tt
-reports-keep codes (i ∷ l) = (tt, reports-keep codes l)
-
-busy-keeps : (n : ℕ) (cs : List Command) (s : State) → Each KeepsLimit (busy n cs s)
-busy-keeps zero cs s = tt
-busy-keeps (suc n) cs s =
-    let t = resultOf s (submit cs) .state in
-    let u = stateAfter t (turnsAt t) in
-    let v = stateAfter u (reportsAt allDone u) in (
-      tt,
-      each-++ KeepsLimit (turnsAt t) (reportsAt allDone u ++ busy n cs v) (turns-keep (idsWith isIdle (t .sequence)))
-          (each-++ KeepsLimit (reportsAt allDone u) (busy n cs v) (reports-keep allDone (idsWith isFlying (u .sequence)))
-          (busy-keeps n cs v)),
-    )
-
-pub changed-limit : (x : Sitting) (earlier : List Call) (k n : ℕ) → limitCheck k ≡ Accepted →
-    limitTold (x .passLimit) (toldThen (toldAfter x []) (callsTold (placedState x) (changed x earlier k n))) ≡ k
-changed-limit x earlier k n a =
-    let s = placedState x in
-    let h = toldThen (toldAfter x []) (callsTold s earlier) in
-    let r = resultOf (stateAfter s earlier) (limit k) in
-    ap (limitTold (x .passLimit)) (told-on s (toldAfter x []) earlier (limit k ∷ busy n (x .newcomers) (r .state)))
-    ∙ limit-kept (x .passLimit) k (r .state) (saying (limit k) (r .answers) ∷ h)
-    (ap (λ l. limitAfterAll l (limitTold (x .passLimit) h))
-    (ap (λ (x : Result). x .answers) (limit-passes (stateAfter s earlier) k (sitting-check x earlier k a))))
-    (busy n (x .newcomers) (r .state))
-    (busy-keeps n (x .newcomers) (r .state))
