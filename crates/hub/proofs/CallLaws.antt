@@ -4,14 +4,11 @@ use mathlib.Core.Bool.{Bool, true, false}
 use mathlib.Core.List.{List, [], _∷_, _++_}
 use Prim.Native.Nat.{ℕ, _<_}
 use borrow.Author.Tests.{lt-ltb}
-use types.Run.{OneOf, miss}
-use denote.Enum.Declared.{tagOf}
 use Rattle.rules_routine.specs.Choice.{if_then_else_}
 use Rattle.rules_routine.specs.Limits.{maxDevices}
 use Rattle.rules_routine.specs.Routine.{commandsOf, routineOf, noRoutine}
 use Rattle.rules_routine.specs.declared.Command.{Command}
 use Rattle.rules_routine.specs.declared.Routine.{Routine}
-use Rattle.rules_routine.proofs.RoutineLaws.{byTest}
 use Rattle.rules.specs.State.{State}
 use Rattle.rules.specs.Answers.{Back, Call, Result}
 use Rattle.rules.specs.Calls.{resultOf}
@@ -20,12 +17,7 @@ use Rattle.rules.specs.Settle.{settle, settling}
 use Rattle.rules.proofs.Lists.{t≠f}
 use Rattle.hub_sequence.specs.Links.{StandsOrNone}
 use Rattle.hub_answers.specs.View.{oneOf, eventAbortOf, answerOf, putBacksOf, putBacksIn, PutBacksOk, changesNothing}
-use Rattle.hub_answers.specs.declared.Answer.{Answer}
-use Rattle.hub_answers.specs.declared.Answer.the-variants.{Refused, Placed, Wait, Sent, Done, Skipped, Committed, Aborted, Down, Up}
-use Rattle.hub_answers.specs.declared.Answer.the-variants.{Limited}
-use Rattle.hub_answers.specs.declared.Answer.the-variants.{Held, NotHeld}
 use Rattle.hub_answers.specs.declared.PutBacks.{PutBacks}
-use Rattle.hub_answers.proofs.Answer.{the-type}
 use Rattle.hub_state.specs.View.{stateOf, firstCommitted}
 use Rattle.hub_state.specs.Valid.{StateOk}
 use Rattle.hub_state.specs.Unmoved.{Unmoved, InPlace, OnlyLeave}
@@ -43,55 +35,10 @@ use Rattle.hub_state.proofs.UnmovedLaws.{itself-in-place, in-place-leaves, sett
 use Rattle.hub.specs.View.{view, answersIn}
 use Rattle.hub.specs.Valid.{Valid}
 use Rattle.hub.specs.Contract.{Gives}
-use Rattle.hub.specs.Carrying.{LeavingOk, MovesNobody, OnlySettle, Carries, settlesAfter}
+use Rattle.hub.specs.Carrying.{LeavingOk, MovesNobody, OnlySettle, Carries}
 use Rattle.hub.specs.Decided.{DecidedOn, Decided}
 use Rattle.hub.specs.declared.Hub.{Hub}
 use Rattle.hub.specs.declared.Outcome.{Outcome}
-
--- ---- which answers tell of a change
-
--- the answers that are no refusal, and those that are no wait, by their numbers
-abbrev pub notRefused : List ℕ
-notRefused = 1 ∷ 2 ∷ 3 ∷ 4 ∷ 5 ∷ 6 ∷ 7 ∷ 8 ∷ 9 ∷ 10 ∷ 11 ∷ 12 ∷ []
-
-abbrev pub notWait : List ℕ
-notWait = 0 ∷ 1 ∷ 3 ∷ 4 ∷ 5 ∷ 6 ∷ 7 ∷ 8 ∷ 9 ∷ 10 ∷ 11 ∷ 12 ∷ []
-
--- any other answer tells of a change
-pub changes : (a : Answer) → OneOf notRefused (tagOf the-type a) → OneOf notWait (tagOf the-type a) → changesNothing a ≡ false
-changes (Refused x) h k = absurd (miss notRefused 0 tt h)
-changes (Placed x) h k = refl
-changes (Wait i j) h k = absurd (miss notWait 2 tt k)
-changes (Sent x) h k = refl
-changes (Done i) h k = refl
-changes (Skipped i) h k = refl
-changes (Committed i) h k = refl
-changes (Aborted i) h k = refl
-changes (Down d i) h k = refl
-changes (Up d i) h k = refl
-changes (Limited j) h k = refl
-changes (Held i) h k = refl
-changes (NotHeld i) h k = refl
-
-abbrev dueIf : State → Bool → Bool
-dueIf s t = if t then false else firstCommitted (s .sequence)
-
--- after a refusal or a wait nothing settles
-pub none-after : (a b : Answer) (s : State) → a ≡ b → changesNothing b ≡ true → settlesAfter a s ≡ false
-none-after a b s e f = ap (dueIf s) (ap changesNothing e ∙ f)
-
--- after a change, it is the first in the sequence that decides
-first-decides : (a : Answer) (s : State) → changesNothing a ≡ false → settlesAfter a s ≡ firstCommitted (s .sequence)
-first-decides a s e = ap (dueIf s) e
-
-pub due-after : (a : Answer) (s : State) → OneOf notRefused (tagOf the-type a) → OneOf notWait (tagOf the-type a) →
-    settlesAfter a s ≡ firstCommitted (s .sequence)
-due-after a s h k = first-decides a s (changes a h k)
-
--- what settles has changed
-changed : (t u : Bool) → (if t then false else u) ≡ true → t ≡ false
-changed true u e = t≠f (sym e)
-changed false u e = refl
 
 -- ---- what was decided can be applied
 
@@ -171,20 +118,28 @@ module _ (h : Hub) (cs : List Command) (d : Decision) (backs : PutBacks) (n : Hu
       (k .something-told f)
       ∙ ap (λ (s : State). record { state = settle s; answers = toldBy (h .state) d }) (sym (c .gives))
 
-  pub settled-gives : (r : Hub) (o : Outcome) → Wraps r d backs o → settlesAfter (d .answer) (view n) ≡ true → Valid r →
+  -- the first is committed
+  pub settled-gives : (r : Hub) (o : Outcome) → Wraps r d backs o → changesNothing (d .answer) ≡ false → Valid r →
       view r ≡ settle (view n) → OnlySettle (n .state) (r .state) → Gives h o (resultBy (h .state) cs d)
-  settled-gives r o w e v g q =
-      let f : changesNothing (d .answer) ≡ false = changed (changesNothing (d .answer)) (firstCommitted (view n .sequence)) e in
+  settled-gives r o w f v g q =
       wraps-gives r o w v
       (ap (λ (s : State). record { state = s; answers = toldBy (h .state) d }) g ∙ sym (settled-result f))
       (settle-then (h .state) (n .state) (r .state) (c .moves-nobody .unmoved) (c .moves-nobody .joined-run) (q .only-leave)
       (q .left-committed))
       (λ t. t≠f (sym t ∙ f))
 
-  pub stands-gives : (o : Outcome) → Wraps n d backs o → settlesAfter (d .answer) (view n) ≡ false → Gives h o (resultBy (h .state) cs d)
-  stands-gives o w e =
-      byTest (λ (t : Bool). changesNothing (d .answer) ≡ t → Gives h o (resultBy (h .state) cs d)) (changesNothing (d .answer))
-      (λ t _.
+  -- it is not
+  pub idle-gives : (o : Outcome) → Wraps n d backs o → changesNothing (d .answer) ≡ false → firstCommitted (view n .sequence) ≡ false →
+      Gives h o (resultBy (h .state) cs d)
+  idle-gives o w f e =
+      wraps-gives n o w (c .valid)
+      (ap (λ (s : State). record { state = s; answers = toldBy (h .state) d }) (sym (settle-idle (view n) e)) ∙ sym (settled-result f))
+      (c .moves-nobody .unmoved)
+      (λ t. t≠f (sym t ∙ f))
+
+  -- a refusal or a wait
+  pub same-gives : (o : Outcome) → Wraps n d backs o → changesNothing (d .answer) ≡ true → Gives h o (resultBy (h .state) cs d)
+  same-gives o w t =
       let nothing = k .nothing-told t in
       let same = c .same-hub nothing in
       wraps-gives n o w (c .valid)
@@ -192,15 +147,7 @@ module _ (h : Hub) (cs : List Command) (d : Decision) (backs : PutBacks) (n : Hu
       ∙ sym (ap (λ (x : Change). settledUnlessNothing x (record { state = appliedTo (h .state) cs x; answers = toldBy (h .state) d }))
       nothing))
       (c .moves-nobody .unmoved)
-      (λ _. same))
-      (λ f _.
-      wraps-gives n o w (c .valid)
-      (ap (λ (s : State). record { state = s; answers = toldBy (h .state) d })
-      (sym (settle-idle (view n) (sym (first-decides (d .answer) (view n) f) ∙ e)))
-      ∙ sym (settled-result f))
-      (c .moves-nobody .unmoved)
-      (λ t. t≠f (sym t ∙ f)))
-      refl
+      (λ _. same)
 
 -- ---- the arms
 

@@ -1,16 +1,12 @@
 -- A decision carried out. Assumes nothing.
 use mathlib.Core.Path.{_≡_}
-use mathlib.Core.Bool.{Bool, true, false}
+use mathlib.Core.Bool.{true}
 use mathlib.Core.List.{List}
 use Prim.Native.Nat.{_<_}
-use Rattle.rules_routine.specs.Choice.{if_then_else_}
 use Rattle.rules_routine.specs.Limits.{maxDevices}
 use Rattle.rules_routine.specs.declared.Command.{Command}
-use Rattle.rules.specs.State.{State}
-use Rattle.hub_answers.specs.View.{changesNothing}
-use Rattle.hub_answers.specs.declared.Answer.{Answer}
 use Rattle.hub_sequence.specs.Links.{Stands}
-use Rattle.hub_state.specs.View.{isRestart, firstCommitted}
+use Rattle.hub_state.specs.View.{isRestart}
 use Rattle.hub_state.specs.Contract.{appliedTo, StandsOrPast}
 use Rattle.hub_state.specs.Unmoved.{Unmoved, OnlyLeave, LeftCommitted, JoinedRun}
 use Rattle.hub_state.specs.declared.HubState.{HubState}
@@ -46,8 +42,3 @@ pub record Carries (h : Hub) (cs : List Command) (c : Change) (r : Hub) : Type 0
   pub gives : view r ≡ appliedTo (h .state) cs c
   pub moves-nobody : MovesNobody (h .state) (r .state)
   pub same-hub : c ≡ Nothing → r ≡ h
-
--- Does a routine settle after this answer? Document 01, "Settling": "After each call, while the first in the sequence is committed"; but a
--- refusal and a wait change nothing.
-abbrev pub settlesAfter : Answer → State → Bool
-settlesAfter a s = if changesNothing a then false else firstCommitted (s .sequence)

@@ -1,7 +1,6 @@
 // A decision carried out, as one outcome: what it puts back, the change, and settling.
 use crate::Hub;
 use crate::Outcome;
-use hub_answers::Answer;
 use hub_answers::PutBacks;
 use hub_state::Change;
 use hub_state::Decision;
@@ -13,10 +12,9 @@ ghost use Rattle.rules_routine.specs.Routine.{commandsOf};
 ghost use Rattle.hub_answers.specs.View.{putBacksOf, PutBacksOk};
 ghost use Rattle.hub_state.specs.Valid.{StateOk};
 ghost use Rattle.hub_state.specs.Contract.{resultBy, putBacksOfDecision};
-ghost use Rattle.hub.specs.View.{view};
 ghost use Rattle.hub.specs.Valid.{Valid};
 ghost use Rattle.hub.specs.Contract.{Gives};
-ghost use Rattle.hub.specs.Carrying.{LeavingOk, Carries, settlesAfter};
+ghost use Rattle.hub.specs.Carrying.{LeavingOk, Carries};
 ghost use Rattle.hub.specs.Decided.{DecidedOn, Decided};
 
 // No device fails.
@@ -61,20 +59,6 @@ fn changed(hub: Hub, change: Change, routine: Routine) -> Hub
     }
 }
 
-// Does the hub settle after this answer? "After each call": a refusal and a wait change nothing, so that nothing settles after them.
-fn is_due(hub: Hub, answer: Answer) -> bool
-    requires { ⌜ Valid hub ⌝ }
-    ensures { λ r. ⌜ r ≡ settlesAfter answer (view hub) ⌝ }
-{
-    let Answer::Refused(_) = answer else {
-        let Answer::Wait(_, _) = answer else {
-            return crate::settles(hub);
-        };
-        return false;
-    };
-    false
-}
-
 // A hub with the answers of a decision.
 fn outcome_with(hub: Hub, decision: Decision, backs: PutBacks) -> Outcome
     ensures { λ r. ⌜ (r .hub ≡ hub) × (r .first ≡ decision .first) × (r .answer ≡ decision .answer) × (r .«put_backs» ≡ backs) ⌝ }
@@ -89,7 +73,8 @@ fn outcome_with(hub: Hub, decision: Decision, backs: PutBacks) -> Outcome
     }
 }
 
-// What is put back, the change, then settling.
+// What is put back, the change, then settling. "After each call, while the first in the sequence is committed"; but the answer decides
+// first: a refusal and a wait change nothing.
 pub fn carried_out(hub: Hub, decision: Decision, routine: Routine) -> Outcome
     requires { ⌜ (Valid hub) × (DecidedOn hub (commandsOf routine) decision) ⌝ }
     ensures { λ r. ⌜ Gives hub r (resultBy (hub .state) (commandsOf routine) decision) ⌝ }
@@ -98,7 +83,7 @@ pub fn carried_out(hub: Hub, decision: Decision, routine: Routine) -> Outcome
     let change = decision.change;
     let next = changed(hub, change, routine);
     let answer = decision.answer;
-    if is_due(next, answer) {
+    if !hub_answers::changes_nothing(answer) && crate::settles(next) {
         let after = crate::settle(next);
         return outcome_with(after, decision, backs);
     }

@@ -7,7 +7,7 @@ ghost use mathlib.Core.Path.{_≡_};
 ghost use mathlib.Core.List.{[], _∷_, _++_};
 ghost use Prim.Native.Nat.{suc, _<_};
 ghost use Rattle.rules_routine.specs.Limits.{maxDevices};
-ghost use Rattle.hub_answers.specs.View.{putBacksOf, backOf, oneOf, PutBacksOk};
+ghost use Rattle.hub_answers.specs.View.{putBacksOf, backOf, oneOf, PutBacksOk, changesNothing};
 
 // A routine was placed: its id, and the id it follows, 0 for the settled part.
 pub struct Placed {
@@ -37,6 +37,19 @@ pub enum Answer {
     Limited(u8),
     Held(u32),
     NotHeld(u32),
+}
+
+// A refusal and a wait leave the hub as it was, so that nothing settles after them.
+pub fn changes_nothing(answer: Answer) -> bool
+    ensures { λ r. ⌜ r ≡ changesNothing answer ⌝ }
+{
+    let Answer::Refused(_) = answer else {
+        let Answer::Wait(_, _) = answer else {
+            return false;
+        };
+        return true;
+    };
+    true
 }
 
 // The routine that a failure or a restart aborted before its own answer.

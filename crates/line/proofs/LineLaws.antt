@@ -55,6 +55,7 @@ use Rattle.line_rules.specs.Reading.{LineCall, submits, turns, reports, fails, 
 use Rattle.line_rules.specs.Reading.{unread}
 use Rattle.line_rules.specs.Printing.{asLine, answersText}
 use Rattle.line_rules.specs.Program.{printsUnread, printsOpening, printsResult, printsCall, step}
+use Rattle.line_print.specs.Texts.{openingText}
 use Rattle.line_read.specs.View.{together, callAs, routineAs, readAs}
 use Rattle.line_read.specs.declared.Call.{Call}
 use Rattle.line_read.specs.declared.Call.the-variants.{Submit, Turn, Report, Cancel, Fail as Failure, Restart as Restarted}
@@ -62,7 +63,7 @@ use Rattle.line_read.specs.declared.Line.{Line}
 use Rattle.line_read.specs.declared.Line.the-variants.{Open, Calling, Unread}
 use Rattle.line_read.proofs.Line.{the-type as line-type}
 use Rattle.line.specs.View.{hubIn, heardOf, callIn, FitsCall}
-use Rattle.line.specs.Contract.{isAccepted, openingText}
+use Rattle.line.specs.Contract.{isAccepted}
 
 -- ---- a submission's commands, put together one by one
 

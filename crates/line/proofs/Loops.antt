@@ -1,11 +1,11 @@
 -- Lines in turn, the device lines, and what is left in the buffer. Assumes nothing.
 use mathlib.Core.Path.{_≡_, refl, sym, ap, ap₂, _∙_, subst}
 use mathlib.Core.Logic.{_≢_}
-use mathlib.Core.Bool.{Bool}
+use mathlib.Core.Bool.{Bool, false}
 use mathlib.Core.List.{List, [], _∷_, _++_, append-nil, append-assoc}
 use mathlib.Core.Option.{Option, none, some}
 use Prim.Native.Nat.{ℕ, zero, suc, _+_, _-_, _*_, _≤_, _<_, _^_}
-use native.Mathlib.Nat.{add-zero, zero-add}
+use native.Mathlib.Nat.{zero-add}
 use native.Mathlib.Numerals.{add-one}
 use native.Mathlib.Omega.{arith}
 use borrow.Author.Tests.{ltb-true, ltb-false, lt-ltb, le-ltb, eq-eqb, ne-eqb, eqb-true}
@@ -14,11 +14,12 @@ use lib.IntN.{pos, negsuc}
 use mir.Syntax.{w64}
 use mir.Val.{toZ}
 use mir.Facts.{toZ-pos}
-use lib.ListN.{length, take, drop, getD, length-append, length-drop, drop-of-length-le}
-use lib.Seq.{sets, sets-eq, length-sets, drop-cons, drop-drop, length-take-le}
+use lib.ListN.{length, take, drop, getD, set, length-append, length-drop, drop-of-length-le}
+use lib.Seq.{sets, sets-eq, length-sets, drop-cons, drop-drop, length-take-le, getD-set-same, getD-set-other}
 use Rattle.rules_routine.specs.Choice.{if_then_else_}
 use Rattle.rules_routine.proofs.RoutineLaws.{byTest}
 use Rattle.rules.specs.State.{State}
+use Rattle.rules.specs.Due.{due}
 use Rattle.rules.specs.Rounds.{times}
 use Rattle.hub_state.specs.View.{stateOf}
 use Rattle.hub.specs.View.{view}
@@ -27,16 +28,17 @@ use Rattle.hub.specs.declared.Hub.{Hub}
 use Rattle.line_rules.specs.Text.{lineEnd}
 use Rattle.line_rules.specs.Pieces.{piecesFrom, pieces, reach, withoutEmptyLast, linesOf}
 use Rattle.line_rules.specs.Reading.{Line as Said, readLine}
-use Rattle.line_rules.specs.Printing.{asLine, deviceText, deviceLines}
+use Rattle.line_rules.specs.Printing.{asLine, deviceTextOf, deviceText, deviceLines}
 use Rattle.line_rules.specs.Program.{Printed, before, steps, endText, runFrom, lengthOr21, bufferWith, hubWith}
 use Rattle.line_rules.proofs.LineLaws.{reach-within, lines-first, lines-none}
-use Rattle.line_print.specs.Put.{maxText, Put, PutShort}
-use Rattle.line_print.proofs.PutLaws.{put-none, put-then}
+use Rattle.line_print.specs.Put.{maxText, maxEnd, Put, PutShort}
+use Rattle.line_print.specs.Texts.{lineOf, linesFrom, devicesText}
+use Rattle.line_print.specs.declared.Devices.{Devices}
+use Rattle.line_print.proofs.PutLaws.{put-none, put-then, same-room, end-is, stands-there}
 use Rattle.line.specs.View.{hubIn}
-use Rattle.line.specs.Contract.{maxEnd, Wrote, Ample, RunsLines, Measures}
+use Rattle.line.specs.Contract.{Wrote, Ample, RunsLines, Measures}
 use Rattle.line.specs.declared.running.Lines.{Lines}
 use Rattle.line.proofs.LineLaws.{Does}
-use Rattle.line.proofs.Told.{same-room, end-is, stands-there}
 
 -- ---- lines in turn
 
@@ -263,18 +265,12 @@ lines-counted input = without-shorter (pieces lineEnd input)
 
 -- ---- the device lines
 
-devices-more : (s : State) (d n : ℕ) → deviceLines s d (suc n) ≡ deviceLines s d n ++ asLine (deviceText s (d + n))
-unfolding deviceLines
-devices-more s d zero = append-nil (asLine (deviceText s d)) ∙ ap (λ (k : ℕ). asLine (deviceText s k)) (sym (add-zero d))
-devices-more s d (suc n) =
-    let e : suc d + n ≡ d + suc n = omega arith in
-    ap (λ (t : List ℕ). asLine (deviceText s d) ++ t) (devices-more s (suc d) n)
-    ∙ sym (append-assoc (asLine (deviceText s d)) (deviceLines s (suc d) n) (asLine (deviceText s (suc d + n))))
-    ∙ ap (λ (k : ℕ). deviceLines s d (suc n) ++ asLine (deviceText s k)) e
-
-pub devices-next : (s : State) (n : ℕ) → deviceLines s 0 (n + 1) ≡ deviceLines s 0 n ++ asLine (deviceText s n)
-devices-next s n = ap (deviceLines s 0) (add-one n) ∙ devices-more s 0 n
-    ∙ ap (λ (k : ℕ). deviceLines s 0 n ++ asLine (deviceText s k)) (zero-add n)
+-- they tell the same where each device is told the same
+lines-same : (s : State) (t : Devices) (d n : ℕ) → ((k : ℕ) → k < d + n → lineOf t k ≡ asLine (deviceText s k)) →
+    linesFrom t d n ≡ deviceLines s d n
+unfolding linesFrom deviceLines
+lines-same s t d zero h = refl
+lines-same s t d (suc n) h = λ i. h d (omega arith) i ++ lines-same s t (suc d) n (λ k e. h k (omega arith)) i
 
 pub devices-are : (h : Hub) → view h .devices ≡ h .state .devices
 unfolding stateOf
@@ -286,6 +282,27 @@ unfolding hubIn endText deviceLines
 end-text h =
     byTest (λ (t : Bool). endText (if t then none else some (view h)) ≡ deviceLines (view h) 0 (view h .devices)) (eqb (view h .devices) 0)
     (λ e. ap (deviceLines (view h) 0) (sym (eqb-true (view h .devices) 0 e))) (λ _. refl)
+
+-- one more device is known to be up or down
+pub up-more : (s : State) (l : List Bool) (n : ℕ) (b : Bool) → n < length l → b ≡ s .up n →
+    ((d : ℕ) → d < n → getD l d false ≡ s .up d) → (d : ℕ) → d < n + 1 → getD (set l n b) d false ≡ s .up d
+up-more s l n b h e known d k =
+    byTest (λ (_ : Bool). getD (set l n b) d false ≡ s .up d) (ltb d n)
+    (λ t. let i = ltb-true d n t in getD-set-other l n d b false (λ same. omega arith) ∙ known d i)
+    (λ t.
+    let same : d ≡ n = omega (arith, ltb-false d n t) in
+    ap (λ (j : ℕ). getD (set l n b) j false) same ∙ getD-set-same l n b false h ∙ e ∙ ap (s .up) (sym same))
+
+-- what the device lines tell of a hub
+pub devices-told : (h : Hub) (t : Devices) → t .count ≡ view h .devices →
+    ((d : ℕ) → d < view h .devices → getD (t .up) d false ≡ view h .up d) →
+    ((d : ℕ) → d < view h .devices → getD (t .due) d (pos 0) ≡ due (view h) d) → devicesText t ≡ endText (hubIn h)
+unfolding deviceText
+devices-told h t count up setting =
+    ap (linesFrom t 0) count
+    ∙ lines-same (view h) t 0 (view h .devices)
+    (λ d k i. asLine (deviceTextOf d (up d (omega arith) i) (setting d (omega arith) i)))
+    ∙ sym (end-text h)
 
 -- ---- what is left in the buffer
 

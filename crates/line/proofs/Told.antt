@@ -2,16 +2,13 @@
 use mathlib.Core.Path.{_≡_, refl, sym, ap, _∙_, subst}
 use mathlib.Core.Bool.{true, false}
 use mathlib.Core.List.{List, [], _∷_, _++_}
-use Prim.Native.Nat.{ℕ, _+_, _≤_}
+use Prim.Native.Nat.{ℕ, _+_}
 use native.Mathlib.Omega.{arith}
-use native.Mathlib.Nat.{zero-add}
 use types.Run.{OneOf, miss}
 use denote.Enum.Declared.{tagOf}
-use lib.ListN.{length, take, drop}
-use lib.Seq.{sets-eq, length-sets, take-at}
-use Rattle.rules.specs.Answers.{Back, Answer as Said, aborted}
+use Rattle.rules.specs.Answers.{Back, Answer as Said}
 use Rattle.rules.proofs.Lists.{t≠f}
-use Rattle.hub_answers.specs.View.{putBacksOf, oneOf, eventAbortOf, answerOf, answersOf, changesNothing}
+use Rattle.hub_answers.specs.View.{putBacksOf, oneOf, eventAbortOf, answerOf, answersOf}
 use Rattle.hub_answers.specs.declared.Answer.{Answer}
 use Rattle.hub_answers.specs.declared.Answer.the-variants.{Refused, Placed, Wait, Sent, Done, Skipped, Committed, Aborted, Down, Up}
 use Rattle.hub_answers.specs.declared.Answer.the-variants.{Limited}
@@ -20,69 +17,19 @@ use Rattle.hub_answers.specs.declared.EventAbort.{EventAbort}
 use Rattle.hub_answers.specs.declared.EventAbort.the-variants.{NoAbort, Abort as AbortFirst}
 use Rattle.hub_answers.specs.declared.PutBacks.{PutBacks}
 use Rattle.hub_answers.proofs.Answer.{the-type as answer-type}
+use Rattle.hub_answers.proofs.Cases.{notAborted}
 use Rattle.hub_state.specs.Contract.{backsBy, putBacksOfDecision, toldBy, WellTold}
 use Rattle.hub_state.specs.declared.HubState.{HubState}
 use Rattle.hub_state.specs.declared.Change.{Change}
 use Rattle.hub_state.specs.declared.Change.the-variants.{Nothing, Stage, Commit, Join, Abort, Fail, Restart}
 use Rattle.hub_state.specs.declared.Decision.{Decision}
 use Rattle.line_rules.specs.Printing.{asLine, answerText, answersText}
-use Rattle.line_print.specs.Put.{halfText, maxText, Put, PutShort}
-use Rattle.line_print.proofs.PutLaws.{short-then, within, as-text, answers-one, answers-append}
-use Rattle.line.specs.Contract.{isAbort, BacksOnce}
+use Rattle.line_print.specs.Put.{halfText, maxText, PutShort}
+use Rattle.line_print.specs.Texts.{BacksOnce}
+use Rattle.line_print.proofs.PutLaws.{within, as-text, answers-one}
+use Rattle.line.specs.Contract.{isAbort}
 
--- ---- a text in a buffer in which it fits
-
-module _ {most : ℕ} {before after : List ℕ} {end : ℕ} {text : List ℕ} (p : PutShort most before after 0 end text) where
-  pub same-room : length after ≡ length before
-  same-room = ap length (p .put .is) ∙ length-sets before 0 text
-
-  pub end-is : end ≡ length text
-  end-is = p .put .ends ∙ zero-add (length text)
-
-  -- what stands there is the text
-  pub stands-there : most ≤ length before → take end after ≡ text
-  stands-there fits =
-      ap (take end) (p .put .is ∙ sets-eq text before 0 (omega (arith, p .short)))
-      ∙ take-at text (drop (0 + length text) before) end (sym end-is)
-
-  pub end-fits : most ≤ length before → end ≤ length after
-  end-fits fits = omega (arith, p .short, end-is, same-room)
-
-  -- and so it is put where it is copied to
-  pub copied : {out out′ : List ℕ} {at at′ : ℕ} → most ≤ length before → Put out out′ at at′ (take end after) →
-      PutShort most out out′ at at′ text
-  copied {out} {out′} {at} {at′} fits q =
-      record { put = subst (λ (t : List ℕ). Put out out′ at at′ t) (stands-there fits) q; short = p .short }
-
--- ---- the cases of an answer
-
--- the answers that are no refusal, no wait and no abort, by their numbers
-abbrev pub notRefused : List ℕ
-notRefused = 1 ∷ 2 ∷ 3 ∷ 4 ∷ 5 ∷ 6 ∷ 7 ∷ 8 ∷ 9 ∷ 10 ∷ 11 ∷ 12 ∷ []
-
-abbrev pub notWait : List ℕ
-notWait = 0 ∷ 1 ∷ 3 ∷ 4 ∷ 5 ∷ 6 ∷ 7 ∷ 8 ∷ 9 ∷ 10 ∷ 11 ∷ 12 ∷ []
-
-abbrev pub notAborted : List ℕ
-notAborted = 0 ∷ 1 ∷ 2 ∷ 3 ∷ 4 ∷ 5 ∷ 6 ∷ 8 ∷ 9 ∷ 10 ∷ 11 ∷ 12 ∷ []
-
--- an answer that is neither refusal nor wait changes something
-pub changes : (a : Answer) → OneOf notRefused (tagOf answer-type a) → OneOf notWait (tagOf answer-type a) → changesNothing a ≡ false
-changes (Refused x) h k = absurd (miss notRefused 0 tt h)
-changes (Placed x) h k = refl
-changes (Wait i j) h k = absurd (miss notWait 2 tt k)
-changes (Sent x) h k = refl
-changes (Done i) h k = refl
-changes (Skipped i) h k = refl
-changes (Committed i) h k = refl
-changes (Aborted i) h k = refl
-changes (Down d i) h k = refl
-changes (Up d i) h k = refl
-changes (Limited j) h k = refl
-changes (Held i) h k = refl
-changes (NotHeld i) h k = refl
-
--- one that is no abort
+-- an answer that is no abort
 pub no-abort : (a : Answer) {f : EventAbort} → f ≡ NoAbort → OneOf notAborted (tagOf answer-type a) → isAbort f a ≡ false
 no-abort (Refused x) e h = ap (λ (f : EventAbort). isAbort f (Refused x)) e
 no-abort (Placed x) e h = ap (λ (f : EventAbort). isAbort f (Placed x)) e
@@ -97,41 +44,6 @@ no-abort (Up d i) e h = ap (λ (f : EventAbort). isAbort f (Up d i)) e
 no-abort (Limited k) e h = ap (λ (f : EventAbort). isAbort f (Limited k)) e
 no-abort (Held i) e h = ap (λ (f : EventAbort). isAbort f (Held i)) e
 no-abort (NotHeld i) e h = ap (λ (f : EventAbort). isAbort f (NotHeld i)) e
-
--- ---- the answers of an abort
-
--- there is one
-pub put-neither : {first : EventAbort} (answer : Answer) (backs : PutBacks) {P : Type 0} → first ≡ NoAbort →
-    BacksOnce first answer (putBacksOf backs) →
-    OneOf notAborted (tagOf answer-type answer) → P
-put-neither answer backs e k h =
-    let own = subst (λ (f : EventAbort). BacksOnce f answer (putBacksOf backs)) e k in
-    t≠f (ap (isAbort NoAbort) (sym (own .1)) ∙ no-abort answer refl h)
-
-module _ {first : EventAbort} (answer : Answer) (backs : PutBacks) {a b : List ℕ} {m : ℕ} where
-  -- the call's own
-  pub put-own : (i : ℕ) → first ≡ NoAbort → answer ≡ Aborted i →
-      PutShort halfText a b 0 m (asLine (answerText (aborted i (putBacksOf backs)))) →
-      PutShort maxText a b 0 m (answersText (answersOf first answer backs))
-  put-own i e k p =
-      as-text
-      (sym (answers-one (aborted i (putBacksOf backs))) ∙ (λ j. answersText (answersOf (sym e j) (sym k j) backs)))
-      (within (omega arith) p)
-
-  -- one before the answer
-  pub put-both : {c : List ℕ} {end : ℕ} (i : ℕ) → first ≡ AbortFirst i → BacksOnce first answer (putBacksOf backs) →
-      PutShort halfText a b 0 m (asLine (answerText (aborted i (putBacksOf backs)))) →
-      PutShort halfText b c m end (asLine (answerText (answerOf answer []))) →
-      PutShort maxText a c 0 end (answersText (answersOf first answer backs))
-  put-both i e k p q =
-      let l = putBacksOf backs in
-      let once = subst (λ (f : EventAbort). BacksOnce f answer l) e k in
-      as-text
-      (sym
-      (ap (λ (f : EventAbort). answersText (answersOf f answer backs)) e
-      ∙ answers-append (aborted i l ∷ []) (answerOf answer l ∷ [])
-      ∙ (λ j. answers-one (aborted i l) j ++ answers-one (sym once j) j)))
-      (short-then p q)
 
 -- ---- the answers of a decision
 

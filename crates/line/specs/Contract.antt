@@ -1,29 +1,25 @@
 -- The contracts of the line program's calls. Assumes nothing.
 use mathlib.Core.Path.{_≡_}
 use mathlib.Core.Bool.{Bool, true, false}
-use mathlib.Core.List.{List, []}
+use mathlib.Core.List.{List}
 use mathlib.Core.Option.{none}
 use Prim.Native.Nat.{ℕ, suc, _+_, _-_, _*_, _<_, _≤_}
 use lib.IntN.{ℤ}
 use lib.ListN.{length, take, drop}
-use Rattle.rules_routine.specs.Limits.{maxDevices}
 use Rattle.rules_routine.specs.declared.Verdict.{Verdict}
 use Rattle.rules_routine.specs.declared.Verdict.the-variants.{Accepted, Refused as TurnedDown}
-use Rattle.rules.specs.Answers.{Back}
-use Rattle.hub_answers.specs.View.{answerOf}
 use Rattle.hub_answers.specs.declared.Answer.{Answer}
 use Rattle.hub_answers.specs.declared.Answer.the-variants.{Refused, Placed, Wait, Sent, Done, Skipped, Committed, Aborted, Down, Up}
 use Rattle.hub_answers.specs.declared.Answer.the-variants.{Limited}
 use Rattle.hub_answers.specs.declared.Answer.the-variants.{Held, NotHeld}
 use Rattle.hub_answers.specs.declared.EventAbort.{EventAbort}
 use Rattle.hub_answers.specs.declared.EventAbort.the-variants.{NoAbort, Abort}
-use Rattle.line_rules.specs.Text.{lineEnd, bytes}
+use Rattle.line_rules.specs.Text.{lineEnd}
 use Rattle.line_rules.specs.Pieces.{reach, linesOf}
 use Rattle.line_rules.specs.Reading.{readLine}
-use Rattle.line_rules.specs.Printing.{asLine, refusalText}
 use Rattle.line_rules.specs.Program.{Printed, steps, lengthOr21, bufferWith, hubWith}
 use Rattle.line_read.specs.View.{readAs}
-use Rattle.line_print.specs.Put.{maxText, maxDeviceLine, Put}
+use Rattle.line_print.specs.Put.{maxText, Put}
 use Rattle.hub.specs.Valid.{Valid}
 use Rattle.hub.specs.declared.Hub.{Hub}
 use Rattle.line.specs.View.{hubIn, heardOf}
@@ -58,10 +54,6 @@ pub record Runs (p : Printed) (input : List ℕ) (before after : Hub) (buffer bu
 abbrev pub partLength : ℕ
 partLength = 240
 
--- The device lines are not longer than this.
-abbrev pub maxEnd : ℕ
-maxEnd = maxDevices * maxDeviceLine
-
 -- What all lines print stands in the buffer, if there is room for it; else the place is some place past the room, at most maxText further.
 -- `ample`: where the room is maxText bytes for each line, what they print has no more bytes than that.
 pub record RunsLines (h : Hub) (input : List ℕ) (room : ℕ) (buffer buffer′ : List ℕ) (s : Lines) : Type 0 where
@@ -92,11 +84,6 @@ abbrev pub isAccepted : Verdict → Bool
 isAccepted Accepted = true
 isAccepted (TurnedDown r) = false
 
--- What an opening prints.
-abbrev pub openingText : Verdict → List ℕ
-openingText Accepted = asLine (bytes "opened")
-openingText (TurnedDown r) = asLine (refusalText r)
-
 -- Does a routine abort by this call: before its answer, or by the call itself?
 abbrev pub isAbort : EventAbort → Answer → Bool
 isAbort (Abort i) a = true
@@ -113,8 +100,3 @@ isAbort NoAbort (Up d i) = false
 isAbort NoAbort (Limited k) = false
 isAbort NoAbort (Held i) = false
 isAbort NoAbort (NotHeld i) = false
-
--- What is put back stands beside the abort alone: behind an abort comes an answer that puts nothing back.
-abbrev pub BacksOnce : EventAbort → Answer → List Back → Type 0
-BacksOnce (Abort i) a l = answerOf a [] ≡ answerOf a l
-BacksOnce NoAbort a l = (i : ℕ) × (a ≡ Aborted i)

@@ -30,22 +30,55 @@ pub fn no_hub() -> Hub
     hub::closed()
 }
 
-// The lines of a part of an input, which ends with a line; without the device lines.
+// The lines of a part of an input, which ends with a line; without the device lines. A buffer that is too short stays as it was, so the
+// text is measured first; where there is room for any text of so many lines, it is not.
 pub fn run_part(hub: Hub, input: &[u8], out: &mut [u8]) -> Written
     requires { ⌜ Valid hub ⌝ }
     ensures { λ r. ⌜ Runs (steps (hubIn hub) (linesOf (now (input .entry)))) (now (input .entry)) hub (r .hub)
         (now (out .entry)) (now (out .exit)) (r .result) ⌝ }
 {
-    running::run_part(hub, input, out)
+    let room = out.len();
+    if !running::is_ample(input, room) {
+        let length = running::lines_length(hub, input, room);
+        if room < length {
+            return Written {
+                hub,
+                result: TOO_SHORT,
+            };
+        }
+    }
+    let ran = running::run_lines(hub, input, out, room);
+    let next = ran.hub;
+    Written {
+        hub: next,
+        result: ran.at as i64,
+    }
 }
 
-// The last part of an input, and then the device lines.
+// The last part of an input, or all of it, and then the device lines.
 pub fn run_last(hub: Hub, input: &[u8], out: &mut [u8]) -> Written
     requires { ⌜ Valid hub ⌝ }
     ensures { λ r. ⌜ Runs (runFrom (hubIn hub) (now (input .entry))) (now (input .entry)) hub (r .hub)
         (now (out .entry)) (now (out .exit)) (r .result) ⌝ }
 {
-    running::run_whole(hub, input, out)
+    let room = out.len();
+    if !running::is_ample(input, room) {
+        let length = running::whole_length(hub, input, room);
+        if room < length {
+            return Written {
+                hub,
+                result: TOO_SHORT,
+            };
+        }
+    }
+    let ran = running::run_lines(hub, input, out, room);
+    let next = ran.hub;
+    let devices = lines::devices_of(next);
+    let end = line_print::put_devices(out, ran.at, devices);
+    Written {
+        hub: next,
+        result: end as i64,
+    }
 }
 
 // The whole program on a hub that is lent and changed there: "It steps on a hub lent to it and changed there, all below it by value."
@@ -54,7 +87,7 @@ pub fn run(hub: &mut Hub, input: &[u8], out: &mut [u8]) -> i64
     ensures { λ r. ⌜ Wrote (runFrom (hubIn (now (hub .entry))) (now (input .entry))) (now (hub .entry)) (now (hub .exit)) (now (out .entry))
         (now (out .exit)) r ⌝ }
 {
-    let written = running::run_whole(*hub, input, out);
+    let written = run_last(*hub, input, out);
     *hub = written.hub;
     written.result
 }

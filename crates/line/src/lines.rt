@@ -1,31 +1,30 @@
-// What a line does, and the device lines at the end.
+// What a line does, and what the device lines tell at the end.
 use hub::Hub;
 use hub_answers::Answer;
 use hub_answers::EventAbort;
-use hub_answers::MaybePutBack;
-use hub_answers::PutBacks;
 use hub_state::Decision;
-use line_print::MAX_DEVICE_LINE;
+use line_print::Devices;
 use line_read::Call;
 use line_read::Line;
 use rules_routine::Routine;
 use rules_routine::Verdict;
 use rules_routine::limits::MAX_DEVICES;
 ghost use mathlib.Core.Path.{_≡_};
-ghost use Prim.Native.Nat.{_+_, _<_, _≤_, _^_};
+ghost use Prim.Native.Nat.{_<_, _≤_};
 ghost use lib.ListN.{length};
+ghost use Rattle.rules_routine.specs.Limits.{maxDevices};
 ghost use Rattle.rules_routine.specs.Routine.{commandsOf};
 ghost use Rattle.rules.specs.Calls.{resultOf};
-ghost use Rattle.hub_answers.specs.View.{putBacksOf, answersOf, PutBacksOk, changesNothing};
 ghost use Rattle.hub_state.specs.Contract.{toldBy, Decides};
 ghost use Rattle.line_rules.specs.Printing.{answersText};
 ghost use Rattle.line_rules.specs.Program.{endText};
 ghost use Rattle.line_print.specs.Put.{maxText, PutShort};
+ghost use Rattle.line_print.specs.Texts.{devicesText};
 ghost use Rattle.hub.specs.View.{view};
 ghost use Rattle.hub.specs.Valid.{Valid};
 ghost use Rattle.hub.specs.Decided.{WasDecidedOn};
 ghost use Rattle.line.specs.View.{hubIn, heardOf, callIn, FitsCall};
-ghost use Rattle.line.specs.Contract.{maxEnd, ReadsNext, isAccepted, openingText, isAbort, BacksOnce};
+ghost use Rattle.line.specs.Contract.{ReadsNext, isAccepted, isAbort};
 
 // A call before an accepted `O` is not read: there is no hub, that is, one of no devices.
 pub fn heard(line: Line, devices: u8) -> Line
@@ -55,39 +54,22 @@ pub fn decided(hub: Hub, call: Call, routine: Routine) -> Decision
     }
 }
 
-// A refusal and a wait leave the hub as it was.
-pub fn keeps_hub(answer: Answer) -> bool
-    ensures { λ r. ⌜ r ≡ changesNothing answer ⌝ }
+// What the device lines tell of a hub; no hub has no devices. The due settings come from one pass along the sequence.
+pub fn devices_of(hub: Hub) -> Devices
+    requires { ⌜ Valid hub ⌝ }
+    ensures { λ r. ⌜ (r .count ≤ maxDevices) × (devicesText r ≡ endText (hubIn hub)) ⌝ }
 {
-    let Answer::Refused(_) = answer else {
-        let Answer::Wait(_, _) = answer else {
-            return false;
-        };
-        return true;
-    };
-    true
-}
-
-// "At the end, if a hub was opened, one line a device". No hub has no devices. The due settings come from one pass along the sequence.
-pub fn put_devices(hub: Hub, out: &mut [u8], at: usize) -> usize
-    requires { ⌜ (Valid hub) × (at + maxEnd < 2 ^ 64) ⌝ }
-    ensures { λ r. ⌜ PutShort maxEnd (now (out .entry)) (now (out .exit)) at r (endText (hubIn hub)) ⌝ }
-{
-    let mut table = [0i16; MAX_DEVICES];
-    hub::due_settings(hub, &mut table);
+    let mut due = [0i16; MAX_DEVICES];
+    hub::due_settings(hub, &mut due);
+    let mut up = [true; MAX_DEVICES];
     let count = hub::device_count(hub);
-    let mut text = [0u8; MAX_DEVICE_LINE];
-    let mut to = at;
     let mut device: u8 = 0;
     while device < count {
         let d = device as usize;
-        let due = table[d];
-        let up = hub::is_up(hub, device);
-        let end = line_print::put_device(&mut text, 0, device, up, due);
-        to = line_print::put_text(out, to, &text[..end]);
+        up[d] = hub::is_up(hub, device);
         device += 1;
     }
-    to
+    Devices { count, up, due }
 }
 
 // A line: what of it is heard, the routine that it submits, and where it ends.
@@ -120,17 +102,6 @@ pub fn is_accepted(verdict: Verdict) -> bool
     true
 }
 
-// What an opening prints.
-pub fn put_opening(text: &mut [u8], verdict: Verdict) -> usize
-    requires { ⌜ maxText ≤ length (now text) ⌝ }
-    ensures { λ r. ⌜ PutShort maxText (now (text .entry)) (now (text .exit)) 0 r (openingText verdict) ⌝ }
-{
-    match verdict {
-        Verdict::Accepted => line_print::put_opened(text, 0),
-        Verdict::Refused(refusal) => line_print::put_refusal(text, 0, refusal),
-    }
-}
-
 // Is this the decision of an abort, or of an event that brings one?
 fn aborts(decision: Decision) -> bool
     ensures { λ r. ⌜ r ≡ isAbort (decision .first) (decision .answer) ⌝ }
@@ -146,21 +117,6 @@ fn aborts(decision: Decision) -> bool
     true
 }
 
-// The answers of a call by which a routine aborts: the abort on a line, and behind it the answer of an event.
-fn put_aborts(text: &mut [u8], first: EventAbort, answer: Answer, backs: PutBacks) -> usize
-    requires { ⌜ (maxText ≤ length (now text)) × (PutBacksOk backs) × (BacksOnce first answer (putBacksOf backs)) ⌝ }
-    ensures { λ r. ⌜ PutShort maxText (now (text .entry)) (now (text .exit)) 0 r (answersText (answersOf first answer backs)) ⌝ }
-{
-    let EventAbort::Abort(id) = first else {
-        let Answer::Aborted(own) = answer else {
-            return line_print::put_answer(text, 0, answer, MaybePutBack::Nothing);
-        };
-        return line_print::put_abort(text, 0, own, backs);
-    };
-    let at = line_print::put_abort(text, 0, id, backs);
-    line_print::put_answer(text, at, answer, MaybePutBack::Nothing)
-}
-
 // The answers of a call.
 pub fn put_answers(text: &mut [u8], hub: Hub, decision: Decision) -> usize
     requires { ⌜ (Valid hub) × (WasDecidedOn hub decision) × (maxText ≤ length (now text)) ⌝ }
@@ -170,7 +126,7 @@ pub fn put_answers(text: &mut [u8], hub: Hub, decision: Decision) -> usize
     let answer = decision.answer;
     if aborts(decision) {
         let backs = hub::put_backs(hub, decision);
-        return put_aborts(text, first, answer, backs);
+        return line_print::put_aborts(text, 0, first, answer, backs);
     }
     let back = decision.back;
     line_print::put_answer(text, 0, answer, back)

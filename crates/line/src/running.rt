@@ -1,7 +1,4 @@
-// Lines in turn, and the whole program, by value. A buffer that is too short stays as it was, so the text is measured first, on a buffer of
-// one byte. Where there is room for any text of so many lines, it is not measured.
-use crate::TOO_SHORT;
-use crate::Written;
+// Lines in turn, by value, and how long a text is: it is measured on a buffer of one byte.
 use crate::lines;
 use hub::Hub;
 use hub_state::Change;
@@ -18,7 +15,7 @@ ghost use Rattle.line_rules.specs.Pieces.{linesOf};
 ghost use Rattle.line_rules.specs.Program.{steps, runFrom};
 ghost use Rattle.hub.specs.Valid.{Valid};
 ghost use Rattle.line.specs.View.{hubIn};
-ghost use Rattle.line.specs.Contract.{partLength, Ample, Runs, RunsLines, Measures};
+ghost use Rattle.line.specs.Contract.{partLength, Ample, RunsLines, Measures};
 
 // Ends of lines are counted in parts of so many bytes: a byte holds their number, and the count of many bytes is one operation.
 const PART_LENGTH: usize = 240;
@@ -47,11 +44,11 @@ pub fn run_lines(hub: Hub, input: &[u8], out: &mut [u8], room: usize) -> Lines
         let next = lines::next_line(input, from, hub::device_count(now));
         let routine = next.routine;
         let said = next.said;
-        let mut printed = line_print::put_unread(&mut text, 0);
+        let mut printed = 0;
         match said {
             Line::Open(devices, pass_limit, first_id) => {
                 let verdict = hub::check_opening(devices, pass_limit, first_id);
-                printed = lines::put_opening(&mut text, verdict);
+                printed = line_print::put_opening(&mut text, 0, verdict);
                 if lines::is_accepted(verdict) {
                     let opened = hub::open(devices, pass_limit, first_id);
                     now = opened.hub;
@@ -76,11 +73,11 @@ pub fn run_lines(hub: Hub, input: &[u8], out: &mut [u8], room: usize) -> Lines
                         slot,
                     ),
                 }
-                if !lines::keeps_hub(answer) && hub::settles(now) {
+                if !hub_answers::changes_nothing(answer) && hub::settles(now) {
                     now = hub::settle(now);
                 }
             }
-            Line::Unread => {}
+            Line::Unread => printed = line_print::put_unread(&mut text, 0),
         }
         at = line_print::put_text(out, at, &text[..printed]);
         from = next.end + 1;
@@ -105,7 +102,7 @@ fn ends_in(part: &[u8]) -> u8
 }
 
 // Is there room for any text of so many lines, and as much again for the device lines?
-fn is_ample(input: &[u8], room: usize) -> bool
+pub fn is_ample(input: &[u8], room: usize) -> bool
     ensures { λ r. ⌜ (r ≡ true → Ample (now (input .entry)) room) ⌝ }
 {
     let most = room / MAX_TEXT;
@@ -124,7 +121,7 @@ fn is_ample(input: &[u8], room: usize) -> bool
 }
 
 // How long the text of the lines is; or a number past the room, if it is longer than that.
-fn lines_length(hub: Hub, input: &[u8], room: usize) -> usize
+pub fn lines_length(hub: Hub, input: &[u8], room: usize) -> usize
     requires { ⌜ (Valid hub) × (room < 2 ^ 63) ⌝ }
     ensures { λ r. ⌜ Measures (steps (hubIn hub) (linesOf (now (input .entry))) .text) (now (input .entry)) room r ⌝ }
 {
@@ -134,7 +131,7 @@ fn lines_length(hub: Hub, input: &[u8], room: usize) -> usize
 }
 
 // The same of the whole text.
-fn whole_length(hub: Hub, input: &[u8], room: usize) -> usize
+pub fn whole_length(hub: Hub, input: &[u8], room: usize) -> usize
     requires { ⌜ (Valid hub) × (room < 2 ^ 63) ⌝ }
     ensures { λ r. ⌜ Measures (runFrom (hubIn hub) (now (input .entry)) .text) (now (input .entry)) room r ⌝ }
 {
@@ -144,54 +141,6 @@ fn whole_length(hub: Hub, input: &[u8], room: usize) -> usize
         return ran.at;
     }
     let next = ran.hub;
-    lines::put_devices(next, &mut nowhere, ran.at)
-}
-
-// The lines of an input.
-pub fn run_part(hub: Hub, input: &[u8], out: &mut [u8]) -> Written
-    requires { ⌜ Valid hub ⌝ }
-    ensures { λ r. ⌜ Runs (steps (hubIn hub) (linesOf (now (input .entry)))) (now (input .entry)) hub (r .hub)
-        (now (out .entry)) (now (out .exit)) (r .result) ⌝ }
-{
-    let room = out.len();
-    if !is_ample(input, room) {
-        let length = lines_length(hub, input, room);
-        if room < length {
-            return Written {
-                hub,
-                result: TOO_SHORT,
-            };
-        }
-    }
-    let ran = run_lines(hub, input, out, room);
-    let next = ran.hub;
-    Written {
-        hub: next,
-        result: ran.at as i64,
-    }
-}
-
-// The lines of an input, and then the device lines.
-pub fn run_whole(hub: Hub, input: &[u8], out: &mut [u8]) -> Written
-    requires { ⌜ Valid hub ⌝ }
-    ensures { λ r. ⌜ Runs (runFrom (hubIn hub) (now (input .entry))) (now (input .entry)) hub (r .hub)
-        (now (out .entry)) (now (out .exit)) (r .result) ⌝ }
-{
-    let room = out.len();
-    if !is_ample(input, room) {
-        let length = whole_length(hub, input, room);
-        if room < length {
-            return Written {
-                hub,
-                result: TOO_SHORT,
-            };
-        }
-    }
-    let ran = run_lines(hub, input, out, room);
-    let next = ran.hub;
-    let end = lines::put_devices(next, out, ran.at);
-    Written {
-        hub: next,
-        result: end as i64,
-    }
+    let devices = lines::devices_of(next);
+    line_print::put_devices(&mut nowhere, ran.at, devices)
 }

@@ -2,27 +2,38 @@
 use mathlib.Core.Path.{_≡_, refl, sym, ap, ap₂, _∙_, subst}
 use mathlib.Core.Bool.{true, false}
 use mathlib.Core.List.{List, [], _∷_, _++_, append-nil, append-assoc, map, map-append}
-use Prim.Native.Nat.{ℕ, _+_, _≤_, _<_}
+use Prim.Native.Nat.{ℕ, zero, suc, _+_, _≤_, _<_}
+use native.Mathlib.Nat.{add-zero, zero-add}
 use native.Mathlib.Numerals.{add-one}
 use native.Mathlib.Omega.{arith}
 use borrow.Author.Tests.{ltb-true}
+use types.Run.{OneOf, miss}
+use denote.Enum.Declared.{tagOf}
 use lib.Dec.{T}
 use lib.IntN.{ℤ, pos, negsuc, natAbs, _-ℤ_}
-use lib.ListN.{length, take, getD, length-append, length-map}
-use lib.Seq.{sets, take-suc, length-take-le}
+use lib.ListN.{length, take, drop, getD, length-append, length-map}
+use lib.Seq.{sets, sets-eq, length-sets, take-at, take-suc, length-take-le}
 use lib.Signed.{ltZ, nonNeg}
 use mir.Syntax.{w16, w64}
 use mir.Val.{SFits, toZ, ofZ}
 use mir.Facts.{toZ-ofZ}
 use Rattle.rules_routine.proofs.RoutineLaws.{sets-append}
-use Rattle.rules.specs.Answers.{Back, Answer}
-use Rattle.hub_answers.specs.View.{backOf, putBacksOf}
+use Rattle.rules.specs.Answers.{Back, Answer as Said, aborted}
+use Rattle.hub_answers.specs.View.{backOf, putBacksOf, answerOf, answersOf}
+use Rattle.hub_answers.specs.declared.Answer.{Answer}
+use Rattle.hub_answers.specs.declared.Answer.the-variants.{Aborted}
+use Rattle.hub_answers.specs.declared.EventAbort.{EventAbort}
+use Rattle.hub_answers.specs.declared.EventAbort.the-variants.{NoAbort, Abort}
 use Rattle.hub_answers.specs.declared.PutBack.{PutBack}
 use Rattle.hub_answers.specs.declared.PutBacks.{PutBacks}
+use Rattle.hub_answers.proofs.Answer.{the-type}
+use Rattle.hub_answers.proofs.Cases.{notAborted}
 use Rattle.line_rules.specs.Text.{minus, bytes, decimal, signed}
 use Rattle.line_rules.specs.Reading.{lowest16}
 use Rattle.line_rules.specs.Printing.{asLine, backList, answerText, answersText}
-use Rattle.line_print.specs.Put.{Put, PutShort}
+use Rattle.line_print.specs.Put.{halfText, maxText, Put, PutShort}
+use Rattle.line_print.specs.Texts.{BacksOnce, lineOf, linesFrom}
+use Rattle.line_print.specs.declared.Devices.{Devices}
 
 -- ---- one behind another
 
@@ -58,6 +69,30 @@ as-text {k} {a} {b} {at} {e} h p = subst (λ (l : List ℕ). PutShort k a b at e
 pub reaches : {k : ℕ} {a b : List ℕ} {at e : ℕ} {t : List ℕ} → PutShort k a b at e t → e ≤ at + k
 reaches p = omega (arith, p .put .ends, p .short)
 
+-- ---- a text in a buffer in which it fits
+
+module _ {most : ℕ} {before after : List ℕ} {end : ℕ} {text : List ℕ} (p : PutShort most before after 0 end text) where
+  pub same-room : length after ≡ length before
+  same-room = ap length (p .put .is) ∙ length-sets before 0 text
+
+  pub end-is : end ≡ length text
+  end-is = p .put .ends ∙ zero-add (length text)
+
+  -- what stands there is the text
+  pub stands-there : most ≤ length before → take end after ≡ text
+  stands-there fits =
+      ap (take end) (p .put .is ∙ sets-eq text before 0 (omega (arith, p .short)))
+      ∙ take-at text (drop (0 + length text) before) end (sym end-is)
+
+  pub end-fits : most ≤ length before → end ≤ length after
+  end-fits fits = omega (arith, p .short, end-is, same-room)
+
+  -- and so it is put where it is copied to
+  pub copied : {out out′ : List ℕ} {at at′ : ℕ} → most ≤ length before → Put out out′ at at′ (take end after) →
+      PutShort most out out′ at at′ text
+  copied {out} {out′} {at} {at′} fits q =
+      record { put = subst (λ (t : List ℕ). Put out out′ at at′ t) (stands-there fits) q; short = p .short }
+
 -- ---- the texts of answers
 
 abbrev pub oneBack : Back → List ℕ
@@ -86,16 +121,65 @@ pub backs-count : (b : PutBacks) → b .count ≤ length (b .items) → length (
 backs-count b h = length-map (take (b .count) (b .items)) backOf ∙ length-take-le (b .count) (b .items) h
 
 -- the answers of a call, for who prints them one by one
-pub answers-one : (a : Answer) → answersText (a ∷ []) ≡ asLine (answerText a)
+pub answers-one : (a : Said) → answersText (a ∷ []) ≡ asLine (answerText a)
 unfolding answersText
 answers-one a = append-nil (asLine (answerText a))
 
-pub answers-append : (k l : List Answer) → answersText (k ++ l) ≡ answersText k ++ answersText l
+pub answers-append : (k l : List Said) → answersText (k ++ l) ≡ answersText k ++ answersText l
 unfolding answersText
 answers-append [] l = refl
 answers-append (a ∷ k) l =
     ap (λ (t : List ℕ). asLine (answerText a) ++ t) (answers-append k l)
     ∙ sym (append-assoc (asLine (answerText a)) (answersText k) (answersText l))
+
+-- ---- the answers of an abort
+
+-- there is one
+pub put-neither : {first : EventAbort} (answer : Answer) (backs : PutBacks) {P : Type 0} → first ≡ NoAbort →
+    BacksOnce first answer (putBacksOf backs) →
+    OneOf notAborted (tagOf the-type answer) → P
+put-neither answer backs e k h =
+    let own = subst (λ (f : EventAbort). BacksOnce f answer (putBacksOf backs)) e k in
+    absurd (miss notAborted 7 tt (subst (λ (a : Answer). OneOf notAborted (tagOf the-type a)) (own .1) h))
+
+module _ {first : EventAbort} (answer : Answer) (backs : PutBacks) {a b : List ℕ} {at m : ℕ} where
+  -- the call's own
+  pub put-own : (i : ℕ) → first ≡ NoAbort → answer ≡ Aborted i →
+      PutShort halfText a b at m (asLine (answerText (aborted i (putBacksOf backs)))) →
+      PutShort maxText a b at m (answersText (answersOf first answer backs))
+  put-own i e k p =
+      as-text
+      (sym (answers-one (aborted i (putBacksOf backs))) ∙ (λ j. answersText (answersOf (sym e j) (sym k j) backs)))
+      (within (omega arith) p)
+
+  -- one before the answer
+  pub put-both : {c : List ℕ} {end : ℕ} (i : ℕ) → first ≡ Abort i → BacksOnce first answer (putBacksOf backs) →
+      PutShort halfText a b at m (asLine (answerText (aborted i (putBacksOf backs)))) →
+      PutShort halfText b c m end (asLine (answerText (answerOf answer []))) →
+      PutShort maxText a c at end (answersText (answersOf first answer backs))
+  put-both i e k p q =
+      let l = putBacksOf backs in
+      let once = subst (λ (f : EventAbort). BacksOnce f answer l) e k in
+      as-text
+      (sym
+      (ap (λ (f : EventAbort). answersText (answersOf f answer backs)) e
+      ∙ answers-append (aborted i l ∷ []) (answerOf answer l ∷ [])
+      ∙ (λ j. answers-one (aborted i l) j ++ answers-one (sym once j) j)))
+      (short-then p q)
+
+-- ---- the device lines
+
+lines-more : (t : Devices) (d n : ℕ) → linesFrom t d (suc n) ≡ linesFrom t d n ++ lineOf t (d + n)
+unfolding linesFrom
+lines-more t d zero = append-nil (lineOf t d) ∙ ap (lineOf t) (sym (add-zero d))
+lines-more t d (suc n) =
+    let e : suc d + n ≡ d + suc n = omega arith in
+    ap (λ (l : List ℕ). lineOf t d ++ l) (lines-more t (suc d) n)
+    ∙ sym (append-assoc (lineOf t d) (linesFrom t (suc d) n) (lineOf t (suc d + n)))
+    ∙ ap (λ (k : ℕ). linesFrom t d (suc n) ++ lineOf t k) e
+
+pub lines-next : (t : Devices) (n : ℕ) → linesFrom t 0 (n + 1) ≡ linesFrom t 0 n ++ lineOf t n
+lines-next t n = ap (linesFrom t 0) (add-one n) ∙ lines-more t 0 n ∙ ap (λ (k : ℕ). linesFrom t 0 n ++ lineOf t k) (zero-add n)
 
 -- ---- a setting's size, as the code has it
 

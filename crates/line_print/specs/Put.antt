@@ -41,6 +41,10 @@ maxText = 2 * halfText
 abbrev pub maxDeviceLine : ℕ
 maxDeviceLine = 25
 
+-- Nor are all of them.
+abbrev pub maxEnd : ℕ
+maxEnd = maxDevices * maxDeviceLine
+
 -- The buffer has the text from a place on, as far as it reaches; and the place behind the text.
 pub record Put (before after : List ℕ) (at end : ℕ) (text : List ℕ) : Type 0 where
   pub is : after ≡ sets before at text

@@ -5,17 +5,22 @@ mod text;
 mod words;
 
 use hub_answers::Answer;
+use hub_answers::EventAbort;
 use hub_answers::MaybePutBack;
 use hub_answers::PutBacks;
 use rules_routine::Refusal;
+use rules_routine::Verdict;
+use rules_routine::limits::MAX_DEVICES;
 ghost use mathlib.Core.Path.{_≡_};
 ghost use Prim.Native.Nat.{_+_, _-_, _<_, _≤_, _^_, min};
 ghost use lib.ListN.{length};
+ghost use Rattle.rules_routine.specs.Limits.{maxDevices};
 ghost use Rattle.rules.specs.Answers.{aborted};
 ghost use Rattle.line_rules.specs.Text.{bytes};
-ghost use Rattle.line_rules.specs.Printing.{asLine, refusalText, answerText, deviceTextOf};
-ghost use Rattle.hub_answers.specs.View.{putBacksOf, oneOf, answerOf, PutBacksOk};
-ghost use Rattle.line_print.specs.Put.{halfText, maxText, maxDeviceLine, Put, PutShort};
+ghost use Rattle.line_rules.specs.Printing.{asLine, refusalText, answerText, answersText, deviceTextOf};
+ghost use Rattle.hub_answers.specs.View.{putBacksOf, oneOf, answerOf, answersOf, PutBacksOk};
+ghost use Rattle.line_print.specs.Put.{halfText, maxText, maxDeviceLine, maxEnd, Put, PutShort};
+ghost use Rattle.line_print.specs.Texts.{openingText, BacksOnce, devicesText};
 
 // The answers of a line are not longer: the size of the buffer that they are put into.
 pub const MAX_TEXT: usize = 800;
@@ -31,7 +36,7 @@ pub fn put_unread(out: &mut [u8], at: usize) -> usize
     text::put_word(out, at, b"unread\n")
 }
 
-pub fn put_opened(out: &mut [u8], at: usize) -> usize
+fn put_opened(out: &mut [u8], at: usize) -> usize
     requires { ⌜ at + maxText ≤ length (now out) ⌝ }
     ensures { λ r. ⌜ PutShort maxText (now (out .entry)) (now (out .exit)) at r (asLine (bytes "opened")) ⌝ }
 {
@@ -39,7 +44,7 @@ pub fn put_opened(out: &mut [u8], at: usize) -> usize
 }
 
 // "Refusals print `refused`, the number and the index if there is one."
-pub fn put_refusal(out: &mut [u8], at: usize, refusal: Refusal) -> usize
+fn put_refusal(out: &mut [u8], at: usize, refusal: Refusal) -> usize
     requires { ⌜ at + maxText ≤ length (now out) ⌝ }
     ensures { λ r. ⌜ PutShort maxText (now (out .entry)) (now (out .exit)) at r (asLine (refusalText refusal)) ⌝ }
 {
@@ -47,8 +52,19 @@ pub fn put_refusal(out: &mut [u8], at: usize, refusal: Refusal) -> usize
     text::put_end(out, end)
 }
 
+// What an opening prints.
+pub fn put_opening(out: &mut [u8], at: usize, verdict: Verdict) -> usize
+    requires { ⌜ at + maxText ≤ length (now out) ⌝ }
+    ensures { λ r. ⌜ PutShort maxText (now (out .entry)) (now (out .exit)) at r (openingText verdict) ⌝ }
+{
+    match verdict {
+        Verdict::Accepted => put_opened(out, at),
+        Verdict::Refused(refusal) => put_refusal(out, at, refusal),
+    }
+}
+
 // An abort, on a line of its own.
-pub fn put_abort(out: &mut [u8], at: usize, id: u32, backs: PutBacks) -> usize
+fn put_abort(out: &mut [u8], at: usize, id: u32, backs: PutBacks) -> usize
     requires { ⌜ (at + halfText ≤ length (now out)) × PutBacksOk backs ⌝ }
     ensures { λ r. ⌜ PutShort halfText (now (out .entry)) (now (out .exit)) at r (asLine (answerText (aborted id (putBacksOf backs)))) ⌝ }
 {
@@ -65,8 +81,29 @@ pub fn put_answer(out: &mut [u8], at: usize, answer: Answer, back: MaybePutBack)
     text::put_end(out, end)
 }
 
+// The answers of a call by which a routine aborts: the abort on a line, and behind it the answer of an event.
+pub fn put_aborts(
+    out: &mut [u8],
+    at: usize,
+    first: EventAbort,
+    answer: Answer,
+    backs: PutBacks,
+) -> usize
+    requires { ⌜ (at + maxText ≤ length (now out)) × (PutBacksOk backs) × (BacksOnce first answer (putBacksOf backs)) ⌝ }
+    ensures { λ r. ⌜ PutShort maxText (now (out .entry)) (now (out .exit)) at r (answersText (answersOf first answer backs)) ⌝ }
+{
+    let EventAbort::Abort(id) = first else {
+        let Answer::Aborted(own) = answer else {
+            return put_answer(out, at, answer, MaybePutBack::Nothing);
+        };
+        return put_abort(out, at, own, backs);
+    };
+    let behind = put_abort(out, at, id, backs);
+    put_answer(out, behind, answer, MaybePutBack::Nothing)
+}
+
 // "one line a device, with its due setting if it is up"
-pub fn put_device(out: &mut [u8], at: usize, device: u8, up: bool, due: i16) -> usize
+fn put_device(out: &mut [u8], at: usize, device: u8, up: bool, due: i16) -> usize
     requires { ⌜ at + maxDeviceLine ≤ length (now out) ⌝ }
     ensures { λ r. ⌜ PutShort maxDeviceLine (now (out .entry)) (now (out .exit)) at r (asLine (deviceTextOf device up due)) ⌝ }
 {
@@ -106,4 +143,31 @@ pub fn put_text(out: &mut [u8], at: usize, text: &[u8]) -> usize
         i += 1;
     }
     at + text.len()
+}
+
+// What the device lines tell: how many devices there are, and of each whether it is up and its due setting.
+pub struct Devices {
+    pub count: u8,
+    pub up: [bool; MAX_DEVICES],
+    pub due: [i16; MAX_DEVICES],
+}
+
+// "At the end, if a hub was opened, one line a device"
+pub fn put_devices(out: &mut [u8], at: usize, devices: Devices) -> usize
+    requires { ⌜ (devices .count ≤ maxDevices) × (at + maxEnd < 2 ^ 64) ⌝ }
+    ensures { λ r. ⌜ PutShort maxEnd (now (out .entry)) (now (out .exit)) at r (devicesText devices) ⌝ }
+{
+    let count = devices.count;
+    let mut text = [0u8; MAX_DEVICE_LINE];
+    let mut to = at;
+    let mut device: u8 = 0;
+    while device < count {
+        let d = device as usize;
+        let up = devices.up[d];
+        let due = devices.due[d];
+        let end = put_device(&mut text, 0, device, up, due);
+        to = put_text(out, to, &text[..end]);
+        device += 1;
+    }
+    to
 }

@@ -1,7 +1,5 @@
 // The line program from standard input to standard output: document 01, "The line program". The input may have any length: a piece is read,
 // crate `line_parts` takes it, and what it prints is written before the next is read.
-mod standard;
-
 use hub::Hub;
 ghost use Prim.Native.Nat.{suc, _<_, _≤_};
 ghost use lib.ListN.{length};
@@ -19,7 +17,7 @@ struct Read {
 fn print(text: &[u8]) -> bool
     requires { ⌜ Adds (now text) ⌝ }
 {
-    standard::write_out(text)
+    run_streams::write_out(b"plot_hub", text)
 }
 
 // Piece by piece to the end of the input. Nothing says that an input ends, so the loop counts its turns down.
@@ -31,7 +29,7 @@ fn read_all(input: &mut [u8], out: &mut [u8]) -> Read
     let mut pending = 0usize;
     let mut turns = u64::MAX;
     while turns > 0 {
-        let got = standard::read_behind(input, pending);
+        let got = run_streams::read_behind(b"plot_hub", input, pending);
         if got.count == 0 {
             return Read {
                 hub,

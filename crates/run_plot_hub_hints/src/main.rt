@@ -5,7 +5,6 @@ mod said;
 use hub::Hub;
 use line_hints::Hint;
 use line_print::MAX_TEXT;
-use run_streams::Got;
 ghost use Prim.Native.Nat.{_+_, _<_, _≤_};
 ghost use lib.ListN.{length};
 ghost use Rattle.hub.specs.Valid.{Valid};
@@ -97,14 +96,6 @@ fn take_lines(tally: Tally, input: &[u8], out: &mut [u8]) -> Tally
     so_far
 }
 
-// Reads into the input behind the pending bytes. What cannot be read is told under the name of the command.
-fn read_behind(input: &mut [u8], pending: usize) -> Got
-    requires { ⌜ pending ≤ length (now input) ⌝ }
-    ensures { λ r. ⌜ pending + r .count ≤ length (now (input .entry)) ⌝ }
-{
-    run_streams::read_behind(b"plot_hub", input, pending)
-}
-
 // The lines so far, and how many bytes are pending of a line whose end has not come.
 struct Taken {
     tally: Tally,
@@ -132,7 +123,8 @@ struct Read {
     good: bool,
 }
 
-// Piece by piece to the end of the input. Nothing says that an input ends, so the loop counts its turns down.
+// Piece by piece to the end of the input. Nothing says that an input ends, so the loop counts its turns down. What cannot be read is told
+// under the name of the command.
 fn read_all(input: &mut [u8], out: &mut [u8]) -> Read
     requires { ⌜ 0 < length (now out) ⌝ }
     ensures { λ r. ⌜ (Valid (r .tally .hub)) × (r .pending ≤ length (now (input .exit))) ⌝ }
@@ -148,7 +140,7 @@ fn read_all(input: &mut [u8], out: &mut [u8]) -> Read
     let mut pending = 0usize;
     let mut turns = u64::MAX;
     while turns > 0 {
-        let got = read_behind(input, pending);
+        let got = run_streams::read_behind(b"plot_hub", input, pending);
         if got.count == 0 {
             return Read {
                 tally,

@@ -1,5 +1,5 @@
 -- `run` meets its contract: a walk of its MIR by hand, since a `&mut` to a struct is not covered. The borrow is opened, the hub behind it
--- is read whole, `running::run_whole` is called on it by value with the two slices, and its result's hub is stored whole. Assumes nothing.
+-- is read whole, `run_last` is called on it by value with the two slices, and its result's hub is stored whole. Assumes nothing.
 use mathlib.Core.Path.{_≡_, refl}
 use Prim.Native.Nat.{ℕ}
 use mathlib.Core.List.{[], _∷_, List}
@@ -56,10 +56,10 @@ use Rattle.line.specs.Contract.{Runs}
 use Rattle.line.specs.declared.Written.{Written}
 use Rattle.line.proofs.Written as O
 use Rattle.line.proofs.Written.Laws as O′
-use Rattle.line.proofs.running.run_whole as by-value
-use Rattle.line.proofs.running.run_whole.Symbol as by-value-def
-use Rattle.line.proofs.running.run_whole.Symbol.{name as #run-whole}
-use Rattle.line.proofs.running.run_whole.Met as by-value-thm
+use Rattle.line.proofs.run_last as by-value
+use Rattle.line.proofs.run_last.Symbol as by-value-def
+use Rattle.line.proofs.run_last.Symbol.{name as #run-last}
+use Rattle.line.proofs.run_last.Met as by-value-thm
 use Rattle.line.proofs.run.Key.{name as #run}
 use Rattle.line.proofs.run as f
 use Rattle.line.proofs.run.Statement as stated
@@ -84,8 +84,8 @@ sval s = sliceVal (s .ptr) (length (s .now))
 
 module _ {M : Type 1} (𝓤 : URA M) (H : Heap 𝓤) (A : Atoms 𝓤) (at-mem : Memory → SProp 𝓤) (run : Routine → Fun 𝓤) where
   -- the contract that the proof cites
-  abbrev RunWhole : Contract 𝓤
-  RunWhole = tripleOf 𝓤 H A by-value.signature (by-value.spec 𝓤 H A at-mem run)
+  abbrev RunLast : Contract 𝓤
+  RunLast = tripleOf 𝓤 H A by-value.signature (by-value.spec 𝓤 H A at-mem run)
 
 module _ {M : Type 1} (𝓤 : URA M) (H : Heap 𝓤) (A : Atoms 𝓤) (W : Given 𝓤 H A) (at-mem : Memory → SProp 𝓤) (run : Routine → Fun 𝓤)
     (κ₀ κ₁ κ₂ : Lft) (q₀ q₁ q₂ : Share) (b o : ℕ) (γ : GName) (h : Hub) (s t : RefT (List ℕ)) where
@@ -95,11 +95,11 @@ module _ {M : Type 1} (𝓤 : URA M) (H : Heap 𝓤) (A : Atoms 𝓤) (W : Given
   abbrev at : List Val × (List Val × (List Val × Unit {0}))
   at = (vptr b o ∷ [], (sval s ∷ [], (sval t ∷ [], tt)))
 
-  -- what `run_whole` says
+  -- what `run_last` says
   abbrev Says : Written → List ℕ → Type 0
   Says r zs = Runs (runFrom (hubIn h) (s .now)) (s .now) h (r .hub) (t .now) zs (r .result)
 
-  abbrev to : RunWhole 𝓤 H A at-mem run .Ghost
+  abbrev to : RunLast 𝓤 H A at-mem run .Ghost
   to = (((κ₁, (κ₂, tt)), (q₁, (q₂, tt)), tt, (h, (s, (t, tt))), (vals h, (sval s ∷ [], (sval t ∷ [], tt)))), tt)
 
   -- the slices' tokens
@@ -110,8 +110,8 @@ module _ {M : Type 1} (𝓤 : URA M) (H : Heap 𝓤) (A : Atoms 𝓤) (W : Given
   Passed = owns (T.the-row ∷ ShrSlice (named 0) κ₁ u8 ∷ MutSlice (named 1) κ₂ u8 ∷ []) (h, (s, (t, tt)))
       (vals h, (sval s ∷ [], (sval t ∷ [], tt)))
 
-  goes-whole : Valid h → ent 𝓤 (⋆ 𝓤 H A (Tokens ∷ ‵ Passed ∷ [])) (RunWhole 𝓤 H A at-mem run .pre to)
-  goes-whole valid = qed W (Tokens ∷ ‵ Passed ∷ []) ∵ says ! valid $ frame ! $ done !
+  goes-last : Valid h → ent 𝓤 (⋆ 𝓤 H A (Tokens ∷ ‵ Passed ∷ [])) (RunLast 𝓤 H A at-mem run .pre to)
+  goes-last valid = qed W (Tokens ∷ ‵ Passed ∷ []) ∵ says ! valid $ frame ! $ done !
 
   abbrev Post : Val → SProp 𝓤
   Post = walkOf 𝓤 H A f.ended stayed (f.clauses 𝓤 H A at-mem run) .post (((κ₀, (κ₁, (κ₂, tt))), (q₀, (q₁, (q₂, tt))), tt, x, at), tt)
@@ -137,7 +137,7 @@ module _ {M : Type 1} (𝓤 : URA M) (H : Heap 𝓤) (A : Atoms 𝓤) (W : Given
       move ! (1 ∷ 0 ∷ []) $ fjoin ! $
       owned ! i64 (Is i64) (sint-makes 𝓤 H A W w64) (r .result) _ is $ move ! (1 ∷ 0 ∷ []) $ done !
 
-  module _ (C : Calls 𝓤 H) (Λ : Loops 𝓤 H) (fm : FmC 𝓤 H (W .laws) C) (known : Triple 𝓤 (C #run-whole) (RunWhole 𝓤 H A at-mem run)) where
+  module _ (C : Calls 𝓤 H) (Λ : Loops 𝓤 H) (fm : FmC 𝓤 H (W .laws) C) (known : Triple 𝓤 (C #run-last) (RunLast 𝓤 H A at-mem run)) where
     walk : Valid h → Room u8 (length (s .now)) → Room u8 (length (t .now))
         → ent 𝓤 (onEntry 𝓤 H A f.signature (κ₀, (κ₁, (κ₂, tt))) (q₀, (q₁, (q₂, tt))) x at)
         (WpFn 𝓤 H C Λ code.function (vptr b o ∷ sval s ∷ sval t ∷ []) Post)
@@ -164,10 +164,10 @@ module _ {M : Type 1} (𝓤 : URA M) (H : Heap 𝓤) (A : Atoms 𝓤) (W : Given
         assigns ! (agg ! (and-then ! (load ! (from ! (stop !)) (look ! 7 refl))
         (and-then ! (load ! (from ! (fld ! refl (stop !))) (look-in ! 13 (sub ! 1 refl (whole !)))) (no-more !)))) (from ! (stop !))
         (init ! 5 refl (tt, (tt, (record { fits = room₂ .0 }, tt)))) $
-        -- the call of `run_whole`, which gets the slices for good
-        move ! (1 ∷ 21 ∷ []) $ fjoin ! $ move ! (21 ∷ 0 ∷ []) $ use2 W (raw (RunWhole 𝓤 H A at-mem run .pre to)) (goes-whole valid) $
+        -- the call of `run_last`, which gets the slices for good
+        move ! (1 ∷ 21 ∷ []) $ fjoin ! $ move ! (21 ∷ 0 ∷ []) $ use2 W (raw (RunLast 𝓤 H A at-mem run .pre to)) (goes-last valid) $
         -- [what it asks; the cell; the open borrow; obs; auth; _7 at 5; _6 at 7; _5 at 9; _4 at 11; _3 at 13; _2 at 15; _1 at 17; _0 at 19]
-        calls-at ! fm (RunWhole 𝓤 H A at-mem run) known to (and-then ! (load ! (from ! (stop !)) (look ! 9 refl))
+        calls-at ! fm (RunLast 𝓤 H A at-mem run) known to (and-then ! (load ! (from ! (stop !)) (look ! 9 refl))
         (and-then ! (load ! (from ! (stop !)) (look ! 15 refl)) (and-then ! (load ! (from ! (stop !)) (look ! 5 refl)) (no-more !)))) (λ v.
         use1 W (later (some (λ (r : Written). (Tokens ⊛ ‵ (O.the-row .own r (v ∷ [])))
         ⊛ raw (ensured 𝓤 H A by-value.ended (by-value.clauses 𝓤 H A at-mem run) (κ₁, (κ₂, tt)) (h, (s, (t, tt))) tt r)))) (id⊢ 𝓤 _)
@@ -204,7 +204,7 @@ module _ {M : Type 1} (𝓤 : URA M) (H : Heap 𝓤) (A : Atoms 𝓤) (W : Given
         $ by ! (exits r (zs .1 .1 .0) e l (LL.owed O.the-type O′.the-laws r (v ∷ []) is .1 .0))))))))))))))))))
 
 module _ {M : Type 1} (𝓤 : URA M) (H : Heap 𝓤) (A : Atoms 𝓤) (W : Given 𝓤 H A) (at-mem : Memory → SProp 𝓤) (run : Routine → Fun 𝓤) where
-  run-walks : (C : Calls 𝓤 H) (Λ : Loops 𝓤 H) → FmC 𝓤 H (W .laws) C → Triple 𝓤 (C #run-whole) (RunWhole 𝓤 H A at-mem run)
+  run-walks : (C : Calls 𝓤 H) (Λ : Loops 𝓤 H) → FmC 𝓤 H (W .laws) C → Triple 𝓤 (C #run-last) (RunLast 𝓤 H A at-mem run)
       → Walks 𝓤 H A f.ended stayed (WpFn 𝓤 H C Λ code.function) (f.clauses 𝓤 H A at-mem run)
   run-walks C Λ fm known = walked 𝓤 H A f.ended stayed (f.clauses 𝓤 H A at-mem run) (WpFn 𝓤 H C Λ code.function)
       (λ κs. (ptr-vals, (slice-vals, (slice-vals, tt))))
@@ -225,7 +225,7 @@ module _ {M : Type 1} (𝓤 : URA M) (H : Heap 𝓤) (A : Atoms 𝓤) (W : Given
 
 run-meets : {M : Type 1} (𝓤 : URA M) (H : Heap 𝓤) (A : Atoms 𝓤) (W : Given 𝓤 H A) (at-mem : Memory → SProp 𝓤) (run : Routine → Fun 𝓤)
     (𝓣 : Tables 𝓤 H)
-    → Triple 𝓤 (𝓣 .C #run-whole) (RunWhole 𝓤 H A at-mem run)
+    → Triple 𝓤 (𝓣 .C #run-last) (RunLast 𝓤 H A at-mem run)
     → Meets 𝓤 H A f.signature (WpFn 𝓤 H (𝓣 .C) (𝓣 .Λ) code.function) (f.spec 𝓤 H A at-mem run)
 run-meets 𝓤 H A W at-mem run 𝓣 known = walk-meets 𝓤 H A f.ended stayed W (goes 𝓤 H A W at-mem run) (f.clauses 𝓤 H A at-mem run)
     (WpFn 𝓤 H (𝓣 .C) (𝓣 .Λ) code.function) (WpFn-mono 𝓤 H (W .laws) 𝓣 code.function)
@@ -237,5 +237,5 @@ run-spec 𝓤 H 𝓜 𝓖 𝓡 =
     entered 𝓤 H (tripleOf 𝓤 H (𝓖 .A) f.signature (f.spec 𝓤 H (𝓖 .A) (𝓜 .mem) (𝓡 .run)))
     (tables 𝓤 H 𝓜 𝓡 code.env .C) (tables 𝓤 H 𝓜 𝓡 code.env .Λ) #run code.function (code.unfolded 𝓤 H 𝓜 𝓡)
     (run-meets 𝓤 H (𝓖 .A) (givenOf 𝓤 H 𝓜 𝓖) (𝓜 .mem) (𝓡 .run) (tablesOf 𝓤 H 𝓜 (tables 𝓤 H 𝓜 𝓡 code.env))
-    (cited 𝓤 H (RunWhole 𝓤 H (𝓖 .A) (𝓜 .mem) (𝓡 .run)) 𝓜 𝓡 code.env #run-whole by-value-def.routine code.calls-line·running·run-whole
+    (cited 𝓤 H (RunLast 𝓤 H (𝓖 .A) (𝓜 .mem) (𝓡 .run)) 𝓜 𝓡 code.env #run-last by-value-def.routine code.calls-line·run-last
     (by-value-thm.met 𝓤 H 𝓜 𝓖 𝓡)))

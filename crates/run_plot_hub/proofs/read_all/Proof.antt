@@ -11,19 +11,20 @@ use Rattle.run_plot_hub.proofs.read_all.Statement.{statement}
 use Rattle.run_plot_hub.proofs.read_all.Tie as tie
 
 abbrev Inv-loop : tie.InvT-loop
-Inv-loop input₀ out₀ hub₀ pending₀ turns₀ input out hub pending turns =
+Inv-loop input₀ out₀ hub₀ pending₀ turns₀ name input out hub pending turns =
     Reached hub pending input × (length input ≡ length input₀) × (length out ≡ length out₀)
 
 abbrev μ-loop : tie.MeasureT-loop
-μ-loop input₀ out₀ hub₀ pending₀ turns₀ input out hub pending turns = turns
+μ-loop input₀ out₀ hub₀ pending₀ turns₀ name input out hub pending turns = turns
 
 -- the bytes read so far, before the piece is taken
 reached : (c : tie.After-take-part Inv-loop μ-loop) →
     let r = c .before .before .before .before .before .before .before in
-    Reached (r .before .before .before .loop .hub) (r .before .before .before .loop .pending) (r .read-behind .last .0)
+    let l = r .before .before .before .before in
+    Reached (l .loop .hub) (l .loop .pending) (r .read-behind .last .1 .0)
 reached c =
     let r = c .before .before .before .before .before .before .before in
-    reached-still (r .before .before .before .loop .inv .0) (r .read-behind .ensures .1)
+    reached-still (r .before .before .before .before .loop .inv .0) (r .read-behind .ensures .1)
 
 -- one piece more
 more : (c : tie.After-take-part Inv-loop μ-loop) →
@@ -35,6 +36,9 @@ no-hub-requires c κs = search needs
 
 loop-holds : tie.Need-loop-holds Inv-loop μ-loop
 loop-holds c = let h = c .no-hub .ensures in (reached-none (h .0) (hub-none _ (h .1)), search needs, search needs)
+
+slice-aggregate-read-behind : tie.Need-slice-aggregate-read-behind Inv-loop μ-loop
+slice-aggregate-read-behind c = search needs
 
 read-behind-requires : tie.Need-read-behind-requires Inv-loop μ-loop
 read-behind-requires c κs = search needs
@@ -48,7 +52,7 @@ same-length-2 c = search needs
 returns : tie.Need-returns Inv-loop μ-loop
 returns c =
     let r = c .before .before .before .before in
-    reached-still (r .before .before .before .loop .inv .0) (r .read-behind .ensures .1)
+    reached-still (r .before .before .before .before .loop .inv .0) (r .read-behind .ensures .1)
 
 take-part-requires : tie.Need-take-part-requires Inv-loop μ-loop
 take-part-requires c κs = search needs
@@ -101,6 +105,7 @@ read-all-spec =
     μ-loop
     no-hub-requires
     loop-holds
+    slice-aggregate-read-behind
     read-behind-requires
     same-length
     same-length-2

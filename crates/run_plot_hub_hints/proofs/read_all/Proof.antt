@@ -8,17 +8,20 @@ use Rattle.run_plot_hub_hints.proofs.read_all.Statement.{statement}
 use Rattle.run_plot_hub_hints.proofs.read_all.Tie as tie
 
 abbrev Inv-loop : tie.InvT-loop
-Inv-loop input₀ out₀ tally₀ pending₀ turns₀ input out tally pending turns =
+Inv-loop input₀ out₀ tally₀ pending₀ turns₀ name input out tally pending turns =
     Valid (tally .hub) × (pending ≤ length input) × (length input ≡ length input₀) × (length out ≡ length out₀) × (0 < length out)
 
 abbrev μ-loop : tie.MeasureT-loop
-μ-loop input₀ out₀ tally₀ pending₀ turns₀ input out tally pending turns = turns
+μ-loop input₀ out₀ tally₀ pending₀ turns₀ name input out tally pending turns = turns
 
 no-hub-requires : tie.Need-no-hub-requires Inv-loop μ-loop
 no-hub-requires c κs = search needs
 
 loop-holds : tie.Need-loop-holds Inv-loop μ-loop
 loop-holds c = search needs
+
+slice-aggregate-read-behind : tie.Need-slice-aggregate-read-behind Inv-loop μ-loop
+slice-aggregate-read-behind c = search needs
 
 read-behind-requires : tie.Need-read-behind-requires Inv-loop μ-loop
 read-behind-requires c κs = search needs
@@ -59,5 +62,6 @@ returns-2 c = search needs
 pub read-all-spec : {M : Type 1} → statement M
 read-all-spec =
     tie.close
-    (tie.spec Inv-loop μ-loop no-hub-requires loop-holds read-behind-requires same-length same-length-2 returns add-take-part
+    (tie.spec Inv-loop μ-loop no-hub-requires loop-holds slice-aggregate-read-behind read-behind-requires same-length same-length-2 returns
+    add-take-part
     take-part-requires sub-turns loop-less loop-again same-length-3 same-length-4 returns-2)

@@ -1,8 +1,10 @@
 -- `hub::carrying::carried_out` meets its contract. Assumes nothing.
 use borrow.Author.Needs.{needs}
+use borrow.Author.Tests.{not-true, not-false}
 use mathlib.Core.Path.{refl, sym, _∙_}
+use mathlib.Core.Logic.{⊎-elim}
 use Rattle.rules_routine.specs.Routine.{commandsOf}
-use Rattle.hub.proofs.CallLaws.{decides-itself, settled-gives, stands-gives}
+use Rattle.hub.proofs.CallLaws.{decides-itself, settled-gives, idle-gives, same-gives}
 use Rattle.hub.proofs.carrying.carried_out.Statement.{statement}
 use Rattle.hub.proofs.carrying.carried_out.Tie as tie
 
@@ -14,8 +16,11 @@ changed-requires c κs =
     let p = c .before .pre in
     (p .0, record { decision = _; made = p .1; change-is = refl })
 
-is-due-requires : tie.Need-is-due-requires
-is-due-requires c κs = search needs
+changes-nothing-requires : tie.Need-changes-nothing-requires
+changes-nothing-requires c κs = search needs
+
+settles-requires : tie.Need-settles-requires
+settles-requires c κs = search needs
 
 settle-requires : tie.Need-settle-requires
 settle-requires c κs = search needs
@@ -25,7 +30,8 @@ outcome-with-requires c κs = search needs
 
 returns : tie.Need-returns
 returns c =
-    let d = c .before .before .before in
+    let t = c .before .before .before .before in
+    let d = t .before in
     let n = d .before in
     let p = n .before in
     let b = p .put-backs .ensures in
@@ -33,7 +39,7 @@ returns c =
     settled-gives (a .hub) (commandsOf (a .routine)) (a .decision) (p .put-backs .result) (n .changed .result)
     (decides-itself (p .before .pre .1 .decides)) (b .0)
     (b .1) (n .changed .ensures) _ _ (c .outcome-with .ensures)
-    (sym (d .is-due .ensures) ∙ c .before .before .if1 .taken) (c .before .settle .ensures .0) (c .before .settle .ensures .1)
+    (sym (d .changes-nothing .ensures) ∙ not-true _ (t .if1 .taken)) (c .before .settle .ensures .0) (c .before .settle .ensures .1)
     (c .before .settle .ensures .2)
 
 outcome-with-requires-2 : tie.Need-outcome-with-requires-2
@@ -46,10 +52,14 @@ returns-2 c =
     let p = n .before in
     let b = p .put-backs .ensures in
     let a = p .before .args in
-    stands-gives (a .hub) (commandsOf (a .routine)) (a .decision) (p .put-backs .result) (n .changed .result)
-    (decides-itself (p .before .pre .1 .decides)) (b .0)
-    (b .1) (n .changed .ensures) _ (c .outcome-with2 .ensures)
-    (sym (d .is-due .ensures) ∙ c .before .if1 .left)
+    ⊎-elim
+    (λ w. idle-gives (a .hub) (commandsOf (a .routine)) (a .decision) (p .put-backs .result) (n .changed .result) (decides-itself (p .before .pre .1 .decides))
+    (b .0) (b .1) (n .changed .ensures) _ (c .outcome-with2 .ensures)
+    (sym (d .changes-nothing .ensures) ∙ not-true _ (w .0 .taken)) (sym (w .1 .ensures) ∙ w .2 .left))
+    (λ w. same-gives (a .hub) (commandsOf (a .routine)) (a .decision) (p .put-backs .result) (n .changed .result) (decides-itself (p .before .pre .1 .decides))
+    (b .0) (b .1) (n .changed .ensures) _ (c .outcome-with2 .ensures)
+    (sym (d .changes-nothing .ensures) ∙ not-false _ (w .left)))
+    (c .before .if1 .came)
 
 pub carried-out-spec : {M : Type 1} → statement M
 carried-out-spec =
@@ -57,7 +67,8 @@ carried-out-spec =
     (tie.spec
     put-backs-requires
     changed-requires
-    is-due-requires
+    changes-nothing-requires
+    settles-requires
     settle-requires
     outcome-with-requires
     returns

@@ -29,7 +29,6 @@ use Rattle.hub.specs.declared.Hub.{Hub}
 use Rattle.line.specs.View.{heardOf}
 use Rattle.line.proofs.LineLaws.{Does, does-unread, does-open, does-not-open, does-settle, does-change, does-same, fits-line}
 use Rattle.line.proofs.LineLaws.{decided-on, carries-nothing, carries, carries-as}
-use Rattle.line.proofs.Told.{same-room}
 use Rattle.line.proofs.Loops.{Prints, prints, printed-fits, printed-long, goes}
 use Rattle.line.proofs.Loops.{Ran, ran-none, ran-more, ran-length, ran-past, ran-all, end-within}
 use borrow.Author.Needs.{needs}
@@ -47,13 +46,13 @@ abbrev μ-loop : tie.MeasureT-loop
 abbrev loop-of : tie.After-next-line Inv-loop μ-loop → tie.At-loop Inv-loop μ-loop
 loop-of n = n .before .before .before .before
 
-abbrev line-of : tie.After-text2 Inv-loop μ-loop → tie.After-next-line Inv-loop μ-loop
-line-of x = x .before .before .before .before
+abbrev line-of : tie.After-routine Inv-loop μ-loop → tie.After-next-line Inv-loop μ-loop
+line-of x = x .before
 
-abbrev heard-of : tie.After-decided Inv-loop μ-loop → tie.After-text2 Inv-loop μ-loop
+abbrev heard-of : tie.After-decided Inv-loop μ-loop → tie.After-routine Inv-loop μ-loop
 heard-of d = d .before .before .before .before
 
-abbrev decided-of : tie.After-text6 Inv-loop μ-loop → tie.After-decided Inv-loop μ-loop
+abbrev decided-of : tie.After-text4 Inv-loop μ-loop → tie.After-decided Inv-loop μ-loop
 decided-of y = y .before .before .before
 
 -- ---- the line
@@ -80,7 +79,7 @@ ends n =
     )
 
 -- what of it is heard
-heard : (x : tie.After-text2 Inv-loop μ-loop) →
+heard : (x : tie.After-routine Inv-loop μ-loop) →
     let n = line-of x in
     heardOf (readAs (says n) .line) (view (nowAt n) .devices) ≡ n .next-line .result .said
 heard x =
@@ -88,10 +87,10 @@ heard x =
     sym (n .next-line .ensures .hears ∙ (λ i. heardOf (readAs (says n) .line) (n .before .device-count .ensures i)))
 
 -- any text fits into its buffer
-room : (x : tie.After-text2 Inv-loop μ-loop) → length (x .before .put-unread .last .0) ≡ maxText
-room x = same-room (x .before .put-unread .ensures) ∙ loop-of (line-of x) .loop .inv .0
+room : (x : tie.After-routine Inv-loop μ-loop) → length (loop-of (line-of x) .loop .text) ≡ maxText
+room x = loop-of (line-of x) .loop .inv .0
 
-valid : (x : tie.After-text2 Inv-loop μ-loop) → Valid (nowAt (line-of x))
+valid : (x : tie.After-routine Inv-loop μ-loop) → Valid (nowAt (line-of x))
 valid x = loop-of (line-of x) .loop .inv .1 .valid
 
 -- ---- a call
@@ -110,7 +109,7 @@ decided-now : (d : tie.After-decided Inv-loop μ-loop) → DecidedOn (nowAt (lin
 decided-now d = decided-on _ (d .before .before .said2 .given .0 .0) _ (d .decided .ensures)
 
 -- its change can be made
-change-is : (y : tie.After-text6 Inv-loop μ-loop) (c : Change) →
+change-is : (y : tie.After-text4 Inv-loop μ-loop) (c : Change) →
     let d = decided-of y in
     d .decided .result .change ≡ c → Decided (nowAt (line-of (heard-of d))) (commandsAt d) c
 change-is y c e = record { decision = _; made = decided-now (decided-of y); change-is = e }
@@ -148,7 +147,7 @@ leaves-settled t next settled =
     let d = decided-of (k .before .before) in
     let n = line-of (heard-of d) in
     does-settle _ (says n) _ (calls d) (n .next-line .ensures .beside) (d .decided .result) (d .decided .ensures) _ (made (k .before))
-    (sym (k .keeps-hub .ensures) ∙ not-true _ (t .before .before .if3 .taken)) next settled
+    (sym (k .changes-nothing .ensures) ∙ not-true _ (t .before .before .if3 .taken)) next settled
 
 leaves-joined : (j : tie.Joined3 Inv-loop μ-loop) → Leaves (j .before .before) (j .before .before .match2 .now)
 leaves-joined j =
@@ -157,9 +156,9 @@ leaves-joined j =
     let n = line-of (heard-of d) in
     ⊎-elim
     (λ w. does-change _ (says n) _ (calls d) (n .next-line .ensures .beside) (d .decided .result) (d .decided .ensures) _
-    (made (k .before)) (sym (k .keeps-hub .ensures) ∙ not-true _ (w .0 .taken)) (sym (w .1 .ensures) ∙ w .2 .left))
+    (made (k .before)) (sym (k .changes-nothing .ensures) ∙ not-true _ (w .0 .taken)) (sym (w .1 .ensures) ∙ w .2 .left))
     (λ w. does-same _ (says n) _ (calls d) (n .next-line .ensures .beside) (d .decided .result) (d .decided .ensures) _
-    (made (k .before)) (sym (k .keeps-hub .ensures) ∙ not-false _ (w .left)))
+    (made (k .before)) (sym (k .changes-nothing .ensures) ∙ not-false _ (w .left)))
     (j .if3 .came)
 
 -- ---- each way that the line can go
@@ -186,8 +185,7 @@ line-prints c =
     (w .13) (w .14) (w .15))
     (⊎-elim
     (λ w. prints (leaves-joined (record { before = _; if3 = w .9 })) (w .5 .ensures) (room x) (w .10) (w .11) (w .12))
-    (λ w. prints (does-unread (nowAt n) (says n) (valid x) (heard x ∙ w .1 .given .1)) (x .before .put-unread .ensures)
-    (loop-of n .loop .inv .0) (w .2) (w .3) (w .4)))))
+    (λ w. prints (does-unread (nowAt n) (says n) (valid x) (heard x ∙ w .1 .given .1)) (w .3 .ensures) (room x) (w .5) (w .6) (w .7)))))
     (c .match .came)
 
 -- ---- the needs
@@ -206,12 +204,6 @@ device-count-requires c κs = search needs
 
 next-line-requires : tie.Need-next-line-requires Inv-loop μ-loop
 next-line-requires c κs = search needs
-
-slice-aggregate-put-unread : tie.Need-slice-aggregate-put-unread Inv-loop μ-loop
-slice-aggregate-put-unread c = sym (c .before .before .before .before .before .before .loop .inv .0)
-
-put-unread-requires : tie.Need-put-unread-requires Inv-loop μ-loop
-put-unread-requires c κs = omega (arith, c .before .before .before .before .before .before .loop .inv .0)
 
 enum-known-said : tie.Need-enum-known-said Inv-loop μ-loop
 enum-known-said c = search needs
@@ -312,8 +304,8 @@ with-restart-requires c κs =
     let k = change-is y (Restart _ _ _) (c .before .change6 .given .1 ∙ ap (λ (z : ℤ). Restart (x .0) z (x .1 .1 .0)) (sym held)) in
     (valid (heard-of (decided-of y)), (_, k))
 
-keeps-hub-requires : tie.Need-keeps-hub-requires Inv-loop μ-loop
-keeps-hub-requires c κs = search needs
+changes-nothing-requires : tie.Need-changes-nothing-requires Inv-loop μ-loop
+changes-nothing-requires c κs = search needs
 
 settles-requires : tie.Need-settles-requires Inv-loop μ-loop
 settles-requires c κs = made (c .before .before) .valid
@@ -324,6 +316,12 @@ settle-requires c κs = made (c .before .before .before .before) .valid
 enum-told-2 : tie.Need-enum-told-2 Inv-loop μ-loop
 enum-told-2 c = search needs
 
+slice-aggregate-put-unread : tie.Need-slice-aggregate-put-unread Inv-loop μ-loop
+slice-aggregate-put-unread c = sym (room (c .before .before .before))
+
+put-unread-requires : tie.Need-put-unread-requires Inv-loop μ-loop
+put-unread-requires c κs = omega (arith, room (c .before .before .before))
+
 array-share-prefix-text : tie.Need-array-share-prefix-text Inv-loop μ-loop
 array-share-prefix-text c = printed-fits (line-prints (c .before))
 
@@ -333,22 +331,22 @@ slice-aggregate-put-text c = sym (printed-long (line-prints (c .before .before))
 put-text-requires : tie.Need-put-text-requires Inv-loop μ-loop
 put-text-requires c κs =
     let m = c .before .before in
-    let e = m .before .before .before .before .before .before .before in
+    let e = m .before .before .before .before in
     omega (arith, printed-long (line-prints m), line-prints m .short, e .if1 .left, e .before .before .before .before .before .pre)
 
 add-from : tie.Need-add-from Inv-loop μ-loop
-add-from c = let h = ends (c .before .before .before .before .before .before .before .before .before .before .before) in search needs
+add-from c = let h = ends (c .before .before .before .before .before .before .before .before) in search needs
 
 loop-less : tie.Need-loop-less Inv-loop μ-loop
 loop-less c =
-    let n = c .before .before .before .before .before .before .before .before .before .before .before in
+    let n = c .before .before .before .before .before .before .before .before in
     omega (arith, n .next-line .ensures .ends, n .before .before .before .loop-test .taken)
 
 loop-again : tie.Need-loop-again Inv-loop μ-loop
 loop-again c =
     let t = c .before .before .before in
     let m = t .before .before .before in
-    let n = m .before .before .before .before .before in
+    let n = m .before .before in
     let i = n .before .before .before in
     let p = line-prints m in (
       p .long,
@@ -373,8 +371,6 @@ run-lines-spec =
     returns
     device-count-requires
     next-line-requires
-    slice-aggregate-put-unread
-    put-unread-requires
     enum-known-said
     check-opening-requires
     slice-aggregate-put-opening
@@ -398,10 +394,12 @@ run-lines-spec =
     with-failure-requires
     enum-known-change-6
     with-restart-requires
-    keeps-hub-requires
+    changes-nothing-requires
     settles-requires
     settle-requires
     enum-told-2
+    slice-aggregate-put-unread
+    put-unread-requires
     array-share-prefix-text
     slice-aggregate-put-text
     put-text-requires

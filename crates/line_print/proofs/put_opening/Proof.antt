@@ -1,10 +1,10 @@
--- `line::lines::put_opening` meets its contract. Assumes nothing.
+-- `line_print::put_opening` meets its contract. Assumes nothing.
 use mathlib.Core.Path.{sym, ap}
 use Rattle.line_print.proofs.PutLaws.{as-text}
-use Rattle.line.specs.Contract.{openingText}
+use Rattle.line_print.specs.Texts.{openingText}
 use borrow.Author.Needs.{needs}
-use Rattle.line.proofs.lines.put_opening.Statement.{statement}
-use Rattle.line.proofs.lines.put_opening.Tie as tie
+use Rattle.line_print.proofs.put_opening.Statement.{statement}
+use Rattle.line_print.proofs.put_opening.Tie as tie
 
 enum-told : tie.Need-enum-told
 enum-told c = search needs

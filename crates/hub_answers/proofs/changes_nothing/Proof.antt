@@ -1,9 +1,9 @@
--- `line::lines::keeps_hub` meets its contract. Assumes nothing.
+-- `hub_answers::changes_nothing` meets its contract. Assumes nothing.
 use mathlib.Core.Path.{sym}
-use Rattle.line.proofs.Told.{changes}
+use Rattle.hub_answers.proofs.Cases.{changes}
 use borrow.Author.Needs.{needs}
-use Rattle.line.proofs.lines.keeps_hub.Statement.{statement}
-use Rattle.line.proofs.lines.keeps_hub.Tie as tie
+use Rattle.hub_answers.proofs.changes_nothing.Statement.{statement}
+use Rattle.hub_answers.proofs.changes_nothing.Tie as tie
 
 enum-told : tie.Need-enum-told
 enum-told c = search needs
@@ -20,5 +20,5 @@ returns-2 c = search needs
 returns-3 : tie.Need-returns-3
 returns-3 c = search needs
 
-pub keeps-hub-spec : {M : Type 1} → statement M
-keeps-hub-spec = tie.close (tie.spec enum-told enum-told-2 returns returns-2 returns-3)
+pub changes-nothing-spec : {M : Type 1} → statement M
+changes-nothing-spec = tie.close (tie.spec enum-told enum-told-2 returns returns-2 returns-3)

@@ -1,8 +1,8 @@
--- `line::lines::put_aborts` meets its contract. Assumes nothing.
-use Rattle.line.proofs.Told.{put-neither, put-own, put-both}
+-- `line_print::put_aborts` meets its contract. Assumes nothing.
+use Rattle.line_print.proofs.PutLaws.{put-neither, put-own, put-both}
 use borrow.Author.Needs.{needs}
-use Rattle.line.proofs.lines.put_aborts.Statement.{statement}
-use Rattle.line.proofs.lines.put_aborts.Tie as tie
+use Rattle.line_print.proofs.put_aborts.Statement.{statement}
+use Rattle.line_print.proofs.put_aborts.Tie as tie
 
 enum-known-first : tie.Need-enum-known-first
 enum-known-first c = search needs
