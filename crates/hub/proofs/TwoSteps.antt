@@ -5,16 +5,17 @@ use mathlib.Core.List.{[], _∷_}
 use mathlib.Core.Logic.{⊎-elim}
 use Rattle.rules_routine.proofs.RoutineLaws.{byTest}
 use Rattle.rules.specs.Calls.{resultOf}
+use Rattle.hub_answers.specs.View.{changesNothing}
+use Rattle.hub_state.specs.View.{firstCommitted}
 use Rattle.hub_state.specs.Contract.{resultBy}
 use Rattle.hub.specs.View.{view}
 use Rattle.hub.specs.Contract.{Gives}
-use Rattle.hub.specs.Carrying.{settlesAfter}
 use Rattle.hub.specs.Demand3.{HubCall, submits, turns, reports, fails, restarts, cancels, limits, callOf, Meets, called}
 use Rattle.hub.specs.Demand3.{device-takes}
 use Rattle.hub.specs.TwoSteps.{AppliedMeets, AppliedChains, AppliedDemand3}
 use Rattle.hub.specs.declared.Hub.{Hub}
 use Rattle.hub.specs.declared.Outcome.{Outcome}
-use Rattle.hub.proofs.CallLaws.{decides-itself, settled-gives, stands-gives}
+use Rattle.hub.proofs.CallLaws.{decides-itself, settled-gives, idle-gives, same-gives}
 use Rattle.hub.proofs.Theorem.{hub-demand-3, hub-replay, hub-readers, hub-list}
 use Rattle.hub.proofs.Links.{links-are-the-sequence}
 
@@ -32,16 +33,21 @@ meets h (limits k) o g = g
 pub applied-meets : AppliedMeets
 applied-meets h c o a =
     let k = decides-itself (a .decides) in
+    let answer = a .decision .answer in
+    let P = Gives h o (resultBy (h .state) (a .commands) (a .decision)) in
     meets h c o
     (subst (Gives h o) (a .decides .gives)
-    (byTest (λ (_ : Bool). Gives h o (resultBy (h .state) (a .commands) (a .decision)))
-    (settlesAfter (a .decision .answer) (view (a .made)))
+    (byTest (λ (_ : Bool). P) (changesNothing answer)
+    (λ t. same-gives h (a .commands) (a .decision) (o .«put_backs») (a .made) k (a .backs-fit) (a .backs-are) (a .carries) o
+    (a .settles .same t, a .first-is, a .answer-is, refl) t)
+    (λ f.
+    byTest (λ (_ : Bool). P) (firstCommitted (view (a .made) .sequence))
     (λ t.
-    let s = a .settles .settled t in
+    let s = a .settles .settled f t in
     settled-gives h (a .commands) (a .decision) (o .«put_backs») (a .made) k (a .backs-fit) (a .backs-are) (a .carries) (o .hub) o
-    (refl, a .first-is, a .answer-is, refl) t (s .0) (s .1) (s .2))
-    (λ f. stands-gives h (a .commands) (a .decision) (o .«put_backs») (a .made) k (a .backs-fit) (a .backs-are) (a .carries) o
-    (a .settles .stays f, a .first-is, a .answer-is, refl) f)))
+    (refl, a .first-is, a .answer-is, refl) f (s .0) (s .1) (s .2))
+    (λ e. idle-gives h (a .commands) (a .decision) (o .«put_backs») (a .made) k (a .backs-fit) (a .backs-are) (a .carries) o
+    (a .settles .idle f e, a .first-is, a .answer-is, refl) f e))))
 
 pub applied-chains : AppliedChains
 applied-chains h [] ch = tt

@@ -12,14 +12,15 @@ use Rattle.rules.specs.Calls.{resultOf}
 use Rattle.rules.specs.Replay.{ConditionsReplay}
 use Rattle.rules.specs.Rounds.{KeepsLimit}
 use Rattle.rules.specs.Settle.{settle}
-use Rattle.hub_answers.specs.View.{putBacksOf, PutBacksOk}
+use Rattle.hub_answers.specs.View.{putBacksOf, PutBacksOk, changesNothing}
 use Rattle.hub_answers.specs.declared.Answer.{Answer}
+use Rattle.hub_state.specs.View.{firstCommitted}
 use Rattle.hub_state.specs.Contract.{Decides, putBacksOfDecision}
 use Rattle.hub_state.specs.declared.Decision.{Decision}
 use Rattle.hub.specs.View.{view}
 use Rattle.hub.specs.Valid.{Valid}
 use Rattle.hub.specs.Contract.{Opens}
-use Rattle.hub.specs.Carrying.{OnlySettle, Carries, settlesAfter}
+use Rattle.hub.specs.Carrying.{OnlySettle, Carries}
 use Rattle.hub.specs.Demand3.{HubCall, callOf, Meets, HubAct, called, device-takes, Chain, worldThenAll, newWorldOf, HubDemand3}
 use Rattle.hub.specs.Demand3.{ReadersTell, ListTells}
 use Rattle.hub.specs.Links.{LinksKeep}
@@ -27,10 +28,14 @@ use Rattle.hub.specs.declared.Hub.{Hub}
 use Rattle.hub.specs.declared.Opened.{Opened}
 use Rattle.hub.specs.declared.Outcome.{Outcome}
 
--- Hub m settles to r after this answer: where a routine settles, r is what `hub::settle` gives; else it is m.
+-- Hub m settles to r after this answer: where it tells of a change and the first in the sequence is committed, r is what `hub::settle`
+-- gives; else it is m.
 pub record SettlesTo (a : Answer) (m r : Hub) : Type 0 where
-  pub settled : settlesAfter a (view m) ≡ true → (Valid r) × (view r ≡ settle (view m)) × (OnlySettle (m .state) (r .state))
-  pub stays : settlesAfter a (view m) ≡ false → r ≡ m
+  pub settled :
+      changesNothing a ≡ false → firstCommitted (view m .sequence) ≡ true →
+      (Valid r) × (view r ≡ settle (view m)) × (OnlySettle (m .state) (r .state))
+  pub idle : changesNothing a ≡ false → firstCommitted (view m .sequence) ≡ false → r ≡ m
+  pub same : changesNothing a ≡ true → r ≡ m
 
 -- The outcome o of the call c on hub h, made in two steps. The call is decided (`hub::decide_submit`, `decide_turn`, ..; a new pass limit
 -- is no decision), the applier of its change makes a hub (`hub::with_stage`, `with_commit`, ..; none where nothing changes), and that
