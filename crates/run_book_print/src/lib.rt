@@ -1,14 +1,22 @@
 // Prints what reading a book gives: a line for each routine and then `end`, or the refusal.
 use book_layout::Item;
+use book_layout::Next;
+use book_read::reader;
 use libc::STDOUT_FILENO;
 use rules_routine::Command;
 use rules_routine::Refusal;
 use rules_routine::Routine;
 use rules_routine::limits::MAX_COMMANDS;
 use rules_routine::limits::MAX_ROUTINES;
+ghost use Prim.Native.Nat.{_<_};
 
-// The steps of a whole reading: one a routine, and the end.
-const STEPS: usize = MAX_ROUTINES + 1;
+// What is left to print: 0 if a step could not be written, 1 if all is printed, else one more than the steps that may come. A whole
+// reading has a step for each routine, and the end.
+const NOT_WRITTEN: usize = 0;
+
+const PRINTED: usize = 1;
+
+const WHOLE: usize = PRINTED + MAX_ROUTINES + 1;
 
 // Each function that prints says whether all of it could be written.
 
@@ -72,20 +80,29 @@ fn print_item(item: Item, routine: Routine) -> bool {
     }
 }
 
-// The whole book.
-pub fn print_book(book: &[u8]) -> bool {
-    let mut position = 0;
-    for _ in 0..STEPS {
-        let next = book_read::next(book, position);
-        let item = next.item;
-        let routine = next.routine;
-        if !print_item(item, routine) {
-            return false;
-        }
-        let Item::Handed = item else {
-            return true;
-        };
-        position = next.position;
+// A step of reading; what is left after it is less.
+fn print_step(step: Next, left: usize) -> usize
+    requires { ⌜ 1 < left ⌝ }
+    ensures { λ r. ⌜ r < left ⌝ }
+{
+    let item = step.item;
+    let routine = step.routine;
+    if !print_item(item, routine) {
+        return NOT_WRITTEN;
     }
-    true
+    let Item::Handed = item else {
+        return PRINTED;
+    };
+    left - 1
+}
+
+// The whole book, as the reader hands it out.
+pub fn print_book(book: &[u8]) -> bool {
+    let mut reader = reader::start(book);
+    let mut left = WHOLE;
+    while PRINTED < left {
+        let step = reader::advance(&mut reader);
+        left = print_step(step, left);
+    }
+    left == PRINTED
 }
