@@ -78,7 +78,7 @@ def read(name):
 # ---- what is declared
 
 # Files, and names in others, that are there to be checked by themselves.
-EXAMPLES = re.compile(r"/(Examples|Controls|Worlds|Schedules|Starred|NotWeak)\.antt$")
+EXAMPLES = re.compile(r"/(Examples|Controls|Worlds|Schedules|Starred|Refuted)\.antt$")
 CONTROLS = {("crates/rules_promises/proofs/RoundsExist.antt", "wrong-rules-show")}
 # Functions for callers that are not here: the reader of a book, routine by routine.
 OFFERED = {("crates/book_read/src/reader.rt", "start"), ("crates/book_read/src/reader.rt", "advance")}

@@ -240,7 +240,7 @@ pub fn decide_cancel(hub: Hub, id: u32) -> Decision
     ensures { λ r. ⌜ Decides (hub .state) [] r (cancelOf (view hub) id) ⌝ }
 {
     let state = hub.state;
-    hub_abort::decide_cancel(state, id)
+    hub_abort::cancel::decide(state, id)
 }
 
 // What a failure comes to.

@@ -1,30 +1,24 @@
-// Document 01, "Abort of R" and "Cancel aborts R": what an abort puts back, from the due settings before and after it. How the routine
-// leaves stands in crate `hub_settle`.
-use hub_answers::Answer;
+// Document 01, "Abort of R": what an abort puts back, from the due settings before and after it; in `cancel`, "Cancel aborts R". How the
+// routine leaves stands in crate `hub_settle`.
+pub mod cancel;
+
 use hub_answers::PutBack;
 use hub_answers::PutBacks;
-use hub_state::Change;
-use hub_state::Decision;
 use hub_state::HubState;
-use hub_state::Place;
 use hub_state::Unanswered;
-use hub_state::decisions;
 use hub_state::readers;
 use rules_routine::limits::MAX_DEVICES;
-use rules_routine::refusals::NOT_RUNNING;
 ghost use mathlib.Core.Path.{_≡_};
 ghost use mathlib.Core.Bool.{not, _&&_, _||_};
-ghost use mathlib.Core.List.{[]};
 ghost use Prim.Native.Nat.{_≤_};
 ghost use Rattle.rules_routine.specs.Limits.{maxDevices};
 ghost use Rattle.rules.specs.Tables.{sameSetting};
 ghost use Rattle.rules.specs.Progress.{inFlightOn};
-ghost use Rattle.rules.specs.Cancel.{cancelOf};
 ghost use Rattle.hub_sequence.specs.Links.{Stands};
 ghost use Rattle.hub_answers.specs.View.{putBacksOf, PutBacksOk};
 ghost use Rattle.hub_state.specs.View.{settingsOf, flagsOf, memberAt, stateOf, there};
 ghost use Rattle.hub_state.specs.Valid.{StateOk};
-ghost use Rattle.hub_state.specs.Contract.{putBacksLeft, Decides};
+ghost use Rattle.hub_state.specs.Contract.{putBacksLeft};
 ghost use Rattle.hub_abort.specs.PutBacks.{downIf, isBackBy, backsBy, TablesAre};
 
 // The tables that tell which devices are put back: up; with a command in flight of those left, and of the one that left; and due before
@@ -130,16 +124,4 @@ pub fn put_backs_of(state: HubState, at: usize, down: u8) -> PutBacks
     let tables = tables_of(state, at, down);
     let devices = state.devices;
     put_backs(devices, tables)
-}
-
-// "Cancel: 10."
-pub fn decide_cancel(state: HubState, id: u32) -> Decision
-    requires { ⌜ StateOk state ⌝ }
-    ensures { λ r. ⌜ Decides state [] r (cancelOf (stateOf state) id) ⌝ }
-{
-    let place = hub_search::running(state, id);
-    let Place::At(at) = place else {
-        return decisions::refused(NOT_RUNNING);
-    };
-    decisions::plain(Answer::Aborted(id), Change::Abort(at))
 }

@@ -60,9 +60,6 @@ module _ (k : Links) (after : ℕ) (r : Joined) (p : StandsOrNone k after) (e : 
   counted : (x : ℕ) → count x (slotsOf (r .links)) ≡ same x (r .slot) + count x (slotsOf k)
   counted x = ap (count x) (e .slots) ∙ count-placed after (r .slot) x none (slotsOf k) p
 
-  pub stays-taken : (x : ℕ) → Stands k x → Stands (r .links) x
-  stays-taken x t = omega (arith, counted x)
-
   -- who is taken now was taken, or is the newcomer
   pub taken-or-new : (x : ℕ) → Stands (r .links) x → (x ≡ r .slot → ⊥) → Stands k x
   taken-or-new x t n = omega (arith, counted x, same-other x (r .slot) n)

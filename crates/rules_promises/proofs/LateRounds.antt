@@ -28,7 +28,7 @@ use Rattle.rules.specs.Tables.{anyOf, put}
 use Rattle.rules.specs.State.{Status, to-do, in-flight, was-done, was-held, Step, Member, State}
 use Rattle.rules.specs.Answers.{unlessRefused, Call, submit, turn, report, limit, placed}
 use Rattle.rules.specs.Progress.{withSteps, isLeftOn, next, nextIsSkipped, Flight, flight, advance, answerFlight, withStatus}
-use Rattle.rules.specs.Due.{afterSteps, due, afterMember, afterMembers}
+use Rattle.rules.specs.Due.{due, afterMember, afterMembers}
 use Rattle.rules.specs.Settle.{settling, settleFrom}
 use Rattle.rules.specs.Submit.{blocks, upToLast, pastLast, pass, submitCheck, place}
 use Rattle.rules.specs.Sequence.{lastIdOr, Found, find, onto, runs, moveMarks, withSequence}
@@ -159,10 +159,6 @@ part-done (suc a) u r = ap (λ l. ended ∷ l) (part-done a u r)
 part-none : (a : ℕ) → anyOf (isLeftOn 0) (part a []) ≡ false
 part-none zero = refl
 part-none (suc a) = part-none a
-
-part-sets : (a : ℕ) → afterSteps 0 (part a []) (pos 1) ≡ pos 1
-part-sets zero = refl
-part-sets (suc a) = part-sets a
 
 -- ---- routines in a row, none of them begun
 

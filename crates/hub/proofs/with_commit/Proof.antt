@@ -1,5 +1,4 @@
 -- `hub::with_commit` meets its contract. Assumes nothing.
-use borrow.Author.Needs.{needs}
 use Rattle.hub.proofs.CallLaws.{stay-moves, decided-ok}
 use Rattle.hub.proofs.with_commit.Statement.{statement}
 use Rattle.hub.proofs.with_commit.Tie as tie

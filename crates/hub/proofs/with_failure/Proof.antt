@@ -1,5 +1,4 @@
 -- `hub::with_failure` meets its contract. Assumes nothing.
-use borrow.Author.Needs.{needs}
 use Rattle.hub.proofs.CallLaws.{leave-moves, decided-ok}
 use Rattle.hub.proofs.with_failure.Statement.{statement}
 use Rattle.hub.proofs.with_failure.Tie as tie

@@ -7,7 +7,6 @@ use borrow.Author.Needs.{needs}
 use Rattle.hub_state.specs.View.{stateOf, isRestart}
 use Rattle.hub_state.specs.Contract.{halfwayIn, stoppedBy, upWith}
 use Rattle.hub.proofs.CallLaws.{leave-moves, decided-ok}
-use Rattle.hub_state.specs.Valid.{StateOk}
 use Rattle.hub.proofs.with_restart.Statement.{statement}
 use Rattle.hub.proofs.with_restart.Tie as tie
 

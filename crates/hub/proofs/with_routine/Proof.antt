@@ -1,5 +1,4 @@
 -- `hub::with_routine` meets its contract. Assumes nothing.
-use borrow.Author.Needs.{needs}
 use Rattle.hub.proofs.CallLaws.{place-moves, decided-ok}
 use Rattle.hub.proofs.with_routine.Statement.{statement}
 use Rattle.hub.proofs.with_routine.Tie as tie

@@ -1,5 +1,4 @@
 -- `hub::with_stage` meets its contract. Assumes nothing.
-use borrow.Author.Needs.{needs}
 use Rattle.hub.proofs.CallLaws.{stay-moves, decided-ok}
 use Rattle.hub.proofs.with_stage.Statement.{statement}
 use Rattle.hub.proofs.with_stage.Tie as tie

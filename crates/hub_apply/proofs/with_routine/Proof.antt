@@ -74,7 +74,8 @@ without-restarts-requires : tie.Need-without-restarts-requires
 without-restarts-requires c κs = slot (joined (c .before .before .before .before .before .before .before))
 
 add-t45 : tie.Need-add-t45
-add-t45 c = let s = start (joined (c .before .before .before .before .before .before .before .before)) in let h = s .pre .1 .id-left in omega arith
+add-t45 c = let s = start (joined (c .before .before .before .before .before .before .before .before)) in let h = s .pre .1 .id-left in
+    omega arith
 
 returns : tie.Need-returns
 returns c = let g = c .before in

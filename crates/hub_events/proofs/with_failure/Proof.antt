@@ -37,9 +37,11 @@ returns c =
     let u = i .before .with-up in
     let s = i .before .before in
     let a = s .args in
-    failure-stops (a .state) (u .result) (a .device) (a .slot) (s .pre .0) (u .ensures .1) (u .ensures .2) (u .ensures .3) (c .leave .result)
+    failure-stops (a .state) (u .result) (a .device) (a .slot) (s .pre .0) (u .ensures .1) (u .ensures .2) (u .ensures .3)
+    (c .leave .result)
     (one-leaves (u .result) (a .slot) (a .device) (i .if1 .taken) (m .must-left .result) (m .must-left .ensures) (u .ensures .0)
-    (stands-down (a .state) (u .result) (a .slot) (u .ensures .2) (s .pre .2)) (c .before .if2 .taken) (c .leave .result) (c .leave .ensures))
+    (stands-down (a .state) (u .result) (a .slot) (u .ensures .2) (s .pre .2)) (c .before .if2 .taken) (c .leave .result)
+    (c .leave .ensures))
 
 returns-2 : tie.Need-returns-2
 returns-2 c =

@@ -1,8 +1,8 @@
--- `hub_abort::decide_cancel` meets its contract. Assumes nothing.
+-- `hub_abort::cancel::decide` meets its contract. Assumes nothing.
 use borrow.Author.Needs.{needs}
 use Rattle.hub_abort.proofs.PutBackLaws.{cancel-nowhere, cancel-aborts}
-use Rattle.hub_abort.proofs.decide_cancel.Statement.{statement}
-use Rattle.hub_abort.proofs.decide_cancel.Tie as tie
+use Rattle.hub_abort.proofs.cancel.decide.Statement.{statement}
+use Rattle.hub_abort.proofs.cancel.decide.Tie as tie
 
 running-requires : tie.Need-running-requires
 running-requires c κs = search needs
@@ -32,8 +32,8 @@ returns-2 c =
     let a = r .before .args in
     cancel-aborts (a .state) (a .id) (r .running .result) (r .running .ensures) _ _ (c .plain .ensures) (p .place .given .1)
 
-pub decide-cancel-spec : {M : Type 1} → statement M
-decide-cancel-spec =
+pub decide-spec : {M : Type 1} → statement M
+decide-spec =
     tie.close
     (tie.spec
     running-requires
