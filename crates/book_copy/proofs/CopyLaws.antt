@@ -144,13 +144,13 @@ rows-more rs i e h k =
 
 -- ---- a step of reading, where i routines were handed out
 
-pub record Step (b : List ℕ) (at i : ℕ) (rs : List (List Command)) : Type 0 where
+pub record CopyStep (b : List ℕ) (at i : ℕ) (rs : List (List Command)) : Type 0 where
   pub there : i < length rs
   pub same : commandsOf (nextOf b at .routine) ≡ getD rs i []
   pub left : Hands b (nextOf b at .position) (drop (i + 1) rs)
 
 module _ (b : List ℕ) (at i : ℕ) (rs : List (List Command)) where
-  stepped : (l : List (List Command)) → drop i rs ≡ l → Hands b at l → nextOf b at .item ≡ Handed → Step b at i rs
+  stepped : (l : List (List Command)) → drop i rs ≡ l → Hands b at l → nextOf b at .item ≡ Handed → CopyStep b at i rs
   stepped [] e (ends x) h = let z : _≡_ {A = ℕ} 0 1 = cc in absurd (omega arith)
   stepped (r ∷ l) e (hands x y z) h =
       let n = ap length e in
@@ -161,7 +161,7 @@ module _ (b : List ℕ) (at i : ℕ) (rs : List (List Command)) where
         left = subst (Hands b (nextOf b at .position)) (sym d) z;
       }
 
-  pub step-handed : Hands b at (drop i rs) → nextOf b at .item ≡ Handed → Step b at i rs
+  pub step-handed : Hands b at (drop i rs) → nextOf b at .item ≡ Handed → CopyStep b at i rs
   step-handed = stepped (drop i rs) refl
 
   -- the reading has ended

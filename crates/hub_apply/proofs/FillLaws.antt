@@ -18,21 +18,21 @@ use Rattle.hub_apply.specs.Fill.{Fills, behindSlot, CanPassBehind, onceM
 
 -- ---- a slot's part of a row: one value more in each round
 
-module _ {A : Type 0} (past : A) (row : List A) (from : ℕ) (value : ℕ → A) where
-  pub fills-none : Fills past row from 0 value row
+module _ {A : Type 0} (missing : A) (row : List A) (from : ℕ) (value : ℕ → A) where
+  pub fills-none : Fills missing row from 0 value row
   fills-none = record { inside = λ j h. absurd (omega arith); outside = λ i h. refl }
 
-  pub fills-more : (j : ℕ) (r : List A) (v : A) → Fills past row from j value r → from + j < length r → v ≡ value j →
-      Fills past row from (j + 1) value (set r (from + j) v)
+  pub fills-more : (j : ℕ) (r : List A) (v : A) → Fills missing row from j value r → from + j < length r → v ≡ value j →
+      Fills missing row from (j + 1) value (set r (from + j) v)
   fills-more j r v f h e =
       record {
         inside = λ i k. byEq i j
-            (λ q. rw q (getD-set-same r (from + j) v past h ∙ e))
-            (λ n. getD-set-other r (from + j) (from + i) v past (λ q. omega arith) ∙ f .inside i (omega arith));
-        outside = λ i k. getD-set-other r (from + j) i v past (k j (omega arith)) ∙ f .outside i (λ m o. k m (omega arith));
+            (λ q. rw q (getD-set-same r (from + j) v missing h ∙ e))
+            (λ n. getD-set-other r (from + j) (from + i) v missing (λ q. omega arith) ∙ f .inside i (omega arith));
+        outside = λ i k. getD-set-other r (from + j) i v missing (k j (omega arith)) ∙ f .outside i (λ m o. k m (omega arith));
       }
 
-  pub fills-all : (j n : ℕ) (r : List A) → j ≤ n → n ≤ j → Fills past row from j value r → Fills past row from n value r
+  pub fills-all : (j n : ℕ) (r : List A) → j ≤ n → n ≤ j → Fills missing row from j value r → Fills missing row from n value r
   fills-all j n r h k f =
       record { inside = λ i m. f .inside i (omega arith); outside = λ i m. f .outside i (λ o p. m o (omega arith)) }
 

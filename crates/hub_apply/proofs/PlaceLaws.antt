@@ -21,7 +21,7 @@ use Rattle.rules.specs.Tables.{Each}
 use Rattle.rules.specs.Progress.{commandsIn}
 use Rattle.rules.specs.Sequence.{isRunning}
 use Rattle.rules.specs.Submit.{pass, stepOf, newcomer}
-use Rattle.hub_sequence.specs.Lists.{same, count, through, past}
+use Rattle.hub_sequence.specs.Lists.{same, count, aheadOfPlace, behindPlace}
 use Rattle.hub_sequence.specs.Links.{none as noSlot, slotsOf, Stands, StandsOrNone}
 use Rattle.hub_sequence.specs.Contract.{CanJoin, Joins}
 use Rattle.hub_sequence.specs.declared.Joined.{Joined}
@@ -162,10 +162,10 @@ module _ (h : HubState) (q : Routine) (after : ℕ) (v : StateOk h) (ok : JoinOk
 
   module _ (j : Joined) (a : Joins (h .links) after j) where
     abbrev slotsBefore : List ℕ
-    slotsBefore = through after noSlot (slotsOf (h .links))
+    slotsBefore = aheadOfPlace after noSlot (slotsOf (h .links))
 
     abbrev slotsPast : List ℕ
-    slotsPast = past after noSlot (slotsOf (h .links))
+    slotsPast = behindPlace after noSlot (slotsOf (h .links))
 
     -- the taken slots are those before the newcomer and those past it
     parts : (x : ℕ) → count x (slotsOf (h .links)) ≡ count x slotsBefore + count x slotsPast

@@ -18,10 +18,10 @@ use Rattle.hub_apply.specs.declared.fill.CommandRows.{CommandRows}
 
 -- ---- a slot's part of a row
 
--- The n entries from a place on are these values; all others are as they were. `past`: what is read past the row's end.
-pub record Fills {A : Type 0} (past : A) (row : List A) (from n : ℕ) (value : ℕ → A) (r : List A) : Type 0 where
-  pub inside : (j : ℕ) → j < n → getD r (from + j) past ≡ value j
-  pub outside : (i : ℕ) → ((j : ℕ) → j < n → i ≡ from + j → ⊥) → getD r i past ≡ getD row i past
+-- The n entries from a place on are these values; all others are as they were. `missing`: what is read past the row's end.
+pub record Fills {A : Type 0} (missing : A) (row : List A) (from n : ℕ) (value : ℕ → A) (r : List A) : Type 0 where
+  pub inside : (j : ℕ) → j < n → getD r (from + j) missing ≡ value j
+  pub outside : (i : ℕ) → ((j : ℕ) → j < n → i ≡ from + j → ⊥) → getD r i missing ≡ getD row i missing
 
 abbrev pub commandIn : Routine → ℕ → Command
 commandIn q j = getD (q .commands) j zeroCommand

@@ -12,7 +12,7 @@ use Rattle.rules.specs.Tables.{anyOf}
 use Rattle.rules.specs.State.{Member}
 use Rattle.rules.specs.Submit.{upToLast, pastLast}
 use Rattle.rules.proofs.Lists.{t≠f, or-left, or-right}
-use Rattle.hub_sequence.specs.Lists.{count, through, past}
+use Rattle.hub_sequence.specs.Lists.{count, aheadOfPlace, behindPlace}
 use Rattle.hub_sequence.specs.Links.{none}
 use Rattle.hub_sequence.proofs.Lists.{same-self}
 use Rattle.hub_search.proofs.Slots.{firstSlot}
@@ -65,7 +65,7 @@ module _ (p : Member → Bool) (f : ℕ → Member) where
   any-map (x ∷ l) = rw (any-map l)
 
   abbrev Around : ℕ → ℕ → List ℕ → Type 0
-  Around after x l = (map f (through after x l) ≡ upToLast p (map f l)) × (map f (past after x l) ≡ pastLast p (map f l))
+  Around after x l = (map f (aheadOfPlace after x l) ≡ upToLast p (map f l)) × (map f (behindPlace after x l) ≡ pastLast p (map f l))
 
   -- the list stands behind x
   around-last : (l : List ℕ) (x : ℕ) → ((w : ℕ) → count w (x ∷ l) ≤ 1) → Around (lastSlot passes x l) x l

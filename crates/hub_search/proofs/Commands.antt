@@ -70,8 +70,8 @@ at-same q r k (suc n) h = rw (h k, at-same q r (suc k) n h)
 -- ---- tests of an entry
 
 -- the stage from which on a command holds nobody up: none but those left hold up a command; those done hold up a condition, too
-abbrev pub pastOf : Bool → ℕ
-pastOf condition = if condition then skippedCode else doneCode
+abbrev pub boundOf : Bool → ℕ
+boundOf condition = if condition then skippedCode else doneCode
 
 -- the test of `hasSet`
 abbrev sets : ℕ → Step → Bool
@@ -82,7 +82,7 @@ onAt device d j = eqb (getD device j 0) d
 
 -- on the device and at a stage below another
 unfoldable pub belowAt : List ℕ → List ℕ → ℕ → ℕ → ℕ → Bool
-belowAt device stage past d j = onAt device d j && ltb (getD stage j 0) past
+belowAt device stage bound d j = onAt device d j && ltb (getD stage j 0) bound
 
 -- on the device and at a stage from one to another
 unfoldable pub stagedAt : List ℕ → List ℕ → ℕ → ℕ → ℕ → ℕ → Bool
@@ -111,18 +111,18 @@ must-at device tag stage end d k (suc n) e =
     let m : end - k ≡ suc n = omega arith in rw (m, must-at device tag stage end d (suc k) n (omega arith))
 
 module _ (device stage : List ℕ) (d j : ℕ) where
-  module _ (past : ℕ) where
-    pub below-here : getD device j 0 ≡ d → getD stage j 0 < past → belowAt device stage past d j ≡ true
+  module _ (bound : ℕ) where
+    pub below-here : getD device j 0 ≡ d → getD stage j 0 < bound → belowAt device stage bound d j ≡ true
     unfolding belowAt
-    below-here e h = rw (eq-eqb (getD device j 0) d e, lt-ltb (getD stage j 0) past h)
+    below-here e h = rw (eq-eqb (getD device j 0) d e, lt-ltb (getD stage j 0) bound h)
 
-    pub below-other : (getD device j 0 ≡ d → ⊥) → belowAt device stage past d j ≡ false
+    pub below-other : (getD device j 0 ≡ d → ⊥) → belowAt device stage bound d j ≡ false
     unfolding belowAt
     below-other n = rw (ne-eqb (getD device j 0) d n)
 
-    pub below-past : past ≤ getD stage j 0 → belowAt device stage past d j ≡ false
+    pub below-bound : bound ≤ getD stage j 0 → belowAt device stage bound d j ≡ false
     unfolding belowAt
-    below-past h = rw (le-ltb (getD stage j 0) past h) (and-false (onAt device d j))
+    below-bound h = rw (le-ltb (getD stage j 0) bound h) (and-false (onAt device d j))
 
   module _ (low high : ℕ) where
     pub staged-here : getD device j 0 ≡ d → low ≤ getD stage j 0 → getD stage j 0 ≤ high → stagedAt device stage d low high j ≡ true
@@ -230,7 +230,7 @@ steps-at q rows u k (suc n) = rw (steps-at q rows u (suc k) n)
 module _ (rows : Rows) (u : ℤ) (d k n : ℕ) where
   -- not answered; or done
   steps-below : (condition : Bool) → (anyOf (isLeftOn d) (stepsFrom rows u k n) || (condition && anyOf (sets d) (stepsFrom rows u k n)))
-      ≡ anyAt (belowAt (rows .devices) (rows .stages) (pastOf condition) d) k n
+      ≡ anyAt (belowAt (rows .devices) (rows .stages) (boundOf condition) d) k n
   unfolding stepAt belowAt
   steps-below false =
       or-false (anyOf (isLeftOn d) (stepsFrom rows u k n))
@@ -293,7 +293,7 @@ running-either false a b condition = and-false condition
 module _ (h : HubState) (x d : ℕ) where
   -- a command of it on the device is not answered; or done, which holds up a condition
   pub holds-up-slot : (condition : Bool) → holdsUp d condition (memberAt h x)
-      ≡ (not (getD (h .committed) x false) && anyAt (belowAt (h .device) (h .stage) (pastOf condition) d) (x * maxCommands)
+      ≡ (not (getD (h .committed) x false) && anyAt (belowAt (h .device) (h .stage) (boundOf condition) d) (x * maxCommands)
       (getD (h .counts) x 0))
   unfolding holdsUp holds hasSet isRunning finished memberAt stepsAt
   holds-up-slot condition =

@@ -39,7 +39,7 @@ use Rattle.hub_search.specs.Contract.{hasId, Finds, anyOn, anyStaged, hi
 use Rattle.hub_search.proofs.Slots.{firstSlot, Seeks, stopAt, seeks-there, seeks-found, seeks-end, first-same, first-some, find-slot}
 use Rattle.hub_search.proofs.Slots.{find-nowhere, holding-none, holding-some}
 use Rattle.hub_search.proofs.Back.{back-around, back-place}
-use Rattle.hub_search.proofs.Commands.{anyAt, at-past, pastOf, belowAt, below-past, among-at, holds-up-slot, begun-slot, left-slot}
+use Rattle.hub_search.proofs.Commands.{anyAt, at-past, boundOf, belowAt, below-bound, among-at, holds-up-slot, begun-slot, left-slot}
 use Rattle.hub_search.proofs.Commands.{must-slot}
 
 -- ---- the tests of a slot, as the rows have them
@@ -50,24 +50,24 @@ idIn ids i x = eqb (getD ids x 0) i
 unfoldable pub runsIn : List ℕ → List Bool → ℕ → ℕ → Bool
 runsIn ids committed i x = idIn ids i x && not (getD committed x false)
 
--- one of its commands is on the device and at a stage below `past`
+-- one of its commands is on the device and at a stage below `bound`
 unfoldable pub belowIn : List ℕ → List ℕ → List ℕ → ℕ → ℕ → ℕ → Bool
-belowIn counts device stage past d x = anyAt (belowAt device stage past d) (x * maxCommands) (getD counts x 0)
+belowIn counts device stage bound d x = anyAt (belowAt device stage bound d) (x * maxCommands) (getD counts x 0)
 
 -- the commands of a slot, from its first to past its last
 slot-places : (at n : ℕ) → at * maxCommands + n - at * maxCommands ≡ n
 slot-places at n = omega arith
 
 -- where a search through its commands starts
-pub below-start : (counts device stage : List ℕ) (past d x : ℕ) {n : ℕ} → n ≡ 0 →
-    anyAt (belowAt device stage past d) (x * maxCommands + n) (x * maxCommands + getD counts x 0 - (x * maxCommands + n))
-    ≡ belowIn counts device stage past d x
+pub below-start : (counts device stage : List ℕ) (bound d x : ℕ) {n : ℕ} → n ≡ 0 →
+    anyAt (belowAt device stage bound d) (x * maxCommands + n) (x * maxCommands + getD counts x 0 - (x * maxCommands + n))
+    ≡ belowIn counts device stage bound d x
 unfolding belowIn
-below-start counts device stage past d x {n} e =
+below-start counts device stage bound d x {n} e =
     let k : x * maxCommands + n ≡ x * maxCommands = omega arith in rw (k, slot-places x (getD counts x 0))
 
 unfoldable pub holdsIn : List Bool → List ℕ → List ℕ → List ℕ → ℕ → ℕ → ℕ → Bool
-holdsIn committed counts device stage past d x = not (getD committed x false) && belowIn counts device stage past d x
+holdsIn committed counts device stage bound d x = not (getD committed x false) && belowIn counts device stage bound d x
 
 -- it has begun the device; a command on it is left
 abbrev pub begunIn : List ℕ → List ℕ → List ℕ → ℕ → ℕ → Bool
@@ -122,12 +122,12 @@ module _ (committed : List Bool) (counts device stage : List ℕ) (d x : ℕ) wh
         let b : leftIn counts device stage d x ≡ false = rw (slot-places x (getD counts x 0)) at (sym e ∙ f) in
         rw b (and-false (not (getD committed x false) && begunIn counts device stage d x))
 
-module _ (committed : List Bool) (counts device stage : List ℕ) (past d x at : ℕ) (n : x ≡ at → ⊥) where
-  pub holds-committed : not (getD committed x false) ≡ false → stopAt at (holdsIn committed counts device stage past d) x ≡ false
+module _ (committed : List Bool) (counts device stage : List ℕ) (bound d x at : ℕ) (n : x ≡ at → ⊥) where
+  pub holds-committed : not (getD committed x false) ≡ false → stopAt at (holdsIn committed counts device stage bound d) x ≡ false
   unfolding stopAt holdsIn
   holds-committed e = rw (ne-eqb x at n, e)
 
-  pub holds-off : belowIn counts device stage past d x ≡ false → stopAt at (holdsIn committed counts device stage past d) x ≡ false
+  pub holds-off : belowIn counts device stage bound d x ≡ false → stopAt at (holdsIn committed counts device stage bound d) x ≡ false
   unfolding stopAt holdsIn
   holds-off e = rw (ne-eqb x at n, e) (and-false (not (getD committed x false)))
 
@@ -194,23 +194,23 @@ module _ (h : HubState) (v : StateOk h) where
     commands-fit = (stands-slot (h .links) at (v .links-ok) st, v .slots-ok at st .fits)
 
     -- no answered command holds up a command: a search for one that does may start at the first that is not answered
-    pub below-left : (device stage : List ℕ) (d : ℕ) → stage ≡ h .stage → {past : ℕ} → past ≡ doneCode →
+    pub below-left : (device stage : List ℕ) (d : ℕ) → stage ≡ h .stage → {bound : ℕ} → bound ≡ doneCode →
         {n : ℕ} → n ≡ getD (h .answered) at 0 →
-        anyAt (belowAt device stage past d) (at * maxCommands + n) (at * maxCommands + getD (h .counts) at 0 - (at * maxCommands + n))
-        ≡ belowIn (h .counts) device stage past d at
+        anyAt (belowAt device stage bound d) (at * maxCommands + n) (at * maxCommands + getD (h .counts) at 0 - (at * maxCommands + n))
+        ≡ belowIn (h .counts) device stage bound d at
     unfolding stepsAt belowIn
-    below-left device stage d e {past} p {n} i =
+    below-left device stage d e {bound} p {n} i =
         let u = getD (h .«due_then») at (pos 0) in
         let from = at * maxCommands in
         let many = getD (h .counts) at 0 in
         let come : AnsweredUpTo n (stepsAt h at) = subst (λ (m : ℕ). AnsweredUpTo m (stepsAt h at)) (sym i) (v .slots-ok at st .come-so-far)
         in
         let a = upto-codes (rowsOf h) u from n many (from + n) (from + many) refl refl come in
-        at-past (belowAt device stage past d) from n (from + n) (from + many) refl (a .within .1)
+        at-past (belowAt device stage bound d) from n (from + n) (from + many) refl (a .within .1)
         (λ j l r.
         let o : doneCode ≤ getD stage j 0 = subst (λ (row : List ℕ). doneCode ≤ getD row j 0) (sym e) (a .answered-before j l r) in
-        below-past device stage d j past (omega (arith, p)))
-        ∙ ap (anyAt (belowAt device stage past d) from) (slot-places at many)
+        below-bound device stage d j bound (omega (arith, p)))
+        ∙ ap (anyAt (belowAt device stage bound d) from) (slot-places at many)
 
     pub begun-is : (device stage : List ℕ) (d : ℕ) → device ≡ h .device → stage ≡ h .stage →
         ((j : ℕ) → getD (h .stage) j 0 ≤ highestStage) → {t : Bool} →
@@ -301,12 +301,12 @@ module _ (h : HubState) (v : StateOk h) where
 
   -- ---- the wait search, whose long rows are lent
 
-  module _ (device stage : List ℕ) (same-device : device ≡ h .device) (same-stage : stage ≡ h .stage) (condition : Bool) {past : ℕ}
-      (p : past ≡ pastOf condition) (d at : ℕ) (st : Stands (h .links) at) {x : ℕ}
-      (s : Seeks (stopAt at (holdsIn (h .committed) (h .counts) device stage past d)) (h .links .behind) (h .links .first) x)
+  module _ (device stage : List ℕ) (same-device : device ≡ h .device) (same-stage : stage ≡ h .stage) (condition : Bool) {bound : ℕ}
+      (p : bound ≡ boundOf condition) (d at : ℕ) (st : Stands (h .links) at) {x : ℕ}
+      (s : Seeks (stopAt at (holdsIn (h .committed) (h .counts) device stage bound d)) (h .links .behind) (h .links .first) x)
     where
       abbrev stops : ℕ → Bool
-      stops y = stopAt at (holdsIn (h .committed) (h .counts) device stage past d) y
+      stops y = stopAt at (holdsIn (h .committed) (h .counts) device stage bound d) y
 
       -- the walk does not come to its end
       pub holder-slot : x < maxSequence
@@ -320,7 +320,7 @@ module _ (h : HubState) (v : StateOk h) where
           ap (λ (y : ℕ). count y (slotsOf (h .links))) (seeks-end s i) ∙ none-apart in
           absurd (omega arith))
 
-      holds-is : (y : ℕ) → holdsUp d condition (memberAt h y) ≡ holdsIn (h .committed) (h .counts) device stage past d y
+      holds-is : (y : ℕ) → holdsUp d condition (memberAt h y) ≡ holdsIn (h .committed) (h .counts) device stage bound d y
       unfolding holdsIn belowIn
       holds-is y = holds-up-slot h y d condition ∙ rw (same-device, same-stage, p)
 
@@ -334,7 +334,7 @@ module _ (h : HubState) (v : StateOk h) where
           sym
           (holding-none d condition (memberAt h) at (slotsOf (h .links)) (stops-is ∙ seeks-found s holder-slot (rw (eq-eqb x at e)) ∙ e))
 
-      pub holder-found : (x ≡ at → ⊥) → not (getD (h .committed) x false) ≡ true → belowIn (h .counts) device stage past d x ≡ true →
+      pub holder-found : (x ≡ at → ⊥) → not (getD (h .committed) x false) ≡ true → belowIn (h .counts) device stage bound d x ≡ true →
           some (getD (h .ids) x 0) ≡ firstHolding d condition (there h at .ahead)
       unfolding there memberAt stopAt holdsIn
       holder-found n c o =

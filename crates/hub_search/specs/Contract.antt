@@ -11,7 +11,7 @@ use Rattle.rules_routine.specs.declared.Command.{Command}
 use Rattle.rules.specs.State.{Member}
 use Rattle.rules.specs.Sequence.{find}
 use Rattle.rules.specs.Submit.{blocks, upToLast, pastLast}
-use Rattle.hub_sequence.specs.Lists.{through, past}
+use Rattle.hub_sequence.specs.Lists.{aheadOfPlace, behindPlace}
 use Rattle.hub_sequence.specs.Links.{none, slotsOf, StandsOrNone}
 use Rattle.hub_state.specs.View.{inFlightCode, marksOf, memberAt, stateOf, foundAt}
 use Rattle.hub_state.specs.Valid.{PlaceOk}
@@ -59,5 +59,5 @@ marksFor row cs = map (λ c. marksOf row (c .device)) cs
 -- The slot of the last routine that a newcomer with these commands must follow; none for the settled part.
 pub record Latest (h : HubState) (cs : List Command) (after : ℕ) : Type 0 where
   pub place : StandsOrNone (h .links) after
-  pub ahead : map (memberAt h) (through after none (slotsOf (h .links))) ≡ upToLast (blocks (stateOf h) cs) (stateOf h .sequence)
-  pub behind : map (memberAt h) (past after none (slotsOf (h .links))) ≡ pastLast (blocks (stateOf h) cs) (stateOf h .sequence)
+  pub ahead : map (memberAt h) (aheadOfPlace after none (slotsOf (h .links))) ≡ upToLast (blocks (stateOf h) cs) (stateOf h .sequence)
+  pub behind : map (memberAt h) (behindPlace after none (slotsOf (h .links))) ≡ pastLast (blocks (stateOf h) cs) (stateOf h .sequence)

@@ -10,7 +10,7 @@ use lib.ListN.{length}
 use Rattle.rules_routine.specs.Choice.{if_then_else_}
 use Rattle.rules_routine.proofs.RoutineLaws.{byTest}
 use Rattle.rules_routine.specs.Limits.{maxSequence}
-use Rattle.hub_sequence.specs.Lists.{same, count, placed, through, past, without, upTo, rest, lastOr}
+use Rattle.hub_sequence.specs.Lists.{same, count, placed, aheadOfPlace, behindPlace, without, upTo, rest, lastOr}
 use Rattle.hub_sequence.specs.Links.{none, within}
 use Rattle.hub_sequence.proofs.Tables.{byEq}
 
@@ -85,14 +85,15 @@ module _ (after s : ℕ) where
       (λ e. rw (eq-eqb x after e) (omega arith))
       (λ n. rw (ne-eqb x after n) (let i = length-placed y l (omega (arith, same-other after x (λ e. n (sym e)))) in omega arith))
 
-  pub placed-split : (x : ℕ) (l : List ℕ) → 1 ≤ count after (x ∷ l) → placed after s x l ≡ through after x l ++ s ∷ past after x l
+  pub placed-split : (x : ℕ) (l : List ℕ) → 1 ≤ count after (x ∷ l) → placed after s x l ≡ aheadOfPlace after x l
+      ++ s ∷ behindPlace after x l
   placed-split x [] h = byEq x after (λ e. rw (eq-eqb x after e)) (λ n. absurd (omega (arith, same-other after x (λ e. n (sym e)))))
   placed-split x (y ∷ l) h =
       byEq x after
       (λ e. rw (eq-eqb x after e))
       (λ n. rw (ne-eqb x after n) (ap (λ (m : List ℕ). y ∷ m) (placed-split y l (omega (arith, same-other after x (λ e. n (sym e)))))))
 
-pub through-past : (after x : ℕ) (l : List ℕ) → through after x l ++ past after x l ≡ l
+pub through-past : (after x : ℕ) (l : List ℕ) → aheadOfPlace after x l ++ behindPlace after x l ≡ l
 through-past after x [] = refl
 through-past after x (y ∷ l) =
     byEq x after (λ e. rw (eq-eqb x after e)) (λ n. rw (ne-eqb x after n) (ap (λ (m : List ℕ). y ∷ m) (through-past after y l)))
@@ -162,12 +163,12 @@ module _ (x : ℕ) where
 -- ---- the last of a list
 
 -- the newcomer stands behind the last of what is ahead of it
-last-through : (after x : ℕ) (l : List ℕ) → 1 ≤ count after (x ∷ l) → lastOr x (through after x l) ≡ after
+last-through : (after x : ℕ) (l : List ℕ) → 1 ≤ count after (x ∷ l) → lastOr x (aheadOfPlace after x l) ≡ after
 last-through after x [] h = byEq x after (λ e. e) (λ n. absurd (omega (arith, same-other after x (λ e. n (sym e)))))
 last-through after x (y ∷ l) h =
     byEq x after
     (λ e. rw (eq-eqb x after e) e)
     (λ n. rw (ne-eqb x after n) (last-through after y l (omega (arith, same-other after x (λ e. n (sym e))))))
 
-pub through-last : (after : ℕ) (l : List ℕ) → 1 ≤ count after (none ∷ l) → lastOr none (through after none l) ≡ after
+pub through-last : (after : ℕ) (l : List ℕ) → 1 ≤ count after (none ∷ l) → lastOr none (aheadOfPlace after none l) ≡ after
 through-last after l h = last-through after none l h

@@ -5,7 +5,7 @@ use mathlib.Core.Path.{_≡_, refl, sym, ap, subst, _∙_}
 use mathlib.Core.List.{List, [], _∷_, _++_}
 use lib.ListN.{length, getD}
 use Rattle.rules_routine.specs.Limits.{maxSequence}
-use Rattle.hub_sequence.specs.Lists.{count, through, past}
+use Rattle.hub_sequence.specs.Lists.{count, aheadOfPlace, behindPlace}
 use Rattle.hub_sequence.specs.Links.{none, along, within, Chain, more, stop, slotsOf, LinksOk, Walks, Stands, StandsOrNone}
 use Rattle.hub_sequence.specs.Contract.{Joins}
 use Rattle.hub_sequence.specs.declared.Links.{Links}
@@ -89,8 +89,8 @@ walks-past {row} (y ∷ l) m x s t e =
     walks-past l m (getD row x 0) s (w .1) (same-parts x y (along row (getD row x 0)) (l ++ (s ∷ m)) (sym (w .0) ∙ e) .1)
 
 pub behind-joined : (k : Links) (after : ℕ) (r : Joined) → StandsOrNone k after → Joins k after r →
-    (along (r .links .behind) (getD (r .links .behind) (r .slot) 0) ≡ past after none (slotsOf k))
+    (along (r .links .behind) (getD (r .links .behind) (r .slot) 0) ≡ behindPlace after none (slotsOf k))
     × Walks (r .links .behind) (getD (r .links .behind) (r .slot) 0)
 behind-joined k after r p j =
-    walks-past (through after none (slotsOf k)) (past after none (slotsOf k)) (r .links .first) (r .slot)
+    walks-past (aheadOfPlace after none (slotsOf k)) (behindPlace after none (slotsOf k)) (r .links .first) (r .slot)
     (walks-behind (r .links) (j .valid)) (j .slots ∙ placed-split after (r .slot) none (slotsOf k) p)

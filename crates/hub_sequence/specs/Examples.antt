@@ -4,7 +4,7 @@ use Prim.Native.Nat.{ℕ}
 use native.Mathlib.Omega.{arith}
 use mathlib.Core.Path.{_≡_, refl}
 use mathlib.Core.List.{[], _∷_}
-use Rattle.hub_sequence.specs.Lists.{placed, through, past, without, upTo, rest, lastOr}
+use Rattle.hub_sequence.specs.Lists.{placed, aheadOfPlace, behindPlace, without, upTo, rest, lastOr}
 use Rattle.hub_sequence.specs.Links.{none, along, walk, linkOf, behindOf, aheadOf, rowWith, endWith, slotsOf, backOf, freeOf}
 use Rattle.hub_sequence.specs.Stays.{Stays, LinksStay}
 use Rattle.hub_sequence.specs.declared.Links.{Links}
@@ -74,10 +74,10 @@ joined-behind = refl
 joined-front : placed none 3 none (2 ∷ 0 ∷ 1 ∷ []) ≡ 3 ∷ 2 ∷ 0 ∷ 1 ∷ []
 joined-front = refl
 
-ahead-of-it : through 0 none (2 ∷ 0 ∷ 1 ∷ []) ≡ 2 ∷ 0 ∷ []
+ahead-of-it : aheadOfPlace 0 none (2 ∷ 0 ∷ 1 ∷ []) ≡ 2 ∷ 0 ∷ []
 ahead-of-it = refl
 
-behind-it : past 0 none (2 ∷ 0 ∷ 1 ∷ []) ≡ 1 ∷ []
+behind-it : behindPlace 0 none (2 ∷ 0 ∷ 1 ∷ []) ≡ 1 ∷ []
 behind-it = refl
 
 left-middle : without 0 (2 ∷ 0 ∷ 1 ∷ []) ≡ 2 ∷ 1 ∷ []

@@ -20,14 +20,14 @@ placed after s x [] = if eqb x after then s ∷ [] else []
 placed after s x (y ∷ l) = if eqb x after then s ∷ y ∷ l else y ∷ placed after s y l
 
 -- What stands ahead of that place.
-abbrev pub through : ℕ → ℕ → List ℕ → List ℕ
-through after x [] = []
-through after x (y ∷ l) = if eqb x after then [] else y ∷ through after y l
+abbrev pub aheadOfPlace : ℕ → ℕ → List ℕ → List ℕ
+aheadOfPlace after x [] = []
+aheadOfPlace after x (y ∷ l) = if eqb x after then [] else y ∷ aheadOfPlace after y l
 
 -- What stands behind it.
-abbrev pub past : ℕ → ℕ → List ℕ → List ℕ
-past after x [] = []
-past after x (y ∷ l) = if eqb x after then y ∷ l else past after y l
+abbrev pub behindPlace : ℕ → ℕ → List ℕ → List ℕ
+behindPlace after x [] = []
+behindPlace after x (y ∷ l) = if eqb x after then y ∷ l else behindPlace after y l
 
 -- The list without the first s.
 abbrev pub without : ℕ → List ℕ → List ℕ

@@ -21,7 +21,7 @@ use Rattle.rules.specs.Abort.{leave, putBacks}
 use Rattle.rules.specs.Submit.{pass, newcomer}
 use Rattle.rules.specs.Turn.{commit}
 use Rattle.rules.specs.Events.{mustLeft, stopIfAny}
-use Rattle.hub_sequence.specs.Lists.{through, past}
+use Rattle.hub_sequence.specs.Lists.{aheadOfPlace, behindPlace}
 use Rattle.hub_sequence.specs.Links.{none as noSlot, slotsOf, Stands, StandsOrNone}
 use Rattle.hub_answers.specs.View.{oneOf, eventAbortOf, answerOf, putBacksIn, changesNothing}
 use Rattle.hub_answers.specs.declared.Answer.{Answer}
@@ -64,8 +64,8 @@ joinedBehind h cs after = record {
   passLimit = stateOf h .passLimit;
   nextId = suc (stateOf h .nextId);
   sequence =
-      map (memberAt h) (through after noSlot (slotsOf (h .links)))
-      ++ (newcomer (stateOf h .nextId) cs ∷ map pass (map (memberAt h) (past after noSlot (slotsOf (h .links)))));
+      map (memberAt h) (aheadOfPlace after noSlot (slotsOf (h .links)))
+      ++ (newcomer (stateOf h .nextId) cs ∷ map pass (map (memberAt h) (behindPlace after noSlot (slotsOf (h .links)))));
   settledAt = stateOf h .settledAt;
   up = stateOf h .up;
   mark = stateOf h .mark;
@@ -133,7 +133,7 @@ pub record JoinOk (h : HubState) (cs : List Command) (after : ℕ) : Type 0 wher
   pub room : h .links .taken < maxSequence
   pub place : StandsOrNone (h .links) after
   pub id-left : h .«next_id» ≤ highestId
-  pub room-to-pass : RoomToPass (map (memberAt h) (past after noSlot (slotsOf (h .links))))
+  pub room-to-pass : RoomToPass (map (memberAt h) (behindPlace after noSlot (slotsOf (h .links))))
 
 abbrev pub ChangeOk : HubState → List Command → Change → Type 0
 ChangeOk h cs Nothing = Unit {0}

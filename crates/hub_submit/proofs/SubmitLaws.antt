@@ -22,7 +22,7 @@ use Rattle.rules.specs.Sequence.{isRunning, lastIdOr}
 use Rattle.rules.specs.Settle.{settling}
 use Rattle.rules.specs.Submit.{submitCheck, blocks, upToLast, pastLast, pass, newcomer, place, submitOf}
 use Rattle.rules.proofs.Lists.{each-map, or-left, or-right}
-use Rattle.hub_sequence.specs.Lists.{through, lastOr}
+use Rattle.hub_sequence.specs.Lists.{aheadOfPlace, lastOr}
 use Rattle.hub_sequence.specs.Links.{none, slotsOf, Stands, StandsOrNone}
 use Rattle.hub_sequence.proofs.Lists.{same-other, through-last}
 use Rattle.hub_sequence.proofs.ReadLaws.{taken-length}
@@ -145,16 +145,16 @@ last-slot : (h : HubState) (x : ℕ) (l : List ℕ) → lastOr none l ≡ x → 
 last-slot h x [] e n = absurd (n (sym e))
 last-slot h x (y ∷ l) e n = ap (λ (z : ℕ). getD (h .ids) z 0) (sym e) ∙ last-id h y l
 
-through-none : (l : List ℕ) → through none none l ≡ []
+through-none : (l : List ℕ) → aheadOfPlace none none l ≡ []
 through-none [] = refl
 through-none (y ∷ l) = refl
 
 module _ (h : HubState) (x : ℕ) where
   -- it follows the settled part
-  pub id-none : x ≡ none → 0 ≡ lastIdOr 0 (map (memberAt h) (through x none (slotsOf (h .links))))
+  pub id-none : x ≡ none → 0 ≡ lastIdOr 0 (map (memberAt h) (aheadOfPlace x none (slotsOf (h .links))))
   id-none e =
       sym (ap (λ (l : List ℕ). lastIdOr 0 (map (memberAt h) l))
-      (ap (λ (z : ℕ). through z none (slotsOf (h .links))) e ∙ through-none (slotsOf (h .links))))
+      (ap (λ (z : ℕ). aheadOfPlace z none (slotsOf (h .links))) e ∙ through-none (slotsOf (h .links))))
 
   module _ (n : x ≡ none → ⊥) (p : StandsOrNone (h .links) x) where
     -- a routine, in its slot
@@ -164,8 +164,8 @@ module _ (h : HubState) (x : ℕ) where
     pub slot-below : StateOk h → x < maxSequence
     slot-below v = stands-below h x v stands
 
-    pub id-slot : getD (h .ids) x 0 ≡ lastIdOr 0 (map (memberAt h) (through x none (slotsOf (h .links))))
-    id-slot = last-slot h x (through x none (slotsOf (h .links))) (through-last x (slotsOf (h .links)) p) n
+    pub id-slot : getD (h .ids) x 0 ≡ lastIdOr 0 (map (memberAt h) (aheadOfPlace x none (slotsOf (h .links))))
+    id-slot = last-slot h x (aheadOfPlace x none (slotsOf (h .links))) (through-last x (slotsOf (h .links)) p) n
 
 -- ---- the submit
 
@@ -213,7 +213,7 @@ module _ (h : HubState) (cs : List Command) (y : Decision) where
     }
 
     pub submit-places : h .«pass_limit» ≤ highestPassed → (after : ℕ) →
-        after ≡ lastIdOr 0 (map (memberAt h) (through x none (slotsOf (h .links)))) →
+        after ≡ lastIdOr 0 (map (memberAt h) (aheadOfPlace x none (slotsOf (h .links)))) →
         y ≡ plainly (Placed (record { id = h .«next_id»; after = after })) (Join x) → Decides h cs y (submitOf (stateOf h) cs)
     unfolding stateOf
     submit-places k after a z =

@@ -19,7 +19,7 @@ ghost use Rattle.rules_routine.specs.Routine.{commandsOf};
 ghost use Rattle.rules_routine.specs.declared.Verdict.the-variants.{Accepted};
 ghost use Rattle.rules.specs.Sequence.{lastIdOr};
 ghost use Rattle.rules.specs.Submit.{submitCheck, submitOf};
-ghost use Rattle.hub_sequence.specs.Lists.{through};
+ghost use Rattle.hub_sequence.specs.Lists.{aheadOfPlace};
 ghost use Rattle.hub_sequence.specs.Links.{none, slotsOf, StandsOrNone};
 ghost use Rattle.hub_state.specs.View.{memberAt, stateOf};
 ghost use Rattle.hub_state.specs.Valid.{StateOk};
@@ -48,7 +48,7 @@ fn check(state: HubState, routine: Routine) -> Verdict
 // The id of the routine in a slot; 0 for none.
 fn id_in(state: HubState, slot: u8) -> u32
     requires { ⌜ (StateOk state) × (StandsOrNone (state .links) slot) ⌝ }
-    ensures { λ r. ⌜ r ≡ lastIdOr 0 (map (memberAt state) (through slot none (slotsOf (state .links)))) ⌝ }
+    ensures { λ r. ⌜ r ≡ lastIdOr 0 (map (memberAt state) (aheadOfPlace slot none (slotsOf (state .links)))) ⌝ }
 {
     if slot == NONE {
         return 0;

@@ -192,14 +192,14 @@ ran-all {h} {input} {buffer} {out} {room} {s} {from} r end =
 -- ---- how many lines there are
 
 -- how many pieces there are does not depend on what is held
-pieces-held : (byte : ℕ) (held bs : List ℕ) → length (piecesFrom byte held bs) ≡ length (pieces byte bs)
+pieces-alike : (byte : ℕ) (soFar bs : List ℕ) → length (piecesFrom byte soFar bs) ≡ length (pieces byte bs)
 unfolding pieces piecesFrom
-pieces-held byte held [] = refl
-pieces-held byte held (b ∷ bs) =
+pieces-alike byte soFar [] = refl
+pieces-alike byte soFar (b ∷ bs) =
     byTest
-    (λ (t : Bool). length (if t then held ∷ piecesFrom byte [] bs else piecesFrom byte (held ++ (b ∷ [])) bs)
+    (λ (t : Bool). length (if t then soFar ∷ piecesFrom byte [] bs else piecesFrom byte (soFar ++ (b ∷ [])) bs)
     ≡ length (if t then [] ∷ piecesFrom byte [] bs else piecesFrom byte ([] ++ (b ∷ [])) bs))
-    (eqb b byte) (λ _. refl) (λ _. pieces-held byte (held ++ (b ∷ [])) bs ∙ sym (pieces-held byte ([] ++ (b ∷ [])) bs))
+    (eqb b byte) (λ _. refl) (λ _. pieces-alike byte (soFar ++ (b ∷ [])) bs ∙ sym (pieces-alike byte ([] ++ (b ∷ [])) bs))
 
 -- how often a byte stands in what is left from a place on
 pub times-end : (byte : ℕ) (bs : List ℕ) (i : ℕ) → i < length bs → getD bs i 0 ≡ byte →
@@ -230,7 +230,7 @@ times-part byte (b ∷ bs) (suc n) =
     byTest
     (λ (t : Bool). (if t then suc (times byte (take n bs)) else times byte (take n bs)) + length (pieces byte (drop n bs))
     ≡ length (if t then [] ∷ piecesFrom byte [] bs else piecesFrom byte ([] ++ (b ∷ [])) bs))
-    (eqb b byte) (λ _. omega arith) (λ _. more ∙ sym (pieces-held byte ([] ++ (b ∷ [])) bs))
+    (eqb b byte) (λ _. omega arith) (λ _. more ∙ sym (pieces-alike byte ([] ++ (b ∷ [])) bs))
 
 -- a part of the bytes, from a place to another
 module _ (bs : List ℕ) (i end : ℕ) (h : i ≤ end) (k : end ≤ length bs) where

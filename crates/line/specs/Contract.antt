@@ -51,8 +51,8 @@ pub record Runs (p : Printed) (input : List ℕ) (before after : Hub) (buffer bu
 -- ---- below them
 
 -- Ends of lines are counted in parts of up to so many bytes: a byte holds their number.
-abbrev pub partLength : ℕ
-partLength = 240
+abbrev pub chunkLength : ℕ
+chunkLength = 240
 
 -- What all lines print stands in the buffer, if there is room for it; else the place is some place past the room, at most maxText further.
 -- `ample`: where the room is maxText bytes for each line, what they print has no more bytes than that.

@@ -18,7 +18,7 @@ ghost use Rattle.line.specs.Contract.{Wrote, Runs};
 pub const TOO_SHORT: i64 = -21;
 
 // The hub afterwards, and the length written or −21.
-pub struct Written {
+pub struct RunResult {
     pub hub: Hub,
     pub result: i64,
 }
@@ -32,7 +32,7 @@ pub fn no_hub() -> Hub
 
 // The lines of a part of an input, which ends with a line; without the device lines. A buffer that is too short stays as it was, so the
 // text is measured first; where there is room for any text of so many lines, it is not.
-pub fn run_part(hub: Hub, input: &[u8], out: &mut [u8]) -> Written
+pub fn run_part(hub: Hub, input: &[u8], out: &mut [u8]) -> RunResult
     requires { ⌜ Valid hub ⌝ }
     ensures { λ r. ⌜ Runs (steps (hubIn hub) (linesOf (now (input .entry)))) (now (input .entry)) hub (r .hub)
         (now (out .entry)) (now (out .exit)) (r .result) ⌝ }
@@ -41,7 +41,7 @@ pub fn run_part(hub: Hub, input: &[u8], out: &mut [u8]) -> Written
     if !running::is_ample(input, room) {
         let length = running::lines_length(hub, input, room);
         if room < length {
-            return Written {
+            return RunResult {
                 hub,
                 result: TOO_SHORT,
             };
@@ -49,14 +49,14 @@ pub fn run_part(hub: Hub, input: &[u8], out: &mut [u8]) -> Written
     }
     let ran = running::run_lines(hub, input, out, room);
     let next = ran.hub;
-    Written {
+    RunResult {
         hub: next,
         result: ran.at as i64,
     }
 }
 
 // The last part of an input, or all of it, and then the device lines.
-pub fn run_last(hub: Hub, input: &[u8], out: &mut [u8]) -> Written
+pub fn run_last(hub: Hub, input: &[u8], out: &mut [u8]) -> RunResult
     requires { ⌜ Valid hub ⌝ }
     ensures { λ r. ⌜ Runs (runFrom (hubIn hub) (now (input .entry))) (now (input .entry)) hub (r .hub)
         (now (out .entry)) (now (out .exit)) (r .result) ⌝ }
@@ -65,7 +65,7 @@ pub fn run_last(hub: Hub, input: &[u8], out: &mut [u8]) -> Written
     if !running::is_ample(input, room) {
         let length = running::whole_length(hub, input, room);
         if room < length {
-            return Written {
+            return RunResult {
                 hub,
                 result: TOO_SHORT,
             };
@@ -75,7 +75,7 @@ pub fn run_last(hub: Hub, input: &[u8], out: &mut [u8]) -> Written
     let next = ran.hub;
     let devices = lines::devices_of(next);
     let end = line_print::put_devices(out, ran.at, devices);
-    Written {
+    RunResult {
         hub: next,
         result: end as i64,
     }

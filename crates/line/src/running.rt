@@ -15,10 +15,10 @@ ghost use Rattle.line_rules.specs.Pieces.{linesOf};
 ghost use Rattle.line_rules.specs.Program.{steps, runFrom};
 ghost use Rattle.hub.specs.Valid.{Valid};
 ghost use Rattle.line.specs.View.{hubIn};
-ghost use Rattle.line.specs.Contract.{partLength, Ample, RunsLines, Measures};
+ghost use Rattle.line.specs.Contract.{chunkLength, Ample, RunsLines, Measures};
 
-// Ends of lines are counted in parts of so many bytes: a byte holds their number, and the count of many bytes is one operation.
-const PART_LENGTH: usize = 240;
+// Ends of lines are counted in chunks of so many bytes: a byte holds their number, and the count of many bytes is one operation.
+const CHUNK_LENGTH: usize = 240;
 
 // The hub after some lines, and the place behind what they print.
 pub struct Lines {
@@ -85,15 +85,15 @@ pub fn run_lines(hub: Hub, input: &[u8], out: &mut [u8], room: usize) -> Lines
     Lines { hub: now, at }
 }
 
-// How many of a part's bytes end a line.
-fn ends_in(part: &[u8]) -> u8
-    requires { ⌜ length (now part) ≤ partLength ⌝ }
-    ensures { λ r. ⌜ r ≡ times lineEnd (now (part .entry)) ⌝ }
+// How many of a chunk's bytes end a line.
+fn ends_in(chunk: &[u8]) -> u8
+    requires { ⌜ length (now chunk) ≤ chunkLength ⌝ }
+    ensures { λ r. ⌜ r ≡ times lineEnd (now (chunk .entry)) ⌝ }
 {
     let mut count = 0u8;
     let mut i = 0;
-    while i < part.len() {
-        if part[i] == LINE_END {
+    while i < chunk.len() {
+        if chunk[i] == LINE_END {
             count += 1;
         }
         i += 1;
@@ -110,8 +110,8 @@ pub fn is_ample(input: &[u8], room: usize) -> bool
     let mut i = 0;
     while i < input.len() {
         let mut end = input.len();
-        if PART_LENGTH < end - i {
-            end = i + PART_LENGTH;
+        if CHUNK_LENGTH < end - i {
+            end = i + CHUNK_LENGTH;
         }
         let ends = ends_in(&input[i..end]);
         count += ends as usize;

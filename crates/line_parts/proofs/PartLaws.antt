@@ -125,17 +125,17 @@ whole-then : (a b : List ℕ) → WholeLines a → WholeLines b → WholeLines (
 whole-then a b w (inl e) = rw (e, append-nil a) w
 whole-then a b w (inr (front, e)) = inr (a ++ front, ap (λ (l : List ℕ). a ++ l) e ∙ sym (append-assoc a front (lineEnd ∷ [])))
 
-module _ (read piece : List ℕ) where
+module _ (read part : List ℕ) where
   abbrev line : List ℕ
-  line = unended read ++ piece
+  line = unended read ++ part
 
-  parted-more : (wholeLines (read ++ piece) ≡ wholeLines read ++ wholeLines line) × (unended (read ++ piece) ≡ unended line)
+  parted-more : (wholeLines (read ++ part) ≡ wholeLines read ++ wholeLines line) × (unended (read ++ part) ≡ unended line)
   parted-more =
       let p = parted-at-the-last-end read in
       let q = parted-at-the-last-end line in
-      let all : (wholeLines read ++ wholeLines line) ++ unended line ≡ read ++ piece =
+      let all : (wholeLines read ++ wholeLines line) ++ unended line ≡ read ++ part =
       append-assoc (wholeLines read) (wholeLines line) (unended line) ∙ ap (λ (l : List ℕ). wholeLines read ++ l) (q .0)
-      ∙ sym (append-assoc (wholeLines read) (unended read) piece) ∙ ap (λ (l : List ℕ). l ++ piece) (p .0) in
+      ∙ sym (append-assoc (wholeLines read) (unended read) part) ∙ ap (λ (l : List ℕ). l ++ part) (p .0) in
       subst (λ (l : List ℕ). (wholeLines l ≡ wholeLines read ++ wholeLines line) × (unended l ≡ unended line)) all
       (parted-so (wholeLines read ++ wholeLines line) (unended line) (whole-then (wholeLines read) (wholeLines line) (p .1) (q .1)) (q .2))
 
@@ -161,55 +161,55 @@ module _ (line : List ℕ) (no-end : NoEnd line) where
   cut-no-end : NoEnd (cut line)
   cut-no-end = reach-take lineEnd (suc maxLine) line no-end
 
-  more-no-end : (l piece : List ℕ) → NoEnd l → NoEnd piece → NoEnd (l ++ piece)
-  more-no-end l piece e f = reach-append lineEnd l piece e ∙ ap (λ (n : ℕ). length l + n) f ∙ sym (length-append l piece)
+  more-no-end : (l part : List ℕ) → NoEnd l → NoEnd part → NoEnd (l ++ part)
+  more-no-end l part e f = reach-append lineEnd l part e ∙ ap (λ (n : ℕ). length l + n) f ∙ sym (length-append l part)
 
-  module _ (piece : List ℕ) where
+  module _ (part : List ℕ) where
     -- the whole lines print the same
-    whole-cut : (h : Option State) → steps h (linesOf (wholeLines (cut line ++ piece))) ≡ steps h (linesOf (wholeLines (line ++ piece)))
+    whole-cut : (h : Option State) → steps h (linesOf (wholeLines (cut line ++ part))) ≡ steps h (linesOf (wholeLines (line ++ part)))
     whole-cut h = ⊎-elim
         (λ e.
-        let short = whole-none (cut line ++ piece) (more-no-end (cut line) piece cut-no-end e) in
-        let long = whole-none (line ++ piece) (more-no-end line piece no-end e) in
+        let short = whole-none (cut line ++ part) (more-no-end (cut line) part cut-no-end e) in
+        let long = whole-none (line ++ part) (more-no-end line part no-end e) in
         rw (short, long))
         (λ p.
         let end = p .front ++ lineEnd ∷ [] in
         let printed : List ℕ → Printed = λ l. steps h (linesOf l) in
-        let so : (l : List ℕ) → wholeLines (l ++ piece) ≡ l ++ end =
+        let so : (l : List ℕ) → wholeLines (l ++ part) ≡ l ++ end =
         λ l. ap wholeLines (ap (λ (k : List ℕ). l ++ k) (p .is) ∙ sym (append-assoc l (p .front) (lineEnd ∷ p .back)))
         ∙ whole-last (l ++ p .front) (p .back) (p .behind) ∙ append-assoc l (p .front) (lineEnd ∷ []) in
         ap printed (so (cut line)) ∙ steps-cut h end ∙ sym (ap printed (so line)))
-        (parted piece)
+        (parted part)
 
     -- and the same is pending
-    pending-cut : cut (unended (cut line ++ piece)) ≡ cut (unended (line ++ piece))
+    pending-cut : cut (unended (cut line ++ part)) ≡ cut (unended (line ++ part))
     pending-cut = ⊎-elim
         (λ e.
-        ap cut (unended-none (cut line ++ piece) (more-no-end (cut line) piece cut-no-end e))
-        ∙ take-again (suc maxLine) line piece ∙ sym (ap cut (unended-none (line ++ piece) (more-no-end line piece no-end e))))
+        ap cut (unended-none (cut line ++ part) (more-no-end (cut line) part cut-no-end e))
+        ∙ take-again (suc maxLine) line part ∙ sym (ap cut (unended-none (line ++ part) (more-no-end line part no-end e))))
         (λ p.
-        let so : (l : List ℕ) → unended (l ++ piece) ≡ p .back =
+        let so : (l : List ℕ) → unended (l ++ part) ≡ p .back =
         λ l. ap unended (ap (λ (k : List ℕ). l ++ k) (p .is) ∙ sym (append-assoc l (p .front) (lineEnd ∷ p .back)))
         ∙ unended-last (l ++ p .front) (p .back) (p .behind) in
         ap cut (so (cut line) ∙ sym (so line)))
-        (parted piece)
+        (parted part)
 
--- ---- a piece behind all bytes read so far, and the end of the input
+-- ---- a part behind all bytes read so far, and the end of the input
 
 module _ (read : List ℕ) where
   none-pending : NoEnd (unended read)
   none-pending = parted-at-the-last-end read .2
 
-  pub after-more : (piece : List ℕ) →
-      after (read ++ piece) ≡ before (printedAfter read) (steps (hubAfter read) (linesOf (wholeLines (pendingAfter read ++ piece))))
+  pub after-more : (part : List ℕ) →
+      after (read ++ part) ≡ before (printedAfter read) (steps (hubAfter read) (linesOf (wholeLines (pendingAfter read ++ part))))
   unfolding after
-  after-more piece =
-      ap (λ (l : List ℕ). steps none (linesOf l)) (parted-more read piece .0)
-      ∙ in-parts none (wholeLines read) (wholeLines (unended read ++ piece)) (parted-at-the-last-end read .1)
-      ∙ ap (before (printedAfter read)) (sym (whole-cut (unended read) none-pending piece (hubAfter read)))
+  after-more part =
+      ap (λ (l : List ℕ). steps none (linesOf l)) (parted-more read part .0)
+      ∙ in-parts none (wholeLines read) (wholeLines (unended read ++ part)) (parted-at-the-last-end read .1)
+      ∙ ap (before (printedAfter read)) (sym (whole-cut (unended read) none-pending part (hubAfter read)))
 
-  pub pending-more : (piece : List ℕ) → pendingAfter (read ++ piece) ≡ cut (unended (pendingAfter read ++ piece))
-  pending-more piece = ap cut (parted-more read piece .1) ∙ sym (pending-cut (unended read) none-pending piece)
+  pub pending-more : (part : List ℕ) → pendingAfter (read ++ part) ≡ cut (unended (pendingAfter read ++ part))
+  pending-more part = ap cut (parted-more read part .1) ∙ sym (pending-cut (unended read) none-pending part)
 
   run-cut : (h : Option State) → runFrom h (cut (unended read)) ≡ runFrom h (unended read)
   unfolding runFrom

@@ -53,15 +53,15 @@ module _ {p : Printed} {input : List ℕ} {h next : Hub} {out out′ : List ℕ}
   pub length-fits : length out < 2 ^ 63 → T (nonNeg result) × Fits w64 (natAbs result)
   length-fits small = rw length-written (tt, record { fits = omega (arith, r .enough room) })
 
--- ---- a piece
+-- ---- a part
 
 module _ (h : Hub) (pending got : ℕ) (input : List ℕ) where
-  -- the pending bytes and the piece
+  -- the pending bytes and the part
   abbrev pub filled : List ℕ
   filled = take (pending + got) input
 
-  abbrev piece : List ℕ
-  piece = partOf pending got input
+  abbrev part : List ℕ
+  part = partOf pending got input
 
   -- what its whole lines leave and print
   abbrev pub ran : Printed
@@ -74,22 +74,22 @@ module _ (h : Hub) (pending got : ℕ) (input : List ℕ) where
   whole-taken = sym (take-take (length (wholeLines filled)) (pending + got) input whole-near) ∙ whole-first filled
 
   module _ (read : List ℕ) (k : Holds read h pending input) where
-    filled-is : filled ≡ pendingAfter read ++ piece
-    filled-is = take-add pending got input ∙ ap (λ (l : List ℕ). l ++ piece) (k .bytes)
+    filled-is : filled ≡ pendingAfter read ++ part
+    filled-is = take-add pending got input ∙ ap (λ (l : List ℕ). l ++ part) (k .bytes)
 
-    after-is : after (read ++ piece) ≡ before (printedAfter read) ran
+    after-is : after (read ++ part) ≡ before (printedAfter read) ran
     after-is =
-        after-more read piece
+        after-more read part
         ∙ sym (ap₂ (λ (g : Option State) (l : List ℕ). before (printedAfter read) (steps g (linesOf (wholeLines l)))) (k .hub) filled-is)
 
-    pending-is : pendingAfter (read ++ piece) ≡ cut (unended filled)
-    pending-is = pending-more read piece ∙ sym (ap (λ (l : List ℕ). cut (unended l)) filled-is)
+    pending-is : pendingAfter (read ++ part) ≡ cut (unended filled)
+    pending-is = pending-more read part ∙ sym (ap (λ (l : List ℕ). cut (unended l)) filled-is)
 
   module _ {out out′ input′ : List ℕ} {next : Hub} {result : ℤ} (r : Runs ran (wholeLines filled) h next out out′ result)
       (room : Ample (wholeLines filled) (length out)) (kept : ℕ) (within : kept ≤ length input′)
       (keeps : take kept input′ ≡ cut (drop (length (wholeLines filled)) filled)) where
-    pub takes-piece : TakesPart h pending got input input′ out′ (record { hub = next; pending = kept; length = length (ran .text) })
-    takes-piece = record {
+    pub takes-part : TakesPart h pending got input input′ out′ (record { hub = next; pending = kept; length = length (ran .text) })
+    takes-part = record {
       valid = r .wrote .valid;
       short =
           let behind = drop (length (wholeLines filled)) filled in

@@ -10,7 +10,7 @@ use Rattle.line_rules.specs.Program.{steps}
 use Rattle.hub.specs.Valid.{Valid}
 use Rattle.hub.specs.declared.Hub.{Hub}
 use Rattle.line.specs.View.{hubIn}
-use Rattle.line_parts.specs.declared.Step.{Step}
+use Rattle.line_parts.specs.declared.AfterPart.{AfterPart}
 use Rattle.line_parts.specs.Parts.{unendedFrom, unended, wholeLines, after, hubAfter, printedAfter, pendingAfter}
 use Rattle.line_parts.specs.Contract.{Holds, TakesPart, TakesEnd, Taken, start, next, Reached, Adds, by-part, by-end}
 use Rattle.line_parts.specs.Claims.{PrintsTheWhole}
@@ -50,13 +50,13 @@ reached-still {h} r same = record {
 reached-holds : {h : Hub} {pending : ℕ} {input : List ℕ} (r : Reached h pending input) → Holds (r .read) h pending input
 reached-holds r = let k = taken-holds (r .taken) in record { hub = k .0; bytes = k .1 }
 
-pub reached-more : {h : Hub} {pending got : ℕ} {input input′ out′ : List ℕ} {s : Step} →
+pub reached-more : {h : Hub} {pending got : ℕ} {input input′ out′ : List ℕ} {s : AfterPart} →
     Reached h pending input → TakesPart h pending got input input′ out′ s → Reached (s .hub) (s .pending) input′
 reached-more r p = record { read = _; text = _; taken = next (r .taken) p; valid = p .valid; short = p .short }
 
-pub adds-piece : {h : Hub} {pending got : ℕ} {input input′ out′ : List ℕ} {s : Step} →
+pub adds-part : {h : Hub} {pending got : ℕ} {input input′ out′ : List ℕ} {s : AfterPart} →
     Reached h pending input → TakesPart h pending got input input′ out′ s → Adds (take (s .length) out′)
-adds-piece r p = by-part (r .read) _ _ (p .prints (r .read) (reached-holds r))
+adds-part r p = by-part (r .read) _ _ (p .prints (r .read) (reached-holds r))
 
 pub adds-end : {h : Hub} {pending : ℕ} {input out′ : List ℕ} {long : ℕ} → Reached h pending input → TakesEnd h pending input out′ long →
     Adds (take long out′)

@@ -1,4 +1,4 @@
--- What is claimed of the line program over an input that comes in pieces; proved in proofs/PartLaws.antt and Theorem.antt. Assumes nothing.
+-- What is claimed of the line program over an input that comes in parts; proved in proofs/PartLaws.antt and Theorem.antt. Assumes nothing.
 use mathlib.Core.Path.{_≡_}
 use mathlib.Core.List.{List, _++_}
 use Prim.Native.Nat.{ℕ}
@@ -17,7 +17,7 @@ PartedAtTheLastEnd =
     (read : List ℕ) →
     (wholeLines read ++ unended read ≡ read) × WholeLines (wholeLines read) × (reach lineEnd (unended read) ≡ length (unended read))
 
--- However an input is cut into pieces: the texts that the steps hand out, one behind the other, are what the line program prints of the
+-- However an input is cut into parts: the texts that the steps hand out, one behind the other, are what the line program prints of the
 -- whole.
 abbrev pub PrintsTheWhole : Type 0
 PrintsTheWhole =

@@ -1,4 +1,4 @@
--- The contracts of the steps over an input that comes in pieces. Assumes nothing.
+-- The contracts of the steps over an input that comes in parts. Assumes nothing.
 use mathlib.Core.Path.{_≡_}
 use mathlib.Core.List.{List, [], _++_}
 use mathlib.Core.Option.{none}
@@ -11,7 +11,7 @@ use Rattle.hub.specs.Valid.{Valid}
 use Rattle.hub.specs.declared.Hub.{Hub}
 use Rattle.line.specs.View.{hubIn}
 use Rattle.line_parts.specs.Parts.{hubAfter, printedAfter, pendingAfter}
-use Rattle.line_parts.specs.declared.Step.{Step}
+use Rattle.line_parts.specs.declared.AfterPart.{AfterPart}
 
 -- ---- the buffers
 
@@ -19,7 +19,7 @@ use Rattle.line_parts.specs.declared.Step.{Step}
 abbrev pub maxPart : ℕ
 maxPart = 2048
 
--- The input's buffer has room for the pending bytes and a piece behind them.
+-- The input's buffer has room for the pending bytes and a part behind them.
 abbrev pub inputRoom : ℕ
 inputRoom = suc maxLine + maxPart
 
@@ -38,9 +38,9 @@ pub record Holds (read : List ℕ) (h : Hub) (pending : ℕ) (input : List ℕ) 
 abbrev pub partOf : ℕ → ℕ → List ℕ → List ℕ
 partOf pending got input = take got (drop pending input)
 
--- A piece is taken. Whatever was read before it: hub and pending bytes afterwards are those of all bytes read so far, the piece with them;
--- and the text at the start of the buffer `out` is what the piece adds to what is printed.
-pub record TakesPart (h : Hub) (pending got : ℕ) (input input′ out′ : List ℕ) (s : Step) : Type 0 where
+-- A part is taken. Whatever was read before it: hub and pending bytes afterwards are those of all bytes read so far, the part with them;
+-- and the text at the start of the buffer `out` is what the part adds to what is printed.
+pub record TakesPart (h : Hub) (pending got : ℕ) (input input′ out′ : List ℕ) (s : AfterPart) : Type 0 where
   pub valid : Valid (s .hub)
   pub short : s .pending ≤ suc maxLine
   pub within : s .length ≤ length out′
@@ -57,11 +57,11 @@ pub record TakesEnd (h : Hub) (pending : ℕ) (input out′ : List ℕ) (long : 
 
 -- ---- steps in turn
 
--- These bytes were taken piece by piece, from no hub on, and these texts handed out one behind the other; hub and pending bytes are what
+-- These bytes were taken part by part, from no hub on, and these texts handed out one behind the other; hub and pending bytes are what
 -- the last step left.
 pub data Taken : List ℕ → List ℕ → Hub → List ℕ → Type 0 where
   start : {h : Hub} → hubIn h ≡ none → Taken [] [] h []
-  next : {read text : List ℕ} {h : Hub} {pending got : ℕ} {input input′ out′ : List ℕ} {s : Step} →
+  next : {read text : List ℕ} {h : Hub} {pending got : ℕ} {input input′ out′ : List ℕ} {s : AfterPart} →
       Taken read text h (take pending input) → TakesPart h pending got input input′ out′ s →
       Taken (read ++ partOf pending got input) (text ++ take (s .length) out′) (s .hub) (take (s .pending) input′)
 
@@ -73,7 +73,7 @@ pub record Reached (h : Hub) (pending : ℕ) (input : List ℕ) : Type 0 where
   pub valid : Valid h
   pub short : pending ≤ suc maxLine
 
--- What may be printed next: what a piece adds to what is printed of the bytes read before it; or what the end of the input adds.
+-- What may be printed next: what a part adds to what is printed of the bytes read before it; or what the end of the input adds.
 pub data Adds : List ℕ → Type 0 where
-  by-part : (read piece text : List ℕ) → printedAfter (read ++ piece) ≡ printedAfter read ++ text → Adds text
+  by-part : (read part text : List ℕ) → printedAfter (read ++ part) ≡ printedAfter read ++ text → Adds text
   by-end : (read text : List ℕ) → programText read ≡ printedAfter read ++ text → Adds text

@@ -1,6 +1,6 @@
-// The line program over an input that comes in pieces, as a program reads it: document 01, "The line program". The steps are code on byte
+// The line program over an input that comes in parts, as a program reads it: document 01, "The line program". The steps are code on byte
 // slices: nothing here reads or writes. specs/Claims.antt says what the steps in turn print.
-pub mod pieces;
+pub mod whole;
 
 use hub::Hub;
 use line_print::MAX_TEXT;
@@ -15,7 +15,7 @@ ghost use Rattle.line_parts.specs.Contract.{inputRoom, roomFor, TakesPar
 // print.
 pub const MAX_PART: usize = 2048;
 
-// The pending bytes, and a piece behind them.
+// The pending bytes, and a part behind them.
 pub const INPUT_ROOM: usize = MAX_LINE + 1 + MAX_PART;
 
 pub const OUT_ROOM: usize = MAX_TEXT * (INPUT_ROOM + 2);
@@ -32,25 +32,31 @@ pub fn out_buffer() -> [u8; OUT_ROOM]
     [0; OUT_ROOM]
 }
 
-// The hub after a piece, how many bytes are pending of a line whose end has not come, and how long the text is that the piece prints.
-pub struct Step {
+// The hub after a part, how many bytes are pending of a line whose end has not come, and how long the text is that the part prints.
+pub struct AfterPart {
     pub hub: Hub,
     pub pending: usize,
     pub length: usize,
 }
 
-// A piece that was read behind the pending bytes: its whole lines are run, and the rest is pending.
-pub fn take_part(hub: Hub, pending: usize, got: usize, input: &mut [u8], out: &mut [u8]) -> Step
+// A part that was read behind the pending bytes: its whole lines are run, and the rest is pending.
+pub fn take_part(
+    hub: Hub,
+    pending: usize,
+    got: usize,
+    input: &mut [u8],
+    out: &mut [u8],
+) -> AfterPart
     requires { ⌜ (Valid hub) × (pending + got ≤ length (now input)) × (roomFor (length (now input)) ≤ length (now out)) ⌝ }
     ensures { λ r. ⌜ TakesPart hub pending got (now (input .entry)) (now (input .exit)) (now (out .exit)) r ⌝ }
 {
     let filled = pending + got;
-    let whole = pieces::whole_length(&input[..filled]);
+    let whole = whole::whole_length(&input[..filled]);
     let written = line::run_part(hub, &input[..whole], out);
     let next = written.hub;
     let length = written.result as usize;
-    let kept = pieces::keep(input, whole, filled);
-    Step {
+    let kept = whole::keep(input, whole, filled);
+    AfterPart {
         hub: next,
         pending: kept,
         length,

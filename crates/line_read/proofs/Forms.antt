@@ -32,7 +32,7 @@ use Rattle.line_read.specs.declared.calls.CommandRead.{CommandRead}
 use Rattle.line_read.specs.View.{together, letterOf, readAs, idCallWith, idLine}
 use Rattle.line_read.proofs.WordLaws.{word-past, word-none, word-more, words-none, words-first, words-all, WordSays, NotFirst}
 
--- A line that was read, as it is held without its routine.
+-- A line that was read, as it is read without its routine.
 abbrev pub heldAs : Said → Line
 heldAs said = readAs said .line
 

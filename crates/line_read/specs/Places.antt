@@ -33,7 +33,7 @@ wordEnd line at = at + reach space (drop at line)
 unfoldable pub wordsFrom : List ℕ → ℕ → List (List ℕ)
 wordsFrom line at = if leb at (length line) then pieces space (drop at line) else []
 
--- A number of that word, as it is held.
+-- A number of that word, as it is read.
 abbrev pub numberAs : Option ℕ → ℕ → Number
 numberAs none end = Missing
 numberAs (some n) end = Found n end

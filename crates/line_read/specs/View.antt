@@ -1,4 +1,4 @@
--- How what a line says is held: for each case of the enums, which line of document 01 it is, and with which values. Assumes nothing.
+-- How what a line says is read: for each case of the enums, which line of document 01 it is, and with which values. Assumes nothing.
 use mathlib.Core.List.{List, [], _∷_}
 use mathlib.Core.Option.{Option, none, some}
 use Prim.Native.Nat.{ℕ}

@@ -1,4 +1,4 @@
-// Lines found in bytes, and what a line says: document 01, "The line program". `specs/` sets out how what a line says is held here.
+// Lines found in bytes, and what a line says: document 01, "The line program". `specs/` sets out how what a line says is read here.
 mod calls;
 mod numbers;
 mod pieces;

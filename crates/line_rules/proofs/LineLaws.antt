@@ -25,26 +25,27 @@ reach-within byte (b ∷ bs) =
     let more = reach-within byte bs in
     byTest (λ (t : Bool). (if t then 0 else suc (reach byte bs)) ≤ suc (length bs)) (eqb b byte) (λ _. omega arith) (λ _. omega arith)
 
--- the pieces of bytes behind those held already, if the first reaches so far
+-- the pieces of bytes behind those met so far, if the first reaches so far
 cut : ℕ → List ℕ → List ℕ → ℕ → List (List ℕ)
-cut byte held bs r = if ltb r (length bs) then (held ++ take r bs) ∷ pieces byte (drop (suc r) bs) else (held ++ bs) ∷ []
+cut byte soFar bs r = if ltb r (length bs) then (soFar ++ take r bs) ∷ pieces byte (drop (suc r) bs) else (soFar ++ bs) ∷ []
 
-cut-none : (byte : ℕ) (held : List ℕ) (b : ℕ) (bs : List ℕ) → cut byte held (b ∷ bs) 0 ≡ held ∷ pieces byte bs
+cut-none : (byte : ℕ) (soFar : List ℕ) (b : ℕ) (bs : List ℕ) → cut byte soFar (b ∷ bs) 0 ≡ soFar ∷ pieces byte bs
 unfolding cut
-cut-none byte held b bs = rw (lt-ltb 0 (suc (length bs)) (omega arith), append-nil held)
+cut-none byte soFar b bs = rw (lt-ltb 0 (suc (length bs)) (omega arith), append-nil soFar)
 
-cut-more : (byte : ℕ) (held : List ℕ) (b : ℕ) (bs : List ℕ) (r : ℕ) → cut byte (held ++ (b ∷ [])) bs r ≡ cut byte held (b ∷ bs) (suc r)
+cut-more : (byte : ℕ) (soFar : List ℕ) (b : ℕ) (bs : List ℕ) (r : ℕ) → cut byte (soFar ++ (b ∷ [])) bs r ≡ cut byte soFar (b ∷ bs) (suc r)
 unfolding cut
-cut-more byte held b bs r = rw (leb·suc-suc (suc r) (length bs), append-snoc held b (take r bs), append-snoc held b bs)
+cut-more byte soFar b bs r = rw (leb·suc-suc (suc r) (length bs), append-snoc soFar b (take r bs), append-snoc soFar b bs)
 
-from-reach : (byte : ℕ) (held bs : List ℕ) → piecesFrom byte held bs ≡ cut byte held bs (reach byte bs)
+from-reach : (byte : ℕ) (soFar bs : List ℕ) → piecesFrom byte soFar bs ≡ cut byte soFar bs (reach byte bs)
 unfolding piecesFrom pieces reach cut
-from-reach byte held [] = ap (λ (l : List ℕ). l ∷ []) (sym (append-nil held))
-from-reach byte held (b ∷ bs) =
+from-reach byte soFar [] = ap (λ (l : List ℕ). l ∷ []) (sym (append-nil soFar))
+from-reach byte soFar (b ∷ bs) =
     byTest
-    (λ (t : Bool). (if t then held ∷ piecesFrom byte [] bs else piecesFrom byte (held ++ (b ∷ [])) bs)
-    ≡ cut byte held (b ∷ bs) (if t then 0 else suc (reach byte bs)))
-    (eqb b byte) (λ _. sym (cut-none byte held b bs)) (λ _. from-reach byte (held ++ (b ∷ [])) bs ∙ cut-more byte held b bs (reach byte bs))
+    (λ (t : Bool). (if t then soFar ∷ piecesFrom byte [] bs else piecesFrom byte (soFar ++ (b ∷ [])) bs)
+    ≡ cut byte soFar (b ∷ bs) (if t then 0 else suc (reach byte bs)))
+    (eqb b byte) (λ _. sym (cut-none byte soFar b bs))
+    (λ _. from-reach byte (soFar ++ (b ∷ [])) bs ∙ cut-more byte soFar b bs (reach byte bs))
 
 pub pieces-reach : (byte : ℕ) (bs : List ℕ) →
     pieces byte bs ≡

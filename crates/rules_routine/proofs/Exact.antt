@@ -210,27 +210,27 @@ renamed Holds More causeOf f e up down (broken {t = t} {ts = ts} x) =
 
 -- ---- a routine
 
-module _ (limit : ℕ) (cs : List Command) where
+module _ (devices : ℕ) (cs : List Command) where
   -- what stands behind a cause of a routine
-  count-said : RoutineCause limit cs command-count → (length cs ≡ 0) ⊎ (maxCommands < length cs)
+  count-said : RoutineCause devices cs command-count → (length cs ≡ 0) ⊎ (maxCommands < length cs)
   count-said (count-is-out h) = h
 
-  device-said : {i : ℕ} → RoutineCause limit cs (device-not-below i) → (i < length cs) × (limit ≤ commandNo i cs .device)
+  device-said : {i : ℕ} → RoutineCause devices cs (device-not-below i) → (i < length cs) × (devices ≤ commandNo i cs .device)
   device-said (device-is-out h k) = (h, k)
 
-  setting-said : {i : ℕ} → RoutineCause limit cs (setting-out-of-range i) → (i < length cs) × OutOfRange (commandNo i cs .setting)
+  setting-said : {i : ℕ} → RoutineCause devices cs (setting-out-of-range i) → (i < length cs) × OutOfRange (commandNo i cs .setting)
   setting-said (setting-is-out h k) = (h, k)
 
-  tag-said : {i : ℕ} → RoutineCause limit cs (tag-out-of-range i) → (i < length cs) × (highestTag < commandNo i cs .tag)
+  tag-said : {i : ℕ} → RoutineCause devices cs (tag-out-of-range i) → (i < length cs) × (highestTag < commandNo i cs .tag)
   tag-said (tag-is-out h k) = (h, k)
 
-  alone-said : {i : ℕ} → RoutineCause limit cs (condition-alone i) →
+  alone-said : {i : ℕ} → RoutineCause devices cs (condition-alone i) →
       (i < length cs) × (commandNo i cs .tag ≡ conditionTag) × ((suc i ≡ length cs) ⊎ (commandNo (suc i) cs .tag ≡ conditionTag))
   alone-said (condition-is-last h t) = (omega arith, t, inl h)
   alone-said (conditions-follow h t u) = (omega arith, t, inr u)
 
   -- commands that are not there are no cause
-  commands-past : (n i : ℕ) → length cs ≤ i → Outcome (RoutineCause limit cs) itself (commandCauses i n) Accepted
+  commands-past : (n i : ℕ) → length cs ≤ i → Outcome (RoutineCause devices cs) itself (commandCauses i n) Accepted
   unfolding commandCauses
   commands-past zero i h = none
   commands-past (suc n) i h =
@@ -257,7 +257,7 @@ module _ (limit : ℕ) (cs : List Command) where
 
   -- whether the first of them is a condition that stands alone: it is last, or another follows
   alone : (i : ℕ) (c : Command) (rest : List Command) → Rest i (c ∷ rest) →
-      Decides (standsAlone c rest) (RoutineCause limit cs (condition-alone i))
+      Decides (standsAlone c rest) (RoutineCause devices cs (condition-alone i))
   unfolding standsAlone
   alone i c [] r =
       let last : suc i ≡ length cs = let e = r .counted in omega arith in
@@ -272,18 +272,18 @@ module _ (limit : ℕ) (cs : List Command) where
       (λ y. let a = alone-said y in (sym at ∙ a .1, sym next ∙ second (a .2) (λ e. omega arith)))
 
   commands-outcome : (n i : ℕ) (rest : List Command) → Rest i rest → length rest ≤ n →
-      Outcome (RoutineCause limit cs) itself (commandCauses i n) (commandsCheck limit i rest)
+      Outcome (RoutineCause devices cs) itself (commandCauses i n) (commandsCheck devices i rest)
   unfolding commandCauses commandsCheck commandCheck
   commands-outcome n i [] r l = commands-past n i (let e = r .counted in omega arith)
   commands-outcome zero i (c ∷ rest) r l = absurd (omega arith)
   commands-outcome (suc n) i (c ∷ rest) r l =
-      let H = RoutineCause limit cs in
+      let H = RoutineCause devices cs in
       let there : i < length cs = let e = r .counted in omega arith in
       let at = first-rest r in
-      let device = one H itself (device-not-below i) (leb limit (c .device))
-      (agree (at-most limit (c .device))
-      (λ x. device-is-out there (subst (λ (k : Command). limit ≤ k .device) (sym at) x))
-      (λ y. subst (λ (k : Command). limit ≤ k .device) at (device-said y .1))) in
+      let device = one H itself (device-not-below i) (leb devices (c .device))
+      (agree (at-most devices (c .device))
+      (λ x. device-is-out there (subst (λ (k : Command). devices ≤ k .device) (sym at) x))
+      (λ y. subst (λ (k : Command). devices ≤ k .device) at (device-said y .1))) in
       let setting = one H itself (setting-out-of-range i) (not (inRange (c .setting)))
       (agree (out-of-range (c .setting))
       (λ x. setting-is-out there (subst (λ (k : Command). OutOfRange (k .setting)) (sym at) x))
@@ -300,10 +300,10 @@ module _ (limit : ℕ) (cs : List Command) where
   whole = record { counted = omega arith; each = λ j. let e : 0 + j ≡ j = omega arith in ap (λ (k : ℕ). commandNo k cs) e }
 
   -- the whole routine
-  pub routine-outcome : Outcome (RoutineCause limit cs) itself routineCauses (routineCheck limit cs)
+  pub routine-outcome : Outcome (RoutineCause devices cs) itself routineCauses (routineCheck devices cs)
   unfolding routineCauses routineCheck
   routine-outcome =
-      let H = RoutineCause limit cs in
+      let H = RoutineCause devices cs in
       let bad = either _ _ (same (length cs) 0) (less maxCommands (length cs)) in
       join H itself (one H itself command-count _ (agree bad count-is-out count-said))
       (λ fine.
@@ -313,8 +313,8 @@ module _ (limit : ℕ) (cs : List Command) where
 
 -- the check of a routine is exact
 pub exact-routine : ExactRoutine
-exact-routine limit cs =
-    exactly (RoutineCause limit cs) itself routineCauses (routineCheck limit cs) (routine-outcome limit cs)
+exact-routine devices cs =
+    exactly (RoutineCause devices cs) itself routineCauses (routineCheck devices cs) (routine-outcome devices cs)
     (λ r e. e) (λ r e. e) (λ e. e) (λ e. e)
 
 -- ---- a refusal tells its cause

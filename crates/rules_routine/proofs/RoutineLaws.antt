@@ -131,68 +131,68 @@ with-more cs c h = λ i. record { commands = commands i; count = counts i }
 
 -- ---- the check of a command, by its tests
 
-module _ (limit i : ℕ) (c : Command) where
-  pub command-device : limit ≤ c .device → commandCheck limit i c ≡ Refused (refusalOf (device-not-below i))
+module _ (devices i : ℕ) (c : Command) where
+  pub command-device : devices ≤ c .device → commandCheck devices i c ≡ Refused (refusalOf (device-not-below i))
   unfolding commandCheck
-  command-device h = simp (le-leb limit (c .device) h)
+  command-device h = simp (le-leb devices (c .device) h)
 
-  pub command-setting : c .device < limit → inRange (c .setting) ≡ false →
-      commandCheck limit i c ≡ Refused (refusalOf (setting-out-of-range i))
+  pub command-setting : c .device < devices → inRange (c .setting) ≡ false →
+      commandCheck devices i c ≡ Refused (refusalOf (setting-out-of-range i))
   unfolding commandCheck
-  command-setting h e = simp (lt-leb limit (c .device) h, e)
+  command-setting h e = simp (lt-leb devices (c .device) h, e)
 
-  pub command-tag : c .device < limit → inRange (c .setting) ≡ true → highestTag < c .tag →
-      commandCheck limit i c ≡ Refused (refusalOf (tag-out-of-range i))
+  pub command-tag : c .device < devices → inRange (c .setting) ≡ true → highestTag < c .tag →
+      commandCheck devices i c ≡ Refused (refusalOf (tag-out-of-range i))
   unfolding commandCheck
-  command-tag h e t = simp (lt-leb limit (c .device) h, e, lt-ltb highestTag (c .tag) t)
+  command-tag h e t = simp (lt-leb devices (c .device) h, e, lt-ltb highestTag (c .tag) t)
 
-  pub command-fine : c .device < limit → inRange (c .setting) ≡ true → c .tag ≤ highestTag → commandCheck limit i c ≡ Accepted
+  pub command-fine : c .device < devices → inRange (c .setting) ≡ true → c .tag ≤ highestTag → commandCheck devices i c ≡ Accepted
   unfolding commandCheck
-  command-fine h e t = simp (lt-leb limit (c .device) h, e, le-ltb highestTag (c .tag) t)
+  command-fine h e t = simp (lt-leb devices (c .device) h, e, le-ltb highestTag (c .tag) t)
 
   -- the other way round
-  pub command-accepted : commandCheck limit i c ≡ Accepted → (c .device < limit) × (inRange (c .setting) ≡ true) × (c .tag ≤ highestTag)
+  pub command-accepted : commandCheck devices i c ≡ Accepted → (c .device < devices) × (inRange (c .setting) ≡ true) × (c .tag ≤ highestTag)
   unfolding commandCheck
   command-accepted e =
-      let x = both-accept (refuse (device-not-below i) when leb limit (c .device)) _ e in
+      let x = both-accept (refuse (device-not-below i) when leb devices (c .device)) _ e in
       let y = both-accept (refuse (setting-out-of-range i) when not (inRange (c .setting))) _ (x .1) in (
-        leb-false limit (c .device) (not-refused (device-not-below i) _ (x .0)),
+        leb-false devices (c .device) (not-refused (device-not-below i) _ (x .0)),
         not-false _ (not-refused (setting-out-of-range i) _ (y .0)),
         ltb-false highestTag (c .tag) (not-refused (tag-out-of-range i) _ (y .1)),
       )
 
 -- ---- the check of a routine
 
-pub check-counted : (limit : ℕ) (cs : List Command) → 0 < length cs → length cs ≤ maxCommands →
-    routineCheck limit cs ≡ commandsCheck limit 0 cs
+pub check-counted : (devices : ℕ) (cs : List Command) → 0 < length cs → length cs ≤ maxCommands →
+    routineCheck devices cs ≡ commandsCheck devices 0 cs
 unfolding routineCheck
-check-counted limit cs h k = simp (ne-eqb (length cs) 0 (λ e. omega arith), le-ltb maxCommands (length cs) k)
+check-counted devices cs h k = simp (ne-eqb (length cs) 0 (λ e. omega arith), le-ltb maxCommands (length cs) k)
 
-pub check-empty : (limit : ℕ) (cs : List Command) → length cs ≡ 0 → routineCheck limit cs ≡ Refused (refusalOf command-count)
+pub check-empty : (devices : ℕ) (cs : List Command) → length cs ≡ 0 → routineCheck devices cs ≡ Refused (refusalOf command-count)
 unfolding routineCheck
-check-empty limit cs h = simp (eq-eqb (length cs) 0 h)
+check-empty devices cs h = simp (eq-eqb (length cs) 0 h)
 
-pub check-long : (limit : ℕ) (cs : List Command) → maxCommands < length cs → routineCheck limit cs ≡ Refused (refusalOf command-count)
+pub check-long : (devices : ℕ) (cs : List Command) → maxCommands < length cs → routineCheck devices cs ≡ Refused (refusalOf command-count)
 unfolding routineCheck
-check-long limit cs h = simp (ne-eqb (length cs) 0 (λ e. omega arith), lt-ltb maxCommands (length cs) h)
+check-long devices cs h = simp (ne-eqb (length cs) 0 (λ e. omega arith), lt-ltb maxCommands (length cs) h)
 
 -- the other way round
-pub check-accepted : (limit : ℕ) (cs : List Command) → routineCheck limit cs ≡ Accepted →
-    (0 < length cs) × (length cs ≤ maxCommands) × (commandsCheck limit 0 cs ≡ Accepted)
+pub check-accepted : (devices : ℕ) (cs : List Command) → routineCheck devices cs ≡ Accepted →
+    (0 < length cs) × (length cs ≤ maxCommands) × (commandsCheck devices 0 cs ≡ Accepted)
 unfolding routineCheck
-check-accepted limit cs e =
+check-accepted devices cs e =
     let a = both-accept (refuse command-count when (eqb (length cs) 0 || ltb maxCommands (length cs))) _ e in
     let t = or-false _ _ (not-refused command-count _ (a .0)) in
     let n = eqb-false (length cs) 0 (t .0) in
     (omega arith, ltb-false maxCommands (length cs) (t .1), a .1)
 
 -- a routine that its struct holds
-pub check-held : (limit : ℕ) (r : Routine) → length (r .commands) ≡ maxCommands → 0 < r .count → r .count ≤ maxCommands →
-    routineCheck limit (commandsOf r) ≡ commandsCheck limit 0 (take (r .count) (r .commands))
-check-held limit r l h k =
+pub check-held : (devices : ℕ) (r : Routine) → length (r .commands) ≡ maxCommands → 0 < r .count → r .count ≤ maxCommands →
+    routineCheck devices (commandsOf r) ≡ commandsCheck devices 0 (take (r .count) (r .commands))
+check-held devices r l h k =
     let e = length-commandsOf r in
-    check-counted limit (commandsOf r) (omega arith) (omega arith)
-    ∙ ap (λ (cs : List Command). commandsCheck limit 0 cs) (commandsOf-held r (omega arith))
+    check-counted devices (commandsOf r) (omega arith) (omega arith)
+    ∙ ap (λ (cs : List Command). commandsCheck devices 0 cs) (commandsOf-held r (omega arith))
 
 -- ---- a condition that is last or is followed by another, by its tests
 
@@ -214,33 +214,33 @@ module _ (c : Command) (cs : List Command) (i n : ℕ) (t : c .tag ≡ condition
 
 -- ---- the commands in turn: what is left from index i
 
-module _ (limit : ℕ) (cs : List Command) (i n : ℕ) (h : i < n) (k : n ≤ length cs) where
-  pub commands-more : commandCheck limit i (getD cs i zeroCommand) ≡ Accepted →
+module _ (devices : ℕ) (cs : List Command) (i n : ℕ) (h : i < n) (k : n ≤ length cs) where
+  pub commands-more : commandCheck devices i (getD cs i zeroCommand) ≡ Accepted →
       standsAlone (getD cs i zeroCommand) (slice (i + 1) n cs) ≡ false →
-      commandsCheck limit i (slice i n cs) ≡ commandsCheck limit (i + 1) (slice (i + 1) n cs)
+      commandsCheck devices i (slice i n cs) ≡ commandsCheck devices (i + 1) (slice (i + 1) n cs)
   unfolding commandsCheck
   commands-more e a = let b = rw (add-one i) at a in rw (slice-cons i n cs zeroCommand h k, e, add-one i, b)
 
-  pub commands-refused : (r : Refusal) → commandCheck limit i (getD cs i zeroCommand) ≡ Refused r →
-      commandsCheck limit i (slice i n cs) ≡ Refused r
+  pub commands-refused : (r : Refusal) → commandCheck devices i (getD cs i zeroCommand) ≡ Refused r →
+      commandsCheck devices i (slice i n cs) ≡ Refused r
   unfolding commandsCheck
   commands-refused r e = rw (slice-cons i n cs zeroCommand h k, e)
 
-  pub commands-alone : commandCheck limit i (getD cs i zeroCommand) ≡ Accepted →
+  pub commands-alone : commandCheck devices i (getD cs i zeroCommand) ≡ Accepted →
       standsAlone (getD cs i zeroCommand) (slice (i + 1) n cs) ≡ true →
-      commandsCheck limit i (slice i n cs) ≡ Refused (refusalOf (condition-alone i))
+      commandsCheck devices i (slice i n cs) ≡ Refused (refusalOf (condition-alone i))
   unfolding commandsCheck
   commands-alone e a = let b = rw (add-one i) at a in rw (slice-cons i n cs zeroCommand h k, e, b)
 
-pub commands-end : (limit : ℕ) (cs : List Command) (i n : ℕ) → i ≤ n → n ≤ i → commandsCheck limit i (slice i n cs) ≡ Accepted
+pub commands-end : (devices : ℕ) (cs : List Command) (i n : ℕ) → i ≤ n → n ≤ i → commandsCheck devices i (slice i n cs) ≡ Accepted
 unfolding commandsCheck
-commands-end limit cs i n h k = let e : i ≡ n = omega arith in rw (e, slice-empty n cs)
+commands-end devices cs i n h k = let e : i ≡ n = omega arith in rw (e, slice-empty n cs)
 
 -- the other way round: so callers open no check of commands
-pub commands-accepted : (limit i : ℕ) (c : Command) (cs : List Command) → commandsCheck limit i (c ∷ cs) ≡ Accepted →
-    (commandCheck limit i c ≡ Accepted) × (standsAlone c cs ≡ false) × (commandsCheck limit (suc i) cs ≡ Accepted)
+pub commands-accepted : (devices i : ℕ) (c : Command) (cs : List Command) → commandsCheck devices i (c ∷ cs) ≡ Accepted →
+    (commandCheck devices i c ≡ Accepted) × (standsAlone c cs ≡ false) × (commandsCheck devices (suc i) cs ≡ Accepted)
 unfolding commandsCheck
-commands-accepted limit i c cs e =
-    let a = both-accept (commandCheck limit i c) _ e in
+commands-accepted devices i c cs e =
+    let a = both-accept (commandCheck devices i c) _ e in
     let b = both-accept (refuse (condition-alone i) when standsAlone c cs) _ (a .1) in
     (a .0, not-refused (condition-alone i) _ (b .0), b .1)

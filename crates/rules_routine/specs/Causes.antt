@@ -60,19 +60,19 @@ abbrev pub commandNo : ℕ → List Command → Command
 commandNo i cs = getD cs i zeroCommand
 
 -- This cause holds of a routine of these commands, against a device limit: N in the hub, 32 in a book.
-pub data RoutineCause (limit : ℕ) (cs : List Command) : Cause → Type 0 where
+pub data RoutineCause (devices : ℕ) (cs : List Command) : Cause → Type 0 where
   -- 4: "routine of 0 or over 8 commands"
-  count-is-out : (length cs ≡ 0) ⊎ (maxCommands < length cs) → RoutineCause limit cs command-count
+  count-is-out : (length cs ≡ 0) ⊎ (maxCommands < length cs) → RoutineCause devices cs command-count
   -- 5, at index i: "device not below N (32 in a book)"
-  device-is-out : {i : ℕ} → i < length cs → limit ≤ commandNo i cs .device → RoutineCause limit cs (device-not-below i)
+  device-is-out : {i : ℕ} → i < length cs → devices ≤ commandNo i cs .device → RoutineCause devices cs (device-not-below i)
   -- 6, at index i: "setting out of range"
-  setting-is-out : {i : ℕ} → i < length cs → OutOfRange (commandNo i cs .setting) → RoutineCause limit cs (setting-out-of-range i)
+  setting-is-out : {i : ℕ} → i < length cs → OutOfRange (commandNo i cs .setting) → RoutineCause devices cs (setting-out-of-range i)
   -- 7, at index i: a "tag above 2"
-  tag-is-out : {i : ℕ} → i < length cs → highestTag < commandNo i cs .tag → RoutineCause limit cs (tag-out-of-range i)
+  tag-is-out : {i : ℕ} → i < length cs → highestTag < commandNo i cs .tag → RoutineCause devices cs (tag-out-of-range i)
   -- 22, at index i: "when a condition is last in its routine or is followed by another condition"
-  condition-is-last : {i : ℕ} → suc i ≡ length cs → commandNo i cs .tag ≡ conditionTag → RoutineCause limit cs (condition-alone i)
+  condition-is-last : {i : ℕ} → suc i ≡ length cs → commandNo i cs .tag ≡ conditionTag → RoutineCause devices cs (condition-alone i)
   conditions-follow : {i : ℕ} → suc i < length cs → commandNo i cs .tag ≡ conditionTag → commandNo (suc i) cs .tag ≡ conditionTag →
-      RoutineCause limit cs (condition-alone i)
+      RoutineCause devices cs (condition-alone i)
 
 -- "the commands in turn, each 5, 6, 7", then 22: those of n commands from index i on,
 unfoldable pub commandCauses : ℕ → ℕ → List Cause
@@ -87,5 +87,5 @@ routineCauses = command-count ∷ commandCauses 0 maxCommands
 -- The check of a routine gives each number under its cause alone. The theorem is `exact-routine` (proofs/Exact.antt).
 abbrev pub ExactRoutine : Type 0
 ExactRoutine =
-    (limit : ℕ) (cs : List Command) →
-    Exactly (RoutineCause limit cs) itself routineCauses (λ r. routineCheck limit cs ≡ Refused r) (routineCheck limit cs ≡ Accepted)
+    (devices : ℕ) (cs : List Command) →
+    Exactly (RoutineCause devices cs) itself routineCauses (λ r. routineCheck devices cs ≡ Refused r) (routineCheck devices cs ≡ Accepted)

@@ -56,8 +56,8 @@ withCommand r c = record {
 
 -- A command, the one at index i of its routine, against a device limit: 5, 6, 7.
 unfoldable pub commandCheck : ℕ → ℕ → Command → Verdict
-commandCheck limit i c =
-    refuse (device-not-below i) when leb limit (c .device)
+commandCheck devices i c =
+    refuse (device-not-below i) when leb devices (c .device)
     andThen refuse (setting-out-of-range i) when not (inRange (c .setting))
     andThen refuse (tag-out-of-range i) when ltb highestTag (c .tag)
 
@@ -68,14 +68,14 @@ standsAlone c (d ∷ rest) = isCondition c && isCondition d
 
 -- Commands in turn, the first of them at index i: 5, 6, 7, then 22 "for each command after its 7".
 unfoldable pub commandsCheck : ℕ → ℕ → List Command → Verdict
-commandsCheck limit i [] = Accepted
-commandsCheck limit i (c ∷ cs) =
-    commandCheck limit i c
+commandsCheck devices i [] = Accepted
+commandsCheck devices i (c ∷ cs) =
+    commandCheck devices i c
     andThen refuse (condition-alone i) when standsAlone c cs
-    andThen commandsCheck limit (suc i) cs
+    andThen commandsCheck devices (suc i) cs
 
 -- A routine against a device limit, N in the hub and 32 in a book: 4; then the commands in turn, each 5, 6, 7, 22.
 unfoldable pub routineCheck : ℕ → List Command → Verdict
-routineCheck limit cs =
+routineCheck devices cs =
     refuse command-count when (eqb (length cs) 0 || ltb maxCommands (length cs))
-    andThen commandsCheck limit 0 cs
+    andThen commandsCheck devices 0 cs

@@ -85,10 +85,10 @@ pub fn in_range(setting: i16) -> bool
 }
 
 // A command against a device limit: 5, 6, 7, with the command's index.
-fn check_command(command: Command, limit: u8, index: usize) -> Verdict
-    ensures { λ r. ⌜ r ≡ commandCheck limit index command ⌝ }
+fn check_command(command: Command, devices: u8, index: usize) -> Verdict
+    ensures { λ r. ⌜ r ≡ commandCheck devices index command ⌝ }
 {
-    if limit <= command.device {
+    if devices <= command.device {
         return Verdict::Refused(Refusal::Indexed(DEVICE, index));
     }
     let setting = command.setting;
@@ -120,8 +120,8 @@ fn stands_alone(routine: Routine, index: usize) -> bool
 }
 
 // A routine against a device limit (N in the hub, 32 in a book): 4, then the commands in turn.
-pub fn check(routine: Routine, limit: u8) -> Verdict
-    ensures { λ r. ⌜ r ≡ routineCheck limit (commandsOf routine) ⌝ }
+pub fn check(routine: Routine, devices: u8) -> Verdict
+    ensures { λ r. ⌜ r ≡ routineCheck devices (commandsOf routine) ⌝ }
 {
     let count = routine.count;
     if count == 0 {
@@ -133,7 +133,7 @@ pub fn check(routine: Routine, limit: u8) -> Verdict
     let mut i = 0;
     while i < count {
         let command = routine.commands[i];
-        let verdict = check_command(command, limit, i);
+        let verdict = check_command(command, devices, i);
         let Verdict::Accepted = verdict else {
             return verdict;
         };

@@ -1,4 +1,4 @@
-// The line program from standard input to standard output: document 01, "The line program". The input may have any length: a piece is read,
+// The line program from standard input to standard output: document 01, "The line program". The input may have any length: a part is read,
 // crate `line_parts` takes it, and what it prints is written before the next is read.
 use hub::Hub;
 ghost use Prim.Native.Nat.{suc, _<_, _≤_};
@@ -13,14 +13,14 @@ struct Read {
     good: bool,
 }
 
-// Writes what a piece, or the end of the input, adds to what is printed.
+// Writes what a part, or the end of the input, adds to what is printed.
 fn print(text: &[u8]) -> bool
     requires { ⌜ Adds (now text) ⌝ }
 {
     run_streams::write_out(b"plot_hub", text)
 }
 
-// Piece by piece to the end of the input. Nothing says that an input ends, so the loop counts its turns down.
+// Part by part to the end of the input. Nothing says that an input ends, so the loop counts its turns down.
 fn read_all(input: &mut [u8], out: &mut [u8]) -> Read
     requires { ⌜ (suc maxLine < length (now input)) × (roomFor (length (now input)) ≤ length (now out)) ⌝ }
     ensures { λ r. ⌜ Reached (r .hub) (r .pending) (now (input .exit)) ⌝ }

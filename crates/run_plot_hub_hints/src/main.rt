@@ -107,9 +107,9 @@ fn take_part(tally: Tally, filled: usize, input: &mut [u8], out: &mut [u8]) -> T
     requires { ⌜ (Valid (tally .hub)) × (filled ≤ length (now input)) × (0 < length (now out)) ⌝ }
     ensures { λ r. ⌜ (Valid (r .tally .hub)) × (r .pending ≤ length (now (input .exit))) ⌝ }
 {
-    let whole = line_parts::pieces::whole_length(&input[..filled]);
+    let whole = line_parts::whole::whole_length(&input[..filled]);
     let taken = take_lines(tally, &input[..whole], out);
-    let pending = line_parts::pieces::keep(input, whole, filled);
+    let pending = line_parts::whole::keep(input, whole, filled);
     Taken {
         tally: taken,
         pending,
@@ -123,7 +123,7 @@ struct Read {
     good: bool,
 }
 
-// Piece by piece to the end of the input. Nothing says that an input ends, so the loop counts its turns down. What cannot be read is told
+// Part by part to the end of the input. Nothing says that an input ends, so the loop counts its turns down. What cannot be read is told
 // under the name of the command.
 fn read_all(input: &mut [u8], out: &mut [u8]) -> Read
     requires { ⌜ 0 < length (now out) ⌝ }

@@ -13,7 +13,7 @@ use Rattle.hub_state.specs.View.{holderOf}
 use Rattle.hub_state.proofs.Members.{answered-most}
 use Rattle.hub_state.specs.declared.Holder.the-variants.{Nobody}
 use Rattle.hub_search.proofs.Slots.{Seeks, stopAt, seeks-start, seeks-there, seeks-on, seeks-less, seeks-spot}
-use Rattle.hub_search.proofs.Commands.{anyAt, pastOf, belowAt, at-hit, at-on, at-end, below-here, below-other, below-past}
+use Rattle.hub_search.proofs.Commands.{anyAt, boundOf, belowAt, at-hit, at-on, at-end, below-here, below-other, below-past}
 use Rattle.hub_search.proofs.SearchLaws.{belowIn, below-start, below-left, holdsIn, holds-committed, holds-off, commands-fit}
 use Rattle.hub_search.proofs.SearchLaws.{holder-slot}
 use Rattle.hub_search.proofs.SearchLaws.{holder-nobody, holder-found}
@@ -39,8 +39,8 @@ abbrev start : tie.Joined1 Inv-loop μ-loop Inv-ahead μ-ahead → tie.Start Inv
 start c = c .before .before .before .before .before .before .before
 
 -- whom a command waits for, and whom a condition
-bound-is : (c : tie.Joined1 Inv-loop μ-loop Inv-ahead μ-ahead) → c .if1 .bound ≡ pastOf (start c .args .condition)
-bound-is c = ⊎-elim (λ w. w .1 ∙ sym (ap pastOf (w .0 .taken))) (λ w. w .1 ∙ sym (ap pastOf (w .0 .left))) (c .if1 .came)
+bound-is : (c : tie.Joined1 Inv-loop μ-loop Inv-ahead μ-ahead) → c .if1 .bound ≡ boundOf (start c .args .condition)
+bound-is c = ⊎-elim (λ w. w .1 ∙ sym (ap boundOf (w .0 .taken))) (λ w. w .1 ∙ sym (ap boundOf (w .0 .left))) (c .if1 .came)
 
 abbrev outset : tie.In-ahead Inv-loop μ-loop Inv-ahead μ-ahead → tie.Start Inv-loop μ-loop Inv-ahead μ-ahead
 outset c = start (c .before .before .before)
@@ -112,7 +112,7 @@ loop-holds c =
       omega arith,
       ⊎-elim
           (λ w. below-start _ _ _ _ _ _ (w .1))
-          (λ w. below-left _ (p .0) _ (at-slot t) _ _ _ (p .3) (bound-is j ∙ ap pastOf (w .0 .left)) (w .1))
+          (λ w. below-left _ (p .0) _ (at-slot t) _ _ _ (p .3) (bound-is j ∙ ap boundOf (w .0 .left)) (w .1))
           (c .before .if3 .came),
     )
 

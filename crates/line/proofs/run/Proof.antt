@@ -53,9 +53,9 @@ use Rattle.hub.proofs.Hub as T
 use Rattle.hub.proofs.Hub.Laws as T′
 use Rattle.line.specs.View.{hubIn}
 use Rattle.line.specs.Contract.{Runs}
-use Rattle.line.specs.declared.Written.{Written}
-use Rattle.line.proofs.Written as O
-use Rattle.line.proofs.Written.Laws as O′
+use Rattle.line.specs.declared.RunResult.{RunResult}
+use Rattle.line.proofs.RunResult as O
+use Rattle.line.proofs.RunResult.Laws as O′
 use Rattle.line.proofs.run_last as by-value
 use Rattle.line.proofs.run_last.Symbol as by-value-def
 use Rattle.line.proofs.run_last.Symbol.{name as #run-last}
@@ -96,7 +96,7 @@ module _ {M : Type 1} (𝓤 : URA M) (H : Heap 𝓤) (A : Atoms 𝓤) (W : Given
   at = (vptr b o ∷ [], (sval s ∷ [], (sval t ∷ [], tt)))
 
   -- what `run_last` says
-  abbrev Says : Written → List ℕ → Type 0
+  abbrev Says : RunResult → List ℕ → Type 0
   Says r zs = Runs (runFrom (hubIn h) (s .now)) (s .now) h (r .hub) (t .now) zs (r .result)
 
   abbrev to : RunLast 𝓤 H A at-mem run .Ghost
@@ -116,16 +116,16 @@ module _ {M : Type 1} (𝓤 : URA M) (H : Heap 𝓤) (A : Atoms 𝓤) (W : Given
   abbrev Post : Val → SProp 𝓤
   Post = walkOf 𝓤 H A f.ended stayed (f.clauses 𝓤 H A at-mem run) .post (((κ₀, (κ₁, (κ₂, tt))), (q₀, (q₁, (q₂, tt))), tt, x, at), tt)
 
-  abbrev res : Written → Val
+  abbrev res : RunResult → Val
   res r = vint w64 (ofZ w64 (r .result))
 
   -- what is left at exit
-  abbrev Left : Written → List ℕ → List (Item 𝓤)
+  abbrev Left : RunResult → List ℕ → List (Item 𝓤)
   Left r zs =
       ‵ (fobs γ (T.the-row .coded .code (r .hub))) ∷ ‵ (fbor κ₀ (Body (mem T.the-row) b o γ)) ∷ ‵ (flft κ₀ q₀) ∷ Tokens ∷ ‵
       (finally u8 (t .name) zs) ∷ []
 
-  exits : (r : Written) (zs : List ℕ) → Says r zs → length zs ≡ length (t .now) → Is i64 (r .result) (res r ∷ [])
+  exits : (r : RunResult) (zs : List ℕ) → Says r zs → length zs ≡ length (t .now) → Is i64 (r .result) (res r ∷ [])
       → ent 𝓤 (⋆ 𝓤 H A (Left r zs)) (Post (res r))
   exits r zs e l is =
       qed W (Left r zs) ∵
@@ -169,7 +169,7 @@ module _ {M : Type 1} (𝓤 : URA M) (H : Heap 𝓤) (A : Atoms 𝓤) (W : Given
         -- [what it asks; the cell; the open borrow; obs; auth; _7 at 5; _6 at 7; _5 at 9; _4 at 11; _3 at 13; _2 at 15; _1 at 17; _0 at 19]
         calls-at ! fm (RunLast 𝓤 H A at-mem run) known to (and-then ! (load ! (from ! (stop !)) (look ! 9 refl))
         (and-then ! (load ! (from ! (stop !)) (look ! 15 refl)) (and-then ! (load ! (from ! (stop !)) (look ! 5 refl)) (no-more !)))) (λ v.
-        use1 W (later (some (λ (r : Written). (Tokens ⊛ ‵ (O.the-row .own r (v ∷ [])))
+        use1 W (later (some (λ (r : RunResult). (Tokens ⊛ ‵ (O.the-row .own r (v ∷ [])))
         ⊛ raw (ensured 𝓤 H A by-value.ended (by-value.clauses 𝓤 H A at-mem run) (κ₁, (κ₂, tt)) (h, (s, (t, tt))) tt r)))) (id⊢ 𝓤 _)
         $ await ! tt $ pick ! (λ r.
         split ! $ move ! (1 ∷ []) $ use1 W (some (λ (zs : Unit {0} × (Unit {0} × (List ℕ × Unit {0}))).

@@ -12,7 +12,7 @@ use Rattle.line_rules.specs.Claims.{cut}
 use Rattle.line.specs.View.{hubIn}
 use Rattle.line.specs.Contract.{Ample, Runs}
 use Rattle.line_parts.specs.Parts.{wholeLines}
-use Rattle.line_parts.proofs.Steps.{filled, ran, ample, length-written, length-fits, whole-near, whole-taken, takes-piece}
+use Rattle.line_parts.proofs.Steps.{filled, ran, ample, length-written, length-fits, whole-near, whole-taken, takes-part}
 use borrow.Author.Needs.{needs}
 use Rattle.line_parts.proofs.take_part.Statement.{statement}
 use Rattle.line_parts.proofs.take_part.Tie as tie
@@ -98,7 +98,7 @@ returns c = let l = c .before .before .before .before .before .before .before .b
     let bytes = filled (a .hub) (a .pending) (a .got) (a .input .now) in
     let e : toZ w64 (ofZ w64 (l .run-part .result .result)) ≡ l .run-part .result .result = search needs in
     rw (e, length-written (whole-ran l) (room l))
-    (takes-piece (a .hub) (a .pending) (a .got) (a .input .now) (whole-ran l) (room l) (c .before .before .keep .result) (k .0)
+    (takes-part (a .hub) (a .pending) (a .got) (a .input .now) (whole-ran l) (room l) (c .before .before .keep .result) (k .0)
     (k .1 ∙ ap (λ (n : ℕ). cut (drop n bytes)) (l .before .before .before .whole-length .ensures)))
 
 pub take-part-spec : {M : Type 1} → statement M

@@ -15,11 +15,11 @@ use Rattle.rules_routine.proofs.check.Statement.{statement}
 use Rattle.rules_routine.proofs.check.Tie as tie
 
 abbrev Inv-loop : tie.InvT-loop
-Inv-loop limit routine count i₀ i = (i ≤ count)
-    × (commandsCheck limit i (slice i count (routine .commands)) ≡ commandsCheck limit 0 (take count (routine .commands)))
+Inv-loop devices routine count i₀ i = (i ≤ count)
+    × (commandsCheck devices i (slice i count (routine .commands)) ≡ commandsCheck devices 0 (take count (routine .commands)))
 
 abbrev μ-loop : tie.MeasureT-loop
-μ-loop limit routine count i₀ i = count - i
+μ-loop devices routine count i₀ i = count - i
 
 -- the array's length
 long : (c : tie.Else2 Inv-loop μ-loop) → length (c .before .before .args .t1 .commands) ≡ maxCommands
@@ -27,8 +27,8 @@ long c = search (needs, length-mapped)
 
 -- after the two tests of the count
 whole : (c : tie.Else2 Inv-loop μ-loop) →
-    routineCheck (c .before .before .args .limit) (commandsOf (c .before .before .args .t1))
-    ≡ commandsCheck (c .before .before .args .limit) 0 (take (c .before .before .args .t1 .count) (c .before .before .args .t1 .commands))
+    routineCheck (c .before .before .args .devices) (commandsOf (c .before .before .args .t1))
+    ≡ commandsCheck (c .before .before .args .devices) 0 (take (c .before .before .args .t1 .count) (c .before .before .args .t1 .commands))
 whole c = check-held _ _ (long c) (omega arith) (c .if2 .left)
 
 returns : tie.Need-returns Inv-loop μ-loop

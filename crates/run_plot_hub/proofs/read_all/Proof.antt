@@ -6,7 +6,7 @@ use borrow.Author.Needs.{needs}
 use lib.ListN.{length, length-take}
 use Rattle.line.proofs.LineLaws.{hub-none}
 use Rattle.line_parts.specs.Contract.{Reached}
-use Rattle.line_parts.proofs.Theorem.{reached-none, reached-still, reached-more, adds-piece}
+use Rattle.line_parts.proofs.Theorem.{reached-none, reached-still, reached-more, adds-part}
 use Rattle.run_plot_hub.proofs.read_all.Statement.{statement}
 use Rattle.run_plot_hub.proofs.read_all.Tie as tie
 
@@ -17,7 +17,7 @@ Inv-loop input₀ out₀ hub₀ pending₀ turns₀ name input out hub pending t
 abbrev μ-loop : tie.MeasureT-loop
 μ-loop input₀ out₀ hub₀ pending₀ turns₀ name input out hub pending turns = turns
 
--- the bytes read so far, before the piece is taken
+-- the bytes read so far, before the part is taken
 reached : (c : tie.After-take-part Inv-loop μ-loop) →
     let r = c .before .before .before .before .before .before .before in
     let l = r .before .before .before .before in
@@ -26,7 +26,7 @@ reached c =
     let r = c .before .before .before .before .before .before .before in
     reached-still (r .before .before .before .before .loop .inv .0) (r .read-behind .ensures .1)
 
--- one piece more
+-- one part more
 more : (c : tie.After-take-part Inv-loop μ-loop) →
     Reached (c .take-part .result .hub) (c .take-part .result .pending) (c .take-part .last .1 .1 .1 .0)
 more c = reached-more (reached c) (c .take-part .ensures)
@@ -68,7 +68,7 @@ slice-aggregate-print c =
 print-requires : tie.Need-print-requires Inv-loop μ-loop
 print-requires c κs =
     let t = c .before .before .before .before .before .before in
-    adds-piece (reached t) (t .take-part .ensures)
+    adds-part (reached t) (t .take-part .ensures)
 
 same-length-3 : tie.Need-same-length-3 Inv-loop μ-loop
 same-length-3 c = search needs

@@ -18,7 +18,7 @@ use Rattle.book_layout.specs.declared.Next.{Next}
 use Rattle.book_layout.proofs.RoundTrip.{hands-make}
 use Rattle.book_layout.proofs.Theorems.{read-then-write}
 use Rattle.book_copy.specs.Rows.{rowsOf, withRoutine}
-use Rattle.book_copy.proofs.CopyLaws.{rows-more, routines-short, Step, step-handed, step-ended, not-handed}
+use Rattle.book_copy.proofs.CopyLaws.{rows-more, routines-short, CopyStep, step-handed, step-ended, not-handed}
 use Rattle.book_copy.proofs.reading.read_all.Statement.{statement}
 use Rattle.book_copy.proofs.reading.read_all.Tie as tie
 
@@ -36,7 +36,7 @@ bytes c = λ i. c .shared-slice-known .given i .fits
 step : (c : tie.After-enum-told Inv-loop μ-loop) →
     let l = c .before .before .before .before in
     let b = l .before .before .before .args .book .now in
-    (rs : List (List Command)) → Hands b 0 rs → Step b (l .loop .position) (l .loop .i) rs
+    (rs : List (List Command)) → Hands b 0 rs → CopyStep b (l .loop .position) (l .loop .i) rs
 step c rs h =
     let l = c .before .before .before .before in
     let n = ap (λ (x : Next). x .item) (c .before .before .next .ensures) in

@@ -12,10 +12,10 @@ use Rattle.line.proofs.running.ends_in.Statement.{statement}
 use Rattle.line.proofs.running.ends_in.Tie as tie
 
 abbrev Inv-loop : tie.InvT-loop
-Inv-loop part count₀ i₀ count i = (count ≤ i) × (count + times lineEnd (drop i part) ≡ times lineEnd part)
+Inv-loop chunk count₀ i₀ count i = (count ≤ i) × (count + times lineEnd (drop i chunk) ≡ times lineEnd chunk)
 
 abbrev μ-loop : tie.MeasureT-loop
-μ-loop part count₀ i₀ count i = length part - i
+μ-loop chunk count₀ i₀ count i = length chunk - i
 
 loop-holds : tie.Need-loop-holds Inv-loop μ-loop
 loop-holds c = (omega arith, omega arith)
@@ -36,19 +36,19 @@ loop-again : tie.Need-loop-again Inv-loop μ-loop
 loop-again c =
     let t = c .before .before in
     let l = t .before in
-    let part = l .before .args .part .now in
+    let chunk = l .before .args .chunk .now in
     let i = l .loop .i in
     ⊎-elim
     (λ w. let g : c .if1 .count ≡ l .loop .count + 1 = w .1 in
-    (omega arith, omega (arith, l .loop .inv, times-end lineEnd part i (t .loop-test .taken) (w .0 .taken))))
+    (omega arith, omega (arith, l .loop .inv, times-end lineEnd chunk i (t .loop-test .taken) (w .0 .taken))))
     (λ w. let g : c .if1 .count ≡ l .loop .count = w .1 in
-    (omega arith, omega (arith, l .loop .inv, times-on lineEnd part i (t .loop-test .taken) (w .0 .left))))
+    (omega arith, omega (arith, l .loop .inv, times-on lineEnd chunk i (t .loop-test .taken) (w .0 .left))))
     (c .if1 .came)
 
 returns : tie.Need-returns Inv-loop μ-loop
 returns c =
     let l = c .before in
-    omega (arith, l .loop .inv, times-last lineEnd (l .before .args .part .now) (l .loop .i) (c .loop-test .left))
+    omega (arith, l .loop .inv, times-last lineEnd (l .before .args .chunk .now) (l .loop .i) (c .loop-test .left))
 
 pub ends-in-spec : {M : Type 1} → statement M
 ends-in-spec =

@@ -9,7 +9,7 @@ use lib.ListN.{length, drop}
 use Rattle.line_rules.specs.Text.{lineEnd}
 use Rattle.line_rules.specs.Pieces.{pieces}
 use Rattle.line_print.specs.Put.{maxText}
-use Rattle.line.specs.Contract.{partLength}
+use Rattle.line.specs.Contract.{chunkLength}
 use Rattle.line.proofs.Loops.{part-length, count-part, count-last, lines-counted}
 use Rattle.line.proofs.running.is_ample.Statement.{statement}
 use Rattle.line.proofs.running.is_ample.Tie as tie
@@ -22,10 +22,10 @@ Inv-loop input room most count₀ i₀ count i = (count ≤ suc i)
 abbrev μ-loop : tie.MeasureT-loop
 μ-loop input room most count₀ i₀ count i = length input - i
 
--- the part: some bytes, up to partLength, within the input
+-- the part: some bytes, up to chunkLength, within the input
 part-is : (c : tie.Joined1 Inv-loop μ-loop) →
     let l = c .before .before in
-    (l .loop .i < c .if1 .end) × (c .if1 .end ≤ length (l .before .before .args .input .now)) × (c .if1 .end - l .loop .i ≤ partLength)
+    (l .loop .i < c .if1 .end) × (c .if1 .end ≤ length (l .before .before .args .input .now)) × (c .if1 .end - l .loop .i ≤ chunkLength)
 part-is c =
     let t = c .before .loop-test .taken in
     ⊎-elim

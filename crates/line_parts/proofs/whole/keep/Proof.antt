@@ -1,11 +1,11 @@
--- `line_parts::pieces::keep` meets its contract: the first i bytes are moved, and those behind them are as they were. Assumes nothing.
+-- `line_parts::whole::keep` meets its contract: the first i bytes are moved, and those behind them are as they were. Assumes nothing.
 use mathlib.Core.Path.{_≡_, refl}
 use Prim.Native.Nat.{_+_, _-_, _<_, _≤_}
 use borrow.Author.Needs.{needs}
 use lib.ListN.{length, take, drop}
 use Rattle.line_parts.proofs.Loops.{one-moved, others-still, all-moved}
-use Rattle.line_parts.proofs.pieces.keep.Statement.{statement}
-use Rattle.line_parts.proofs.pieces.keep.Tie as tie
+use Rattle.line_parts.proofs.whole.keep.Statement.{statement}
+use Rattle.line_parts.proofs.whole.keep.Tie as tie
 
 abbrev Inv-loop : tie.InvT-loop
 Inv-loop input₀ from filled kept i₀ input i =
