@@ -1,4 +1,4 @@
-// Runs test vectors of the hub, the examples of document 01 among them: standard input is a row of records (crate records).
+// Runs test vectors of the hub, the examples of document 01 among them: standard input is a row of records (crate run_records).
 // tests/hub/make_vectors.py says what a record holds and what is printed for it.
 mod calls;
 mod print;

@@ -1,4 +1,4 @@
-// Runs sittings through the line program: standard input is a row of records (crate records), each the input of a sitting. For each it
+// Runs sittings through the line program: standard input is a row of records (crate run_records), each the input of a sitting. For each it
 // prints the key, and then a line `end`. tests/reference makes the records and what is printed.
 use libc::STDOUT_FILENO;
 ghost use mathlib.Core.Path.{_≡_};

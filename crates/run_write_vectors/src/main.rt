@@ -1,4 +1,4 @@
-// Runs test vectors of writing a book: standard input is a row of records (crate records). tests/book/make_vectors.py says what
+// Runs test vectors of writing a book: standard input is a row of records (crate run_records). tests/book/make_vectors.py says what
 // a record holds and what is printed for it.
 mod lent;
 

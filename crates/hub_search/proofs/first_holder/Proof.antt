@@ -13,7 +13,7 @@ use Rattle.hub_state.specs.View.{holderOf}
 use Rattle.hub_state.proofs.Members.{answered-most}
 use Rattle.hub_state.specs.declared.Holder.the-variants.{Nobody}
 use Rattle.hub_search.proofs.Slots.{Seeks, stopAt, seeks-start, seeks-there, seeks-on, seeks-less, seeks-spot}
-use Rattle.hub_search.proofs.Commands.{anyAt, boundOf, belowAt, at-hit, at-on, at-end, below-here, below-other, below-past}
+use Rattle.hub_search.proofs.Commands.{anyAt, boundOf, belowAt, at-hit, at-on, at-end, below-here, below-other, below-bound}
 use Rattle.hub_search.proofs.SearchLaws.{belowIn, below-start, below-left, holdsIn, holds-committed, holds-off, commands-fit}
 use Rattle.hub_search.proofs.SearchLaws.{holder-slot}
 use Rattle.hub_search.proofs.SearchLaws.{holder-nobody, holder-found}
@@ -137,7 +137,7 @@ loop-less c = omega (arith, c .before .before .loop-test .taken)
 loop-again : tie.Need-loop-again Inv-loop μ-loop Inv-ahead μ-ahead
 loop-again c = let l = c .before .before in
     let v = l .before .loop .inv in
-    let o = ⊎-elim (λ w. below-past _ _ _ _ _ (w .2 .left)) (λ w. below-other _ _ _ _ _ (w .left)) (c .if4 .came) in
+    let o = ⊎-elim (λ w. below-bound _ _ _ _ _ (w .2 .left)) (λ w. below-other _ _ _ _ _ (w .left)) (c .if4 .came) in
     (v .0, v .1, at-on _ _ _ (l .loop-test .taken) o ∙ v .2)
 
 array-read-i : tie.Need-array-read-i Inv-loop μ-loop Inv-ahead μ-ahead
