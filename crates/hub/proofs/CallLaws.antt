@@ -9,11 +9,13 @@ use Rattle.rules_routine.specs.Limits.{maxDevices}
 use Rattle.rules_routine.specs.Routine.{commandsOf, routineOf, noRoutine}
 use Rattle.rules_routine.specs.declared.Command.{Command}
 use Rattle.rules_routine.specs.declared.Routine.{Routine}
-use Rattle.rules.specs.State.{State}
+use Rattle.rules_routine.proofs.RoutineLaws.{byTest}
+use Rattle.rules.specs.State.{Member, State}
 use Rattle.rules.specs.Answers.{Back, Call, Result}
 use Rattle.rules.specs.Calls.{resultOf}
 use Rattle.rules.specs.Rounds.{KeepsLimit}
-use Rattle.rules.specs.Settle.{settle, settling}
+use Rattle.rules.specs.Sequence.{withSequence}
+use Rattle.rules.specs.Settle.{joinSettled, settleFrom, settle, settling}
 use Rattle.rules.proofs.Lists.{t≠f}
 use Rattle.hub_sequence.specs.Links.{StandsOrNone}
 use Rattle.hub_answers.specs.View.{oneOf, eventAbortOf, answerOf, putBacksOf, putBacksIn, PutBacksOk, changesNothing}
@@ -33,12 +35,33 @@ use Rattle.hub_state.specs.declared.Decision.{Decision}
 use Rattle.hub_state.proofs.DecisionLaws.{settle-idle}
 use Rattle.hub_state.proofs.UnmovedLaws.{itself-in-place, in-place-leaves, settle-then, none-joined}
 use Rattle.hub.specs.View.{view, answersIn}
-use Rattle.hub.specs.Valid.{Valid}
+use Rattle.hub.specs.Valid.{InOrder, Valid}
 use Rattle.hub.specs.Contract.{Gives}
 use Rattle.hub.specs.Carrying.{LeavingOk, MovesNobody, OnlySettle, Carries}
 use Rattle.hub.specs.Decided.{DecidedOn, Decided}
 use Rattle.hub.specs.declared.Hub.{Hub}
 use Rattle.hub.specs.declared.Outcome.{Outcome}
+
+-- ---- at rest
+
+-- what has settled is at rest
+rests-from : (s : State) (l : List Member) → firstCommitted (settleFrom s l .sequence) ≡ false
+rests-from s [] = refl
+rests-from s (m ∷ l) =
+    byTest
+    (λ (b : Bool). m .committed ≡ b →
+    firstCommitted ((if b then settleFrom (joinSettled s m) l else withSequence s (m ∷ l)) .sequence) ≡ false)
+    (m .committed)
+    (λ _ _. rests-from (joinSettled s m) l)
+    (λ _ f. f)
+    refl
+
+pub settled-rests : (s : State) → firstCommitted (settle s .sequence) ≡ false
+unfolding settle
+settled-rests s = rests-from s (s .sequence)
+
+pub rests-as : (h : Hub) {s : State} → InOrder h → view h ≡ s → firstCommitted (s .sequence) ≡ false → Valid h
+rests-as h v e f = record { in-order = v; at-rest = ap (λ (t : State). firstCommitted (t .sequence)) e ∙ f }
 
 -- ---- what was decided can be applied
 
@@ -88,7 +111,7 @@ settles-change (Restart d v s) x n = refl
 abbrev pub Wraps : Hub → Decision → PutBacks → Outcome → Type 0
 Wraps r d backs o = (o .hub ≡ r) × (o .first ≡ d .first) × (o .answer ≡ d .answer) × (o .«put_backs» ≡ backs)
 
-module _ (h : Hub) (cs : List Command) (d : Decision) (backs : PutBacks) (n : Hub)
+module _ (h : Hub) (cs : List Command) (d : Decision) (backs : PutBacks) (n : Hub) (v : Valid h)
     (k : Decides (h .state) cs d (resultBy (h .state) cs d)) (fit : PutBacksOk backs)
     (are : putBacksOf backs ≡ putBacksOfDecision (h .state) d)
     (c : Carries h cs (d .change) n) where
@@ -101,8 +124,8 @@ module _ (h : Hub) (cs : List Command) (d : Decision) (backs : PutBacks) (n : Hu
   wraps-gives : (r : Hub) (o : Outcome) → Wraps r d backs o → Valid r →
       record { state = view r; answers = toldBy (h .state) d } ≡ resultBy (h .state) cs d → Unmoved (h .state) (r .state) →
       (changesNothing (d .answer) ≡ true → r ≡ h) → Gives h o (resultBy (h .state) cs d)
-  wraps-gives r o w v e u s = record {
-    valid = subst Valid (sym (w .0)) v;
+  wraps-gives r o w z e u s = record {
+    valid = subst Valid (sym (w .0)) z;
     gives = (λ i. record { state = view (w .0 i); answers = told r o w i }) ∙ e;
     backs-fit = subst PutBacksOk (sym (w .3)) fit;
     backs-told = ap putBacksOf (w .3) ∙ are ∙ k .backs-told ∙ sym (ap putBacksIn (told r o w));
@@ -121,8 +144,8 @@ module _ (h : Hub) (cs : List Command) (d : Decision) (backs : PutBacks) (n : Hu
   -- the first is committed
   pub settled-gives : (r : Hub) (o : Outcome) → Wraps r d backs o → changesNothing (d .answer) ≡ false → Valid r →
       view r ≡ settle (view n) → OnlySettle (n .state) (r .state) → Gives h o (resultBy (h .state) cs d)
-  settled-gives r o w f v g q =
-      wraps-gives r o w v
+  settled-gives r o w f z g q =
+      wraps-gives r o w z
       (ap (λ (s : State). record { state = s; answers = toldBy (h .state) d }) g ∙ sym (settled-result f))
       (settle-then (h .state) (n .state) (r .state) (c .moves-nobody .unmoved) (c .moves-nobody .joined-run) (q .only-leave)
       (q .left-committed))
@@ -132,7 +155,7 @@ module _ (h : Hub) (cs : List Command) (d : Decision) (backs : PutBacks) (n : Hu
   pub idle-gives : (o : Outcome) → Wraps n d backs o → changesNothing (d .answer) ≡ false → firstCommitted (view n .sequence) ≡ false →
       Gives h o (resultBy (h .state) cs d)
   idle-gives o w f e =
-      wraps-gives n o w (c .valid)
+      wraps-gives n o w (record { in-order = c .in-order; at-rest = e })
       (ap (λ (s : State). record { state = s; answers = toldBy (h .state) d }) (sym (settle-idle (view n) e)) ∙ sym (settled-result f))
       (c .moves-nobody .unmoved)
       (λ t. t≠f (sym t ∙ f))
@@ -142,7 +165,7 @@ module _ (h : Hub) (cs : List Command) (d : Decision) (backs : PutBacks) (n : Hu
   same-gives o w t =
       let nothing = k .nothing-told t in
       let same = c .same-hub nothing in
-      wraps-gives n o w (c .valid)
+      wraps-gives n o w (subst Valid (sym same) v)
       (ap (λ (s : State). record { state = s; answers = toldBy (h .state) d }) (ap view same)
       ∙ sym (ap (λ (x : Change). settledUnlessNothing x (record { state = appliedTo (h .state) cs x; answers = toldBy (h .state) d }))
       nothing))
@@ -179,10 +202,10 @@ pub itself-moves : (h : HubState) → StateOk h → MovesNobody h h
 itself-moves h v = stay-moves h h v (itself-in-place h)
 
 -- a change that is this one is carried out
-pub carries-as : {h : Hub} {cs : List Command} {c x : Change} {r : Hub} → c ≡ x → (x ≡ Nothing → ⊥) → Valid r →
+pub carries-as : {h : Hub} {cs : List Command} {c x : Change} {r : Hub} → c ≡ x → (x ≡ Nothing → ⊥) → InOrder r →
     view r ≡ appliedTo (h .state) cs x → MovesNobody (h .state) (r .state) → Carries h cs c r
 carries-as {h} {cs} e n v g m = record {
-  valid = v;
+  in-order = v;
   gives = g ∙ sym (ap (appliedTo (h .state) cs) e);
   moves-nobody = m;
   same-hub = λ k. absurd (n (sym e ∙ k));
@@ -190,9 +213,9 @@ carries-as {h} {cs} e n v g m = record {
 
 pub carries-nothing : {h : Hub} {cs : List Command} {c : Change} → c ≡ Nothing → Valid h → Carries h cs c h
 carries-nothing {h} {cs} e v = record {
-  valid = v;
+  in-order = v .in-order;
   gives = sym (ap (appliedTo (h .state) cs) e);
-  moves-nobody = itself-moves (h .state) v;
+  moves-nobody = itself-moves (h .state) (v .in-order);
   same-hub = λ _. refl;
 }
 

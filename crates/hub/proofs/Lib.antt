@@ -4,5 +4,6 @@ pub mod OpenLaws
 pub mod Theorem
 pub mod Links
 pub mod TwoSteps
+pub mod Leads
 pub mod Rounds
 pub mod Exact

@@ -35,12 +35,12 @@ unfolding stateOf membersOf
 keeps h s v e =
     let k = h .state .links in
     let l = slotsOf k in
-    let back = back-reversed k (v .links-ok) in
+    let back = back-reversed k (v .in-order .links-ok) in
     let read : map (memberAt (h .state)) l ≡ s .sequence = ap (λ (t : State). t .sequence) e in
     record {
       read = read;
       read-back = ap (map (memberAt (h .state))) back ∙ map-onto (memberAt (h .state)) l [] ∙ ap reverse read;
-      once = v .links-ok .once;
+      once = v .in-order .links-ok .once;
       once-back = λ x. ap (count x) back
           ∙ (let i = count-reverse-onto x l [] in let z : count x (reverseAux l []) ≡ count x l = omega arith in z);
     }

@@ -22,7 +22,7 @@ use Rattle.hub_sequence.specs.Lists.{count}
 use Rattle.hub_sequence.specs.Links.{slotsOf}
 use Rattle.hub_sequence.specs.Contract.{Empty}
 use Rattle.hub_sequence.specs.declared.Links.{Links}
-use Rattle.hub_state.specs.View.{memberAt, membersOf, stateOf}
+use Rattle.hub_state.specs.View.{firstCommitted, memberAt, membersOf, stateOf}
 use Rattle.hub_state.specs.Valid.{StateOk}
 use Rattle.hub_state.specs.declared.HubState.{HubState}
 use Rattle.hub.specs.View.{view}
@@ -119,6 +119,10 @@ module _ (n k first : ℕ) where
     up = λ d. all-same maxDevices true d i;
     mark = λ d. all-same maxDevices 0 d i;
   }
+
+  pub new-rests : firstCommitted (newHub n k first .sequence) ≡ false
+  unfolding newHub
+  new-rests = refl
 
   -- what is answered
   pub opens : (o : Opened) → o .verdict ≡ openCheck n k first → o .verdict ≡ Accepted → Valid (o .hub) → view (o .hub) ≡ newHub n k first →

@@ -16,7 +16,7 @@ use Rattle.hub.specs.TwoSteps.{AppliedMeets, AppliedChains, AppliedDeman
 use Rattle.hub.specs.declared.Hub.{Hub}
 use Rattle.hub.specs.declared.Outcome.{Outcome}
 use Rattle.hub.proofs.CallLaws.{decides-itself, settled-gives, idle-gives, same-gives}
-use Rattle.hub.proofs.Theorem.{hub-demand-3, hub-replay, hub-readers, hub-list}
+use Rattle.hub.proofs.Theorem.{met, hub-demand-3, hub-replay, hub-readers, hub-list}
 use Rattle.hub.proofs.Links.{links-are-the-sequence}
 
 -- the contract of a call is that it gives what the rules give
@@ -31,33 +31,35 @@ meets h (limits k) o g = g
 
 -- Deciding, applying and settling.
 pub applied-meets : AppliedMeets
-applied-meets h c o a =
+applied-meets h c o v a =
     let k = decides-itself (a .decides) in
     let answer = a .decision .answer in
     let P = Gives h o (resultBy (h .state) (a .commands) (a .decision)) in
     meets h c o
     (subst (Gives h o) (a .decides .gives)
     (byTest (λ (_ : Bool). P) (changesNothing answer)
-    (λ t. same-gives h (a .commands) (a .decision) (o .«put_backs») (a .made) k (a .backs-fit) (a .backs-are) (a .carries) o
+    (λ t. same-gives h (a .commands) (a .decision) (o .«put_backs») (a .made) v k (a .backs-fit) (a .backs-are) (a .carries) o
     (a .settles .same t, a .first-is, a .answer-is, refl) t)
     (λ f.
     byTest (λ (_ : Bool). P) (firstCommitted (view (a .made) .sequence))
     (λ t.
     let s = a .settles .settled f t in
-    settled-gives h (a .commands) (a .decision) (o .«put_backs») (a .made) k (a .backs-fit) (a .backs-are) (a .carries) (o .hub) o
+    settled-gives h (a .commands) (a .decision) (o .«put_backs») (a .made) v k (a .backs-fit) (a .backs-are) (a .carries) (o .hub) o
     (refl, a .first-is, a .answer-is, refl) f (s .0) (s .1) (s .2))
-    (λ e. idle-gives h (a .commands) (a .decision) (o .«put_backs») (a .made) k (a .backs-fit) (a .backs-are) (a .carries) o
+    (λ e. idle-gives h (a .commands) (a .decision) (o .«put_backs») (a .made) v k (a .backs-fit) (a .backs-are) (a .carries) o
     (a .settles .idle f e, a .first-is, a .answer-is, refl) f e))))
 
 pub applied-chains : AppliedChains
-applied-chains h [] ch = tt
-applied-chains h (called c o v ∷ l) ch = (⊎-elim (λ m. m) (applied-meets h c o) (ch .0), applied-chains (o .hub) l (ch .1))
-applied-chains h (device-takes d k ∷ l) ch = applied-chains h l ch
+applied-chains h [] v ch = tt
+applied-chains h (called c o x ∷ l) v ch =
+    let m = ⊎-elim (λ z. z) (applied-meets h c o v) (ch .0) in
+    (m, applied-chains (o .hub) l (met h c o m .valid) (ch .1))
+applied-chains h (device-takes d k ∷ l) v ch = applied-chains h l v ch
 
 -- Demand 3, the replay, the readers and the links along such chains.
 pub applied-demand-3 : AppliedDemand3
 applied-demand-3 n k first o op accepted acts any =
-    let ch = applied-chains (o .hub) acts any in record {
+    let ch = applied-chains (o .hub) acts (op .valid) any in record {
       demand-3 = hub-demand-3 n k first o op accepted acts ch;
       replay = hub-replay n k first o op accepted acts ch;
       readers = hub-readers n k first o op accepted acts ch;

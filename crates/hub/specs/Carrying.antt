@@ -13,7 +13,7 @@ use Rattle.hub_state.specs.declared.HubState.{HubState}
 use Rattle.hub_state.specs.declared.Change.{Change}
 use Rattle.hub_state.specs.declared.Change.the-variants.{Nothing, Stage, Commit, Join, Abort, Fail, Restart}
 use Rattle.hub.specs.View.{view}
-use Rattle.hub.specs.Valid.{Valid}
+use Rattle.hub.specs.Valid.{InOrder}
 use Rattle.hub.specs.declared.Hub.{Hub}
 
 -- What is asked of a change before it is told what it puts back: that of an abort.
@@ -38,7 +38,7 @@ pub record OnlySettle (h r : HubState) : Type 0 where
 
 -- The change of a decision on hub h is carried out; where it changes nothing it is the same hub, whole.
 pub record Carries (h : Hub) (cs : List Command) (c : Change) (r : Hub) : Type 0 where
-  pub valid : Valid r
+  pub in-order : InOrder r
   pub gives : view r ≡ appliedTo (h .state) cs c
   pub moves-nobody : MovesNobody (h .state) (r .state)
   pub same-hub : c ≡ Nothing → r ≡ h

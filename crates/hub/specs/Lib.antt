@@ -6,5 +6,6 @@ pub mod Decided
 pub mod Demand3
 pub mod Links
 pub mod TwoSteps
+pub mod Leads
 pub mod Exact
 pub mod Rounds

@@ -55,7 +55,7 @@ pub record AppliedFor (h : Hub) (c : HubCall) (o : Outcome) : Type 0 where
 
 -- It is what the contract of the call gives.
 abbrev pub AppliedMeets : Type 0
-AppliedMeets = (h : Hub) (c : HubCall) (o : Outcome) → AppliedFor h c o → Meets h c o
+AppliedMeets = (h : Hub) (c : HubCall) (o : Outcome) → Valid h → AppliedFor h c o → Meets h c o
 
 -- Each call gets the hub that the last one left, and is made by its public function or in two steps.
 abbrev pub AnyChain : Hub → List HubAct → Type 0
@@ -65,7 +65,7 @@ AnyChain h (device-takes d k ∷ l) = AnyChain h l
 
 -- Such a chain is one of public calls: whatever is said of every chain is said of it.
 abbrev pub AppliedChains : Type 0
-AppliedChains = (h : Hub) (acts : List HubAct) → AnyChain h acts → Chain h acts
+AppliedChains = (h : Hub) (acts : List HubAct) → Valid h → AnyChain h acts → Chain h acts
 
 -- What is promised along a chain from an opening.
 pub record Promised (n k first : ℕ) (h : Hub) (acts : List HubAct) : Type 0 where

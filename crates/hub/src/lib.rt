@@ -35,7 +35,7 @@ ghost use Rattle.hub_state.specs.Contract.{staged, committedAt, joinedBehind, h
 ghost use Rattle.hub_state.specs.Contract.{Decides, putBacksOfDecision};
 ghost use Rattle.hub_state.specs.declared.Change.the-variants.{Stage, Commit, Join, Abort, Fail, Restart};
 ghost use Rattle.hub.specs.View.{view};
-ghost use Rattle.hub.specs.Valid.{Valid};
+ghost use Rattle.hub.specs.Valid.{InOrder, Valid};
 ghost use Rattle.hub.specs.Contract.{Opens, Submitted, Turned, Reported, Cancelled, Failed, Restarted, Limited};
 ghost use Rattle.hub.specs.Carrying.{MovesNobody, OnlySettle};
 ghost use Rattle.hub.specs.Decided.{Decided, WasDecidedOn, WasDecided};
@@ -205,7 +205,8 @@ pub fn closed() -> Hub
 }
 
 // ---- the same in two steps, for those who hold one hub and change it line by line: each call decides on a hub that stays as it is, and an
-// applier makes the next hub. An applier asks for a change that was decided on this very hub.
+// applier makes the next hub. An applier asks for a change that was decided on this very hub. Where a routine then has to settle, it
+// settles before the next call: each asks for a hub at rest.
 
 // What a submission comes to.
 pub fn decide_submit(hub: Hub, routine: Routine) -> Decision
@@ -264,7 +265,7 @@ pub fn decide_restart(hub: Hub, device: u8, setting: i16) -> Decision
 // A command comes to a stage.
 pub fn with_stage(hub: Hub, change: Staged) -> Hub
     requires { ⌜ (Valid hub) × (WasDecided hub (Stage change)) ⌝ }
-    ensures { λ r. ⌜ (Valid r) × (view r ≡ staged (hub .state) change) × (MovesNobody (hub .state) (r .state)) ⌝ }
+    ensures { λ r. ⌜ (InOrder r) × (view r ≡ staged (hub .state) change) × (MovesNobody (hub .state) (r .state)) ⌝ }
 {
     let state = hub.state;
     let next = hub_apply::with_stage(state, change);
@@ -274,7 +275,7 @@ pub fn with_stage(hub: Hub, change: Staged) -> Hub
 // The routine in a slot commits.
 pub fn with_commit(hub: Hub, at: usize) -> Hub
     requires { ⌜ (Valid hub) × (WasDecided hub (Commit at)) ⌝ }
-    ensures { λ r. ⌜ (Valid r) × (view r ≡ committedAt (hub .state) at) × (MovesNobody (hub .state) (r .state)) ⌝ }
+    ensures { λ r. ⌜ (InOrder r) × (view r ≡ committedAt (hub .state) at) × (MovesNobody (hub .state) (r .state)) ⌝ }
 {
     let state = hub.state;
     let next = hub_apply::with_commit(state, at);
@@ -284,7 +285,7 @@ pub fn with_commit(hub: Hub, at: usize) -> Hub
 // A routine joins the sequence behind a slot.
 pub fn with_routine(hub: Hub, after: u8, routine: Routine) -> Hub
     requires { ⌜ (Valid hub) × (Decided hub (commandsOf routine) (Join after)) ⌝ }
-    ensures { λ r. ⌜ (Valid r) × (view r ≡ joinedBehind (hub .state) (commandsOf routine) after)
+    ensures { λ r. ⌜ (InOrder r) × (view r ≡ joinedBehind (hub .state) (commandsOf routine) after)
         × (MovesNobody (hub .state) (r .state)) ⌝ }
 {
     let state = hub.state;
@@ -295,7 +296,7 @@ pub fn with_routine(hub: Hub, after: u8, routine: Routine) -> Hub
 // The routine in a slot aborts.
 pub fn with_abort(hub: Hub, at: usize) -> Hub
     requires { ⌜ (Valid hub) × (WasDecided hub (Abort at)) ⌝ }
-    ensures { λ r. ⌜ (Valid r) × (view r ≡ leave (view hub) (there (hub .state) at)) × (MovesNobody (hub .state) (r .state)) ⌝ }
+    ensures { λ r. ⌜ (InOrder r) × (view r ≡ leave (view hub) (there (hub .state) at)) × (MovesNobody (hub .state) (r .state)) ⌝ }
 {
     let state = hub.state;
     let next = hub_settle::leave::leave(state, at);
@@ -305,7 +306,7 @@ pub fn with_abort(hub: Hub, at: usize) -> Hub
 // A device fails; the routine in a slot, if there is one, aborts by that or loses what is left there.
 pub fn with_failure(hub: Hub, device: u8, slot: usize) -> Hub
     requires { ⌜ (Valid hub) × (WasDecided hub (Fail device slot)) ⌝ }
-    ensures { λ r. ⌜ (Valid r) × (view r ≡ stoppedBy device (downWith (view hub) device) (halfwayIn (hub .state) slot))
+    ensures { λ r. ⌜ (InOrder r) × (view r ≡ stoppedBy device (downWith (view hub) device) (halfwayIn (hub .state) slot))
         × (MovesNobody (hub .state) (r .state)) ⌝ }
 {
     let state = hub.state;
@@ -316,7 +317,7 @@ pub fn with_failure(hub: Hub, device: u8, slot: usize) -> Hub
 // A device restarts; the routine in a slot, if there is one, aborts by that or loses what is left there.
 pub fn with_restart(hub: Hub, device: u8, setting: i16, slot: usize) -> Hub
     requires { ⌜ (Valid hub) × (WasDecided hub (Restart device setting slot)) ⌝ }
-    ensures { λ r. ⌜ (Valid r) × (view r ≡ upWith (stoppedBy device (view hub) (halfwayIn (hub .state) slot)) device setting)
+    ensures { λ r. ⌜ (InOrder r) × (view r ≡ upWith (stoppedBy device (view hub) (halfwayIn (hub .state) slot)) device setting)
         × (MovesNobody (hub .state) (r .state)) ⌝ }
 {
     let state = hub.state;
@@ -335,7 +336,7 @@ pub fn put_backs(hub: Hub, decision: Decision) -> PutBacks
 
 // Is the first in the sequence committed?
 pub fn settles(hub: Hub) -> bool
-    requires { ⌜ Valid hub ⌝ }
+    requires { ⌜ InOrder hub ⌝ }
     ensures { λ r. ⌜ r ≡ firstCommitted (view hub .sequence) ⌝ }
 {
     let state = hub.state;
@@ -344,7 +345,7 @@ pub fn settles(hub: Hub) -> bool
 
 // The committed routines at the front settle.
 pub fn settle(hub: Hub) -> Hub
-    requires { ⌜ Valid hub ⌝ }
+    requires { ⌜ InOrder hub ⌝ }
     ensures { λ r. ⌜ (Valid r) × (view r ≡ settle (view hub)) × (OnlySettle (hub .state) (r .state)) ⌝ }
 {
     let state = hub.state;

@@ -6,7 +6,7 @@ use Rattle.hub.proofs.with_failure.Tie as tie
 with-failure-requires : tie.Need-with-failure-requires
 with-failure-requires c κs =
     let k = decided-ok (c .before .pre .1 .1) in
-    (c .before .pre .0, k .0, k .1)
+    (c .before .pre .0 .in-order, k .0, k .1)
 
 returns : tie.Need-returns
 returns c =

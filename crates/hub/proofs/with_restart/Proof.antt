@@ -15,7 +15,7 @@ with-restart-requires c κs =
     let a = c .before .args in
     let e : toZ w16 (ofZ w16 (a .setting)) ≡ a .setting = search needs in
     let k = decided-ok (c .before .pre .1 .1) in
-    (c .before .pre .0, k .0, ap isRestart e ∙ k .1, k .2)
+    (c .before .pre .0 .in-order, k .0, ap isRestart e ∙ k .1, k .2)
 
 returns : tie.Need-returns
 returns c =

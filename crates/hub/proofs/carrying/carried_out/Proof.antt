@@ -36,7 +36,7 @@ returns c =
     let p = n .before in
     let b = p .put-backs .ensures in
     let a = p .before .args in
-    settled-gives (a .hub) (commandsOf (a .routine)) (a .decision) (p .put-backs .result) (n .changed .result)
+    settled-gives (a .hub) (commandsOf (a .routine)) (a .decision) (p .put-backs .result) (n .changed .result) (p .before .pre .0)
     (decides-itself (p .before .pre .1 .decides)) (b .0)
     (b .1) (n .changed .ensures) _ _ (c .outcome-with .ensures)
     (sym (d .changes-nothing .ensures) ∙ not-true _ (t .if1 .taken)) (c .before .settle .ensures .0) (c .before .settle .ensures .1)
@@ -53,13 +53,11 @@ returns-2 c =
     let b = p .put-backs .ensures in
     let a = p .before .args in
     ⊎-elim
-    (λ w. idle-gives (a .hub) (commandsOf (a .routine)) (a .decision) (p .put-backs .result) (n .changed .result)
-    (decides-itself (p .before .pre .1 .decides))
-    (b .0) (b .1) (n .changed .ensures) _ (c .outcome-with2 .ensures)
+    (λ w. idle-gives (a .hub) (commandsOf (a .routine)) (a .decision) (p .put-backs .result) (n .changed .result) (p .before .pre .0)
+    (decides-itself (p .before .pre .1 .decides)) (b .0) (b .1) (n .changed .ensures) _ (c .outcome-with2 .ensures)
     (sym (d .changes-nothing .ensures) ∙ not-true _ (w .0 .taken)) (sym (w .1 .ensures) ∙ w .2 .left))
-    (λ w. same-gives (a .hub) (commandsOf (a .routine)) (a .decision) (p .put-backs .result) (n .changed .result)
-    (decides-itself (p .before .pre .1 .decides))
-    (b .0) (b .1) (n .changed .ensures) _ (c .outcome-with2 .ensures)
+    (λ w. same-gives (a .hub) (commandsOf (a .routine)) (a .decision) (p .put-backs .result) (n .changed .result) (p .before .pre .0)
+    (decides-itself (p .before .pre .1 .decides)) (b .0) (b .1) (n .changed .ensures) _ (c .outcome-with2 .ensures)
     (sym (d .changes-nothing .ensures) ∙ not-false _ (w .left)))
     (c .before .if1 .came)
 
