@@ -43,7 +43,7 @@ use Rattle.hub_state.specs.declared.Change.the-variants.{Nothing, Stage, Commit
 use Rattle.hub_state.specs.declared.Decision.{Decision}
 use Rattle.hub_state.proofs.DecisionLaws.{settle-idle}
 use Rattle.hub.specs.View.{view}
-use Rattle.hub.specs.Valid.{Valid}
+use Rattle.hub.specs.Valid.{InOrder, Valid}
 use Rattle.hub.specs.Contract.{Opens}
 use Rattle.hub.specs.Carrying.{MovesNobody, Carries}
 use Rattle.hub.specs.Decided.{DecidedOn}
@@ -313,9 +313,9 @@ decided-on h c r k = record { call = callIn c r; no-limit = keeps-limit c r; dec
 pub carries-nothing : (h : Hub) (cs : List Command) {c : Change} → Valid h → c ≡ Nothing → Carries h cs c h
 carries-nothing h cs v e =
     record {
-      valid = v;
+      in-order = v .in-order;
       gives = ap (λ (y : Change). appliedTo (h .state) cs y) (sym e);
-      moves-nobody = itself-moves (h .state) v;
+      moves-nobody = itself-moves (h .state) (v .in-order);
       same-hub = λ _. refl;
     }
 
@@ -329,9 +329,9 @@ isChange (Fail d x) = true
 isChange (Restart d v x) = true
 
 pub carries : (h : Hub) (cs : List Command) {c : Change} (x : Change) {next : Hub} → c ≡ x → isChange x ≡ true →
-    (Valid next) × (view next ≡ appliedTo (h .state) cs x) × (MovesNobody (h .state) (next .state)) → Carries h cs c next
+    (InOrder next) × (view next ≡ appliedTo (h .state) cs x) × (MovesNobody (h .state) (next .state)) → Carries h cs c next
 carries h cs x e t k = record {
-  valid = k .0;
+  in-order = k .0;
   gives = k .1 ∙ ap (λ (y : Change). appliedTo (h .state) cs y) (sym e);
   moves-nobody = k .2;
   same-hub = λ z. t≠f (sym t ∙ ap isChange (sym e ∙ z));
@@ -389,14 +389,14 @@ module _ (h : Hub) (q : Said) (call : Call) (e : heardOf (readAs q .line) (view 
   pub does-change : changesNothing (d .answer) ≡ false → firstCommitted (view made .sequence) ≡ false →
       Does h q made (answersText told)
   does-change t idle =
-      does-call made (m .valid)
+      does-call made (record { in-order = m .in-order; at-rest = idle })
       (ap (λ (s : State). record { state = s; answers = told }) (sym (settle-idle (view made) idle)) ∙ settles-by t)
 
   -- a refusal or a wait
-  pub does-same : changesNothing (d .answer) ≡ true → Does h q made (answersText told)
-  does-same t =
+  pub does-same : Valid h → changesNothing (d .answer) ≡ true → Does h q made (answersText told)
+  does-same valid t =
       let none = w .nothing-told t in
-      does-call made (m .valid)
+      does-call made (subst Valid (sym (m .same-hub none)) valid)
       (ap (λ (s : State). record { state = s; answers = told }) (m .gives)
       ∙ sym (ap (λ (c : Change). settledUnlessNothing c
       (record { state = appliedTo (h .state) (commandsOf r) (d .change); answers = told })) none)

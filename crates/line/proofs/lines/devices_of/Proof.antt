@@ -25,7 +25,7 @@ abbrev μ-loop : tie.MeasureT-loop
 few : (c : tie.After-device-count Inv-loop μ-loop) → c .device-count .result ≤ maxDevices
 few c =
     let s = c .before .before .before .before in
-    omega (arith, s .pre .devices-fit, devices-are (s .args .hub), c .device-count .ensures)
+    omega (arith, s .pre .in-order .devices-fit, devices-are (s .args .hub), c .device-count .ensures)
 
 slice-aggregate-due-settings : tie.Need-slice-aggregate-due-settings Inv-loop μ-loop
 slice-aggregate-due-settings c = refl
@@ -78,7 +78,7 @@ returns c =
           (λ d k. l .loop .inv .2 d (omega arith))
           (λ d k.
           ap (λ (t : List ℤ). getD t d (pos 0)) (n .before .before .due-settings .ensures .1)
-          ∙ list-entry (view h) _ (omega (arith, s .pre .devices-fit, devices-are h)) d k),
+          ∙ list-entry (view h) _ (omega (arith, s .pre .in-order .devices-fit, devices-are h)) d k),
     )
 
 pub devices-of-spec : {M : Type 1} → statement M

@@ -158,7 +158,7 @@ leaves-joined j =
     (λ w. does-change _ (says n) _ (calls d) (n .next-line .ensures .beside) (d .decided .result) (d .decided .ensures) _
     (made (k .before)) (sym (k .changes-nothing .ensures) ∙ not-true _ (w .0 .taken)) (sym (w .1 .ensures) ∙ w .2 .left))
     (λ w. does-same _ (says n) _ (calls d) (n .next-line .ensures .beside) (d .decided .result) (d .decided .ensures) _
-    (made (k .before)) (sym (k .changes-nothing .ensures) ∙ not-false _ (w .left)))
+    (made (k .before)) (valid (heard-of d)) (sym (k .changes-nothing .ensures) ∙ not-false _ (w .left)))
     (j .if3 .came)
 
 -- ---- each way that the line can go
@@ -308,10 +308,10 @@ changes-nothing-requires : tie.Need-changes-nothing-requires Inv-loop μ-loop
 changes-nothing-requires c κs = search needs
 
 settles-requires : tie.Need-settles-requires Inv-loop μ-loop
-settles-requires c κs = made (c .before .before) .valid
+settles-requires c κs = made (c .before .before) .in-order
 
 settle-requires : tie.Need-settle-requires Inv-loop μ-loop
-settle-requires c κs = made (c .before .before .before .before) .valid
+settle-requires c κs = made (c .before .before .before .before) .in-order
 
 enum-told-2 : tie.Need-enum-told-2 Inv-loop μ-loop
 enum-told-2 c = search needs
