@@ -10,7 +10,8 @@ returns : tie.Need-returns
 returns c =
     let s = c .before .before in
     let w = c .with-routine .ensures in
-    (w .valid, w .gives, place-moves (s .args .hub .state) (c .with-routine .result) (s .pre .0 .in-order) (decided-ok (s .pre .1) .place) w)
+    let place = decided-ok (s .pre .1) .place in
+    (w .valid, w .gives, place-moves (s .args .hub .state) (c .with-routine .result) (s .pre .0 .in-order) place w)
 
 pub with-routine-spec : {M : Type 1} → statement M
 with-routine-spec = tie.close (tie.spec with-routine-requires returns)
