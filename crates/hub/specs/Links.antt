@@ -68,7 +68,8 @@ LinksAreTheSequence =
     LinksKeep n k first (o .hub) acts
 
 -- For every accepted opening, every chain of calls and each call in it, from the hub before that call to the hub after it: a routine that
--- is taken before and after is in the same slot, and a link is the same unless its slot, or one at its other end, has joined or left.
+-- is in the sequence before and after is in the same slot, and a link is the same unless its slot, or one at its other end, has joined or
+-- left.
 abbrev pub NothingMoves : Type 0
 NothingMoves =
     (n k first : ℕ) (o : Opened) → Opens n k first o → o .verdict ≡ Accepted →

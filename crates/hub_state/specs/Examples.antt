@@ -1,4 +1,4 @@
--- What `Unmoved` turns down, by computation: the one routine that is taken is moved to another slot, and to the rules it is the same hub.
+-- What `Unmoved` turns down, by computation: the one routine of the sequence is moved to another slot, and to the rules it is the same hub.
 -- Assumes nothing.
 use mathlib.Core.Path.{_≡_, refl}
 use mathlib.Core.List.{[], _∷_}

@@ -16,8 +16,8 @@ pub record SameRoutine (m n : Member) : Type 0 where
   pub same-id : n .id ≡ m .id
   pub same-commands : commandsIn (n .steps) ≡ commandsIn (m .steps)
 
--- `same-slot`: a routine that is taken before and after, by its id, is in the same slot. `same-routine`: a slot that is taken before and
--- after holds the same routine. `links`: a link is as it was, unless its slot or the one at its other end has joined or left.
+-- `same-slot`: a routine that is in the sequence before and after, by its id, is in the same slot. `same-routine`: a slot that is taken
+-- before and after holds the same routine. `links`: a link is as it was, unless its slot or the one at its other end has joined or left.
 pub record Unmoved (h r : HubState) : Type 0 where
   pub same-slot : (x y : ℕ) → Stands (h .links) x → Stands (r .links) y → memberAt r y .id ≡ memberAt h x .id → x ≡ y
   pub same-routine : (x : ℕ) → Stands (h .links) x → Stands (r .links) x → SameRoutine (memberAt h x) (memberAt r x)
