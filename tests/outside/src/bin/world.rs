@@ -208,6 +208,9 @@ impl Order {
                         let Command { device, setting, .. } = *command;
                         let (up, now) = devices[device];
                         match how {
+                            How::Done | How::ReportedFailed if is_dropped(commands, *command) => {
+                                return Err(format!("routine {id} sent a command on device {device} after a condition that did not hold"));
+                            }
                             How::Done if !up => return Err(format!("a done command of routine {id} finds device {device} down")),
                             How::Done => devices[device].1 = setting,
                             How::Held | How::NotHeld if !up => {
