@@ -522,7 +522,7 @@ def breaks_off(c):
             c.bare()
             environment = dict(os.environ, **fake_kit(c, half + '; sleep 50 & sleep 50'))
             ran = subprocess.Popen([os.path.join(c.root, 'bin/plot_hub'), '/dev/null'], stdout=subprocess.PIPE, stderr=subprocess.PIPE,
-                                   env=environment, start_new_session=True)
+                                   env=environment, start_new_session=True, preexec_fn=as_from_a_terminal)
             wait_until(lambda: os.path.lexists(built(c.root, 'plot_hub')), 'nothing is built')
             (os.killpg if whole_group else os.kill)(ran.pid, number)
             printed, said = ran.communicate(timeout=60)
@@ -572,13 +572,20 @@ def building(shell, folder):
 
 # ---- signals, books, keys
 
+def as_from_a_terminal():
+    """A gate that runs in the background has signals ignored; a command that is started so never sees them."""
+    for number in (signal.SIGINT, signal.SIGTERM, signal.SIGHUP):
+        signal.signal(number, signal.SIG_DFL)
+
+
 def signals(c):
     """A command with --hints that waits for its input is ended: no temporary file is left. (SIGINT comes from a terminal, to all.)"""
     global checked
     for number in (signal.SIGINT, signal.SIGTERM, signal.SIGHUP, signal.SIGKILL):
         for whole_group in (True, False)[:1 if number == signal.SIGINT else 2]:
             ran = subprocess.Popen([os.path.join(c.root, 'bin/plot_hub'), '--hints'], stdin=subprocess.PIPE, stdout=subprocess.PIPE,
-                                   stderr=subprocess.PIPE, env=dict(os.environ, TMPDIR=c.temporary), start_new_session=True)
+                                   stderr=subprocess.PIPE, env=dict(os.environ, TMPDIR=c.temporary), start_new_session=True,
+                                   preexec_fn=as_from_a_terminal)
             ran.stdin.write(LISTING)
             ran.stdin.flush()
             wait_for_copy(ran.pid)

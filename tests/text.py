@@ -210,7 +210,8 @@ theorem = law 1 2
 ''',
     'crates/rules_one/must-fail/seven.edit': '# seven\nfile: src/lib.rt\nold: = 8;\nnew: = 7;\n',
     'crates/run_two/src/main.rt': 'use rules_one::give;\n\nfn main() {\n    let n = give();\n}\n',
-    'tools/specification': 'THEOREMS = [("theorem", "rules_one/proofs/Laws", "rules_one.Numbers", "A sentence.")]\n',
+    'docs/STATEMENTS.md':
+        'About `crates/rules_one/specs/Numbers.antt`, proved in `crates/rules_one/proofs/Laws.antt`:\n\n- `theorem`: A sentence.\n',
     'bin/start': '#!/bin/sh\n# shellcheck source=bin/more.sh\n. "$1/bin/more.sh"\nmore\n',
     'bin/more.sh': '# shellcheck shell=sh\nmore() {\n    echo more\n}\n',
     'docs/page.md': '# A page\n\n| ' + 'wide ' * 40 + '|\n',
@@ -229,7 +230,7 @@ PLANTED = [  # the check, a file, what is found once in it, what stands there in
     (names, 'crates/rules_one/src/lib.rt', '8;\n', '8;\n\npub struct Pair {\n    pub one: u8,\n}\n', 'src/lib.rt:5: Pair: nothing uses it'),
     (names, 'crates/run_two/src/main.rt', 'give()', '8', 'crates/rules_one/src/lib.rt:5: give: nothing uses it'),
     (names, 'crates/run_two/src/main.rt', 'give()', '8', 'crates/run_two/src/main.rt: brought in and not used: rules_one::give'),
-    (names, 'tools/specification', '("theorem"', '("other"', 'Laws.antt:11: theorem: nothing uses it'),
+    (names, 'docs/STATEMENTS.md', '- `theorem`', '- `other`', 'Laws.antt:11: theorem: nothing uses it'),
     (layout, 'crates/rules_one/src/lib.rt', '    EIGHT', '  EIGHT', 'lib.rt'),
     (width, 'crates/rules_one/proofs/Laws.antt', 'Assumes nothing.', 'x' * 140, 'crates/rules_one/proofs/Laws.antt:1: 149 columns'),
     (width, 'bin/start', 'more\n', 'more ' + 'x' * 136 + '\n', 'bin/start:4: 141 columns'),
