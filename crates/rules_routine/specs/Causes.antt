@@ -59,7 +59,7 @@ OutOfRange z = (z <ℤ lowestSetting) ⊎ (highestSetting <ℤ z)
 abbrev pub commandNo : ℕ → List Command → Command
 commandNo i cs = getD cs i zeroCommand
 
--- This cause holds of a routine of these commands, against a device limit: N in the hub, 32 in a book.
+-- This cause holds of a routine of these commands, against a number of devices: N in the hub, 32 in a book.
 pub data RoutineCause (devices : ℕ) (cs : List Command) : Cause → Type 0 where
   -- 4: "routine of 0 or over 8 commands"
   count-is-out : (length cs ≡ 0) ⊎ (maxCommands < length cs) → RoutineCause devices cs command-count

@@ -54,7 +54,7 @@ withCommand r c = record {
   count = if ltb (r .count) (2 ^ 64 - 1) then r .count + 1 else r .count;
 }
 
--- A command, the one at index i of its routine, against a device limit: 5, 6, 7.
+-- A command, the one at index i of its routine, against a number of devices: 5, 6, 7.
 unfoldable pub commandCheck : ℕ → ℕ → Command → Verdict
 commandCheck devices i c =
     refuse (device-not-below i) when leb devices (c .device)
@@ -74,7 +74,7 @@ commandsCheck devices i (c ∷ cs) =
     andThen refuse (condition-alone i) when standsAlone c cs
     andThen commandsCheck devices (suc i) cs
 
--- A routine against a device limit, N in the hub and 32 in a book: 4; then the commands in turn, each 5, 6, 7, 22.
+-- A routine against a number of devices, N in the hub and 32 in a book: 4; then the commands in turn, each 5, 6, 7, 22.
 unfoldable pub routineCheck : ℕ → List Command → Verdict
 routineCheck devices cs =
     refuse command-count when (eqb (length cs) 0 || ltb maxCommands (length cs))

@@ -84,7 +84,7 @@ pub fn in_range(setting: i16) -> bool
     LOWEST_SETTING <= setting && setting <= HIGHEST_SETTING
 }
 
-// A command against a device limit: 5, 6, 7, with the command's index.
+// A command against a number of devices: 5, 6, 7, with the command's index.
 fn check_command(command: Command, devices: u8, index: usize) -> Verdict
     ensures { λ r. ⌜ r ≡ commandCheck devices index command ⌝ }
 {
@@ -119,7 +119,7 @@ fn stands_alone(routine: Routine, index: usize) -> bool
     after.tag == CONDITION
 }
 
-// A routine against a device limit (N in the hub, 32 in a book): 4, then the commands in turn.
+// A routine against a number of devices (N in the hub, 32 in a book): 4, then the commands in turn.
 pub fn check(routine: Routine, devices: u8) -> Verdict
     ensures { λ r. ⌜ r ≡ routineCheck devices (commandsOf routine) ⌝ }
 {

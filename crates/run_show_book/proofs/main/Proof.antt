@@ -5,6 +5,9 @@ use borrow.Author.Needs.{needs}
 use Rattle.run_show_book.proofs.main.Statement.{statement}
 use Rattle.run_show_book.proofs.main.Tie as tie
 
+book-buffer-requires : tie.Need-book-buffer-requires
+book-buffer-requires c κs = search needs
+
 slice-aggregate-read-full : tie.Need-slice-aggregate-read-full
 slice-aggregate-read-full c = search needs
 
@@ -42,6 +45,7 @@ pub main-spec : {M : Type 1} → statement M
 main-spec =
     tie.close
     (tie.spec
+    book-buffer-requires
     slice-aggregate-read-full
     slice-aggregate-read-full-2
     read-full-requires
