@@ -80,8 +80,6 @@ def read(name):
 # Files, and names in others, that are there to be checked by themselves.
 EXAMPLES = re.compile(r"/(Examples|Controls|Worlds|Schedules|Starred|Refuted)\.antt$")
 CONTROLS = {("crates/rules_promises/proofs/RoundsExist.antt", "wrong-rules-show")}
-# Functions for callers that are not here: the reader of a book, routine by routine.
-OFFERED = {("crates/book_read/src/reader.rt", "start"), ("crates/book_read/src/reader.rt", "advance")}
 MODULE = re.compile(r"Rattle·(\w+?)(?:·\w+)?\.(specs|proofs)\.(\S+)")
 ITEM = re.compile(r"(?:pub )?(?:extern \"C\" )?(struct|enum|const|fn) (\w+)")
 PATH = re.compile(r"\b(?:[a-z_][a-z0-9_]*::)+\w+")
@@ -212,7 +210,7 @@ def code_items(path, text):
         match = ITEM.match(line)
         if match:
             found.append(Declared(path, match.group(2), number))
-            found[-1].root = marked or match.group(2) == "main" or (path, match.group(2)) in OFFERED
+            found[-1].root = marked or match.group(2) == "main"
         elif re.match(r"\w", line):  # a `use`, a `mod`
             continue
         marked = line.startswith("#[no_mangle]") or marked and not match
