@@ -26,7 +26,7 @@ use Rattle.hub_state.specs.Unmoved.{Unmoved, InPlace, OnlyLeave}
 use Rattle.hub_apply.specs.Contract.{Places}
 use Rattle.hub_apply.proofs.PlaceLaws.{places-unmoved, places-run}
 use Rattle.hub_abort.specs.PutBacks.{downIf}
-use Rattle.hub_state.specs.Contract.{halfwayIn, putBacksStopped, downWith, appliedTo, backsBy, ChangeOk, putBacksOfDecision, toldBy}
+use Rattle.hub_state.specs.Contract.{halfwayIn, putBacksStopped, downWith, appliedTo, putBacksBy, ChangeOk, putBacksOfDecision, toldBy}
 use Rattle.hub_state.specs.Contract.{settledUnlessNothing, resultBy, Decides}
 use Rattle.hub_state.specs.declared.HubState.{HubState}
 use Rattle.hub_state.specs.declared.Change.{Change}
@@ -89,7 +89,7 @@ pub decides-itself : {h : HubState} {cs : List Command} {d : Decision} {result :
 decides-itself k = record {
   change-ok = k .change-ok;
   gives = refl;
-  backs-told = k .backs-told;
+  put-backs-told = k .put-backs-told;
   well-told = k .well-told;
   nothing-told = k .nothing-told;
   something-told = k .something-told;
@@ -127,8 +127,8 @@ module _ (h : Hub) (cs : List Command) (d : Decision) (backs : PutBacks) (n : Hu
   wraps-gives r o w z e u s = record {
     valid = subst Valid (sym (w .0)) z;
     gives = (λ i. record { state = view (w .0 i); answers = told r o w i }) ∙ e;
-    backs-fit = subst PutBacksOk (sym (w .3)) fit;
-    backs-told = ap putBacksOf (w .3) ∙ are ∙ k .backs-told ∙ sym (ap putBacksIn (told r o w));
+    put-backs-fit = subst PutBacksOk (sym (w .3)) fit;
+    put-backs-told = ap putBacksOf (w .3) ∙ are ∙ k .put-backs-told ∙ sym (ap putBacksIn (told r o w));
     unmoved = subst (λ (x : Hub). Unmoved (h .state) (x .state)) (sym (w .0)) u;
     same-hub = λ t. w .0 ∙ s (sym (ap changesNothing (w .2)) ∙ t);
   }
@@ -175,9 +175,9 @@ module _ (h : Hub) (cs : List Command) (d : Decision) (backs : PutBacks) (n : Hu
 -- ---- the arms
 
 -- what is put back, where the change is this one
-pub backs-as : (h : HubState) (d : Decision) {c : Change} {l : List Back} → d .change ≡ c → l ≡ backsBy h (oneOf (d .back)) c →
+pub backs-as : (h : HubState) (d : Decision) {c : Change} {l : List Back} → d .change ≡ c → l ≡ putBacksBy h (oneOf (d .back)) c →
     l ≡ putBacksOfDecision h d
-backs-as h d e f = f ∙ sym (ap (backsBy h (oneOf (d .back))) e)
+backs-as h d e f = f ∙ sym (ap (putBacksBy h (oneOf (d .back))) e)
 
 -- a device that fails is down by then
 down-is : (s : State) (d : ℕ) → d < maxDevices → downIf s d ≡ downWith s d

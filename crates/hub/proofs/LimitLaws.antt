@@ -41,8 +41,8 @@ pub limits-hub : (h : Hub) (k : ℕ) (l : NewLimit) (b : PutBacks) → Valid h �
 limits-hub h k l b v g n e = record {
   valid = rests-as _ (g .valid) (ap (λ (r : Result). r .state) (g .gives)) (limit-rests (view h) k (v .at-rest));
   gives = ap (λ (m : List Back). record { state = stateOf (l .state); answers = answerOf (l .answer) m ∷ [] }) e ∙ g .gives;
-  backs-fit = omega arith;
-  backs-told = e ∙ no-put-backs (l .answer) ∙ sym (ap (λ (m : List Back). putBacksIn (answerOf (l .answer) m ∷ [])) e);
+  put-backs-fit = omega arith;
+  put-backs-told = e ∙ no-put-backs (l .answer) ∙ sym (ap (λ (m : List Back). putBacksIn (answerOf (l .answer) m ∷ [])) e);
   unmoved = g .unmoved;
   same-hub = λ z. ap (λ (s : HubState). record { state = s }) (g .same-state z);
 }

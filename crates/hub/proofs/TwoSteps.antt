@@ -38,15 +38,15 @@ applied-meets h c o v a =
     meets h c o
     (subst (Gives h o) (a .decides .gives)
     (byTest (λ (_ : Bool). P) (changesNothing answer)
-    (λ t. same-gives h (a .commands) (a .decision) (o .«put_backs») (a .made) v k (a .backs-fit) (a .backs-are) (a .carries) o
+    (λ t. same-gives h (a .commands) (a .decision) (o .«put_backs») (a .made) v k (a .put-backs-fit) (a .put-backs-are) (a .carries) o
     (a .settles .same t, a .first-is, a .answer-is, refl) t)
     (λ f.
     byTest (λ (_ : Bool). P) (firstCommitted (view (a .made) .sequence))
     (λ t.
     let s = a .settles .settled f t in
-    settled-gives h (a .commands) (a .decision) (o .«put_backs») (a .made) v k (a .backs-fit) (a .backs-are) (a .carries) (o .hub) o
+    settled-gives h (a .commands) (a .decision) (o .«put_backs») (a .made) v k (a .put-backs-fit) (a .put-backs-are) (a .carries) (o .hub) o
     (refl, a .first-is, a .answer-is, refl) f (s .0) (s .1) (s .2))
-    (λ e. idle-gives h (a .commands) (a .decision) (o .«put_backs») (a .made) v k (a .backs-fit) (a .backs-are) (a .carries) o
+    (λ e. idle-gives h (a .commands) (a .decision) (o .«put_backs») (a .made) v k (a .put-backs-fit) (a .put-backs-are) (a .carries) o
     (a .settles .idle f e, a .first-is, a .answer-is, refl) f e))))
 
 pub applied-chains : AppliedChains

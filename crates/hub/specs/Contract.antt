@@ -37,8 +37,8 @@ pub record Opens (n k first : ℕ) (o : Opened) : Type 0 where
 pub record Gives (h : Hub) (o : Outcome) (result : Result) : Type 0 where
   pub valid : Valid (o .hub)
   pub gives : resultIn o ≡ result
-  pub backs-fit : PutBacksOk (o .«put_backs»)
-  pub backs-told : putBacksOf (o .«put_backs») ≡ putBacksIn (answersIn o)
+  pub put-backs-fit : PutBacksOk (o .«put_backs»)
+  pub put-backs-told : putBacksOf (o .«put_backs») ≡ putBacksIn (answersIn o)
   pub unmoved : Unmoved (h .state) (o .hub .state)
   pub same-hub : changesNothing (o .answer) ≡ true → o .hub ≡ h
 

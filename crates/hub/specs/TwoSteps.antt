@@ -50,8 +50,8 @@ pub record AppliedFor (h : Hub) (c : HubCall) (o : Outcome) : Type 0 where
   pub settles : SettlesTo (decision .answer) made (o .hub)
   pub first-is : o .first ≡ decision .first
   pub answer-is : o .answer ≡ decision .answer
-  pub backs-fit : PutBacksOk (o .«put_backs»)
-  pub backs-are : putBacksOf (o .«put_backs») ≡ putBacksOfDecision (h .state) decision
+  pub put-backs-fit : PutBacksOk (o .«put_backs»)
+  pub put-backs-are : putBacksOf (o .«put_backs») ≡ putBacksOfDecision (h .state) decision
 
 -- It is what the contract of the call gives.
 abbrev pub AppliedMeets : Type 0

@@ -53,7 +53,7 @@ use Rattle.hub_due.proofs.Tables.{set-put, same-self}
 use Rattle.hub_due.proofs.Slots.{none-set}
 use Rattle.hub_search.specs.Contract.{Finds}
 use Rattle.hub_search.proofs.Found.{found-as, stands-at, found-id}
-use Rattle.hub_abort.specs.PutBacks.{isBackBy, backsBy, downIf, TablesAre}
+use Rattle.hub_abort.specs.PutBacks.{isBackBy, putBacksFrom, downIf, TablesAre}
 use Rattle.hub_abort.specs.declared.Tables.{Tables}
 
 -- ---- the test of a device, by its tests in turn
@@ -97,19 +97,20 @@ test-read t d r u x y e p q s = e ∙ (λ i. p i && not (flagsOf (t .others) d) 
 -- the devices from d on: d is put back, it is not, no device is left
 module _ (p : ℕ → Bool) (setting : ℕ → ℤ) (l : List Back) (d n : ℕ) where
   pub backs-more : d < n → p d ≡ true →
-      (l ++ (record { device = d; setting = setting d } ∷ [])) ++ backsBy p setting (d + 1) (n - (d + 1)) ≡ l ++ backsBy p setting d (n - d)
+      (l ++ (record { device = d; setting = setting d } ∷ [])) ++ putBacksFrom p setting (d + 1) (n - (d + 1)) ≡ l
+      ++ putBacksFrom p setting d (n - d)
   backs-more h t =
       let e : n - d ≡ suc (n - (d + 1)) = omega (arith, h) in
-      rw (e, add-one d, t) (append-assoc l (record { device = d; setting = setting d } ∷ []) (backsBy p setting (suc d) (n - suc d)))
+      rw (e, add-one d, t) (append-assoc l (record { device = d; setting = setting d } ∷ []) (putBacksFrom p setting (suc d) (n - suc d)))
 
-  pub backs-same : d < n → p d ≡ false → l ++ backsBy p setting (d + 1) (n - (d + 1)) ≡ l ++ backsBy p setting d (n - d)
+  pub backs-same : d < n → p d ≡ false → l ++ putBacksFrom p setting (d + 1) (n - (d + 1)) ≡ l ++ putBacksFrom p setting d (n - d)
   backs-same h t = let e : n - d ≡ suc (n - (d + 1)) = omega (arith, h) in rw (e, add-one d, t)
 
-  pub backs-end : n ≤ d → l ++ backsBy p setting d (n - d) ≡ l
+  pub backs-end : n ≤ d → l ++ putBacksFrom p setting d (n - d) ≡ l
   backs-end h = let e : n - d ≡ 0 = omega (arith, h) in rw e (append-nil l)
 
 -- the put-backs of the rules are those by their test
-backs-by : (s : State) (m : Member) (t : State) (d n : ℕ) → backsBy (isPutBack s m t) (due t) d n ≡ putBacks s m t d n
+backs-by : (s : State) (m : Member) (t : State) (d n : ℕ) → putBacksFrom (isPutBack s m t) (due t) d n ≡ putBacks s m t d n
 unfolding putBacks
 backs-by s m t d zero = refl
 backs-by s m t d (suc n) =
@@ -152,12 +153,12 @@ module _ (h : HubState) (x down : ℕ) (t : Tables) (a : TablesAre h x down t) w
   after-by = a .after-is
 
   -- what an abort puts back
-  pub backs-are-by : (l : List Back) → l ≡ backsBy (isBackBy t) (settingsOf (t .after)) 0 (h .devices) →
+  pub backs-are-by : (l : List Back) → l ≡ putBacksFrom (isBackBy t) (settingsOf (t .after)) 0 (h .devices) →
       l ≡ putBacksLeft (downIf (stateOf h) down) (there h x)
   unfolding stateOf
   backs-are-by l e =
       e
-      ∙ (λ j. backsBy (test-by j) (after-by j) 0 (h .devices))
+      ∙ (λ j. putBacksFrom (test-by j) (after-by j) 0 (h .devices))
       ∙ backs-by failing (memberAt h x) (leave failing (there h x)) 0 (h .devices)
       ∙ ap (λ (m : Member). putBacks failing m (leave failing (there h x)) 0 (h .devices)) (sym (there-it h x))
       ∙ ap (λ (s : State). putBacksLeft s (there h x)) (fails-up (stateOf h) down)

@@ -25,10 +25,10 @@ isBackBy t d =
     (not (sameSetting (settingsOf (t .before) d) (settingsOf (t .after) d)) || flagsOf (t .own) d)
 
 -- By rising device: those of the `left` devices from d on that pass the test, each with its setting.
-abbrev pub backsBy : (ℕ → Bool) → (ℕ → ℤ) → ℕ → ℕ → List Back
-backsBy p setting d zero = []
-backsBy p setting d (suc left) = if p d then record { device = d; setting = setting d } ∷ backsBy p setting (suc d) left
-    else backsBy p setting (suc d) left
+abbrev pub putBacksFrom : (ℕ → Bool) → (ℕ → ℤ) → ℕ → ℕ → List Back
+putBacksFrom p setting d zero = []
+putBacksFrom p setting d (suc left) = if p d then record { device = d; setting = setting d } ∷ putBacksFrom p setting (suc d) left
+    else putBacksFrom p setting (suc d) left
 
 -- The state while a device fails; a number past the devices is none.
 abbrev pub downIf : State → ℕ → State

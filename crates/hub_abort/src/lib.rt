@@ -19,7 +19,7 @@ ghost use Rattle.hub_answers.specs.View.{putBacksOf, PutBacksOk};
 ghost use Rattle.hub_state.specs.View.{settingsOf, flagsOf, memberAt, stateOf, there};
 ghost use Rattle.hub_state.specs.Valid.{StateOk};
 ghost use Rattle.hub_state.specs.Contract.{putBacksLeft};
-ghost use Rattle.hub_abort.specs.PutBacks.{downIf, isBackBy, backsBy, TablesAre};
+ghost use Rattle.hub_abort.specs.PutBacks.{downIf, isBackBy, putBacksFrom, TablesAre};
 
 // The tables that tell which devices are put back: up; with a command in flight of those left, and of the one that left; and due before
 // and after.
@@ -51,7 +51,7 @@ fn is_put_back(up: bool, others: bool, own: bool, before: i16, after: i16) -> bo
 // "These go out by rising device."
 fn put_backs(devices: u8, tables: Tables) -> PutBacks
     requires { ⌜ devices ≤ maxDevices ⌝ }
-    ensures { λ r. ⌜ (PutBacksOk r) × (putBacksOf r ≡ backsBy (isBackBy tables) (settingsOf (tables .after)) 0 devices) ⌝ }
+    ensures { λ r. ⌜ (PutBacksOk r) × (putBacksOf r ≡ putBacksFrom (isBackBy tables) (settingsOf (tables .after)) 0 devices) ⌝ }
 {
     let mut backs = hub_answers::no_put_backs();
     let count = devices as usize;

@@ -224,7 +224,7 @@ module _ (h : HubState) (d : ℕ) (a : Affected) (w : IsHalfway h d a) (result :
             ∙ ap (thenDown d) (stops-as d s o ∙ ap (stopIfAny d s) (w .slot-is))
             ∙ sym (failure-is (stateOf h) d))
             ∙ e;
-        backs-told = own-backs d o s (down d (a .mark)) refl ∙ (λ j. putBacksIn (sym (w .first-is l) j ++ (down d (a .mark) ∷ [])));
+        put-backs-told = own-backs d o s (down d (a .mark)) refl ∙ (λ j. putBacksIn (sym (w .first-is l) j ++ (down d (a .mark) ∷ [])));
         well-told = (_, refl);
         nothing-told = λ u. t≠f (sym u);
         something-told = λ u k. let z : _≡_ {A = ℕ} 0 1 = cc in omega arith;
@@ -244,7 +244,7 @@ module _ (h : HubState) (d : ℕ) (a : Affected) (w : IsHalfway h d a) (result :
             ∙ ap (thenUp d v) (stops-as d s o ∙ ap (stopIfAny d s) (w .slot-is))
             ∙ sym (restart-is s d v))
             ∙ e;
-        backs-told = own-backs d o s (up d (a .mark)) refl ∙ (λ j. putBacksIn (sym (w .first-is l) j ++ (up d (a .mark) ∷ [])));
+        put-backs-told = own-backs d o s (up d (a .mark)) refl ∙ (λ j. putBacksIn (sym (w .first-is l) j ++ (up d (a .mark) ∷ [])));
         well-told = (_, refl);
         nothing-told = λ u. t≠f (sym u);
         something-told = λ u k. let z : _≡_ {A = ℕ} 0 1 = cc in omega arith;

@@ -52,13 +52,13 @@ module _ (h : HubState) (cs : List Command) (result : Result) where
   -- a call is turned down
   pub refused-decides : (r : Refusal) → turnedDown r (stateOf h) ≡ result → Decides h cs (plainly (Refused r) Nothing) result
   refused-decides r e =
-      record { change-ok = tt; gives = e; backs-told = refl; well-told = refl; nothing-told = λ t. refl; something-told = λ t k. t≠f t }
+      record { change-ok = tt; gives = e; put-backs-told = refl; well-told = refl; nothing-told = λ t. refl; something-told = λ t k. t≠f t }
 
   -- it waits
   pub wait-decides : (i j : ℕ) → record { state = stateOf h; answers = wait i j ∷ [] } ≡ result →
       Decides h cs (plainly (Wait i j) Nothing) result
   wait-decides i j e =
-      record { change-ok = tt; gives = e; backs-told = refl; well-told = refl; nothing-told = λ t. refl; something-told = λ t k. t≠f t }
+      record { change-ok = tt; gives = e; put-backs-told = refl; well-told = refl; nothing-told = λ t. refl; something-told = λ t k. t≠f t }
 
   -- one answer that puts nothing back, and a change
   module _ (a : Answer) (t : changesNothing a ≡ false) where
@@ -67,7 +67,7 @@ module _ (h : HubState) (cs : List Command) (result : Result) where
     stage-decides c ok e = record {
       change-ok = ok;
       gives = e;
-      backs-told = no-put-backs a;
+      put-backs-told = no-put-backs a;
       well-told = refl;
       nothing-told = λ u. t≠f (sym u ∙ t);
       something-told = λ u k. let z : _≡_ {A = ℕ} 0 1 = cc in omega arith;
@@ -79,7 +79,7 @@ module _ (h : HubState) (cs : List Command) (result : Result) where
     commit-decides x ok e = record {
       change-ok = ok;
       gives = e;
-      backs-told = no-put-backs a;
+      put-backs-told = no-put-backs a;
       well-told = refl;
       nothing-told = λ u. t≠f (sym u ∙ t);
       something-told = λ u k. let z : _≡_ {A = ℕ} 0 1 = cc in omega arith;
@@ -91,7 +91,7 @@ module _ (h : HubState) (cs : List Command) (result : Result) where
     join-decides after ok e = record {
       change-ok = ok;
       gives = e;
-      backs-told = no-put-backs a;
+      put-backs-told = no-put-backs a;
       well-told = refl;
       nothing-told = λ u. t≠f (sym u ∙ t);
       something-told = λ u k. let z : _≡_ {A = ℕ} 0 1 = cc in omega arith;
@@ -104,7 +104,7 @@ module _ (h : HubState) (cs : List Command) (result : Result) where
   skip-decides i o c ok e = record {
     change-ok = ok;
     gives = e;
-    backs-told = all-backs (oneOf o);
+    put-backs-told = all-backs (oneOf o);
     well-told = refl;
     nothing-told = λ u. t≠f (sym u);
     something-told = λ u k. let z : _≡_ {A = ℕ} 0 1 = cc in omega arith;
@@ -120,7 +120,7 @@ module _ (h : HubState) (cs : List Command) (result : Result) where
       record {
         change-ok = ok;
         gives = ap (λ (j : ℕ). settling (record { state = leave (stateOf h) f; answers = aborted j backs ∷ [] })) k ∙ e;
-        backs-told = all-backs backs;
+        put-backs-told = all-backs backs;
         well-told = (refl, (_, refl));
         nothing-told = λ u. t≠f (sym u);
         something-told = λ u m. let z : _≡_ {A = ℕ} 0 1 = cc in omega arith;

@@ -106,14 +106,14 @@ appliedTo h cs (Fail d x) = stoppedBy d (downWith (stateOf h) d) (halfwayIn h x)
 appliedTo h cs (Restart d v x) = upWith (stoppedBy d (stateOf h) (halfwayIn h x)) d v
 
 -- What is put back: by an abort, or what the decision has.
-abbrev pub backsBy : HubState → List Back → Change → List Back
-backsBy h l Nothing = l
-backsBy h l (Stage c) = l
-backsBy h l (Commit x) = l
-backsBy h l (Join after) = l
-backsBy h l (Abort x) = putBacksLeft (stateOf h) (there h x)
-backsBy h l (Fail d x) = putBacksStopped d (downWith (stateOf h) d) (halfwayIn h x)
-backsBy h l (Restart d v x) = putBacksStopped d (stateOf h) (halfwayIn h x)
+abbrev pub putBacksBy : HubState → List Back → Change → List Back
+putBacksBy h l Nothing = l
+putBacksBy h l (Stage c) = l
+putBacksBy h l (Commit x) = l
+putBacksBy h l (Join after) = l
+putBacksBy h l (Abort x) = putBacksLeft (stateOf h) (there h x)
+putBacksBy h l (Fail d x) = putBacksStopped d (downWith (stateOf h) d) (halfwayIn h x)
+putBacksBy h l (Restart d v x) = putBacksStopped d (stateOf h) (halfwayIn h x)
 
 -- ---- what the appliers may rely on
 
@@ -151,7 +151,7 @@ abbrev pub plainly : Answer → Change → Decision
 plainly a c = record { first = NoAbort; answer = a; back = NoBack; change = c }
 
 abbrev pub putBacksOfDecision : HubState → Decision → List Back
-putBacksOfDecision h d = backsBy h (oneOf (d .back)) (d .change)
+putBacksOfDecision h d = putBacksBy h (oneOf (d .back)) (d .change)
 
 abbrev pub toldBy : HubState → Decision → List Told
 toldBy h d = eventAbortOf (d .first) (putBacksOfDecision h d) ++ (answerOf (d .answer) (putBacksOfDecision h d) ∷ [])
@@ -184,7 +184,7 @@ WellTold f a (Restart d v x) = (i : ℕ) × (a ≡ Up d i)
 pub record Decides (h : HubState) (cs : List Command) (d : Decision) (result : Result) : Type 0 where
   pub change-ok : ChangeOk h cs (d .change)
   pub gives : resultBy h cs d ≡ result
-  pub backs-told : putBacksOfDecision h d ≡ putBacksIn (toldBy h d)
+  pub put-backs-told : putBacksOfDecision h d ≡ putBacksIn (toldBy h d)
   pub well-told : WellTold (d .first) (d .answer) (d .change)
   pub nothing-told : changesNothing (d .answer) ≡ true → d .change ≡ Nothing
   pub something-told : changesNothing (d .answer) ≡ false → d .change ≡ Nothing → ⊥

@@ -18,14 +18,14 @@ use Rattle.hub_answers.specs.declared.EventAbort.the-variants.{NoAbort, Abort a
 use Rattle.hub_answers.specs.declared.PutBacks.{PutBacks}
 use Rattle.hub_answers.proofs.Answer.{the-type as answer-type}
 use Rattle.hub_answers.proofs.Cases.{notAborted}
-use Rattle.hub_state.specs.Contract.{backsBy, putBacksOfDecision, toldBy, WellTold}
+use Rattle.hub_state.specs.Contract.{putBacksBy, putBacksOfDecision, toldBy, WellTold}
 use Rattle.hub_state.specs.declared.HubState.{HubState}
 use Rattle.hub_state.specs.declared.Change.{Change}
 use Rattle.hub_state.specs.declared.Change.the-variants.{Nothing, Stage, Commit, Join, Abort, Fail, Restart}
 use Rattle.hub_state.specs.declared.Decision.{Decision}
 use Rattle.line_rules.specs.Printing.{asLine, answerText, answersText}
 use Rattle.line_print.specs.Put.{halfText, maxText, PutShort}
-use Rattle.line_print.specs.Texts.{BacksOnce}
+use Rattle.line_print.specs.Texts.{PutBacksOnce}
 use Rattle.line_print.proofs.PutLaws.{within, as-text, answers-one}
 use Rattle.line.specs.Contract.{isAbort}
 
@@ -48,7 +48,7 @@ no-abort (NotHeld i) e h = ap (λ (f : EventAbort). isAbort f (NotHeld i)) e
 -- ---- the answers of a decision
 
 -- where a routine aborts, what is put back stands beside that alone
-once-plain : (f : EventAbort) (a : Answer) (l : List Back) → f ≡ NoAbort → isAbort f a ≡ true → BacksOnce f a l
+once-plain : (f : EventAbort) (a : Answer) (l : List Back) → f ≡ NoAbort → isAbort f a ≡ true → PutBacksOnce f a l
 once-plain (AbortFirst i) a l e t = let z : _≡_ {A = ℕ} 0 1 = cc in absurd (omega arith)
 once-plain NoAbort (Refused x) l e t = t≠f (sym t)
 once-plain NoAbort (Placed x) l e t = t≠f (sym t)
@@ -66,14 +66,14 @@ once-plain NoAbort (NotHeld i) l e t = t≠f (sym t)
 
 -- the answer of an event puts nothing back
 once-event : (f : EventAbort) (a : Answer) (l : List Back) → isAbort NoAbort a ≡ false → answerOf a [] ≡ answerOf a l → isAbort f a ≡ true →
-    BacksOnce f a l
+    PutBacksOnce f a l
 once-event NoAbort a l n e t = t≠f (sym t ∙ n)
 once-event (AbortFirst i) a l n e t = e
 
 no-put-backs : {a : Answer} (x : Answer) (l m : List Back) → a ≡ x → answerOf x l ≡ answerOf x m → answerOf a l ≡ answerOf a m
 no-put-backs x l m e k = subst (λ (y : Answer). answerOf y l ≡ answerOf y m) (sym e) k
 
-pub backs-once : (f : EventAbort) (a : Answer) (c : Change) (l : List Back) → WellTold f a c → isAbort f a ≡ true → BacksOnce f a l
+pub backs-once : (f : EventAbort) (a : Answer) (c : Change) (l : List Back) → WellTold f a c → isAbort f a ≡ true → PutBacksOnce f a l
 backs-once f a Nothing l w t = once-plain f a l w t
 backs-once f a (Stage c) l w t = once-plain f a l w t
 backs-once f a (Commit x) l w t = once-plain f a l w t
@@ -89,7 +89,7 @@ told-plain NoAbort a l m t e = ap (λ (x : Said). x ∷ []) e
 told-plain (AbortFirst i) a l m t e = t≠f t
 
 told-one : (h : HubState) (f : EventAbort) (a : Answer) (c : Change) (l : List Back) → WellTold f a c → isAbort f a ≡ false →
-    eventAbortOf f (backsBy h l c) ++ (answerOf a (backsBy h l c) ∷ []) ≡ answerOf a l ∷ []
+    eventAbortOf f (putBacksBy h l c) ++ (answerOf a (putBacksBy h l c) ∷ []) ≡ answerOf a l ∷ []
 told-one h f a Nothing l w t = told-plain f a l l t refl
 told-one h f a (Stage c) l w t = told-plain f a l l t refl
 told-one h f a (Commit x) l w t = told-plain f a l l t refl
@@ -98,10 +98,10 @@ told-one h f a (Abort x) l w t =
     let yes : isAbort f a ≡ true = λ j. isAbort (w .0 j) (w .1 .1 j) in
     t≠f (sym yes ∙ t)
 told-one h f a (Fail d x) l w t =
-    let m = backsBy h l (Fail d x) in
+    let m = putBacksBy h l (Fail d x) in
     told-plain f a l m t (no-put-backs (Down d (w .0)) m l (w .1) refl)
 told-one h f a (Restart d v x) l w t =
-    let m = backsBy h l (Restart d v x) in
+    let m = putBacksBy h l (Restart d v x) in
     told-plain f a l m t (no-put-backs (Up d (w .0)) m l (w .1) refl)
 
 pub put-told : (h : HubState) (d : Decision) {a b : List ℕ} {end : ℕ} → WellTold (d .first) (d .answer) (d .change) →

@@ -32,7 +32,7 @@ use Rattle.line_rules.specs.Text.{minus, bytes, decimal, signed}
 use Rattle.line_rules.specs.Reading.{lowest16}
 use Rattle.line_rules.specs.Printing.{asLine, backList, answerText, answersText}
 use Rattle.line_print.specs.Put.{halfText, maxText, Put, PutShort}
-use Rattle.line_print.specs.Texts.{BacksOnce, lineOf, linesFrom}
+use Rattle.line_print.specs.Texts.{PutBacksOnce, lineOf, linesFrom}
 use Rattle.line_print.specs.declared.Devices.{Devices}
 
 -- ---- one behind another
@@ -136,10 +136,10 @@ answers-append (a ∷ k) l =
 
 -- there is one
 pub put-neither : {first : EventAbort} (answer : Answer) (backs : PutBacks) {P : Type 0} → first ≡ NoAbort →
-    BacksOnce first answer (putBacksOf backs) →
+    PutBacksOnce first answer (putBacksOf backs) →
     OneOf notAborted (tagOf the-type answer) → P
 put-neither answer backs e k h =
-    let own = subst (λ (f : EventAbort). BacksOnce f answer (putBacksOf backs)) e k in
+    let own = subst (λ (f : EventAbort). PutBacksOnce f answer (putBacksOf backs)) e k in
     absurd (miss notAborted 7 tt (subst (λ (a : Answer). OneOf notAborted (tagOf the-type a)) (own .1) h))
 
 module _ {first : EventAbort} (answer : Answer) (backs : PutBacks) {a b : List ℕ} {at m : ℕ} where
@@ -153,13 +153,13 @@ module _ {first : EventAbort} (answer : Answer) (backs : PutBacks) {a b : List �
       (within (omega arith) p)
 
   -- one before the answer
-  pub put-both : {c : List ℕ} {end : ℕ} (i : ℕ) → first ≡ Abort i → BacksOnce first answer (putBacksOf backs) →
+  pub put-both : {c : List ℕ} {end : ℕ} (i : ℕ) → first ≡ Abort i → PutBacksOnce first answer (putBacksOf backs) →
       PutShort halfText a b at m (asLine (answerText (aborted i (putBacksOf backs)))) →
       PutShort halfText b c m end (asLine (answerText (answerOf answer []))) →
       PutShort maxText a c at end (answersText (answersOf first answer backs))
   put-both i e k p q =
       let l = putBacksOf backs in
-      let once = subst (λ (f : EventAbort). BacksOnce f answer l) e k in
+      let once = subst (λ (f : EventAbort). PutBacksOnce f answer l) e k in
       as-text
       (sym
       (ap (λ (f : EventAbort). answersText (answersOf f answer backs)) e

@@ -14,16 +14,16 @@ abbrev pub maxSetting : ℕ
 maxSetting = 6
 
 -- A device and a setting that were put back: at most three digits and a setting, with a space before each.
-abbrev pub maxBack : ℕ
-maxBack = 5 + maxSetting
+abbrev pub maxPutBack : ℕ
+maxPutBack = 5 + maxSetting
 
 -- All that an answer puts back: eight bytes for the word and the count, and no device twice.
-abbrev pub maxBacks : ℕ
-maxBacks = 8 + maxDevices * maxBack
+abbrev pub maxPutBacks : ℕ
+maxPutBacks = 8 + maxDevices * maxPutBack
 
 -- A number is given the room of the most digits before it is put: so much more than one device and its setting have.
 abbrev pub ahead : ℕ
-ahead = 1 + maxDigits - maxBack
+ahead = 1 + maxDigits - maxPutBack
 
 -- No answer is longer.
 abbrev pub maxAnswer : ℕ

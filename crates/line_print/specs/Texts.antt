@@ -23,9 +23,9 @@ openingText Accepted = asLine (bytes "opened")
 openingText (Refused r) = asLine (refusalText r)
 
 -- What is put back stands beside the abort alone: behind an abort comes an answer that puts nothing back.
-abbrev pub BacksOnce : EventAbort → Answer → List Back → Type 0
-BacksOnce (Abort i) a l = answerOf a [] ≡ answerOf a l
-BacksOnce NoAbort a l = (i : ℕ) × (a ≡ Aborted i)
+abbrev pub PutBacksOnce : EventAbort → Answer → List Back → Type 0
+PutBacksOnce (Abort i) a l = answerOf a [] ≡ answerOf a l
+PutBacksOnce NoAbort a l = (i : ℕ) × (a ≡ Aborted i)
 
 -- "one line a device, with its due setting if it is up"
 abbrev pub lineOf : Devices → ℕ → List ℕ

@@ -20,7 +20,7 @@ ghost use Rattle.line_rules.specs.Text.{bytes};
 ghost use Rattle.line_rules.specs.Printing.{asLine, refusalText, answerText, answersText, deviceTextOf};
 ghost use Rattle.hub_answers.specs.View.{putBacksOf, oneOf, answerOf, answersOf, PutBacksOk};
 ghost use Rattle.line_print.specs.Put.{halfText, maxText, maxDeviceLine, maxEnd, Put, PutShort};
-ghost use Rattle.line_print.specs.Texts.{openingText, BacksOnce, devicesText};
+ghost use Rattle.line_print.specs.Texts.{openingText, PutBacksOnce, devicesText};
 
 // The answers of a line are not longer: the size of the buffer that they are put into.
 pub const MAX_TEXT: usize = 800;
@@ -89,7 +89,7 @@ pub fn put_aborts(
     answer: Answer,
     backs: PutBacks,
 ) -> usize
-    requires { ⌜ (at + maxText ≤ length (now out)) × (PutBacksOk backs) × (BacksOnce first answer (putBacksOf backs)) ⌝ }
+    requires { ⌜ (at + maxText ≤ length (now out)) × (PutBacksOk backs) × (PutBacksOnce first answer (putBacksOf backs)) ⌝ }
     ensures { λ r. ⌜ PutShort maxText (now (out .entry)) (now (out .exit)) at r (answersText (answersOf first answer backs)) ⌝ }
 {
     let EventAbort::Abort(id) = first else {

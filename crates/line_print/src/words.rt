@@ -15,7 +15,7 @@ ghost use lib.ListN.{length};
 ghost use Rattle.rules.specs.Answers.{send, skipped, aborted};
 ghost use Rattle.line_rules.specs.Printing.{refusalText, backList, backText, answerText};
 ghost use Rattle.hub_answers.specs.View.{backOf, putBacksOf, oneOf, answerOf, PutBacksOk};
-ghost use Rattle.line_print.specs.Put.{maxBack, maxBacks, ahead, maxAnswer, halfText, PutShort};
+ghost use Rattle.line_print.specs.Put.{maxPutBack, maxPutBacks, ahead, maxAnswer, halfText, PutShort};
 
 // The word, the number, and the index if there is one; no line's end.
 pub fn put_refused(out: &mut [u8], at: usize, refusal: Refusal) -> usize
@@ -37,8 +37,8 @@ pub fn put_refused(out: &mut [u8], at: usize, refusal: Refusal) -> usize
 
 // "device and setting for each"
 fn put_back(out: &mut [u8], at: usize, back: PutBack) -> usize
-    requires { ⌜ at + maxBack + ahead ≤ length (now out) ⌝ }
-    ensures { λ r. ⌜ PutShort maxBack (now (out .entry)) (now (out .exit)) at r (backList (backOf back ∷ [])) ⌝ }
+    requires { ⌜ at + maxPutBack + ahead ≤ length (now out) ⌝ }
+    ensures { λ r. ⌜ PutShort maxPutBack (now (out .entry)) (now (out .exit)) at r (backList (backOf back ∷ [])) ⌝ }
 {
     let named = put_one(out, at, b" ", back.device as u64);
     let from = put_word(out, named, b" ");
@@ -48,8 +48,8 @@ fn put_back(out: &mut [u8], at: usize, back: PutBack) -> usize
 
 // "`back` a count, then device and setting for each"
 fn put_backs(out: &mut [u8], at: usize, backs: PutBacks) -> usize
-    requires { ⌜ (at + maxBacks + ahead ≤ length (now out)) × PutBacksOk backs ⌝ }
-    ensures { λ r. ⌜ PutShort maxBacks (now (out .entry)) (now (out .exit)) at r (backText (putBacksOf backs)) ⌝ }
+    requires { ⌜ (at + maxPutBacks + ahead ≤ length (now out)) × PutBacksOk backs ⌝ }
+    ensures { λ r. ⌜ PutShort maxPutBacks (now (out .entry)) (now (out .exit)) at r (backText (putBacksOf backs)) ⌝ }
 {
     let count = backs.count;
     let mut to = put_one(out, at, b" back ", count as u64);
@@ -64,8 +64,8 @@ fn put_backs(out: &mut [u8], at: usize, backs: PutBacks) -> usize
 
 // The same of one device.
 fn put_one_back(out: &mut [u8], at: usize, back: PutBack) -> usize
-    requires { ⌜ at + maxBacks + ahead ≤ length (now out) ⌝ }
-    ensures { λ r. ⌜ PutShort maxBacks (now (out .entry)) (now (out .exit)) at r (backText (backOf back ∷ [])) ⌝ }
+    requires { ⌜ at + maxPutBacks + ahead ≤ length (now out) ⌝ }
+    ensures { λ r. ⌜ PutShort maxPutBacks (now (out .entry)) (now (out .exit)) at r (backText (backOf back ∷ [])) ⌝ }
 {
     let counted = put_word(out, at, b" back 1");
     put_back(out, counted, back)
@@ -73,8 +73,8 @@ fn put_one_back(out: &mut [u8], at: usize, back: PutBack) -> usize
 
 // The same of no device or one.
 fn put_at_most_one(out: &mut [u8], at: usize, back: MaybePutBack) -> usize
-    requires { ⌜ at + maxBacks + ahead ≤ length (now out) ⌝ }
-    ensures { λ r. ⌜ PutShort maxBacks (now (out .entry)) (now (out .exit)) at r (backText (oneOf back)) ⌝ }
+    requires { ⌜ at + maxPutBacks + ahead ≤ length (now out) ⌝ }
+    ensures { λ r. ⌜ PutShort maxPutBacks (now (out .entry)) (now (out .exit)) at r (backText (oneOf back)) ⌝ }
 {
     match back {
         MaybePutBack::Nothing => put_word(out, at, b" back 0"),

@@ -16,14 +16,14 @@ use Rattle.rules.specs.Answers.{Back}
 use Rattle.hub_state.specs.View.{settingsOf}
 use Rattle.hub_answers.specs.View.{putBacksOf}
 use Rattle.hub_answers.specs.declared.PutBacks.{PutBacks}
-use Rattle.hub_abort.specs.PutBacks.{isBackBy, backsBy}
+use Rattle.hub_abort.specs.PutBacks.{isBackBy, putBacksFrom}
 use Rattle.hub_abort.proofs.PutBackLaws.{test-read, backs-more, backs-same, backs-end}
 use Rattle.hub_abort.proofs.put_backs.Statement.{statement}
 use Rattle.hub_abort.proofs.put_backs.Tie as tie
 
 abbrev Inv-loop : tie.InvT-loop
 Inv-loop devices tables backs₀ count d₀ backs d =
-    let all = backsBy (isBackBy tables) (settingsOf (tables .after)) in
+    let all = putBacksFrom (isBackBy tables) (settingsOf (tables .after)) in
     (d ≤ count) × (backs .count ≤ d) × (putBacksOf backs ++ all d (count - d) ≡ all 0 count)
 
 abbrev μ-loop : tie.MeasureT-loop
@@ -38,7 +38,7 @@ loop-holds c =
     let z = c .no-put-backs .ensures .0 in
     let n = c .before .args .devices in
     let e : n - 0 ≡ n = omega arith in
-    (search needs, omega (arith, z), λ i. c .no-put-backs .ensures .1 i ++ backsBy (isBackBy t) (settingsOf (t .after)) 0 (e i))
+    (search needs, omega (arith, z), λ i. c .no-put-backs .ensures .1 i ++ putBacksFrom (isBackBy t) (settingsOf (t .after)) 0 (e i))
 
 element-copy-out-up : tie.Need-element-copy-out-up Inv-loop μ-loop
 element-copy-out-up c = search needs
@@ -92,7 +92,7 @@ loop-again c =
     let n : length (t .up) ≡ maxDevices = search (needs, length-mapped) in
     let u = any-default (t .up) d false true (omega (arith, n, k, a .pre)) in
     let e = test-read t d (p .is-put-back .result) _ _ _ (p .is-put-back .ensures) u x y in
-    let rest = backsBy (isBackBy t) f (d + 1) (a .args .devices - (d + 1)) in
+    let rest = putBacksFrom (isBackBy t) f (d + 1) (a .args .devices - (d + 1)) in
     ⊎-elim
     (λ w. (
       search needs,

@@ -11,14 +11,14 @@ use Rattle.hub_answers.specs.View.{backOf}
 use Rattle.line_rules.specs.Text.{bytes, decimal}
 use Rattle.line_rules.specs.Printing.{backList, backText}
 use Rattle.line_rules.proofs.TextLaws.{decimal-short}
-use Rattle.line_print.specs.Put.{maxBack, PutShort}
+use Rattle.line_print.specs.Put.{maxPutBack, PutShort}
 use Rattle.line_print.proofs.PutLaws.{put-none, short-then, shorter, within, as-text, reaches, backs-next, backs-count}
 use Rattle.line_print.proofs.words.put_backs.Statement.{statement}
 use Rattle.line_print.proofs.words.put_backs.Tie as tie
 
 abbrev Inv-loop : tie.InvT-loop
 Inv-loop out₀ at backs count to₀ i₀ out to i =
-    (i ≤ count) × (length out ≡ length out₀) × PutShort (maxBack * i) out₀ out to₀ to (backList (map backOf (take i (backs .items))))
+    (i ≤ count) × (length out ≡ length out₀) × PutShort (maxPutBack * i) out₀ out to₀ to (backList (map backOf (take i (backs .items))))
 
 abbrev μ-loop : tie.MeasureT-loop
 μ-loop out₀ at backs count to₀ i₀ out to i = count - i
