@@ -1,6 +1,6 @@
-/* The plot hub's line program, and the conversion of routine books, as calls from C.
+/* The plot hub's line program as one call from C.
  *
- * Link with the archive libplot_hub.a (in the repository it is in target/staticlib); no further library is needed.
+ * Link with the archive libplot_hub.a (in the repository it is target/staticlib/libline.a); no further library is needed.
  */
 #ifndef PLOT_HUB_H
 #define PLOT_HUB_H
@@ -18,7 +18,7 @@
 extern "C" {
 #endif
 
-/* The result of either call if the buffer is too short: refusal 21, with a minus. */
+/* The result if the output buffer is too short: refusal 21, with a minus. */
 #define PLOT_HUB_TOO_SHORT (-21)
 
 /* Runs the line program on the whole input and writes what it prints.
@@ -48,34 +48,6 @@ extern "C" {
  * kilobytes; a thread with a stack of 128 kilobytes has enough.
  */
 int64_t plot_hub_run(const uint8_t *input, size_t input_length, uint8_t *output, size_t output_length);
-
-/* Reads a routine book, of the old edition or of the new one, which has minutes, and writes the same routines and minutes as a book of
- * the edition that is named.
- *
- * book, book_length   The book. Any bytes of any length are allowed; what is not a book is refused. The book is only read.
- * to_new              0: the old edition; any other number: the new one.
- * out, room           The buffer to write to, and its length.
- *
- * Result: the length of the written book, 2 to room. Exactly the first bytes of the buffer, as many as the result says, were written;
- * nothing past them was touched. A book that is converted to its own edition is written as it is.
- * Or, with a minus, the number of the refusal. The whole buffer is then as it was before the call. The refusals, in this order:
- * - 18, 20, 19, 5, 6, 7, 22 or 24: it is no book, as reading would say;
- * - 25: in the old edition, which has no minutes, each command takes 1, but some command of this book has others;
- * - 21, PLOT_HUB_TOO_SHORT: the book is longer than room.
- * The result is never another negative number. A buffer of 2 bytes and one and a half times book_length is always enough; so is one of
- * 3,588 bytes, the length of the longest book.
- *
- * What the caller sees to:
- * - book points to book_length bytes that can be read, out to room bytes that can be written;
- * - neither pointer is NULL. For a length of 0 any other pointer is fine, since nothing is read or written there;
- * - the two ranges do not overlap;
- * - nobody else writes to either range during the call, or reads the range of the buffer.
- *
- * The call allocates no memory, opens no file and keeps nothing from one call to the next: the same book is always answered the same.
- * It may be called from many threads at once. Its use of the stack does not depend on the book; a thread with a stack of 128 kilobytes
- * has enough.
- */
-int64_t plot_hub_convert(const uint8_t *book, size_t book_length, uint8_t to_new, uint8_t *out, size_t room);
 
 #ifdef __cplusplus
 }

@@ -1,6 +1,5 @@
 #!/usr/bin/env python3
-"""The commands plot_hub, show_book and convert_book as bin/ starts them: for each case exit status, standard output and standard error,
-byte for byte.
+"""The commands plot_hub and show_book as bin/ starts them: for each case exit status, standard output and standard error, byte for byte.
 
     tests/command.py TREE REFERENCE HISTORY BENCH_INPUTS SEED
 
@@ -19,18 +18,16 @@ import time
 
 HERE = os.path.dirname(os.path.abspath(__file__))
 sys.path[:0] = [HERE, os.path.join(HERE, 'book')]
-import convert  # noqa: E402
 import hints  # noqa: E402
 import model  # noqa: E402
 import show  # noqa: E402
 
 TREE, REFERENCE, HISTORY, BENCH_INPUTS, SEED = sys.argv[1:]
-NAMES = ['plot_hub', 'show_book', 'convert_book old', 'convert_book new']  # a command, and the word that it must have
+NAMES = ['plot_hub', 'show_book']
 SHELLS = [words for words in (['dash'], ['bash', '--posix']) if shutil.which(words[0])]
 LISTING = b'O 3 2 1\nS 0 0 50 1 0 20\nS 0 0 70\nN 2\nD 2\nN 2\nN 1\nD 1\nF 0\nC 1\nR 0 15\n'
-BOOK = model.laid_out([[(0, 0, 50, 1), (1, 0, 20, 1)], [(31, 1, -1000, 1)]], model.OLD)
-NEW_BOOK = model.laid_out([[(0, 0, 50, 1440), (1, 0, 20, 1)], [(31, 1, -1000, 256)]], model.NEW)
-INPUT = {'plot_hub': LISTING, 'show_book': BOOK, 'convert_book old': convert.converted(BOOK, 'new')[0], 'convert_book new': BOOK}
+BOOK = model.laid_out([[(0, 0, 50), (1, 0, 20)], [(31, 1, -1000)]])
+INPUT = {'plot_hub': LISTING, 'show_book': BOOK}
 NOT_READ, NOT_WRITTEN = 'standard input cannot be read', 'standard output cannot be written'
 STRANGE_NAMES = ['with space', '-dash', '--help', '--', '-', 'line\nend', 'end\n', '*', "quote'\"$(x)`y`\\", 'é', '\x1b[31m', '(', '!']
 checked = 0
@@ -40,19 +37,8 @@ def key_of(sitting):
     return subprocess.run([REFERENCE], input=sitting, stdout=subprocess.PIPE, check=True).stdout
 
 
-def command_of(name):
-    """What is started, and what messages begin with."""
-    return name.split()[0]
-
-
-def program_of(name):
-    return name.replace(' ', '_')
-
-
 def output_of(name, text):
     """What the program must print, by the reference and the model."""
-    if command_of(name) == 'convert_book':
-        return convert.converted(text, name.split()[1])[0]
     return key_of(text) if name == 'plot_hub' else ('\n'.join(show.lines(text)) + '\n').encode()
 
 
@@ -70,7 +56,7 @@ def tree(folder, shell, release=False):
     start, programs = ('libexec/plot_hub', 'libexec/plot_hub') if release else ('bin', 'target/bin')
     for part in ('bin', start, programs):
         os.makedirs(os.path.join(folder, part), exist_ok=True)
-    for script, place in (('plot_hub', 'bin'), ('show_book', 'bin'), ('convert_book', 'bin'), ('start', start)):
+    for script, place in (('plot_hub', 'bin'), ('show_book', 'bin'), ('start', start)):
         with open(os.path.join(TREE, 'bin', script), encoding='utf-8') as file:
             text = file.read().split('\n', 1)
         assert text[0] == '#!/bin/sh', script
@@ -78,7 +64,7 @@ def tree(folder, shell, release=False):
         with open(path, 'w', encoding='utf-8') as file:
             file.write('#!' + ' '.join([shutil.which(shell[0])] + shell[1:]) + '\n' + text[1])
         os.chmod(path, 0o755)
-    for program in [program_of(name) for name in NAMES] + ['plot_hub_hints']:
+    for program in ('plot_hub', 'show_book', 'plot_hub_hints'):
         os.symlink(os.path.realpath(built(TREE, program)), os.path.join(folder, programs, program) if release else built(folder, program))
     for file in ('VERSION', 'KIT') if release else ('VERSION', 'KIT', 'crates.txt', 'bin/build.sh'):
         shutil.copy(os.path.join(TREE, file), os.path.join(folder, file))
@@ -98,13 +84,9 @@ class Commands:
             file.write(text)
         return path
 
-    def started(self, name):
-        """The command's path, and the word that it must have."""
-        return [os.path.join(self.root, 'bin', command_of(name)), *name.split()[1:]]
-
     def run(self, name, *words, redirect='', text=b'', before='', **options):
         """Runs a command as a shell does, with redirections; `before` is run in the same shell first."""
-        command = ['sh', '-c', f'{before}\nexec "$@" {redirect}', 'sh', *self.started(name), *words]
+        command = ['sh', '-c', f'{before}\nexec "$@" {redirect}', 'sh', os.path.join(self.root, 'bin', name), *words]
         environment = dict(os.environ, TMPDIR=self.temporary)
         environment.update(options.pop('environment', {}))
         ran = subprocess.run(command, input=text, stdout=subprocess.PIPE, stderr=subprocess.PIPE, env=environment, timeout=60, **options)
@@ -126,7 +108,7 @@ def good(text, said=b''):
 
 
 def bad(name, message, printed=b''):
-    return 1, printed, f'{command_of(name)}: {message}\n'
+    return 1, printed, f'{name}: {message}\n'
 
 
 # ---- cases
@@ -197,17 +179,11 @@ def cannot_be_read(c, name):
     c.check(bad(name, NOT_READ), name, redirect='<&-')
     c.check(bad(name, NOT_READ), name, redirect='0>/dev/null')
     c.check(bad(name, NOT_READ), name, '/proc/self/mem')
-    c.check(bad(name, NOT_READ), name, '--hints', '/proc/self/mem')
-    elsewhere = {'text': INPUT[name], 'environment': {'TMPDIR': '/nowhere'}}
-    if command_of(name) == 'convert_book':  # reads once: nothing is copied
-        c.check(bad(name, NOT_READ), name, '--hints', redirect='</')
-        c.check(bad(name, NOT_READ), name, '--hints', redirect='<&-')
-        c.check(good(output_of(name, INPUT[name])), name, '--hints', **elsewhere)
-        return
     not_copied = 'the input cannot be copied to a temporary file'
     c.check(bad(name, not_copied), name, '--hints', redirect='</')
     c.check(bad(name, not_copied), name, '--hints', redirect='<&-')
-    c.check(bad(name, 'no temporary file can be made'), name, '--hints', **elsewhere)
+    c.check(bad(name, NOT_READ), name, '--hints', '/proc/self/mem')
+    c.check(bad(name, 'no temporary file can be made'), name, '--hints', text=INPUT[name], environment={'TMPDIR': '/nowhere'})
     c.check(bad(name, not_copied), name, '--hints', text=b'N 1\n' * 100000, before="trap '' XFSZ; ulimit -f 8")
 
 
@@ -236,11 +212,11 @@ def closed_pipe(c, name, words):
         end, other = os.pipe()
         os.close(end)
         old = signal.signal(signal.SIGPIPE, signal.SIG_IGN)
-        ran = subprocess.run([*c.started(name), *words], input=INPUT[name], stdout=other, stderr=subprocess.PIPE,
+        ran = subprocess.run([os.path.join(c.root, 'bin', name), *words], input=INPUT[name], stdout=other, stderr=subprocess.PIPE,
                              restore_signals=restore, timeout=60)
         signal.signal(signal.SIGPIPE, old)
         os.close(other)
-        assert (ran.returncode, ran.stderr.decode()) == (1, f'{command_of(name)}: {NOT_WRITTEN}\n'), (name, words, ran)
+        assert (ran.returncode, ran.stderr.decode()) == (1, f'{name}: {NOT_WRITTEN}\n'), (name, words, ran)
         checked += 1
 
 
@@ -273,52 +249,25 @@ def closed_streams(c, name):
 
 
 def wrong_words(c, name):
-    command = command_of(name)
     for word in ('--nope', '-x', '-h', '--hint', '--hints=1', '---', '--a\nb', '-- ', '--versions'):
         shown = word.replace('\n', '?')
-        c.check((2, b'', f'{command}: unknown option {shown}; try {command} --help\n'), name, word, text=INPUT[name])
-        c.check((2, b'', f'{command}: unknown option {shown}; try {command} --help\n'), name, '--hints', 'file', word, text=INPUT[name])
+        c.check((2, b'', f'{name}: unknown option {shown}; try {name} --help\n'), name, word, text=INPUT[name])
+        c.check((2, b'', f'{name}: unknown option {shown}; try {name} --help\n'), name, '--hints', 'file', word, text=INPUT[name])
     for words in (['a', 'b'], ['-', '-'], ['', ''], ['--', 'a', '--help'], ['--hints', 'a', '-'], ['a', '--', 'b']):
-        c.check((2, b'', f'{command}: more than one file; try {command} --help\n'), name, *words, text=INPUT[name])
-
-
-def editions(c):
-    """The first word of convert_book that is no option is the edition, wherever it stands."""
-    def wrong(message):
-        return 2, b'', f'convert_book: {message}; try convert_book --help\n'
-    for words in ([], ['--'], ['--hints'], ['--hints', '--']):
-        c.check(wrong('no edition is named, old or new'), 'convert_book', *words, text=BOOK)
-        c.check((2, b'', b''), 'convert_book', *words, redirect='2>&-')
-    plain = c.write('plain', BOOK)
-    for word, shown in (('', ''), ('-', None), ('both', None), ('Old', None), ('new ', None), ('old\n', 'old?'), ('*', None), (plain, None),
-                        ('\x1b[31m', '?[31m'), ('é', None)):
-        for words in ([word], [word, 'new', plain], ['--hints', word], ['--', word], [word, '--help']):
-            c.check(wrong(f'no edition is called {word if shown is None else shown}'), 'convert_book', *words, text=BOOK)
-    c.check(wrong('no edition is called -x'), 'convert_book', '--', '-x', 'new', text=BOOK)
-    c.check(wrong('more than one file'), 'convert_book', 'new', 'old', 'new', text=BOOK)
-    c.write('old', BOOK)
-    for words in (['new', plain], ['--hints', 'new', plain], ['new', plain, '--hints'], ['--', 'new', plain], ['new', '--', plain],
-                  ['new', 'old']):
-        c.check(good(output_of('convert_book new', BOOK)), 'convert_book', *words, cwd=c.folder)
-    os.remove(os.path.join(c.folder, 'old'))
-    c.check(bad('convert_book', 'new: cannot be opened'), 'convert_book', 'old', 'new', cwd=c.folder)
+        c.check((2, b'', f'{name}: more than one file; try {name} --help\n'), name, *words, text=INPUT[name])
 
 
 def help_and_version(c, name):
-    command = command_of(name)
     with open(os.path.join(TREE, 'VERSION'), encoding='utf-8') as version, open(os.path.join(TREE, 'KIT'), encoding='utf-8') as kit:
-        expected = f'{command} {version.read().strip()}\nproved with {kit.read().strip()}\n'
+        expected = f'{name} {version.read().strip()}\nproved with {kit.read().strip()}\n'
     c.check(good(expected.encode()), name, '--version')
     c.check(good(expected.encode()), name, '--hints', '--version', '--nope', redirect='<&-')
-    c.check(good(expected.encode()), command, '--version')
     status, text, said = c.run(name, '--help')
     assert (status, said) == (0, b'') and max(map(len, text.decode().split('\n')[:-2])) <= 80, text
-    usage = f'{command} old|new' if command == 'convert_book' else command
-    wanted = [f'{usage} [--hints] [--] [FILE]\n', 'standard input', '--hints  ', '--help  ', '--version  ', 'Exit status: 0', 'HANDBOOK.md']
+    wanted = [f'{name} [--hints] [--] [FILE]\n', 'standard input', '--hints  ', '--help  ', '--version  ', 'Exit status: 0', 'HANDBOOK.md']
     wanted += [f'\n  {letter} ' for letter in 'OSNDBCFR'] if name == 'plot_hub' else ['LAYOUT.md']
     assert all(part in text.decode() for part in wanted), text
     c.check(good(text), name, '--help')
-    c.check(good(text), command, '--help')
 
 
 def ended_otherwise(shell, folder):
@@ -326,14 +275,14 @@ def ended_otherwise(shell, folder):
     c = Commands(os.path.join(folder, 'other'), folder)
     tree(c.root, shell)
     for name in NAMES:
-        path, command = built(c.root, program_of(name)), command_of(name)
+        path = built(c.root, name)
         for script, expected in (
-                ('echo opened; kill -KILL $$', (1, 'opened\n', f'{command}: ended by signal 9; what it printed is not whole\n')),
+                ('echo opened; kill -KILL $$', (1, 'opened\n', f'{name}: ended by signal 9; what it printed is not whole\n')),
                 ('kill -SEGV $$', bad(name, 'ended by signal 11; what it printed is not whole')),
-                ('echo some; kill -TERM $$', (1, 'some\n', f'{command}: ended by signal 15; what it printed is not whole\n')),
-                ('echo all; exit 3', (1, 'all\n', f'{command}: ended with status 3; what it printed is not whole\n')),
+                ('echo some; kill -TERM $$', (1, 'some\n', f'{name}: ended by signal 15; what it printed is not whole\n')),
+                ('echo all; exit 3', (1, 'all\n', f'{name}: ended with status 3; what it printed is not whole\n')),
                 ('echo some; echo broken >&2', (1, 'some\n', 'broken\n')),
-                ('echo broken >&2; kill -KILL $$', (1, '', f'broken\n{command}: ended by signal 9; what it printed is not whole\n')),
+                ('echo broken >&2; kill -KILL $$', (1, '', f'broken\n{name}: ended by signal 9; what it printed is not whole\n')),
                 ('[ ! -e /proc/$$/fd/3 ] && [ ! -e /proc/$$/fd/4 ] && [ ! -e /proc/$$/fd/6 ] && [ ! -e /proc/$$/fd/7 ] && echo few',
                  good(b'few\n'))):
             os.remove(path)
@@ -379,15 +328,15 @@ def not_whole(shell, folder):
     def place(program):
         return os.path.join(c.root, 'libexec/plot_hub', program)
 
-    def message(name, program):
-        return bad(name, f'this release is not whole: there is no {place(program)}')
+    def message(program):
+        return bad('plot_hub' if program == 'plot_hub_hints' else program, f'this release is not whole: there is no {place(program)}')
     os.remove(place('plot_hub_hints'))
-    c.check(message('plot_hub', 'plot_hub_hints'), 'plot_hub', '--hints', text=LISTING, environment=kit)
+    c.check(message('plot_hub_hints'), 'plot_hub', '--hints', text=LISTING, environment=kit)
     c.check(good(key_of(LISTING)), 'plot_hub', text=LISTING, environment=kit)
     for name in NAMES:
-        os.remove(place(program_of(name)))
+        os.remove(place(name))
         for options in ([], ['--hints']):
-            c.check(message(name, program_of(name)), name, *options, text=INPUT[name], environment=kit)
+            c.check(message(name), name, *options, text=INPUT[name], environment=kit)
     assert not os.path.exists(os.path.join(c.root, 'called'))
 
 
@@ -448,7 +397,7 @@ def told(name, crates):
     minutes = (len(crates) + 4) // 5
     lines = [f'not built yet; it is proved first, {len(crates)} crates, which takes some {minutes} minutes on two processors']
     lines += [f'{number} of {len(crates)} crates proved: {crate}' for number, crate in enumerate(crates, 1)]
-    return ''.join(f'{command_of(name)}: {line}\n' for line in lines + ['built in 0 s']).encode()
+    return ''.join(f'{name}: {line}\n' for line in lines + ['built in 0 s']).encode()
 
 
 class Bare(Commands):
@@ -485,16 +434,16 @@ class Bare(Commands):
 def builds_first(c):
     """One command: what is not built is built, and then does what it was asked. The second time it is there."""
     for name in NAMES:
-        crates, text = built_on('run_' + program_of(name)), INPUT[name]
+        crates, text = built_on('run_' + name), INPUT[name]
         kit, expected = fake_kit(c, crates=crates), good(output_of(name, text), told(name, crates))
         link = os.path.join(c.folder, 'a link')
-        os.symlink(c.started(name)[0], link)
+        os.symlink(os.path.join(c.root, 'bin', name), link)
         c.write('plain', text)
         for words, options in (([], {'text': text, 'cwd': '/'}),
-                               (['plain'], {'cwd': c.folder, 'before': f'shift; set -- {quoted(link)} "$@"'})):
+                               (['plain'], {'cwd': c.folder, 'before': f'set -- {quoted(link)} "$2"'})):
             c.bare()
             c.check(expected, name, *words, environment=kit, **options)
-            assert c.calls() == [f'check run_{program_of(name)}']
+            assert c.calls() == [f'check run_{name}']
             c.check(good(expected[1]), name, *words, environment=kit, **options)
             assert c.calls() == []
         os.remove(link)
@@ -518,12 +467,11 @@ def builds_hints(c):
     c.check(good(key), 'plot_hub', text=LISTING)
     c.check(good(key, told('plot_hub', hinted) + said), 'plot_hub', '--hints', text=LISTING, environment=fake_kit(c, crates=hinted))
     assert c.calls() == ['check run_plot_hub_hints']
-    for name in NAMES[1:]:
-        c.bare()
-        crates = built_on('run_' + program_of(name))
-        c.check(good(output_of(name, INPUT[name]), told(name, crates)), name, '--hints', text=INPUT[name],
-                environment=fake_kit(c, crates=crates))
-        assert c.calls() == [f'check run_{program_of(name)}']
+    c.bare()
+    crates = built_on('run_show_book')
+    c.check(good(output_of('show_book', BOOK), told('show_book', crates)), 'show_book', '--hints', text=BOOK,
+            environment=fake_kit(c, crates=crates))
+    assert c.calls() == ['check run_show_book']
 
 
 def cannot_be_built(c):
@@ -541,7 +489,6 @@ def cannot_be_built(c):
     c.check(bad('plot_hub', 'missing: cannot be opened'), 'plot_hub', 'missing', cwd=c.folder, environment=kit)
     c.check(bad('plot_hub', '/: is a directory'), 'plot_hub', '/', environment=kit)
     c.check((2, b'', 'plot_hub: unknown option -x; try plot_hub --help\n'), 'plot_hub', '-x', environment=kit)
-    c.check((2, b'', 'convert_book: no edition is called x; try convert_book --help\n'), 'convert_book', 'x', environment=kit)
     assert c.calls() == []
 
 
@@ -669,82 +616,33 @@ def wait_for_copy(group):
 MEANINGS = {
     18: 'the book is too short for its count and its pairs, or its count is more than 64',
     19: 'a routine is not where the one before it ends, or the book ends inside one or goes on behind the last',
-    20: 'routine {}, counted from 0, has a length that is not 4, 8, 12 and so on up to 32 bytes, or in a new book not 6, 12, 18 and so on '
-        'up to 48',
+    20: 'routine {}, counted from 0, has a length that is not 4, 8, 12 and so on up to 32 bytes',
     5: 'in some routine, command {}, counted from 0, is for a device above 31',
     6: 'in some routine, command {}, counted from 0, has a setting that is not -1000 to 1000',
     7: 'in some routine, command {}, counted from 0, has a tag above 2',
     22: 'in some routine, command {}, counted from 0, is a condition, and no command follows it, or another condition does',
-    24: 'in routine {}, command {}, both counted from 0, has minutes that are not 1 to 1440',
-    25: 'in routine {}, command {}, both counted from 0, has other minutes than 1, and an old book has no place for them',
 }
-
-
-def meaning(refusal):
-    """What --hints says of a refusal."""
-    _, number, *indexes = refusal.split()
-    return f'{refusal}: {MEANINGS[int(number)].format(*indexes)}\n'
-
-
-def books_refused():
-    """Books of both editions with each fault that a book can have."""
-    fine = (0, 0, 0, 1)
-    books = [b'', b'\0', b'\1\0', b'\x41\0' + bytes(520), b'\0\0\0', b'\xff', b'\xff\xff', b'\xff\xff\0', b'\xff\xff\xff\xff']
-    for book, pair in ((BOOK, 2), (NEW_BOOK, 4)):
-        books += [book + b'\0', book[:-1], book[:pair] + b'\xff' + book[pair + 1:], book + bytes(10000)]
-    commands = [(32, 0, 0, 1), (255, 0, 0, 1), (0, 0, 1001, 1), (0, 0, -1001, 1), (0, 0, -32768, 1), (0, 3, 0, 1), (0, 2, 0, 1)]
-    timed = [(0, 0, 0, 0), (0, 0, 0, 1441), (0, 0, 0, 65535)]
-    conditions = [fine, (0, 2, 0, 1), (1, 2, 0, 1), fine]
-    for edition in (model.OLD, model.NEW):
-        wrongs = commands + (timed if edition == model.NEW else [])
-        routines = [[[conditions], [[]], [[fine], [fine] * 9]]]
-        routines += [[[[wrong]], [[fine] * 7 + [wrong]], [[fine], [fine, wrong]]] for wrong in wrongs]
-        books += [model.laid_out(one, edition) for group in routines for one in group]
-    return books
 
 
 def refused_books(c):
     """Each refusal that a book can have, and what --hints says of it."""
+    fine = (0, 0, 0)
+    books = [b'', b'\0', b'\1\0', b'\x41\0' + bytes(520), b'\0\0\0', BOOK + b'\0', BOOK[:-1], BOOK[:2] + b'\xff' + BOOK[3:]]
+    commands = [(32, 0, 0), (255, 0, 0), (0, 0, 1001), (0, 0, -1001), (0, 0, -32768), (0, 3, 0), (0, 2, 0)]
+    books += [model.laid_out(routines) for wrong in commands
+              for routines in ([[wrong]], [[fine] * 7 + [wrong]], [[fine], [fine, wrong]])]
+    books += [model.laid_out([[fine, (0, 2, 0), (1, 2, 0), fine]]), model.laid_out([[]]), model.laid_out([[fine], [fine] * 9])]
     met = set()
-    for book in books_refused():
+    for book in books:
         printed = output_of('show_book', book)
-        assert printed.startswith(b'refused'), book
-        said = meaning(printed.decode().strip())
-        met.add(int(printed.split()[1]))
-        plain = c.write('book', book)
+        word, number, *index = printed.decode().split()
+        assert word == 'refused', book
+        met.add(int(number))
+        said = f'{printed.decode().strip()}: {MEANINGS[int(number)].format(*index)}\n'.encode()
         c.check(good(printed, said), 'show_book', '--hints', text=book)
-        c.check(good(printed, said), 'show_book', '--hints', plain)
+        c.check(good(printed, said), 'show_book', '--hints', c.write('book', book))
         c.check(good(printed), 'show_book', text=book)
-        for name in ('convert_book old', 'convert_book new'):
-            refused_to_convert(c, name, book, printed.decode().strip())
-    assert met == set(MEANINGS) - {25}, met
-    for book, place in ((NEW_BOOK, '0 0'), (model.laid_out([[(0, 0, 0, 1)] * 3, [(1, 0, 0, 1), (1, 1, 1, 60)]], model.NEW), '1 1')):
-        refused_to_convert(c, 'convert_book old', book, f'refused 25 {place}')
-
-
-def refused_to_convert(c, name, book, refusal):
-    """Nothing on standard output; the refusal on standard error, and with --hints what is wrong."""
-    assert convert.converted(book, name.split()[1]) == (b'', refusal), (name, book)
-    plain = c.write('book', book)
-    c.check(bad(name, refusal), name, text=book)
-    c.check((1, b'', f'convert_book: {refusal}\n{meaning(refusal)}'), name, '--hints', plain)
-    c.check((1, b'', f'convert_book: {refusal}\n{meaning(refusal)}'), name, '--hints', text=book)
-    c.check((1, b'', b''), name, '--hints', plain, redirect='2>&-')
-
-
-def converted_books(c):
-    """Books of both editions, the shortest and the longest among them, into both: what the model writes. There and back is the book."""
-    full = [[(number % 32, 0, 1000 - index, 1) for index in range(8)] for number in range(64)]
-    for routines in ([], [[(0, 2, 0, 1), (1, 1, -1000, 1)]], [[(number, 0, number, 1)] for number in range(32)], full):
-        old, new = (model.laid_out(routines, edition) for edition in (model.OLD, model.NEW))
-        for book in (old, new):
-            for name, expected in (('convert_book old', old), ('convert_book new', new)):
-                assert output_of(name, book) == expected
-                c.check(good(expected), name, text=book)
-                c.check(good(expected), name, '--hints', c.write('book', book))
-    for routines in ([[(0, 0, 50, 1440), (1, 0, 20, 1)], [(31, 1, -1000, 256)]], [[(*part[:3], 1440) for part in one] for one in full]):
-        book = model.laid_out(routines, model.NEW)
-        c.check(good(book), 'convert_book new', text=book)
+    assert met == set(MEANINGS), met
 
 
 def same_bytes(commands):
@@ -775,9 +673,7 @@ def one_shell(shell, folder, release):
         closed_streams(c, name)
         wrong_words(c, name)
         help_and_version(c, name)
-    editions(c)
     refused_books(c)
-    converted_books(c)
     signals(c)
     ended_otherwise(shell, folder)
     not_whole(shell, folder)

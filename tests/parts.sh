@@ -1,8 +1,6 @@
 # shellcheck shell=bash disable=SC2154,SC2030,SC2031 # tests/run has set the names; a PATH is for one subshell alone
 # The parts of tests/run: a function each. tests/run has set
-#   $archive, $program, $show_book, $hints                 what is tested, by its whole path
-#   $convert_old, $convert_new                             the same
-#   $hub_vectors, $read_vectors, $convert_vectors          the same
+#   $archive, $program, $show_book, $hub_vectors, $hints   what is tested, by its whole path
 #   $out, $bin, $log                                       what is built for the tests, its programs, the logs
 #   $scratch                                               an empty folder for the part that runs
 #   $seed
@@ -18,12 +16,8 @@ text() {
     tests/text.py
 }
 
-# The model of the book, the layout page, and the reference, which was written by itself and must agree with the model.
 book_model() {
-    python3 tests/book/test_model.py && python3 tests/book/test_page.py &&
-        python3 tests/book/compare.py 3000 "$seed" --read "'$bin/books' read" --convert "'$bin/books' convert" &&
-        "$bin/books" read <crates/run_read_vectors/stdin | cmp - crates/run_read_vectors/stdout &&
-        "$bin/books" convert <crates/run_convert_vectors/stdin | cmp - crates/run_convert_vectors/stdout
+    python3 tests/book/test_model.py && python3 tests/book/test_page.py
 }
 
 # Each file that the command writes into a folder (put behind its words) stands in crates/, with the same bytes.
@@ -42,15 +36,13 @@ stored_sittings() {
         cmp "$scratch/stdin" crates/run_sittings/stdin && cmp "$scratch/stdout" crates/run_sittings/stdout
 }
 
-# The output that `rt check` expects of plot_hub, plot_hub_hints, show_book and convert_book.
+# The output that `rt check` expects of plot_hub, plot_hub_hints and show_book.
 stored_output() {
     local sitting=crates/run_plot_hub_hints/stdin
     "$bin/reference" <crates/run_plot_hub/stdin | cmp - crates/run_plot_hub/stdout &&
         "$bin/reference" <$sitting >"$scratch/key" &&
         python3 tests/hints.py $sitting "$scratch/key" | cmp - crates/run_plot_hub_hints/stdout &&
-        python3 tests/book/show.py <crates/run_show_book/stdin | cmp - crates/run_show_book/stdout &&
-        python3 tests/book/convert.py old <crates/run_convert_book_old/stdin | cmp - crates/run_convert_book_old/stdout &&
-        python3 tests/book/convert.py new <crates/run_convert_book_new/stdin | cmp - crates/run_convert_book_new/stdout
+        python3 tests/book/show.py <crates/run_show_book/stdin | cmp - crates/run_show_book/stdout
 }
 
 reference_tests() {
@@ -77,20 +69,16 @@ header() {
     [ "$macros" = "\"$version\" ${version//./ }" ] || { echo "VERSION is $version, but the header has $macros" && return 1; }
 }
 
-# The header says that the calls allocate nothing and open no file: then the archive names no function that does.
+# The header says that the call allocates nothing and opens no file: then the archive names no function that does.
 needs_nothing() {
-    local call
-    # Only what the calls reach is taken from the archive; readelf then lists what it has and what it still needs.
-    gcc -r -nostdlib -Wl,-u,plot_hub_run,-u,plot_hub_convert "$archive" -o "$scratch/reached.o" &&
-        readelf -Ws "$scratch/reached.o" >"$log/symbols" || return 1
+    # Only what the call reaches is taken from the archive; readelf then lists what it has and what it still needs.
+    gcc -r -nostdlib -Wl,-u,plot_hub_run "$archive" -o "$scratch/reached.o" && readelf -Ws "$scratch/reached.o" >"$log/symbols" || return 1
     awk '$7 == "UND" && $8 != "" { print $8 }' "$log/symbols" | sort -u >"$log/needed"
     echo "the archive needs: $(xargs <"$log/needed")"
-    for call in plot_hub_run plot_hub_convert; do
-        if ! grep -q " $call\$" "$log/symbols" || grep -qx "$call" "$log/needed"; then
-            echo "$call is not in the archive"
-            return 1
-        fi
-    done
+    if ! grep -q ' plot_hub_run$' "$log/symbols" || grep -qx 'plot_hub_run' "$log/needed"; then
+        echo "plot_hub_run is not in the archive"
+        return 1
+    fi
     ! grep -vxE 'memcpy|memmove|memset|memcmp' "$log/needed"
 }
 
@@ -116,7 +104,6 @@ under_valgrind() {
     local input=$scratch/input
     has_valgrind || return 77
     PLOT_HUB_CALLER=$out/caller_plain PLOT_HUB_UNDER='valgrind -q --error-exitcode=9' "$bin/compare" caller 12 "$seed" &&
-        python3 tests/book/compare.py 60 "$seed" --c "valgrind -q --error-exitcode=9 '$out/convert_plain'" &&
         "$bin/history" random "$seed" 5 >"$input" && "$bin/history" damaged "$seed" 5 >>"$input" &&
         valgrind -q --error-exitcode=9 "$program" <"$input" >"$scratch/printed" &&
         "$bin/reference" <"$input" | cmp - "$scratch/printed"
@@ -128,11 +115,10 @@ under_valgrind() {
 tree() { # FOLDER
     mkdir -p "$1/bin" "$1/target/bin" && cp bin/* "$1/bin/" && cp VERSION KIT crates.txt "$1/" &&
         ln -s "$program" "$1/target/bin/run_plot_hub" && ln -s "$show_book" "$1/target/bin/run_show_book" &&
-        ln -s "$convert_old" "$1/target/bin/run_convert_book_old" && ln -s "$convert_new" "$1/target/bin/run_convert_book_new" &&
         ln -s "$hints" "$1/target/bin/run_plot_hub_hints"
 }
 
-# Words, files, exit status, messages, hints, of all commands and with each shell.
+# Words, files, exit status, messages, hints, of both commands and with each shell.
 command_cases() {
     tree "$scratch/tree" && python3 tests/command.py "$scratch/tree" "$bin/reference" "$bin/history" "$bin/bench_inputs" "$seed"
 }
@@ -156,32 +142,18 @@ show_book_prints() {
     python3 tests/book/settings.py "$scratch/tree/bin/show_book"
 }
 
-# Random and damaged books of both editions, read and converted, against the model.
-books() {
-    python3 tests/book/compare.py 3000 "$seed" --read "'$read_vectors'" --convert "'$convert_vectors'"
-}
-
-# The call that converts, as a program in C makes it: the stored vectors and random books. C knows a refusal's number alone.
-convert_from_c() {
-    sed -E 's/^(refused [0-9]+)[ 0-9]* sum /\1 sum /' crates/run_convert_vectors/stdout >"$scratch/expected" &&
-        "$out/convert" <crates/run_convert_vectors/stdin >"$scratch/printed" && cmp "$scratch/printed" "$scratch/expected" &&
-        python3 tests/book/compare.py 3000 "$seed" --c "'$out/convert'"
-}
-
 # bin/ works through a link and from another folder.
 starters() {
-    local one name edition input expected links=$scratch/links
+    local name input expected links=$scratch/links
     tree "$scratch/tree" && mkdir "$links" || return 1
-    for one in plot_hub show_book convert_book_old convert_book_new; do
-        name=$one edition=() # of convert_book the word that it must have
-        [[ $one != convert_book_* ]] || { name=convert_book && edition=("${one##*_}"); }
-        input=$PWD/crates/run_$one/stdin expected=$PWD/crates/run_$one/stdout
+    for name in plot_hub show_book; do
+        input=$PWD/crates/run_$name/stdin expected=$PWD/crates/run_$name/stdout
         ln -s "../tree/bin/$name" "$links/beside" && ln -s "$links/beside" "$links/$name" || return 1 # a link to a link
-        (cd / && "$links/$name" "${edition[@]}" "$input") | cmp - "$expected" || return 1
-        (cd "$links" && "./$name" "${edition[@]}" <"$input") | cmp - "$expected" || return 1
-        (cd "$links" && PATH=$links:$PATH && "$name" "${edition[@]}" <"$input") | cmp - "$expected" || return 1
-        (cd "$scratch/tree" && sh "bin/$name" "${edition[@]}" <"$input") | cmp - "$expected" || return 1
-        rm "$links/beside" "$links/$name"
+        (cd / && "$links/$name" "$input") | cmp - "$expected" || return 1
+        (cd "$links" && "./$name" <"$input") | cmp - "$expected" || return 1
+        (cd "$links" && PATH=$links:$PATH && "$name" <"$input") | cmp - "$expected" || return 1
+        (cd "$scratch/tree" && sh "bin/$name" <"$input") | cmp - "$expected" || return 1
+        rm "$links/beside"
     done
 }
 
@@ -201,8 +173,7 @@ release() {
 }
 
 make_release() { # FOLDER
-    PLOT_HUB_ARCHIVE=$archive PLOT_HUB_PROGRAM=$program SHOW_BOOK_PROGRAM=$show_book PLOT_HUB_HINTS_PROGRAM=$hints \
-        CONVERT_BOOK_OLD_PROGRAM=$convert_old CONVERT_BOOK_NEW_PROGRAM=$convert_new tools/release --to "$1"
+    PLOT_HUB_ARCHIVE=$archive PLOT_HUB_PROGRAM=$program SHOW_BOOK_PROGRAM=$show_book PLOT_HUB_HINTS_PROGRAM=$hints tools/release --to "$1"
 }
 
 # Every file is there and in the sums, and none tells where it was made.
@@ -211,15 +182,13 @@ release_is_whole() {
     (cd "$unpacked" && find . -type f ! -name SHA256SUMS | sed 's|^\./||' | sort) >"$scratch/files"
     awk '{ print $2 }' "$unpacked/SHA256SUMS" | sort | cmp - "$scratch/files" || return 1
     {
-        printf '%s\n' KIT VERSION bin/plot_hub bin/show_book bin/convert_book include/plot_hub.h lib/libplot_hub.a lib/pkgconfig/plot_hub.pc
-        printf 'libexec/plot_hub/%s\n' start plot_hub plot_hub_hints show_book convert_book_old convert_book_new
+        printf '%s\n' KIT VERSION bin/plot_hub bin/show_book include/plot_hub.h lib/libplot_hub.a lib/pkgconfig/plot_hub.pc
+        printf 'libexec/plot_hub/%s\n' start plot_hub plot_hub_hints show_book
         printf 'share/doc/plot_hub/%s\n' HANDBOOK.md LAYOUT.md CHANGELOG.md README
-        printf 'share/plot_hub/%s\n' three.book three_minutes.book
+        printf 'share/plot_hub/%s\n' three.book
         for sitting in examples/sittings/*; do echo "share/plot_hub/sittings/${sitting##*/}"; done
     } | sort | diff - "$scratch/files" || return 1
-    cmp "$archive" "$unpacked/lib/libplot_hub.a" && cmp "$program" "$unpacked/libexec/plot_hub/plot_hub" &&
-        cmp "$convert_old" "$unpacked/libexec/plot_hub/convert_book_old" &&
-        cmp "$convert_new" "$unpacked/libexec/plot_hub/convert_book_new" || return 1
+    cmp "$archive" "$unpacked/lib/libplot_hub.a" && cmp "$program" "$unpacked/libexec/plot_hub/plot_hub" || return 1
     ! grep -rF -e "$PWD" -e "$scratch" -e /tmp/ -e /home/ -e /root/ "$unpacked" ||
         { echo "these name a place of this machine" && return 1; }
 }
@@ -261,12 +230,9 @@ release_prints() {
             python3 "$OLDPWD/tests/hints.py" "$sitting" "${sitting%.txt}.key" | cmp - "$scratch/said" || exit 1
         done
         "${plain[@]}" bin/show_book --hints share/plot_hub/three.book >"$scratch/book" 2>&1 || exit 1
-        "${plain[@]}" bin/convert_book new --hints share/plot_hub/three.book >"$scratch/new" || exit 1
-        "${plain[@]}" bin/convert_book old <"$scratch/new" | cmp - share/plot_hub/three.book || exit 1
         [ "$("${plain[@]}" bin/plot_hub --version)" = "plot_hub $(cat VERSION)"$'\n'"proved with $(cat KIT)" ] || exit 1
         "${plain[@]}" bin/plot_hub --help | grep -qxF "Handbook: $PWD/share/doc/plot_hub/HANDBOOK.md"
-    ) && python3 tests/book/show.py <examples/three.book | cmp - "$scratch/book" &&
-        python3 tests/book/convert.py new <examples/three.book | cmp - "$scratch/new"
+    ) && python3 tests/book/show.py <examples/three.book | cmp - "$scratch/book"
 }
 
 # A short caller in C and in C++, built as the release's README says. Of a folder with a space in its name pkg-config prints words for a
@@ -313,5 +279,5 @@ readings() {
 
 # Every sitting, order, book and table of docs/HANDBOOK.md, and examples/sittings, run through the programs.
 handbook() {
-    tree "$scratch/tree" && python3 tests/handbook.py "$program" "$show_book" "$hints" "$scratch/tree/bin/convert_book"
+    python3 tests/handbook.py "$program" "$show_book" "$hints"
 }

@@ -17,8 +17,7 @@ from html.parser import HTMLParser
 from urllib.parse import unquote
 
 ROOT = os.path.dirname(os.path.dirname(os.path.abspath(__file__)))
-CONTRACTS = ["rules_routine", "rules_timed", "book_bytes", "book_layout", "book_read", "book_write", "book_convert", "hub", "line",
-             "line_parts", "line_hints", "plot_hub"]
+CONTRACTS = ["rules_routine", "book_layout", "book_read", "book_write", "book_copy", "hub", "line", "line_parts", "line_hints"]
 CHAPTERS = ["reading", "refusals", "book", "rules", "order", "serial", "world", "demand-3", "waiting", "lines", "running", "contracts",
             "values", "examples", "parts"]
 TEXTS = ("code", "marked", "kind", "said", "first")
@@ -378,8 +377,7 @@ def check_rooms(crates, text):
     layers = re.findall(r"^\*\*(\w+)\*\*: ", text, re.M)
     found = [f"ARCHITECTURE has {rows[crate]} rows for the crate {crate}" for crate in crates if rows[crate] != 1]
     found += [f"ARCHITECTURE has a row for {crate}, which is no crate" for crate in rows if crate not in crates]
-    return found + [f"{crate} begins with no layer's name" for crate in crates
-                    if not any(crate == layer or crate.startswith(layer + "_") for layer in layers)]
+    return found + [f"{crate} begins with no layer's name" for crate in crates if crate.split("_")[0] not in layers]
 
 
 def check_values(root, page):

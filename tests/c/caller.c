@@ -16,17 +16,105 @@
  * On any violation it says on standard error what and in which record, and exits with status 1.
  */
 #define _GNU_SOURCE
-#define TEST_NAME "caller"
-#include "guard.h"
 #include "plot_hub.h"
-#include "threads.h"
+#include "promise.h"
 
 #include <pthread.h>
+#include <stdarg.h>
 #include <stdio.h>
 #include <stdlib.h>
 #include <string.h>
+#include <sys/mman.h>
+#include <unistd.h>
 
-enum { ROUNDS = 10, MORE = 3, LONG_BUFFERS = 8 };
+enum { THREADS = 4, ROUNDS = 10, MORE = 3, BESIDE = 256, LONG_BUFFERS = 8 };
+
+static unsigned long record_number;
+
+static void fail(const char *form, ...)
+{
+    va_list rest;
+    va_start(rest, form);
+    fprintf(stderr, "caller: record %lu: ", record_number);
+    vfprintf(stderr, form, rest);
+    fputc('\n', stderr);
+    va_end(rest);
+    _exit(1);
+}
+
+static void *must(void *got, const char *what)
+{
+    if (got == NULL || got == MAP_FAILED)
+        fail("%s: no memory", what);
+    return got;
+}
+
+/* ---- pages with a page before and a page behind them that cannot be touched */
+
+struct area {
+    uint8_t *pages;
+    size_t length;
+};
+
+enum place { AT_END, AT_START };
+
+static size_t page_size(void)
+{
+    return (size_t)sysconf(_SC_PAGESIZE);
+}
+
+static struct area area_for(size_t wanted)
+{
+    size_t page = page_size();
+    size_t length = (wanted / page + 1) * page;
+    uint8_t *all = must(mmap(NULL, length + 2 * page, PROT_NONE, MAP_PRIVATE | MAP_ANONYMOUS, -1, 0), "mmap");
+    if (mprotect(all + page, length, PROT_READ | PROT_WRITE) != 0)
+        fail("mprotect failed");
+    return (struct area){ all + page, length };
+}
+
+static void area_gone(struct area area)
+{
+    size_t page = page_size();
+    if (munmap(area.pages - page, area.length + 2 * page) != 0)
+        fail("munmap failed");
+}
+
+/* A new area if this one has no place for so many bytes and those beside them. */
+static void area_at_least(struct area *area, size_t wanted)
+{
+    if (area->pages != NULL && area->length >= wanted + BESIDE)
+        return;
+    if (area->pages != NULL)
+        area_gone(*area);
+    *area = area_for(wanted * 2 + BESIDE);
+}
+
+static uint8_t *placed(struct area area, size_t length, enum place place)
+{
+    return place == AT_END ? area.pages + area.length - length : area.pages;
+}
+
+/* A byte that differs from place to place and from call to call. */
+static uint8_t pattern(size_t index, size_t salt)
+{
+    return (uint8_t)((index * 31 + (index >> 8) * 7 + salt * 101 + 13) ^ (salt >> 3));
+}
+
+static void fill(uint8_t *bytes, size_t length, size_t salt)
+{
+    for (size_t i = 0; i < length; i++)
+        bytes[i] = pattern(i, salt);
+}
+
+/* The first index in from .. to whose byte is not that of the pattern; to if there is none. */
+static size_t changed(const uint8_t *bytes, size_t from, size_t to, size_t salt)
+{
+    for (size_t i = from; i < to; i++)
+        if (bytes[i] != pattern(i, salt))
+            return i;
+    return to;
+}
 
 /* ---- one call */
 
@@ -39,8 +127,17 @@ static struct area input_area, output_area;
 
 static const uint8_t *input_placed(struct text input, enum place place)
 {
+    if (input_area.pages != NULL && mprotect(input_area.pages, input_area.length, PROT_READ | PROT_WRITE) != 0)
+        fail("mprotect failed");
+    area_at_least(&input_area, input.length);
+    uint8_t *at = placed(input_area, input.length, place);
     /* Bytes beside the input that would change what is printed if they were read as part of it. */
-    return placed_to_read(&input_area, input.bytes, input.length, place, '7');
+    memset(place == AT_END ? at - BESIDE : at + input.length, '7', BESIDE);
+    if (input.length > 0)
+        memcpy(at, input.bytes, input.length);
+    if (mprotect(input_area.pages, input_area.length, PROT_READ) != 0)
+        fail("mprotect failed");
+    return at;
 }
 
 static void same_input(const uint8_t *at, struct text input)
@@ -166,6 +263,7 @@ struct run {
 };
 
 static struct run kept[THREADS]; /* the last inputs that were run, with what they printed */
+static pthread_barrier_t together;
 
 static void *one_thread(void *argument)
 {
@@ -178,7 +276,19 @@ static void *one_thread(void *argument)
 
 static void from_threads(void)
 {
-    on_threads(one_thread, kept, sizeof kept[0]);
+    pthread_t threads[THREADS];
+    pthread_attr_t attributes;
+    if (pthread_attr_init(&attributes) != 0 || pthread_attr_setstacksize(&attributes, STACK_PROMISED) != 0 ||
+        pthread_barrier_init(&together, NULL, THREADS) != 0)
+        fail("no thread attributes");
+    for (size_t i = 0; i < THREADS; i++)
+        if (pthread_create(&threads[i], &attributes, one_thread, &kept[i]) != 0)
+            fail("no thread");
+    for (size_t i = 0; i < THREADS; i++)
+        if (pthread_join(threads[i], NULL) != 0)
+            fail("a thread did not end");
+    pthread_attr_destroy(&attributes);
+    pthread_barrier_destroy(&together);
 }
 
 /* ---- records */

@@ -1,147 +1,173 @@
--- Commands with minutes as bytes and back, for both editions. `drop p b` is what book b holds from place p on. Assumes nothing.
-use Prim.Native.Nat.{ℕ, zero, suc, ◌+◌, ◌*◌, ◌≤◌}
+-- Numbers, settings and commands as bytes and back, for theorems (a) and (b) and those of the sign. `drop p b` is what book b holds from
+-- place p on. Assumes nothing.
+use Prim.Native.Nat.{ℕ, zero, suc, ◌+◌, ◌-◌, ◌*◌, ◌/◌, ◌%◌, ◌≤◌, ◌<◌}
 use mathlib.Core.Path.{◌≡◌, refl, sym, ap, ap₂, ◌∙◌}
+use mathlib.Core.Bool.{Bool, true}
 use mathlib.Core.List.{List, [], ◌∷◌, ◌++◌, append_assoc}
+use native.Mathlib.Numerals.{add-one}
 use native.Mathlib.Omega.{arith}
+use borrow.Author.Tests.{leb-true, ltb-true, ltb-false}
+use lib.Dec.{ltb}
+use lib.IntN.{ℤ, pos, negsuc}
+use lib.Signed.{mag}
 use lib.ListN.{length, drop}
-use mathlib.Core.Bool.{true, not}
-use borrow.Author.Tests.{eq-eqb, eqb-true, not-false}
-use lib.Dec.{eqb}
+use lib.Seq.{drop_at, drop-drop, drop-cons, get_or-drop}
+use Rattle.rules_routine.specs.Limits.{lowest_setting, highest_setting}
 use Rattle.rules_routine.specs.Range.{in_range}
-use Rattle.rules_routine.specs.Refusals.{Cause, minutes_not_1, refuse◌when◌}
+use Rattle.rules_routine.specs.Routine.{commands_check}
+use Rattle.rules_routine.specs.declared.Command.{Command}
 use Rattle.rules_routine.specs.declared.Verdict.TheVariants.{Accepted}
-use Rattle.rules_routine.proofs.RoutineLaws.{both_accept, accept_both, not-refused, command-accepted}
-use Rattle.rules_timed.specs.Timed.{TimedCommand, timed_check}
-use Rattle.rules_timed.proofs.TimedLaws.{timed-accepted}
-use Rattle.book_bytes.specs.Commands.{plain_size, command_bytes, command_at}
-use Rattle.book_bytes.specs.Numbers.{Bytes}
-use Rattle.book_bytes.proofs.NumberLaws.{length-command_bytes}
-use Rattle.book_bytes.proofs.Bytes.{behind, two-read, command-read, two-written, command-written}
-use Rattle.book_layout.specs.Edition.{old_minutes, minutes_bytes, minutes_size, minutes_at}
-use Rattle.book_layout.specs.Layout.{command_size, timed_bytes, timeds_bytes, timed_at, timeds_at}
-use Rattle.book_layout.specs.Writing.{ones_in, ones_check, minutes_check}
-use Rattle.book_layout.specs.declared.Edition.{Edition}
-use Rattle.book_layout.specs.declared.Edition.TheVariants.{Old, New}
-use Rattle.book_layout.proofs.LayoutLaws.{length-timed_bytes}
+use Rattle.rules_routine.proofs.RoutineLaws.{by_test, in_range_pos, in_range_negsuc, command-accepted, commands-accepted}
+use Rattle.book_layout.specs.Numbers.{two_bytes, four_bytes, byte_at, two_at, four_at, bits_of, setting_of}
+use Rattle.book_layout.specs.Layout.{command_size, command_bytes, commands_bytes, command_at, commands_at}
+use Rattle.book_layout.specs.Claims.{Bytes}
+use Rattle.book_layout.proofs.LayoutLaws.{setting-number, setting_low, setting_high, less_65536, bits_pos, bits_negsuc}
+use Rattle.book_layout.proofs.LayoutLaws.{length-two_bytes, length-command_bytes}
 
--- ---- minutes that an edition has a place for
+-- ---- settings and their two bytes
 
-abbrev pub Keeps : Edition → ℕ → Type 0
-Keeps Old m = m ≡ old_minutes
-Keeps New m = Unit {0}
+-- a setting of 16 bits is read from its two bytes
+pub setting-read : (z : ℤ) → mag z < 32768 → setting_of (bits_of z % 256) (bits_of z / 256) ≡ z
+setting-read (pos n) h =
+    let k : n % 256 + 256 * (n / 256) ≡ n = omega arith in
+    rw (bits_pos n, setting_low (n % 256) (n / 256) (omega arith), k)
+setting-read (negsuc n) h =
+    let m = 65535 - n in
+    let k : m % 256 + 256 * (m / 256) ≡ m = omega arith in
+    rw (bits_negsuc n (omega arith), setting_high (m % 256) (m / 256) (omega arith), k, less_65536 m (omega arith))
+    (ap negsuc (omega arith))
 
-abbrev pub AllKept : Edition → List TimedCommand → Type 0
-AllKept e [] = Unit {0}
-AllKept e (c ∷ cs) = Keeps e c.minutes × AllKept e cs
+-- and so one in range
+in_range_read : (z : ℤ) → in_range z ≡ true → setting_of (bits_of z % 256) (bits_of z / 256) ≡ z
+in_range_read (pos n) e =
+    let l = leb-true n (mag highest_setting) (sym (in_range_pos n) ∙ e) in setting-read (pos n) (omega arith)
+in_range_read (negsuc n) e =
+    let l = leb-true n (mag lowest_setting) (sym (in_range_negsuc n) ∙ e) in setting-read (negsuc n) (omega arith)
 
-abbrev pub EachKept : Edition → List (List TimedCommand) → Type 0
-EachKept e [] = Unit {0}
-EachKept e (r ∷ rs) = AllKept e r × EachKept e rs
+-- two bytes are those of the setting that they are read as
+pub setting-written : (lower upper : ℕ) → lower < 256 → upper < 256 → bits_of (setting_of lower upper) ≡ lower + 256 * upper
+setting-written lower upper l h =
+    let n = lower + 256 * upper in
+    by_test (λ (_ : Bool). bits_of (setting_of lower upper) ≡ n) (ltb upper 128)
+    (λ e. let k = ltb-true upper 128 e in rw (setting_low lower upper k) (bits_pos n))
+    (λ e. let k = ltb-false upper 128 e in let d : 65535 - (65535 - n) ≡ n = omega arith in
+    rw (setting_high lower upper k, less_65536 n (omega arith)) (bits_negsuc (65535 - n) (omega arith) ∙ d))
 
--- the new edition has one for all
-all_new : (cs : List TimedCommand) → AllKept New cs
-all_new [] = tt
-all_new (c ∷ cs) = (tt, all_new cs)
+-- ---- reading at a place what stands there
 
-pub each_new : (rs : List (List TimedCommand)) → EachKept New rs
-each_new [] = tt
-each_new (r ∷ rs) = (all_new r, each_new rs)
+-- bytes stand at a place: what stands behind them,
+pub behind : (b xs rest : List ℕ) (p n : ℕ) → drop p b ≡ xs ++ rest → length xs ≡ n → drop (p + n) b ≡ rest
+behind b xs rest p n e l = sym (drop-drop n p b) ∙ ap (λ (ys : List ℕ). drop n ys) e ∙ drop_at xs rest n l
 
--- 25 is for those that it has none for
-ones_kept : (i j : ℕ) (cs : List TimedCommand) → ones_in i j cs ≡ Accepted → AllKept Old cs
-unfolding ones_in
-ones_kept i j [] a = tt
-ones_kept i j (c ∷ cs) a =
-    let x = both_accept (refuse (minutes_not_1 i j) when not (eqb c.minutes old_minutes)) _ a in
-    (eqb-true c.minutes old_minutes (not-false _ (not-refused (minutes_not_1 i j) _ x.0)), ones_kept i (suc j) cs x.1)
+-- each of them,
+byte_read : (b xs : List ℕ) (p k : ℕ) → drop p b ≡ xs → byte_at b (p + k) ≡ byte_at xs k
+byte_read b xs p k e = sym (get_or-drop p b k 0) ∙ ap (λ (ys : List ℕ). byte_at ys k) e
 
-kept_ones : (i j : ℕ) (cs : List TimedCommand) → AllKept Old cs → ones_in i j cs ≡ Accepted
-unfolding ones_in
-kept_ones i j [] k = refl
-kept_ones i j (c ∷ cs) k = rw (eq-eqb c.minutes old_minutes k.0) (kept_ones i (suc j) cs k.1)
+-- and the first of them
+first_read : (b xs : List ℕ) (p : ℕ) → drop p b ≡ xs → byte_at b p ≡ byte_at xs 0
+first_read b xs p e = let h : p ≡ p + 0 = omega arith in ap (byte_at b) h ∙ byte_read b xs p 0 e
 
-each_ones : (i : ℕ) (rs : List (List TimedCommand)) → ones_check i rs ≡ Accepted → EachKept Old rs
-unfolding ones_check
-each_ones i [] a = tt
-each_ones i (r ∷ rs) a = let x = both_accept (ones_in i 0 r) _ a in (ones_kept i 0 r x.0, each_ones (suc i) rs x.1)
+-- two bytes are read as their number
+pub two-read : (b rest : List ℕ) (p n : ℕ) → drop p b ≡ two_bytes n ++ rest → two_at b p ≡ n
+unfolding two_bytes two_at
+two-read b rest p n e =
+    let x : byte_at b p ≡ n % 256 = first_read b _ p e in
+    let y : byte_at b (p + 1) ≡ n / 256 = byte_read b _ p 1 e in
+    omega arith
 
-ones_each : (i : ℕ) (rs : List (List TimedCommand)) → EachKept Old rs → ones_check i rs ≡ Accepted
-unfolding ones_check
-ones_each i [] k = refl
-ones_each i (r ∷ rs) k = accept_both (ones_in i 0 r) _ (kept_ones i 0 r k.0) (ones_each (suc i) rs k.1)
+-- the low byte of a number
+low_byte : (x y : ℕ) → x < 256 → (x + 256 * y) % 256 ≡ x
+low_byte x y h = omega arith
 
-pub accepted-kept : (e : Edition) (rs : List (List TimedCommand)) → minutes_check e rs ≡ Accepted → EachKept e rs
-unfolding minutes_check
-accepted-kept Old rs a = each_ones 0 rs a
-accepted-kept New rs a = each_new rs
+-- four bytes are two and two
+four_twos : (n : ℕ) (rest : List ℕ) → four_bytes n ++ rest ≡ two_bytes (n % 65536) ++ (two_bytes (n / 65536) ++ rest)
+unfolding two_bytes four_bytes
+four_twos n rest =
+    let x : n % 256 ≡ n % 65536 % 256 = omega arith in
+    let w : n / 256 ≡ n % 65536 / 256 + 256 * (n / 65536) = omega arith in
+    let y = ap (λ (k : ℕ). k % 256) w ∙ low_byte (n % 65536 / 256) (n / 65536) (omega arith) in
+    let z : n / 16777216 ≡ n / 65536 / 256 = omega arith in
+    cc
 
-pub kept-accepted : (e : Edition) (rs : List (List TimedCommand)) → EachKept e rs → minutes_check e rs ≡ Accepted
-unfolding minutes_check
-kept-accepted Old rs k = ones_each 0 rs k
-kept-accepted New rs k = refl
+-- so they are read as their number
+pub four_read : (b rest : List ℕ) (p n : ℕ) → drop p b ≡ four_bytes n ++ rest → four_at b p ≡ n
+unfolding four_at
+four_read b rest p n e =
+    let f = e ∙ four_twos n rest in
+    let x = two-read b _ p (n % 65536) f in
+    let y = two-read b rest (p + 2) (n / 65536) (behind b (two_bytes (n % 65536)) _ p 2 f (length-two_bytes (n % 65536))) in
+    omega arith
 
--- ---- by cases on the edition: minutes as bytes and back
+-- a command is read as it was
+command-read : (b rest : List ℕ) (p : ℕ) (c : Command) → in_range c.setting ≡ true → drop p b ≡ command_bytes c ++ rest → command_at b p ≡ c
+unfolding command_at command_bytes two_bytes
+command-read b rest p c h e =
+    let x = first_read b _ p e in
+    let y = byte_read b _ p 1 e in
+    let z = ap₂ setting_of (byte_read b _ p 2 e) (byte_read b _ p 3 e) ∙ in_range_read c.setting h in
+    λ i. record { device = x i; tag = y i; setting = z i }
 
-minutes-read : (e : Edition) (b rest : List ℕ) (p m : ℕ) → Keeps e m → drop p b ≡ minutes_bytes e m ++ rest → minutes_at e b p ≡ m
-minutes-read Old b rest p m k h = sym k
-minutes-read New b rest p m k h = two-read b rest p m h
+-- accepted commands in a row are read as they were
+pub commands-read : (limit k : ℕ) (b rest : List ℕ) (p : ℕ) (cs : List Command) → commands_check limit k cs ≡ Accepted →
+    drop p b ≡ commands_bytes cs ++ rest → commands_at b p (length cs) ≡ cs
+commands-read limit k b rest p [] h e = refl
+commands-read limit k b rest p (c ∷ cs) h e =
+    let a = commands-accepted limit k c cs h in
+    let f = e ∙ append_assoc (command_bytes c) (commands_bytes cs) rest in
+    ap₂ ◌∷◌ (command-read b _ p c (command-accepted limit k c a.0).1 f)
+    (commands-read limit (suc k) b rest (p + command_size) cs a.2 (behind b (command_bytes c) _ p command_size f (length-command_bytes c)))
 
-minutes-written : (e : Edition) (b : List ℕ) → Bytes b → (p : ℕ) → p + minutes_size e ≤ length b →
-    drop p b ≡ minutes_bytes e (minutes_at e b p) ++ drop (p + minutes_size e) b
-minutes-written Old b bytes p h = let k : p ≡ p + 0 = omega arith in ap (λ (q : ℕ). drop q b) k
-minutes-written New b bytes p h = two-written b bytes p h
+-- ---- what was read at a place, written again, is what stands there
 
-pub minutes-kept : (e : Edition) (b : List ℕ) (p : ℕ) → Keeps e (minutes_at e b p)
-minutes-kept Old b p = refl
-minutes-kept New b p = tt
+module _ (b : List ℕ) (bytes : Bytes b) where
+  -- a number of two bytes has 16 bits
+  two_bound : (p : ℕ) → two_at b p < 65536
+  unfolding two_at
+  two_bound p = omega (arith, bytes p, bytes (p + 1))
 
--- ---- commands with minutes
+  -- so for a byte, a number of two bytes, of four, a command and commands in a row
+  byte_written : (p : ℕ) → p < length b → drop p b ≡ byte_at b p ∷ drop (p + 1) b
+  byte_written p h = rw (add-one, drop-cons b p 0)
 
-module _ (e : Edition) where
-  -- a command is read as it was,
-  timed-read : (b rest : List ℕ) (p : ℕ) (c : TimedCommand) → in_range c.command.setting ≡ true → Keeps e c.minutes →
-      drop p b ≡ timed_bytes e c ++ rest → timed_at e b p ≡ c
-  unfolding timed_at timed_bytes
-  timed-read b rest p c h k s =
-      let t = s ∙ append_assoc (command_bytes c.command) (minutes_bytes e c.minutes) rest in
-      let x = command-read b _ p c.command h t in
-      let y = minutes-read e b rest (p + plain_size) c.minutes k
-      (behind b (command_bytes c.command) _ p plain_size t (length-command_bytes c.command)) in
-      λ i. record { command = x i; minutes = y i }
+  pub two-written : (p : ℕ) → p + 2 ≤ length b → drop p b ≡ two_bytes (two_at b p) ++ drop (p + 2) b
+  unfolding two_at two_bytes
+  two-written p h =
+      let u = byte_written p (omega arith) in
+      let v = byte_written (p + 1) (omega arith) in
+      let n = byte_at b p + 256 * byte_at b (p + 1) in
+      let x : n % 256 ≡ byte_at b p = omega (arith, bytes p) in
+      let y : n / 256 ≡ byte_at b (p + 1) = omega (arith, bytes p) in
+      let k : p + 1 + 1 ≡ p + 2 = omega arith in
+      cc
 
-  -- and so are accepted commands in a row
-  pub timeds_read : (late : ℕ → Cause) (limit j : ℕ) (b rest : List ℕ) (p : ℕ) (cs : List TimedCommand) →
-      timed_check late limit j cs ≡ Accepted → AllKept e cs → drop p b ≡ timeds_bytes e cs ++ rest → timeds_at e b p (length cs) ≡ cs
-  timeds_read late limit j b rest p [] h k s = refl
-  timeds_read late limit j b rest p (c ∷ cs) h k s =
-      let a = timed-accepted late limit j c cs h in
-      let f = s ∙ append_assoc (timed_bytes e c) (timeds_bytes e cs) rest in
-      ap₂ ◌∷◌ (timed-read b _ p c (command-accepted limit j c.command a.0).1 k.0 f)
-      (timeds_read late limit (suc j) b rest (p + command_size e) cs a.3 k.1
-      (behind b (timed_bytes e c) _ p (command_size e) f (length-timed_bytes e c)))
+  pub four_written : (p : ℕ) → p + 4 ≤ length b → drop p b ≡ four_bytes (four_at b p) ++ drop (p + 4) b
+  unfolding four_at
+  four_written p h =
+      let u = two-written p (omega arith) in
+      let v = two-written (p + 2) (omega arith) in
+      let n = two_at b p + 65536 * two_at b (p + 2) in
+      let x : n % 65536 ≡ two_at b p = omega (arith, two_bound p) in
+      let y : n / 65536 ≡ two_at b (p + 2) = omega (arith, two_bound p) in
+      let k : p + 2 + 2 ≡ p + 4 = omega arith in
+      cc (four_twos n (drop (p + 4) b))
 
-  -- what was read at a place, written again, is what stands there
-  timed-written : (b : List ℕ) → Bytes b → (p : ℕ) → p + command_size e ≤ length b →
-      drop p b ≡ timed_bytes e (timed_at e b p) ++ drop (p + command_size e) b
-  unfolding timed_at timed_bytes
-  timed-written b bytes p h =
-      let u = command-written b bytes p (omega arith) in
-      let v = minutes-written e b bytes (p + plain_size) (omega arith) in
-      let k : p + plain_size + minutes_size e ≡ p + command_size e = omega arith in
-      cc (append_assoc (command_bytes (command_at b p)) (minutes_bytes e (minutes_at e b (p + plain_size))) (drop (p + command_size e) b))
+  command-written : (p : ℕ) → p + command_size ≤ length b → drop p b ≡ command_bytes (command_at b p) ++ drop (p + command_size) b
+  unfolding command_at command_bytes
+  command-written p h =
+      let u = byte_written p (omega arith) in
+      let v = byte_written (p + 1) (omega arith) in
+      let w = two-written (p + 2) (omega arith) in
+      let x = setting-written (byte_at b (p + 2)) (byte_at b (p + 3)) (bytes (p + 2)) (bytes (p + 3)) ∙ setting-number b p in
+      let k : p + 1 + 1 ≡ p + 2 = omega arith in
+      let l : p + 2 + 2 ≡ p + command_size = omega arith in
+      cc
 
-  pub timeds_written : (b : List ℕ) → Bytes b → (p n : ℕ) → p + command_size e * n ≤ length b →
-      drop p b ≡ timeds_bytes e (timeds_at e b p n) ++ drop (p + command_size e * n) b
-  timeds_written b bytes p zero h = let k : p ≡ p + command_size e * 0 = omega arith in ap (λ (q : ℕ). drop q b) k
-  timeds_written b bytes p (suc n) h =
-      let x = timed_bytes e (timed_at e b p) in
-      let u = timed-written b bytes p (omega arith) in
-      let v = timeds_written b bytes (p + command_size e) n (omega arith) in
-      let k : p + command_size e + command_size e * n ≡ p + command_size e * suc n = omega arith in
-      cc (append_assoc x (timeds_bytes e (timeds_at e b (p + command_size e) n)) (drop (p + command_size e * suc n) b))
-
-  -- and it has minutes that the edition has a place for
-  pub timeds_kept : (b : List ℕ) (p n : ℕ) → AllKept e (timeds_at e b p n)
-  unfolding timed_at
-  timeds_kept b p zero = tt
-  timeds_kept b p (suc n) = (minutes-kept e b (p + plain_size), timeds_kept b (p + command_size e) n)
+  pub commands-written : (p n : ℕ) → p + command_size * n ≤ length b →
+      drop p b ≡ commands_bytes (commands_at b p n) ++ drop (p + command_size * n) b
+  commands-written p zero h = let k : p ≡ p + 0 = omega arith in ap (λ (q : ℕ). drop q b) k
+  commands-written p (suc n) h =
+      let x = command_bytes (command_at b p) in
+      let u = command-written p (omega arith) in
+      let v = commands-written (p + command_size) n (omega arith) in
+      let k : p + command_size + command_size * n ≡ p + command_size * suc n = omega arith in
+      cc (append_assoc x (commands_bytes (commands_at b (p + command_size) n)) (drop (p + command_size * suc n) b))

@@ -1,371 +1,328 @@
--- Theorems (a) and (b), for both editions: a book is accepted only if it is the bytes, in its own edition, of routines that may be written
--- in it, and such bytes are accepted and read as the same routines and minutes. Assumes nothing.
+-- Theorems (a) and (b): a book is accepted only if it is the bytes of routines that may be written, and such bytes are accepted and read as
+-- the same routines. Assumes nothing.
 use Prim.Native.Nat.{ℕ, zero, suc, ◌+◌, ◌*◌, ◌/◌, ◌≤◌, ◌<◌}
 use mathlib.Core.Path.{◌≡◌, refl, sym, ap, ap₂, subst, ◌∙◌}
-use mathlib.Core.Bool.{Bool}
+use mathlib.Core.Bool.{true, ◌||◌}
 use mathlib.Core.List.{List, [], ◌∷◌, ◌++◌, append_assoc}
 use native.Mathlib.Omega.{arith}
-use borrow.Author.Tests.{le-ltb, ltb-false, eqb-true}
-use lib.Dec.{ltb, eqb}
+use borrow.Author.Tests.{le-ltb, ltb-false}
+use lib.Dec.{ltb}
 use lib.ListN.{length, take, drop, length-append, length-drop, drop_of_length-le}
 use lib.Seq.{take-append_seam}
-use Rattle.rules_routine.specs.Refusals.{book_misplaced, book_minutes, no_room}
+use Rattle.rules_routine.specs.Refusals.{book_cut_short, book_misplaced, no_room}
 use Rattle.rules_routine.specs.Limits.{max_commands, max_routines}
+use Rattle.rules_routine.specs.Routine.{commands_of, routine_of, commands_check, routine_check}
+use Rattle.rules_routine.specs.declared.Command.{Command}
+use Rattle.rules_routine.specs.declared.Refusal.{Refusal}
 use Rattle.rules_routine.specs.declared.Verdict.{Verdict}
 use Rattle.rules_routine.specs.declared.Verdict.TheVariants.{Accepted, Refused}
-use Rattle.rules_routine.proofs.RoutineLaws.{both_accept, accept_both, not-refused, or_false, by_test}
-use Rattle.rules_timed.specs.Timed.{TimedCommand, timed_check, timed_routine_check, timed_of, timed_commands_of}
-use Rattle.rules_timed.proofs.TimedLaws.{timed-counted, routine-accepted, timed_of-commands}
-use Rattle.book_bytes.specs.Numbers.{two_bytes, four_bytes, two_at, Bytes}
-use Rattle.book_bytes.proofs.NumberLaws.{length-two_bytes, length-four_bytes}
-use Rattle.book_bytes.proofs.Bytes.{behind, two-read, four_read, two-written, four_written}
-use Rattle.book_layout.specs.Layout.{count_size, pair_size, offset_size, book_devices, head_size, command_size, pair_place, pairs_end}
-use Rattle.book_layout.specs.Layout.{timeds_bytes, length_in, pairs_bytes, body_bytes, book_bytes, count_of, offset_at, length_at, timeds_at}
-use Rattle.book_layout.specs.Layout.{routines_at, routines_as}
-use Rattle.book_layout.specs.Writing.{buffer_with, routines_check, minutes_check, write_check, written_of, buffer_after}
-use Rattle.book_layout.specs.Edition.{new_mark, edition_of, mark_bytes, mark_size}
-use Rattle.book_layout.specs.Reading.{head_check, placed_check, placed_checks, check_as, book_check, routines_of, pair_next, next_of}
-use Rattle.book_layout.specs.Claims.{Hands, ends, hands, Reads, Writes, WriteThenRead, ReadThenWrite, HandsAlone}
-use Rattle.book_layout.specs.declared.Item.TheVariants.{Handed, End}
-use Rattle.book_layout.specs.declared.Written.TheVariants.{Length}
-use Rattle.book_layout.specs.declared.Edition.{Edition}
-use Rattle.book_layout.specs.declared.Edition.TheVariants.{Old, New}
+use Rattle.rules_routine.proofs.RoutineLaws.{both_accept, accept_both, not-refused, or_false, check_counted, check_accepted}
+use Rattle.rules_routine.proofs.RoutineLaws.{routine_of-commands}
+use Rattle.book_layout.specs.Numbers.{two_bytes, four_bytes}
+use Rattle.book_layout.specs.Layout.{book_devices, pairs_end, commands_bytes, length_in, pairs_bytes, body_bytes, book_bytes}
+use Rattle.book_layout.specs.Layout.{count_size, pair_size, offset_size, command_size, count-of, pair_place, offset_at, length_at, commands_at}
+use Rattle.book_layout.specs.Reading.{head_check, length_fits, placed_check, placed_checks, book_check, pair_next, next_with, next_of}
+use Rattle.book_layout.specs.Writing.{routines_check, write_check, written_with, written_of, buffer_after}
+use Rattle.book_layout.specs.Claims.{Hands, ends, hands, Bytes, WriteThenRead, ReadThenWrite}
+use Rattle.book_layout.specs.declared.Item.TheVariants.{Handed, End, Refused as RefusedBook}
 use Rattle.book_layout.specs.declared.Next.{Next}
-use Rattle.book_layout.proofs.LayoutLaws.{commands-in, mark-short, fits_in_steps, in_steps-fits, length-mark_bytes}
-use Rattle.book_layout.proofs.LayoutLaws.{length-timeds_bytes, length-pairs_bytes, length-timeds_at, placed-commands, Placed, placed}
-use Rattle.book_layout.proofs.LayoutLaws.{as_placed, head_fine, fine_head, edition_new, edition_old, book_as, pair_handed}
-use Rattle.book_layout.proofs.LayoutLaws.{pair-past, next-first, next-later, next-refused}
-use Rattle.book_layout.proofs.Bytes.{AllKept, EachKept, accepted-kept, kept-accepted, timeds_read, timeds_written, timeds_kept}
-use Rattle.book_layout.specs.Writing.{written_with}
+use Rattle.book_layout.specs.declared.Written.TheVariants.{Length}
+use Rattle.book_layout.proofs.LayoutLaws.{InFours, fits_in_fours, in_fours_fits, placed-commands, Placed, placed}
+use Rattle.book_layout.proofs.LayoutLaws.{head_fine, book-placed, pair_handed, pair-past, next-first, next-later}
+use Rattle.book_layout.proofs.LayoutLaws.{length-four_bytes, length-commands_bytes, length-pairs_bytes, length-commands_at}
+use Rattle.book_layout.proofs.Bytes.{behind, two-read, four_read, commands-read, two-written, four_written, commands-written}
+
+-- ---- a routine in a book
+
+-- Routine r, which may be written, stands in book b as the i-th, at a place.
+record Stands (b : List ℕ) (i at : ℕ) (r : List Command) : Type 0 where
+  offset : offset_at b i ≡ at
+  size : length_at b i ≡ length_in r
+  inside : at + length_in r ≤ length b
+  same : commands_at b at (length r) ≡ r
+  some : 1 ≤ length r
+  few : length r ≤ max_commands
+  fine : commands_check book_devices 0 r ≡ Accepted
+
+-- It does if its pair and its commands are written there.
+stands : (b x y z : List ℕ) (i at : ℕ) (r : List Command) → routine_check book_devices r ≡ Accepted →
+    drop (pair_place i) b ≡ four_bytes at ++ x → drop (pair_place i + offset_size) b ≡ four_bytes (length_in r) ++ y →
+    drop at b ≡ commands_bytes r ++ z → Stands b i at r
+unfolding offset_at length_at
+stands b x y z i at r h offset size body =
+    let a = check_accepted book_devices r h in
+    let s : 1 ≤ length r = omega arith in
+    let l = ap length body ∙ length-append (commands_bytes r) z in
+    record {
+      offset = four_read b x (pair_place i) at offset;
+      size = four_read b y (pair_place i + offset_size) (length_in r) size;
+      inside = omega (arith, length-drop at b, length-commands_bytes r);
+      same = commands-read book_devices 0 b z at r a.2 body;
+      some = s;
+      few = a.1;
+      fine = a.2;
+    }
+
+-- At the place of a pair of an accepted book a step of reading looks at the pair;
+pair-next : (b : List ℕ) → book_check b ≡ Accepted → (i : ℕ) → next_of b (pair_place i) ≡ pair_next b (pair_place i)
+pair-next b a i = next-later b a (pair_place i) (λ e. omega arith)
+
+-- behind the pairs it is at the end;
+pairs_over : (b : List ℕ) → book_check b ≡ Accepted → (i : ℕ) → count-of b ≤ i → (next_of b (pair_place i)).item ≡ End
+pairs_over b a i h = ap (λ (t : Next). t.item) (pair-next b a i ∙ pair-past b (pair_place i) (omega arith))
+
+-- and this is the step that hands out r, the i-th routine.
+abbrev handed : ℕ → List Command → Next
+handed i r = record { item = Handed; routine = routine_of r; position = pair_place (suc i) }
+
+module _ (b : List ℕ) (i at : ℕ) (r : List Command) (s : Stands b i at r) where
+  -- Where r stands, its length fits, its commands are read,
+  size_fits : length_fits (length_at b i) ≡ true
+  size_fits = in_fours_fits (length_at b i) (record { commands = length r; some = s.some; few = s.few; size = s.size })
+
+  commands-same : commands_at b at (length_at b i / command_size) ≡ r
+  commands-same =
+      let e = s.size in
+      let n : length_at b i / command_size ≡ length r = omega arith in
+      ap (commands_at b at) n ∙ s.same
+
+  -- it passes the check of a book,
+  stands-accepted : placed_check b i at ≡ Accepted
+  stands-accepted =
+      let e = s.size in let l = s.inside in
+      placed-commands b i at size_fits s.offset (omega arith) ∙ ap (commands_check book_devices 0) commands-same ∙ s.fine
+
+  -- and it is handed out, the whole book being accepted.
+  stands_handed : book_check b ≡ Accepted → i < count-of b → next_of b (pair_place i) ≡ handed i r
+  unfolding offset_at length_at
+  stands_handed a h =
+      let o = s.offset in
+      let c = ap (λ (p : ℕ). commands_at b p (length_at b i / command_size)) o ∙ commands-same in
+      let q : pair_place i + pair_size ≡ pair_place (suc i) = omega arith in
+      pair-next b a i
+      ∙ pair_handed b (pair_place i) (omega arith) (omega arith)
+      ∙ (λ j. record { item = Handed; routine = routine_of (c j); position = q j })
 
 -- ---- routines that may be written are read as they are
 
-module _ (e : Edition) (most : ℕ) (b : List ℕ) where
-  -- A routine whose pair and commands are written at their places passes and is read as it is.
-  stands : (x y z : List ℕ) (i at : ℕ) (r : List TimedCommand) → timed_routine_check (book_minutes i) most book_devices r ≡ Accepted →
-      AllKept e r → drop (pair_place e i) b ≡ four_bytes at ++ x → drop (pair_place e i + offset_size) b ≡ four_bytes (length_in e r) ++ y →
-      drop at b ≡ timeds_bytes e r ++ z →
-      (length_at e b i ≡ length_in e r) × (placed_check e most b i at ≡ Accepted) × (timeds_at e b at (length_at e b i / command_size e) ≡ r)
-  unfolding offset_at length_at
-  stands x y z i at r h k offset size body =
-      let a = routine-accepted (book_minutes i) book_devices most r h in
-      let s : 1 ≤ length r = omega arith in
-      let o = four_read b x (pair_place e i) at offset in
-      let w = four_read b y (pair_place e i + offset_size) (length_in e r) size in
-      let l = ap length body ∙ length-append (timeds_bytes e r) z in
-      let fits = in_steps-fits e most (length_at e b i) (record { commands = length r; some = s; few = a.1; size = w }) in
-      let same = ap (timeds_at e b at) (commands-in e (length_at e b i) (length r) w)
-      ∙ timeds_read e (book_minutes i) book_devices 0 b z at r a.2 k body in (
-        w,
-        placed-commands e most b i at fits o (omega (arith, length-drop at b, length-timeds_bytes e r))
-            ∙ ap (timed_check (book_minutes i) book_devices 0) same
-            ∙ a.2,
-        same,
-      )
+-- A step of reading that is known hands out its routine.
+hands_by : (b : List ℕ) (p : ℕ) (t : Next) (r : List Command) (rs : List (List Command)) → next_of b p ≡ t →
+    t.item ≡ Handed → commands_of t.routine ≡ r → Hands b t.position rs → Hands b p (r ∷ rs)
+hands_by b p t r rs e x y z =
+    hands (ap (λ (u : Next). u.item) e ∙ x) (ap (λ (u : Next). commands_of u.routine) e ∙ y)
+    (subst (λ (q : ℕ). Hands b q rs) (sym (ap (λ (u : Next). u.position) e)) z)
 
-  -- So do the routines from the i-th on, of which the first begins at a place.
-  read_back : (rest : List ℕ) (i at : ℕ) (rs : List (List TimedCommand)) → routines_check most i rs ≡ Accepted → EachKept e rs →
-      drop (pair_place e i) b ≡ pairs_bytes e at rs ++ rest → drop at b ≡ body_bytes e rs →
-      (placed_checks e most b i (length rs) at ≡ Accepted) × (routines_at e b i (length rs) at ≡ rs)
-  unfolding routines_check placed_checks
-  read_back rest i at [] h k pairs body =
-      let l = ap length body in
-      (simp (le-ltb at (length b) (omega (arith, length-drop at b))), refl)
-  read_back rest i at (r ∷ rs) h k pairs body =
-      let a = both_accept (timed_routine_check (book_minutes i) most book_devices r) _ h in
-      let more = pairs_bytes e (at + length_in e r) rs ++ rest in
-      let offset : drop (pair_place e i) b ≡ four_bytes at ++ (four_bytes (length_in e r) ++ more) = simp append_assoc at pairs in
-      let size = behind b (four_bytes at) (four_bytes (length_in e r) ++ more) (pair_place e i) offset_size offset (length-four_bytes at) in
-      let s = stands (four_bytes (length_in e r) ++ more) more (body_bytes e rs) i at r a.0 k.0 offset size body in
-      let p : pair_place e (suc i) ≡ pair_place e i + offset_size + 4 = omega arith in
-      let next =
-      ap (λ (q : ℕ). drop q b) p
-      ∙ behind b (four_bytes (length_in e r)) more (pair_place e i + offset_size) 4 size (length-four_bytes (length_in e r)) in
-      let c = behind b (timeds_bytes e r) (body_bytes e rs) at (length_in e r) body (length-timeds_bytes e r) in
-      let f = read_back rest (suc i) (at + length_in e r) rs a.1 k.1 next c in (
-        accept_both _ _ s.1 (rw s.0 f.0),
-        ap₂ ◌∷◌ s.2 (ap (λ (n : ℕ). routines_at e b (suc i) (length rs) (at + n)) s.0 ∙ f.1),
-      )
-
--- Routines that may be written in an edition, and book b is their bytes.
-pub record Makes (e : Edition) (most : ℕ) (rs : List (List TimedCommand)) (b : List ℕ) : Type 0 where
-  pub fine : routines_check most 0 rs ≡ Accepted
-  pub few : length rs ≤ max_routines
-  pub kept : EachKept e rs
-  pub book : book_bytes e rs ≡ b
-
--- Its first bytes tell the edition.
-pub edition-told : (e : Edition) (rs : List (List TimedCommand)) (b : List ℕ) → length rs ≤ max_routines → book_bytes e rs ≡ b →
-    edition_of b ≡ e
-unfolding book_bytes
-edition-told Old rs b h s = let n = two-read b _ 0 (length rs) (sym s) in edition_old b (λ m. omega arith)
-edition-told New rs b h s = edition_new b (two-read b _ 0 new_mark (sym s))
-
--- And it is read as these routines.
-makes_read : (e : Edition) (most : ℕ) (rs : List (List TimedCommand)) (b : List ℕ) → Makes e most rs b →
-    (check_as e most b ≡ Accepted) × (routines_as e b ≡ rs)
-unfolding book_bytes count_of routines_as
-makes_read e most rs b w =
-    let few = w.few in
-    let count = two_bytes (length rs) in
-    let pairs = pairs_bytes e (pairs_end e (length rs)) rs in
-    let body = body_bytes e rs in
-    let o : 0 + mark_size e ≡ mark_size e = omega arith in
-    let z : pair_place e 0 ≡ head_size e = omega arith in
-    let m = ap (λ (q : ℕ). drop q b) (sym o)
-    ∙ behind b (mark_bytes e) (count ++ (pairs ++ body)) 0 (mark_size e) (sym w.book) (length-mark_bytes e) in
-    let n = two-read b (pairs ++ body) (mark_size e) (length rs) m in
-    let p = behind b count (pairs ++ body) (mark_size e) count_size m (length-two_bytes (length rs)) in
-    let q = behind b pairs body (head_size e) (pair_size * length rs) p (length-pairs_bytes e (pairs_end e (length rs)) rs) in
-    let f = read_back e most b body 0 (pairs_end e (length rs)) rs w.fine w.kept (ap (λ (q : ℕ). drop q b) z ∙ p) q in
-    let x = ap length p in
-    let y = length-drop (head_size e) b in
-    let d = length-drop (mark_size e) b in
-    let t = ap length m in
-    let u : pairs_end e (length rs) ≤ length b =
-    omega (
-      arith,
-      length-append pairs body,
-      length-pairs_bytes e (pairs_end e (length rs)) rs,
-      length-append count (pairs ++ body),
-      length-two_bytes (length rs),
-    ) in (
-      as_placed e most b (head_fine e b (omega arith) (omega arith) (omega arith)) ∙ rw n f.0,
-      rw n f.1,
+-- Of the routines from the i-th on, of which the first begins at a place, the pairs and the commands are written: they pass and, the whole
+-- book being accepted, are handed out.
+read_back : (b rest : List ℕ) (i at : ℕ) (rs : List (List Command)) → routines_check rs ≡ Accepted → i + length rs ≡ count-of b →
+    drop (pair_place i) b ≡ pairs_bytes at rs ++ rest → drop at b ≡ body_bytes rs →
+    (placed_checks b i (length rs) at ≡ Accepted) × (book_check b ≡ Accepted → Hands b (pair_place i) rs)
+unfolding routines_check placed_checks
+read_back b rest i at [] h n pairs body =
+    let l = ap length body in
+    (simp (le-ltb at (length b) (omega (arith, length-drop at b))), λ a. ends (pairs_over b a i (omega arith)))
+read_back b rest i at (r ∷ rs) h n pairs body =
+    let a = both_accept (routine_check book_devices r) _ h in
+    let more = pairs_bytes (at + length_in r) rs ++ rest in
+    let offset : drop (pair_place i) b ≡ four_bytes at ++ (four_bytes (length_in r) ++ more) = simp append_assoc at pairs in
+    let size = behind b (four_bytes at) (four_bytes (length_in r) ++ more) (pair_place i) offset_size offset (length-four_bytes at) in
+    let s = stands b (four_bytes (length_in r) ++ more) more (body_bytes rs) i at r a.0 offset size body in
+    let p : pair_place (suc i) ≡ pair_place i + offset_size + 4 = omega arith in
+    let next =
+    ap (λ (q : ℕ). drop q b) p
+    ∙ behind b (four_bytes (length_in r)) more (pair_place i + offset_size) 4 size (length-four_bytes (length_in r)) in
+    let c = behind b (commands_bytes r) (body_bytes rs) at (length_in r) body (length-commands_bytes r) in
+    let f = read_back b rest (suc i) (at + length_in r) rs a.1 (omega arith) next c in (
+      accept_both _ _ (stands-accepted b i at r s) (rw s.size f.0),
+      λ w.
+          let h = stands_handed b i at r s w (omega arith) in
+          hands_by b (pair_place i) (handed i r) r rs h refl (routine_of-commands r s.few) (f.1 w),
     )
 
--- ---- an accepted book is the bytes of its routines
+-- An accepted book is read from position 0 as from its first pair.
+from_start : (b : List ℕ) (rs : List (List Command)) → book_check b ≡ Accepted → Hands b count_size rs → Hands b 0 rs
+from_start b [] e (ends x) = let t = next-first b e ∙ sym (pair-next b e 0) in ends {at = 0} (ap (λ (u : Next). u.item) t ∙ x)
+from_start b (r ∷ rs) e (hands x y z) = hands_by b 0 (next_of b count_size) r rs (next-first b e ∙ sym (pair-next b e 0)) x y z
 
-module _ (e : Edition) (most : ℕ) (b : List ℕ) (bytes : Bytes b) where
-  -- The n routines from the i-th on: they may be written, and book b holds their pairs from the i-th on and their commands from a place to
-  -- its end.
-  record HoldsAll (i n at : ℕ) : Type 0 where
-    many : length (routines_at e b i n at) ≡ n
-    fine : routines_check most i (routines_at e b i n at) ≡ Accepted
-    kept : EachKept e (routines_at e b i n at)
-    pairs : drop (pair_place e i) b ≡ pairs_bytes e at (routines_at e b i n at) ++ drop (pair_place e (i + n)) b
-    body : drop at b ≡ body_bytes e (routines_at e b i n at)
+-- Routines that may be written, and book b is their bytes.
+pub record Makes (rs : List (List Command)) (b : List ℕ) : Type 0 where
+  pub fine : routines_check rs ≡ Accepted
+  pub few : length rs ≤ max_routines
+  pub book : book_bytes rs ≡ b
 
-  holds-none : (i at : ℕ) → length b ≤ at → HoldsAll i 0 at
-  unfolding routines_check
-  holds-none i at h =
-      let k : pair_place e i ≡ pair_place e (i + 0) = omega arith in
-      record { many = refl; fine = refl; kept = tt; pairs = ap (λ (q : ℕ). drop q b) k; body = drop_of_length-le b h }
+-- Then it is read as these routines.
+book-read : (rs : List (List Command)) (b : List ℕ) → Makes rs b → Hands b 0 rs
+unfolding book_bytes count-of two_bytes
+book-read rs b w =
+    let few = w.few in let e = w.book in
+    let count = two_bytes (length rs) in
+    let pairs = pairs_bytes (pairs_end (length rs)) rs in
+    let body = body_bytes rs in
+    let n = two-read b (pairs ++ body) 0 (length rs) (sym e) in
+    let p = behind b count (pairs ++ body) 0 count_size (sym e) refl in
+    let q = behind b pairs body count_size (pair_size * length rs) p (length-pairs_bytes (pairs_end (length rs)) rs) in
+    let f = read_back b body 0 (pairs_end (length rs)) rs w.fine (omega arith) p q in
+    let z = ap length e in
+    let l : pairs_end (count-of b) ≤ length b = omega (arith, length-append pairs body, length-pairs_bytes (pairs_end (length rs)) rs) in
+    let a : book_check b ≡ Accepted = book-placed b (head_fine b (omega arith) (omega arith) l) ∙ rw n f.0 in
+    from_start b rs a (f.1 a)
 
-  holds_more : (i n at : ℕ) → pair_place e (suc i) ≤ length b → Placed e most b i at → HoldsAll (suc i) n (at + length_at e b i) →
-      HoldsAll i (suc n) at
-  unfolding routines_check offset_at length_at
-  holds_more i n at l p m =
-      let f = fits_in_steps e most (length_at e b i) p.fits in
-      let some = f.some in let few = f.few in let size = f.size in let offset = p.offset in let inside = p.inside in
-      let c = commands-in e (length_at e b i) f.commands size in
-      let r = timeds_at e b at (length_at e b i / command_size e) in
-      let rs = routines_at e b (suc i) n (at + length_at e b i) in
-      let w = length-timeds_at e b at (length_at e b i / command_size e) in
-      let s : length_at e b i ≡ length_in e r = size ∙ ap (λ (q : ℕ). command_size e * q) (sym (w ∙ c)) in
-      let d : at + command_size e * f.commands ≡ at + length_at e b i = omega arith in
-      let g : pair_place e i + offset_size + 4 ≡ pair_place e (suc i) = omega arith in
-      let k : suc i + n ≡ i + suc n = omega arith in
-      let x = four_written b bytes (pair_place e i) (omega arith) in
-      let y = four_written b bytes (pair_place e i + offset_size) (omega arith) in
-      let z = timeds_written e b bytes at f.commands (omega arith) in
-      let u = m.pairs in let v = m.body in
-      record {
-        many = ap suc m.many;
-        fine = accept_both (timed_routine_check (book_minutes i) most book_devices r) _
-            (timed-counted (book_minutes i) book_devices most r (omega arith) (omega arith) ∙ p.fine) m.fine;
-        kept = (timeds_kept e b at (length_at e b i / command_size e), m.kept);
-        pairs = simp append_assoc (cc);
-        body = cc;
-      }
+-- ---- an accepted book is the bytes of routines that may be written
 
-  holds_all : (i n at : ℕ) → pair_place e (i + n) ≤ length b → placed_checks e most b i n at ≡ Accepted → HoldsAll i n at
-  unfolding placed_checks
-  holds_all i zero at l h = holds-none i at (ltb-false at (length b) (not-refused book_misplaced _ h))
-  holds_all i (suc n) at l h =
-      let a = both_accept (placed_check e most b i at) _ h in
-      holds_more i n at (omega arith) (placed e most b i at a.0) (holds_all (suc i) n (at + length_at e b i) (omega arith) a.1)
+-- A routine that may be written, and book b holds its pair as the i-th and its commands at a place.
+record Holds (b : List ℕ) (i at : ℕ) : Type 0 where
+  routine : List Command
+  fine : routine_check book_devices routine ≡ Accepted
+  size : length_at b i ≡ length_in routine
+  pair : drop (pair_place i) b ≡ four_bytes at ++ (four_bytes (length_in routine) ++ drop (pair_place (suc i)) b)
+  body : drop at b ≡ commands_bytes routine ++ drop (at + length_in routine) b
 
--- The mark stands there.
-mark-there : (e : Edition) (b : List ℕ) → Bytes b → mark_size e ≤ length b → edition_of b ≡ e → b ≡ mark_bytes e ++ drop (mark_size e) b
-unfolding edition_of
-mark-there Old b bytes l h = refl
-mark-there New b bytes l h =
-    by_test (λ (_ : Bool). b ≡ two_bytes new_mark ++ drop 2 b) (eqb (two_at b 0) new_mark)
-    (λ t. two-written b bytes 0 (omega arith) ∙ ap (λ (n : ℕ). two_bytes n ++ drop 2 b) (eqb-true (two_at b 0) new_mark t))
-    (λ t. let f = rw t at h in let z : ◌≡◌ {A = ℕ} 0 1 = cc in absurd (omega arith))
+-- So for a routine that passes the check,
+holds : (b : List ℕ) → Bytes b → (i at : ℕ) → pair_place (suc i) ≤ length b → Placed b i at → InFours (length_at b i) → Holds b i at
+unfolding offset_at length_at
+holds b bytes i at l p f =
+    let r = commands_at b at f.commands in
+    let n = length-commands_at b at f.commands in
+    let some = f.some in let few = f.few in let e = f.size in let offset = p.offset in let inside = p.inside in
+    let s : length_at b i ≡ length_in r = omega arith in
+    let c : f.commands ≡ length_at b i / command_size = omega arith in
+    let k : pair_place i + offset_size + 4 ≡ pair_place (suc i) = omega arith in
+    let m : at + command_size * f.commands ≡ at + length_in r = omega arith in
+    let x = four_written b bytes (pair_place i) (omega arith) in
+    let y = four_written b bytes (pair_place i + offset_size) (omega arith) in
+    let z = commands-written b bytes at f.commands (omega arith) in
+    record {
+      routine = r;
+      fine = check_counted book_devices r (omega arith) (omega arith) ∙ ap (λ (q : ℕ). commands_check book_devices 0 (commands_at b at q)) c
+          ∙ p.fine;
+      size = s;
+      pair = cc;
+      body = cc;
+    }
+
+-- n routines that may be written, and book b holds their pairs from the i-th on and their commands from a place to its end.
+record HoldsAll (b : List ℕ) (i n at : ℕ) : Type 0 where
+  routines : List (List Command)
+  many : length routines ≡ n
+  fine : routines_check routines ≡ Accepted
+  pairs : drop (pair_place i) b ≡ pairs_bytes at routines ++ drop (pair_place (i + n)) b
+  body : drop at b ≡ body_bytes routines
+
+-- So for no routine at the end of the book, for one more in front,
+holds-none : (b : List ℕ) (i at : ℕ) → length b ≤ at → HoldsAll b i 0 at
+unfolding routines_check
+holds-none b i at h =
+    let k : pair_place i ≡ pair_place (i + 0) = omega arith in
+    record { routines = []; many = refl; fine = refl; pairs = ap (λ (q : ℕ). drop q b) k; body = drop_of_length-le b h }
+
+holds_more : (b : List ℕ) (i n at : ℕ) (h : Holds b i at) → HoldsAll b (suc i) n (at + length_in h.routine) → HoldsAll b i (suc n) at
+unfolding routines_check
+holds_more b i n at h m =
+    let r = h.routine in
+    let rs = m.routines in
+    let k : suc i + n ≡ i + suc n = omega arith in
+    let x = h.pair in let y = m.pairs in let u = h.body in let v = m.body in
+    record {
+      routines = r ∷ rs;
+      many = ap suc m.many;
+      fine = accept_both (routine_check book_devices r) _ h.fine m.fine;
+      pairs = simp append_assoc (cc);
+      body = cc;
+    }
+
+-- and for all that pass the check.
+holds_all : (b : List ℕ) → Bytes b → (i n at : ℕ) → pair_place (i + n) ≤ length b → placed_checks b i n at ≡ Accepted → HoldsAll b i n at
+unfolding placed_checks
+holds_all b bytes i zero at l e = holds-none b i at (ltb-false at (length b) (not-refused book_misplaced _ e))
+holds_all b bytes i (suc n) at l e =
+    let a = both_accept (placed_check b i at) _ e in
+    let p = placed b i at a.0 in
+    let h = holds b bytes i at (omega arith) p (fits_in_fours (length_at b i) p.fits) in
+    holds_more b i n at h (holds_all b bytes (suc i) n (at + length_in h.routine) (omega arith) (rw h.size at a.1))
 
 -- So an accepted book is the bytes of its routines.
-pub accepted_makes : (most : ℕ) (b : List ℕ) → Bytes b → book_check most b ≡ Accepted → Makes (edition_of b) most (routines_of b) b
-unfolding book_check check_as count_of book_bytes routines_of routines_as
-accepted_makes most b bytes h =
-    let e = edition_of b in
-    let a = both_accept (head_check e b) _ h in
-    let f = fine_head e b a.0 in
-    let z : 0 + count_of e b ≡ count_of e b = omega arith in
-    let o : pair_place e 0 ≡ head_size e = omega arith in
-    let w = holds_all e most b bytes 0 (count_of e b) (pairs_end e (count_of e b)) (omega arith) a.1 in
-    let many = w.many in let pairs = w.pairs in let body = w.body in
-    let m = mark-there e b bytes (omega arith) refl in
-    let c = two-written b bytes (mark_size e) (omega arith) in
-    record { fine = w.fine; few = omega arith; kept = w.kept; book = cc }
-
--- ---- step by step
-
--- At the place of a pair of an accepted book a step of reading looks at the pair;
-module _ (most : ℕ) (b : List ℕ) (a : book_check most b ≡ Accepted) where
-  abbrev own : Edition
-  own = edition_of b
-
-  pair-next : (i : ℕ) → next_of most b (pair_place own i) ≡ pair_next own b (pair_place own i)
-  pair-next i = next-later most b a (pair_place own i) (λ z. omega arith)
-
-  -- behind the pairs it is at the end;
-  pairs_over : (i : ℕ) → count_of own b ≤ i → (next_of most b (pair_place own i)).item ≡ End
-  pairs_over i h = ap (λ (t : Next). t.item) (pair-next i ∙ pair-past own b (pair_place own i) (omega arith))
-
-  -- and else it hands out the routine that is placed there.
-  pair-hands : (i at : ℕ) → i < count_of own b → Placed own most b i at →
-      next_of most b (pair_place own i)
-      ≡ record { item = Handed; timed = timed_of (timeds_at own b at (length_at own b i / command_size own)); position = pair_place own (suc i) }
-  unfolding offset_at length_at
-  pair-hands i at h p =
-      let o = p.offset in
-      let s = mark-short own in
-      let q : pair_place own i + pair_size ≡ pair_place own (suc i) = omega arith in
-      pair-next i
-      ∙ pair_handed own b (pair_place own i) (omega arith) (omega arith)
-      ∙ (λ j. record { item = Handed; timed = timed_of (timeds_at own b (o j) (length_at own b i / command_size own)); position = q j })
-
-  -- So the routines from the i-th on are handed out.
-  steps_on : most ≤ max_commands → (i n at : ℕ) → i + n ≡ count_of own b → placed_checks own most b i n at ≡ Accepted →
-      Hands most b (pair_place own i) (routines_at own b i n at)
-  unfolding placed_checks
-  steps_on l i zero at k h = ends (pairs_over i (omega arith))
-  steps_on l i (suc n) at k h =
-      let x = both_accept (placed_check own most b i at) _ h in
-      let p = placed own most b i at x.0 in
-      let f = fits_in_steps own most (length_at own b i) p.fits in
-      let few = f.few in
-      let c = commands-in own (length_at own b i) f.commands f.size in
-      let w = length-timeds_at own b at (length_at own b i / command_size own) in
-      let t = pair-hands i at (omega arith) p in
-      hands (ap (λ (u : Next). u.item) t)
-      (ap (λ (u : Next). timed_commands_of u.timed) t ∙ timed_of-commands _ (omega arith))
-      (subst (λ (q : ℕ). Hands most b q (routines_at own b (suc i) n (at + length_at own b i))) (sym (ap (λ (u : Next). u.position) t))
-      (steps_on l (suc i) n (at + length_at own b i) (omega arith) x.1))
-
-  -- From position 0 it is read as from its first pair.
-  first_step : next_of most b 0 ≡ next_of most b (pair_place own 0)
-  first_step =
-      let o : head_size own ≡ pair_place own 0 = omega arith in
-      next-first most b a ∙ ap (pair_next own b) o ∙ sym (pair-next 0)
-
-  from_start : (p : ℕ) (rs : List (List TimedCommand)) → next_of most b 0 ≡ next_of most b p → Hands most b p rs → Hands most b 0 rs
-  from_start p [] s (ends x) = ends {at = 0} (ap (λ (u : Next). u.item) s ∙ x)
-  from_start p (r ∷ rs) s (hands x y z) =
-      hands (ap (λ (u : Next). u.item) s ∙ x) (ap (λ (u : Next). timed_commands_of u.timed) s ∙ y)
-      (subst (λ (q : ℕ). Hands most b q rs) (sym (ap (λ (u : Next). u.position) s)) z)
-
-  pub accepted-steps : most ≤ max_commands → Hands most b 0 (routines_of b)
-  unfolding book_check check_as routines_of routines_as
-  accepted-steps l =
-      from_start (pair_place own 0) _ first_step
-      (steps_on l 0 (count_of own b) (pairs_end own (count_of own b)) (omega arith) (both_accept (head_check own b) _ a).1)
-
--- What is handed out from a position is determined.
-hands-same : (most : ℕ) (b : List ℕ) (p : ℕ) (rs rs' : List (List TimedCommand)) → Hands most b p rs → Hands most b p rs' → rs ≡ rs'
-hands-same most b p [] [] (ends x) (ends x') = refl
-hands-same most b p [] (r' ∷ rs') (ends x) (hands x' y' z') = let z : ◌≡◌ {A = ℕ} 0 1 = cc in absurd (omega arith)
-hands-same most b p (r ∷ rs) [] (hands x y z) (ends x') = let z : ◌≡◌ {A = ℕ} 0 1 = cc in absurd (omega arith)
-hands-same most b p (r ∷ rs) (r' ∷ rs') (hands x y z) (hands x' y' z') =
-    ap₂ ◌∷◌ (sym y ∙ y') (hands-same most b (next_of most b p).position rs rs' z z')
-
--- A book that is turned down hands out nothing, and no end.
-hands-accepted : (most : ℕ) (b : List ℕ) (v : Verdict) (rs : List (List TimedCommand)) → book_check most b ≡ v → Hands most b 0 rs →
-    v ≡ Accepted
-hands-accepted most b Accepted rs h s = refl
-hands-accepted most b (Refused r) [] h (ends x) =
-    let t = ap (λ (u : Next). u.item) (next-refused most b r h 0) in let z : ◌≡◌ {A = ℕ} 0 1 = cc in absurd (omega arith)
-hands-accepted most b (Refused r) (c ∷ rs) h (hands x y s) =
-    let t = ap (λ (u : Next). u.item) (next-refused most b r h 0) in let z : ◌≡◌ {A = ℕ} 0 1 = cc in absurd (omega arith)
+book-written : (b : List ℕ) → Bytes b → book_check b ≡ Accepted → (rs : List (List Command)) × Makes rs b
+unfolding book_check head_check count-of book_bytes
+book-written b bytes e =
+    let a = both_accept (head_check b) _ e in
+    let t = or_false (ltb (length b) count_size || ltb max_routines (count-of b)) _ (not-refused book_cut_short _ a.0) in
+    let u = or_false (ltb (length b) count_size) _ t.0 in
+    let k = ltb-false max_routines (count-of b) u.1 in
+    let l = ltb-false (length b) (pairs_end (count-of b)) t.1 in
+    let z : 0 + count-of b ≡ count-of b = omega arith in
+    let h = holds_all b bytes 0 (count-of b) (pairs_end (count-of b)) (omega arith) a.1 in
+    let many = h.many in let pairs = h.pairs in let body = h.body in
+    let c = two-written b bytes 0 (omega arith) in
+    (h.routines, record { fine = h.fine; few = omega arith; book = cc })
 
 -- ---- the theorems
 
--- Book b, made of these routines, is read as them.
-pub makes_reads : (e : Edition) (most : ℕ) (rs : List (List TimedCommand)) (b : List ℕ) → Makes e most rs b → Reads e most b rs
-unfolding routines_of
-makes_reads e most rs b w =
-    let t = edition-told e rs b w.few w.book in
-    let r = makes_read e most rs b w in
-    let a = book_as most b e t ∙ r.0 in
-    let s : routines_of b ≡ rs = ap (λ (x : Edition). routines_as x b) t ∙ r.1 in
-    record {
-      edition = t;
-      accepted = a;
-      routines = s;
-      steps = λ l. subst (Hands most b 0) s (accepted-steps most b a l);
-    }
+-- What is handed out from a position is determined.
+hands-same : (b : List ℕ) (p : ℕ) (rs rs' : List (List Command)) → Hands b p rs → Hands b p rs' → rs ≡ rs'
+hands-same b p [] [] (ends x) (ends x') = refl
+hands-same b p [] (r' ∷ rs') (ends x) (hands x' y' z') = let z : ◌≡◌ {A = ℕ} 0 1 = cc in absurd (omega arith)
+hands-same b p (r ∷ rs) [] (hands x y z) (ends x') = let z : ◌≡◌ {A = ℕ} 0 1 = cc in absurd (omega arith)
+hands-same b p (r ∷ rs) (r' ∷ rs') (hands x y z) (hands x' y' z') = ap₂ ◌∷◌ (sym y ∙ y') (hands-same b _ rs rs' z z')
 
--- A length is answered only for a writing that is accepted, and is the book's.
+-- Only an accepted book is read.
+not-turned-down : (b : List ℕ) (v : Verdict) → ((r : Refusal) → (next_with v b 0).item ≡ RefusedBook r → ⊥) → v ≡ Accepted
+not-turned-down b Accepted h = refl
+not-turned-down b (Refused r) h = absurd (h r refl)
+
+pub hands-accepted : (b : List ℕ) (rs : List (List Command)) → Hands b 0 rs → book_check b ≡ Accepted
+unfolding next_of
+hands-accepted b [] (ends x) = not-turned-down b (book_check b) (λ r e. let z : ◌≡◌ {A = ℕ} 0 1 = cc in omega arith)
+hands-accepted b (r ∷ rs) (hands x y z) = not-turned-down b (book_check b) (λ r e. let z : ◌≡◌ {A = ℕ} 0 1 = cc in omega arith)
+
+-- So what was read of a book makes it.
+pub hands_make : (b : List ℕ) → Bytes b → (rs : List (List Command)) → Hands b 0 rs → Makes rs b
+hands_make b bytes rs h =
+    let w = book-written b bytes (hands-accepted b rs h) in
+    subst (λ (qs : List (List Command)). Makes qs b) (hands-same b 0 w.0 rs (book-read w.0 b w.1) h) w.1
+
+-- A length is answered only for a writing that is accepted, and is the book's;
 pub written-accepted : (v : Verdict) (book : List ℕ) (n : ℕ) → written_with v book ≡ Length n → (v ≡ Accepted) × (length book ≡ n)
 written-accepted Accepted book n e = (refl, cc)
 written-accepted (Refused r) book n e = let z : ◌≡◌ {A = ℕ} 0 1 = cc in absurd (omega arith)
 
--- What an accepting verdict leaves in a buffer begins with the book.
-pub first_of : (v : Verdict) (book buffer : List ℕ) → v ≡ Accepted → take (length book) (buffer_with v book buffer) ≡ book
-first_of v book buffer a = rw a (take-append_seam book (drop (length book) buffer))
+-- the book is then the first bytes of the buffer.
+first-bytes : (rs : List (List Command)) (buffer : List ℕ) → write_check rs (length buffer) ≡ Accepted →
+    take (length (book_bytes rs)) (buffer_after rs buffer) ≡ book_bytes rs
+unfolding buffer_after
+first-bytes rs buffer e = rw e (take-append_seam (book_bytes rs) (drop (length (book_bytes rs)) buffer))
 
--- Writing accepts exactly routines that may be written, where there is room.
-pub writes_makes : (e : Edition) (most : ℕ) (rs : List (List TimedCommand)) (room : ℕ) → write_check e most rs room ≡ Accepted →
-    (b : List ℕ) → book_bytes e rs ≡ b → Makes e most rs b
+-- Routines that may be written are accepted where there is room,
+write_fits : (rs : List (List Command)) (b : List ℕ) (room : ℕ) → Makes rs b → length b ≤ room → write_check rs room ≡ Accepted
 unfolding write_check
-writes_makes e most rs room a b s =
-    let x = both_accept (routines_check most 0 rs) _ a in
-    let y = both_accept (minutes_check e rs) _ x.1 in
-    let t = or_false (ltb max_routines (length rs)) _ (not-refused no_room _ y.1) in
-    record { fine = x.0; few = ltb-false max_routines (length rs) t.0; kept = accepted-kept e rs y.0; book = s }
+write_fits rs b room w l =
+    let few = w.few in let e = ap length w.book in
+    simp (w.fine, le-ltb max_routines (length rs) few, le-ltb room (length (book_bytes rs)) (omega arith))
 
-pub makes_writes : (e : Edition) (most : ℕ) (rs : List (List TimedCommand)) (b : List ℕ) (room : ℕ) → Makes e most rs b →
-    length b ≤ room → write_check e most rs room ≡ Accepted
-unfolding write_check
-makes_writes e most rs b room w l =
-    let few = w.few in let s = ap length w.book in
-    simp (
-      w.fine,
-      kept-accepted e rs w.kept,
-      le-ltb max_routines (length rs) few,
-      le-ltb room (length (book_bytes e rs)) (omega arith),
-    )
-
-makes_book : (e : Edition) (most : ℕ) (rs : List (List TimedCommand)) (b : List ℕ) → Makes e most rs b → Writes e most rs b
-unfolding written_of buffer_after
-makes_book e most rs b w =
-    let s = ap length w.book in
-    record {
-      bytes = w.book;
-      answer = λ room l. rw (makes_writes e most rs b room w l) (ap Length s);
-      buffer = λ before l.
-          ap (λ (m : ℕ). take m (buffer_after e most rs before)) (sym s)
-          ∙ first_of _ (book_bytes e rs) before (makes_writes e most rs b (length before) w l)
-          ∙ w.book;
-    }
+-- and give their book.
+write_again : (rs : List (List Command)) (b buffer : List ℕ) → Makes rs b → length b ≤ length buffer →
+    (written_of rs (length buffer) ≡ Length (length b)) × (take (length b) (buffer_after rs buffer) ≡ b)
+unfolding written_of
+write_again rs b buffer w l =
+    let a = write_fits rs b (length buffer) w l in
+    let e = ap length w.book in
+    (rw a (ap Length e), ap (λ (m : ℕ). take m (buffer_after rs buffer)) (sym e) ∙ first-bytes rs buffer a ∙ w.book)
 
 -- (a)
 pub write_then_read : WriteThenRead
-unfolding written_of buffer_after
-write_then_read e most rs buffer n h =
-    let w = written-accepted (write_check e most rs (length buffer)) (book_bytes e rs) n h in
-    makes_reads e most rs _ (writes_makes e most rs (length buffer) w.0 _
-    (sym (first_of _ (book_bytes e rs) buffer w.0) ∙ ap (λ (m : ℕ). take m (buffer_after e most rs buffer)) w.1))
+unfolding written_of write_check
+write_then_read rs buffer n e =
+    let w = written-accepted (write_check rs (length buffer)) (book_bytes rs) n e in
+    let a = both_accept (routines_check rs) _ w.0 in
+    let t = or_false (ltb max_routines (length rs)) _ (not-refused no_room _ a.1) in
+    book-read rs (take n (buffer_after rs buffer)) (record {
+      fine = a.0;
+      few = ltb-false max_routines (length rs) t.0;
+      book = sym (first-bytes rs buffer w.0) ∙ ap (λ (m : ℕ). take m (buffer_after rs buffer)) w.1;
+    })
 
 -- (b)
 pub read_then_write : ReadThenWrite
-read_then_write most b bytes a =
-    let w = accepted_makes most b bytes a in
-    (makes_reads (edition_of b) most (routines_of b) b w, makes_book (edition_of b) most (routines_of b) b w)
-
-pub hands_alone : HandsAlone
-hands_alone most b bytes l rs h =
-    let a = hands-accepted most b (book_check most b) rs refl h in
-    (a, hands-same most b 0 rs (routines_of b) h (accepted-steps most b a l))
+read_then_write b bytes = (
+  λ e. let w = book-written b bytes e in (w.0, book-read w.0 b w.1),
+  λ rs h buffer l. write_again rs b buffer (hands_make b bytes rs h) l,
+)

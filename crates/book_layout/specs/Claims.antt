@@ -1,96 +1,140 @@
--- What is claimed of the definitions. The theorems stand in proofs/Theorems.antt. Assumes nothing.
-use Rattle.std.specs.Prelude.{◌≡◌, ◌≢◌, List, [], ◌∷◌, ℕ, ◌+◌, ◌*◌, ◌<◌, ◌≤◌, length, take}
-use Rattle.rules_routine.specs.Limits.{max_commands, max_routines}
-use Rattle.rules_routine.specs.declared.Verdict.TheVariants.{Accepted}
-use Rattle.rules_timed.specs.Timed.{TimedCommand, timed_commands_of}
-use Rattle.book_bytes.specs.Numbers.{Bytes}
-use Rattle.book_layout.specs.Edition.{edition_of}
-use Rattle.book_layout.specs.Layout.{command_size, pairs_end, book_bytes}
-use Rattle.book_layout.specs.Reading.{book_check, routines_of, next_of}
-use Rattle.book_layout.specs.Writing.{written_of, buffer_after, converted_of, converted_buffer}
+-- What is claimed of the definitions, beside the contracts of crates `book_read` and `book_write`. The theorems stand in
+-- proofs/Theorems.antt. Assumes nothing.
+use Rattle.std.specs.Prelude.{◌≡◌, ◌⊎◌, ◌≢◌, List, [], ◌∷◌, ◌++◌, ℕ, zero, suc, ◌+◌, ◌*◌, ◌<◌, ◌≤◌, ℤ, length, take}
+use Rattle.rules_routine.specs.Refusals.{Cause, device_not_below, setting_out_of_range, tag_out_of_range, book_cut_short, book_misplaced}
+use Rattle.rules_routine.specs.Refusals.{book_length, condition_alone}
+use Rattle.rules_routine.specs.Causes.{Exactly}
+use Rattle.rules_routine.specs.Limits.{max_commands, lowest_setting, highest_setting, max_routines}
+use Rattle.rules_routine.specs.Routine.{highest_tag, condition_tag, commands_of}
+use Rattle.rules_routine.specs.declared.Command.{Command}
+use Rattle.rules_routine.specs.declared.Verdict.TheVariants.{Accepted, Refused}
+use Rattle.book_layout.specs.Numbers.{byte_at, two_at, bits_of}
+use Rattle.book_layout.specs.Layout.{count_size, command_size, book_devices, pairs_end, count-of, offset_at, length_at}
+use Rattle.book_layout.specs.Reading.{book_check, next_of}
+use Rattle.book_layout.specs.Writing.{routines_lent, row_of, counts_of, devices_of, tags_of, settings_of, written_of, buffer_after}
 use Rattle.book_layout.specs.declared.Item.TheVariants.{Handed, End}
 use Rattle.book_layout.specs.declared.Written.TheVariants.{Length}
-use Rattle.book_layout.specs.declared.Edition.{Edition}
-use Rattle.book_layout.specs.declared.Edition.TheVariants.{Old, New}
 
 -- ---- what is read
 
--- From a position the steps of reading hand out these routines with their minutes, one a step, and then the end.
-pub data Hands (most : ℕ) (b : List ℕ) : ℕ → List (List TimedCommand) → Type 0 where
-  ends : {at : ℕ} → (next_of most b at).item ≡ End → Hands most b at []
-  hands : {at : ℕ} {r : List TimedCommand} {rs : List (List TimedCommand)} →
-      (next_of most b at).item ≡ Handed → timed_commands_of (next_of most b at).timed ≡ r → Hands most b (next_of most b at).position rs →
-      Hands most b at (r ∷ rs)
+-- From a position the steps of reading hand out these routines, one a step, and then the end.
+pub data Hands (b : List ℕ) : ℕ → List (List Command) → Type 0 where
+  ends : {at : ℕ} → (next_of b at).item ≡ End → Hands b at []
+  hands : {at : ℕ} {r : List Command} {rs : List (List Command)} →
+      (next_of b at).item ≡ Handed → commands_of (next_of b at).routine ≡ r → Hands b (next_of b at).position rs → Hands b at (r ∷ rs)
 
--- Book b is of edition e, is accepted and is read as these routines with these minutes: all at once, and step by step where code has a
--- place for as many commands as a routine may have.
-pub record Reads (e : Edition) (most : ℕ) (b : List ℕ) (rs : List (List TimedCommand)) : Type 0 where
-  pub edition : edition_of b ≡ e
-  pub accepted : book_check most b ≡ Accepted
-  pub routines : routines_of b ≡ rs
-  pub steps : most ≤ max_commands → Hands most b 0 rs
+-- A list of bytes: no number above 255.
+abbrev pub Bytes : List ℕ → Type 0
+Bytes b = (i : ℕ) → byte_at b i < 256
 
--- (a) Whatever list of routines is written in an edition, what was written is a book of that edition and is read as the same routines and
--- minutes.
+-- (a) Whatever list of routines is written, reading what was written gives the same routines.
 abbrev pub WriteThenRead : Type 0
 WriteThenRead =
-    (e : Edition) (most : ℕ) (rs : List (List TimedCommand)) (buffer : List ℕ) (n : ℕ) → written_of e most rs (length buffer) ≡ Length n →
-    Reads e most (take n (buffer_after e most rs buffer)) rs
+    (rs : List (List Command)) (buffer : List ℕ) (n : ℕ) → written_of rs (length buffer) ≡ Length n →
+    Hands (take n (buffer_after rs buffer)) 0 rs
 
--- Written in an edition into any buffer that has the room, these routines are the bytes of b.
-pub record Writes (e : Edition) (most : ℕ) (rs : List (List TimedCommand)) (b : List ℕ) : Type 0 where
-  pub bytes : book_bytes e rs ≡ b
-  pub answer : (room : ℕ) → length b ≤ room → written_of e most rs room ≡ Length (length b)
-  pub buffer : (before : List ℕ) → length b ≤ length before → take (length b) (buffer_after e most rs before) ≡ b
-
--- (b) An accepted book is read to its end, and what was read of it, written in its own edition, gives the same bytes.
+-- (b) An accepted book is read to its end; and whatever was read of a book, written into any buffer that has the room, gives the same
+-- bytes.
 abbrev pub ReadThenWrite : Type 0
 ReadThenWrite =
-    (most : ℕ) (b : List ℕ) → Bytes b → book_check most b ≡ Accepted →
-    Reads (edition_of b) most b (routines_of b) × Writes (edition_of b) most (routines_of b) b
+    (b : List ℕ) → Bytes b →
+    (book_check b ≡ Accepted → (rs : List (List Command)) × Hands b 0 rs)
+    × ((rs : List (List Command)) → Hands b 0 rs → (buffer : List ℕ) → length b ≤ length buffer →
+    (written_of rs (length buffer) ≡ Length (length b)) × (take (length b) (buffer_after rs buffer) ≡ b))
 
--- Whatever the steps of reading hand out is that.
-abbrev pub HandsAlone : Type 0
-HandsAlone =
-    (most : ℕ) (b : List ℕ) → Bytes b → most ≤ max_commands → (rs : List (List TimedCommand)) → Hands most b 0 rs →
-    (book_check most b ≡ Accepted) × (rs ≡ routines_of b)
+-- ---- how routines are lent
 
--- ---- editions
+-- What is lent of routines is those routines again, whatever is lent behind them.
+abbrev pub LentAgain : Type 0
+LentAgain =
+    (rs : List (List Command)) (x y : List ℕ) (z : List ℤ) →
+    routines_lent (counts_of rs) (devices_of rs ++ x) (tags_of rs ++ y) (settings_of rs ++ z) ≡ rs
 
--- (e) No book of one edition is one of the other: what routines are written as tells its edition.
-abbrev pub EditionsApart : Type 0
-EditionsApart =
-    ((e : Edition) (rs : List (List TimedCommand)) → length rs ≤ max_routines → edition_of (book_bytes e rs) ≡ e)
-    × ((rs rs' : List (List TimedCommand)) → length rs ≤ max_routines → book_bytes Old rs ≢ book_bytes New rs')
+-- Each routine has as many commands as its count says; and where they are written, all their parts were lent: nothing is written shorter.
+abbrev pub WrittenWhole : Type 0
+WrittenWhole =
+    (ns ds ts : List ℕ) (ss : List ℤ) →
+    let rs = routines_lent ns ds ts ss in
+    let all = length (row_of rs) in
+    (counts_of rs ≡ ns)
+    × ((room n : ℕ) → written_of rs room ≡ Length n →
+    (devices_of rs ≡ take all ds) × (tags_of rs ≡ take all ts) × (settings_of rs ≡ take all ss))
 
--- (f) What is converted is a book of the edition named, with the same routines and minutes;
-abbrev pub ConvertThenRead : Type 0
-ConvertThenRead =
-    (e : Edition) (most : ℕ) (b buffer : List ℕ) (n : ℕ) → Bytes b → converted_of e most b (length buffer) ≡ Length n →
-    Reads e most (take n (converted_buffer e most b buffer)) (routines_of b)
+-- ---- when a book is turned down
 
--- Converted into an edition into any buffer that has the room, book b gives these bytes.
-pub record Converts (e : Edition) (most : ℕ) (b to : List ℕ) : Type 0 where
-  pub answer : (room : ℕ) → length to ≤ room → converted_of e most b room ≡ Length (length to)
-  pub buffer : (before : List ℕ) → length to ≤ length before → take (length to) (converted_buffer e most b before) ≡ to
+-- The tests of a book: of its head, of the length and the place of routine i, of the three parts of command j of routine i and, if it is a
+-- condition, of what follows it, and of its end.
+pub data Test : Type 0 where
+  head : Test
+  routine_length : ℕ → Test
+  routine_place : ℕ → Test
+  command_device : ℕ → ℕ → Test
+  command_setting : ℕ → ℕ → Test
+  command_tag : ℕ → ℕ → Test
+  command_alone : ℕ → ℕ → Test
+  left_over : Test
 
--- (g) into its own edition it is the same bytes;
-abbrev pub ConvertSame : Type 0
-ConvertSame = (most : ℕ) (b : List ℕ) → Bytes b → book_check most b ≡ Accepted → Converts (edition_of b) most b b
+-- The order in which document 01, and for 22 document 02, item 4, makes them. Those of k commands from the j-th on:
+unfoldable pub command_tests : ℕ → ℕ → ℕ → List Test
+command_tests i j zero = []
+command_tests i j (suc k) =
+    command_device i j ∷ command_setting i j ∷ command_tag i j ∷ command_alone i j ∷ command_tests i (suc j) k
 
--- (h) "an old book made new and old again has its old bytes".
-abbrev pub OldNewOld : Type 0
-OldNewOld =
-    (most : ℕ) (b : List ℕ) → Bytes b → book_check most b ≡ Accepted → edition_of b ≡ Old →
-    let new = book_bytes New (routines_of b) in
-    Converts New most b new × Converts Old most new b
+-- those of n routines from the i-th on:
+unfoldable pub routine_tests : ℕ → ℕ → List Test
+routine_tests i zero = []
+routine_tests i (suc n) = routine_length i ∷ routine_place i ∷ (command_tests i 0 max_commands ++ routine_tests (suc i) n)
+
+-- and all:
+unfoldable pub tests : List Test
+tests = head ∷ (routine_tests 0 max_routines ++ (left_over ∷ []))
+
+-- The cause for which a test turns a book down.
+abbrev pub cause_of : Test → Cause
+cause_of head = book_cut_short
+cause_of (routine_length i) = book_length i
+cause_of (routine_place i) = book_misplaced
+cause_of (command_device i j) = device_not_below j
+cause_of (command_setting i j) = setting_out_of_range j
+cause_of (command_tag i j) = tag_out_of_range j
+cause_of (command_alone i j) = condition_alone j
+cause_of left_over = book_misplaced
+
+-- Where the layout puts routine i: where the pairs end, and then where the routine before ends.
+unfoldable pub place : List ℕ → ℕ → ℕ
+place b zero = pairs_end (count-of b)
+place b (suc i) = place b i + length_at b i
+
+-- Book b breaks a test: said of its bytes, each test by itself. A routine is there if its index is below the count, and a command if
+-- it begins before its routine's length is over. The 16 bits of a setting out of range lie between those of the highest and those of the
+-- lowest. A condition is last where its routine's length is over behind it.
+abbrev pub Breaks : List ℕ → Test → Type 0
+Breaks b head = (length b < count_size) ⊎ ((max_routines < count-of b) ⊎ (length b < pairs_end (count-of b)))
+Breaks b (routine_length i) = (i < count-of b) × ((k : ℕ) → 1 ≤ k → k ≤ max_commands → length_at b i ≢ command_size * k)
+Breaks b (routine_place i) = (i < count-of b) × ((offset_at b i ≢ place b i) ⊎ (length b < place b i + length_at b i))
+Breaks b (command_device i j) = (i < count-of b) × (command_size * j < length_at b i) × (book_devices ≤ byte_at b (place b i + command_size * j))
+Breaks b (command_setting i j) =
+    (i < count-of b) × (command_size * j < length_at b i)
+    × (bits_of highest_setting < two_at b (place b i + command_size * j + 2))
+    × (two_at b (place b i + command_size * j + 2) < bits_of lowest_setting)
+Breaks b (command_tag i j) = (i < count-of b) × (command_size * j < length_at b i) × (highest_tag < byte_at b (place b i + command_size * j + 1))
+Breaks b (command_alone i j) =
+    (i < count-of b) × (command_size * j < length_at b i) × (byte_at b (place b i + command_size * j + 1) ≡ condition_tag)
+    × ((length_at b i ≤ command_size * suc j) ⊎ (byte_at b (place b i + command_size * suc j + 1) ≡ condition_tag))
+Breaks b left_over = place b (count-of b) < length b
+
+-- (c) Each refusal is given exactly under its cause: the answer is a refusal r exactly if the first test that the book breaks turns down
+-- with r; and a book is accepted exactly if it breaks none.
+abbrev pub ExactRefusals : Type 0
+ExactRefusals =
+    (b : List ℕ) → Bytes b → Exactly (Breaks b) cause_of tests (λ r. book_check b ≡ Refused r) (book_check b ≡ Accepted)
 
 -- ---- how much of a book has to be read
 
--- The longest book of an edition: 64 routines of the most commands. With 8 of them, 2,562 bytes and 3,588.
-abbrev pub longest_book : Edition → ℕ → ℕ
-longest_book e most = pairs_end e max_routines + max_routines * (command_size e * most)
+-- The longest book: 64 routines of 8 commands.
+abbrev pub longest_book : ℕ
+longest_book = pairs_end max_routines + max_routines * (command_size * max_commands)
 
--- (d) A book is judged by its first bytes, one more than the longest book of its edition has: what stands behind them changes nothing.
+-- (d) A book is judged by its first bytes, one more than the longest book has: what stands behind them changes nothing.
 abbrev pub JudgedByFirstBytes : Type 0
-JudgedByFirstBytes = (most : ℕ) (b : List ℕ) (n : ℕ) → longest_book (edition_of b) most < n → book_check most (take n b) ≡ book_check most b
+JudgedByFirstBytes = (b : List ℕ) (n : ℕ) → longest_book < n → book_check (take n b) ≡ book_check b

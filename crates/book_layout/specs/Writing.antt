@@ -1,74 +1,90 @@
--- Writing a book in an edition, and converting one: document 01, "Writing: the routines in turn (4, then commands), then 21"; document 02,
--- item 6: "Into the old edition, 25 when some command's minutes are not 1, with both indexes of the first; it comes after every other
--- check but 21." Assumes nothing.
-use Rattle.std.specs.Prelude.{not, ◌||◌, List, [], ◌∷◌, ◌++◌, ℕ, suc, ltb, eqb, length, drop}
-use Rattle.rules_routine.specs.Refusals.{no_room, book_minutes, minutes_not_1, refuse◌when◌, ◌andThen◌}
-use Rattle.rules_routine.specs.Limits.{max_routines}
+-- Writing a book: document 01, "The routine book" and "When a call is turned down" ("Writing: the routines in turn (4, then commands), then
+-- 21"). Assumes nothing.
+use Rattle.std.specs.Prelude.{◌||◌, List, [], ◌∷◌, ◌++◌, map, ℕ, zero, suc, ◌+◌, ltb, ℤ, pos, length, drop, get_or}
+use Rattle.rules_routine.specs.Refusals.{no_room, refuse◌when◌, ◌andThen◌}
+use Rattle.rules_routine.specs.Routine.{routine_check}
+use Rattle.rules_routine.specs.declared.Command.{Command}
 use Rattle.rules_routine.specs.declared.Verdict.{Verdict}
 use Rattle.rules_routine.specs.declared.Verdict.TheVariants.{Accepted, Refused}
-use Rattle.rules_timed.specs.Timed.{TimedCommand, timed_routine_check}
+use Rattle.rules_routine.specs.Limits.{max_routines}
 use Rattle.book_layout.specs.Layout.{book_devices, book_bytes}
-use Rattle.book_layout.specs.Edition.{old_minutes}
-use Rattle.book_layout.specs.Reading.{book_check, routines_of}
 use Rattle.book_layout.specs.declared.Written.{Written}
 use Rattle.book_layout.specs.declared.Written.TheVariants.{Length, Refused as NotWritten}
-use Rattle.book_layout.specs.declared.Edition.{Edition}
-use Rattle.book_layout.specs.declared.Edition.TheVariants.{Old, New}
 
--- The routines in turn, the first of them with index i: 4, then commands.
-unfoldable pub routines_check : ℕ → ℕ → List (List TimedCommand) → Verdict
-routines_check most i [] = Accepted
-routines_check most i (r ∷ rs) = timed_routine_check (book_minutes i) most book_devices r and_then routines_check most (suc i) rs
+-- ---- the routines to write, as they are lent
 
--- 25: commands of routine i from the j-th on, then routines from the i-th on.
-unfoldable pub ones_in : ℕ → ℕ → List TimedCommand → Verdict
-ones_in i j [] = Accepted
-ones_in i j (c ∷ cs) = refuse (minutes_not_1 i j) when not (eqb c.minutes old_minutes) and_then ones_in i (suc j) cs
+-- A part of a command that is not lent reads as a number that no command has, so that its routine is turned down for it and is never
+-- written shorter.
+abbrev pub missing_device : ℕ
+missing_device = 255
 
-unfoldable pub ones_check : ℕ → List (List TimedCommand) → Verdict
-ones_check i [] = Accepted
-ones_check i (r ∷ rs) = ones_in i 0 r and_then ones_check (suc i) rs
+abbrev pub missing_tag : ℕ
+missing_tag = 255
 
--- An edition has a place for all minutes, or for 1 alone.
-unfoldable pub minutes_check : Edition → List (List TimedCommand) → Verdict
-minutes_check Old rs = ones_check 0 rs
-minutes_check New rs = Accepted
+abbrev pub missing_setting : ℤ
+missing_setting = pos 32767
+
+-- Commands are lent in a row, as three slices: devices, tags, settings. The command at a place of the row, and n of them from there on.
+abbrev pub command_lent : List ℕ → List ℕ → List ℤ → ℕ → Command
+command_lent ds ts ss at =
+    record { device = get_or ds at missing_device; tag = get_or ts at missing_tag; setting = get_or ss at missing_setting }
+
+abbrev pub commands_lent : List ℕ → List ℕ → List ℤ → ℕ → ℕ → List Command
+commands_lent ds ts ss at zero = []
+commands_lent ds ts ss at (suc n) = command_lent ds ts ss at ∷ commands_lent ds ts ss (suc at) n
+
+-- Routines of these counts, the first of which begins at a place of the row, each next where the one before ends. A routine has exactly as
+-- many commands as its count says. What is lent behind the last routine belongs to none.
+abbrev pub routines_from : List ℕ → List ℕ → List ℤ → ℕ → List ℕ → List (List Command)
+routines_from ds ts ss at [] = []
+routines_from ds ts ss at (n ∷ ns) = commands_lent ds ts ss at n ∷ routines_from ds ts ss (at + n) ns
+
+-- The routines of four lent slices: counts, devices, tags, settings.
+abbrev pub routines_lent : List ℕ → List ℕ → List ℕ → List ℤ → List (List Command)
+routines_lent ns ds ts ss = routines_from ds ts ss 0 ns
+
+-- The other way round, how routines are lent: a count for each, and each part of all their commands in a row.
+abbrev pub row_of : List (List Command) → List Command
+row_of [] = []
+row_of (r ∷ rs) = r ++ row_of rs
+
+abbrev pub counts_of : List (List Command) → List ℕ
+counts_of rs = map length rs
+
+abbrev pub devices_of : List (List Command) → List ℕ
+devices_of rs = map (λ (c : Command). c.device) (row_of rs)
+
+abbrev pub tags_of : List (List Command) → List ℕ
+tags_of rs = map (λ (c : Command). c.tag) (row_of rs)
+
+abbrev pub settings_of : List (List Command) → List ℤ
+settings_of rs = map (λ (c : Command). c.setting) (row_of rs)
+
+-- ---- what is turned down, what is answered and what is left in the buffer
+
+-- The routines in turn: 4, then commands.
+unfoldable pub routines_check : List (List Command) → Verdict
+routines_check [] = Accepted
+routines_check (r ∷ rs) = routine_check book_devices r and_then routines_check rs
 
 -- Then 21, for a buffer of so many bytes: "over 64 routines to write, or buffer too short".
-unfoldable pub write_check : Edition → ℕ → List (List TimedCommand) → ℕ → Verdict
-write_check e most rs room =
-    routines_check most 0 rs
-    and_then minutes_check e rs
-    and_then refuse no_room when (ltb max_routines (length rs) || ltb room (length (book_bytes e rs)))
+unfoldable pub write_check : List (List Command) → ℕ → Verdict
+write_check rs room =
+    routines_check rs
+    and_then refuse no_room when (ltb max_routines (length rs) || ltb room (length (book_bytes rs)))
 
 abbrev pub written_with : Verdict → List ℕ → Written
 written_with Accepted book = Length (length book)
 written_with (Refused r) book = NotWritten r
 
 -- The answer: the book's length, or the refusal.
-unfoldable pub written_of : Edition → ℕ → List (List TimedCommand) → ℕ → Written
-written_of e most rs room = written_with (write_check e most rs room) (book_bytes e rs)
+unfoldable pub written_of : List (List Command) → ℕ → Written
+written_of rs room = written_with (write_check rs room) (book_bytes rs)
 
 abbrev pub buffer_with : Verdict → List ℕ → List ℕ → List ℕ
 buffer_with Accepted book buffer = book ++ drop (length book) buffer
 buffer_with (Refused r) book buffer = buffer
 
 -- The buffer afterwards: the book over its first bytes, and nothing changed after them; on a refusal nothing changed at all.
-unfoldable pub buffer_after : Edition → ℕ → List (List TimedCommand) → List ℕ → List ℕ
-buffer_after e most rs buffer = buffer_with (write_check e most rs (length buffer)) (book_bytes e rs) buffer
-
--- ---- converting
-
--- "A converter takes either edition and writes the same routines and minutes in the one named": every check of reading, then 25, then 21.
-unfoldable pub convert_check : Edition → ℕ → List ℕ → ℕ → Verdict
-convert_check e most b room =
-    book_check most b
-    and_then minutes_check e (routines_of b)
-    and_then refuse no_room when ltb room (length (book_bytes e (routines_of b)))
-
--- The answer, and the buffer afterwards, as of writing.
-unfoldable pub converted_of : Edition → ℕ → List ℕ → ℕ → Written
-converted_of e most b room = written_with (convert_check e most b room) (book_bytes e (routines_of b))
-
-unfoldable pub converted_buffer : Edition → ℕ → List ℕ → List ℕ → List ℕ
-converted_buffer e most b buffer = buffer_with (convert_check e most b (length buffer)) (book_bytes e (routines_of b)) buffer
+unfoldable pub buffer_after : List (List Command) → List ℕ → List ℕ
+buffer_after rs buffer = buffer_with (write_check rs (length buffer)) (book_bytes rs) buffer

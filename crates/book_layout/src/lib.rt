@@ -1,30 +1,12 @@
-// The routine book in two editions as definitions, and the theorems about them: specs/ and proofs/. Documents 01, "The routine book", and
-// 02, item 6. Here stands what the code of reading, writing and converting shares: the types of the answers, the layout's numbers, and all
-// that depends on the edition.
-ghost use Rattle.std.specs.Prelude.{◌≡◌, ◌≤◌};
-ghost use Rattle.book_layout.specs.Layout.{head_size, command_size};
+// The routine book of document 01 as definitions, and the theorems about them: specs/ and proofs/. Here stand what
+// the code of reading and writing shares: the types of the answers, the layout's numbers, and two bytes as a setting, and back.
+ghost use Rattle.std.specs.Prelude.{◌≡◌};
+ghost use Rattle.book_layout.specs.Numbers.{bits_of, setting_of};
 
-use book_bytes::PLAIN_SIZE;
-use rules_routine::Refusal;
 use rules_routine::limits::MAX_DEVICES;
-use rules_timed::TimedRoutine;
+use rules_routine::{Refusal, Routine};
 
-// The editions of a book: that of document 01, and the one with minutes.
-#[derive(Drop)]
-pub enum Edition {
-    Old,
-    New,
-}
-
-// The new edition opens with this number.
-pub const NEW_MARK: usize = 65535;
-
-// The minutes of a command of an old book.
-pub const OLD_MINUTES: u16 = 1;
-
-// Sizes in bytes: the mark of a new book, the count, a pair of offset and length, the minutes of a command of a new book.
-pub const MARK_SIZE: usize = 2;
-
+// Sizes in bytes: the count, a pair of offset and length, a command.
 pub const COUNT_SIZE: usize = 2;
 
 pub const PAIR_SIZE: usize = 8;
@@ -32,7 +14,7 @@ pub const PAIR_SIZE: usize = 8;
 // An offset's part of its pair.
 pub const OFFSET_SIZE: usize = 4;
 
-pub const MINUTES_SIZE: usize = 2;
+pub const COMMAND_SIZE: usize = 4;
 
 // "Device 0 to 31 is accepted in a book."
 pub const BOOK_DEVICES: u8 = MAX_DEVICES as u8;
@@ -50,7 +32,7 @@ pub enum Item {
 #[derive(Drop)]
 pub struct Next {
     pub item: Item,
-    pub timed: TimedRoutine,
+    pub routine: Routine,
     pub position: usize,
 }
 
@@ -61,22 +43,29 @@ pub enum Written {
     Refused(Refusal),
 }
 
-// How many bytes stand before the pairs.
-pub fn head_size(edition: Edition) -> usize
-    ensures { (result ≡ head_size edition) × (2 ≤ result) × (result ≤ 4) }
+// The setting of two bytes, the lower one first: document 02, item 2. Upper byte
+// below 128: the two bytes' number;
+// 128 or above: that less 65,536.
+pub fn setting_of(lower: u8, upper: u8) -> i16
+    ensures { result ≡ setting_of lower upper }
 {
-    match edition {
-        Edition::Old => COUNT_SIZE,
-        Edition::New => MARK_SIZE + COUNT_SIZE,
+    let number = lower as i32 + 256 * (upper as i32);
+    if upper < 128 {
+        number as i16
+    } else {
+        (number - 65536) as i16
     }
 }
 
-// How many bytes a command has.
-pub fn command_size(edition: Edition) -> usize
-    ensures { (result ≡ command_size edition) × (4 ≤ result) × (result ≤ 6) }
+// The way back, the number of a setting's two bytes, its 16 bits. The setting
+// 0 or above: itself;
+// below 0: that and 65,536.
+pub fn bits_of(setting: i16) -> u16
+    ensures { result ≡ bits_of setting }
 {
-    match edition {
-        Edition::Old => PLAIN_SIZE,
-        Edition::New => PLAIN_SIZE + MINUTES_SIZE,
+    if 0 <= setting {
+        setting as u16
+    } else {
+        (setting as i32 + 65536) as u16
     }
 }

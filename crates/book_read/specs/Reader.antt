@@ -1,40 +1,30 @@
 -- The reader of a book: what its two functions give, and what a whole reading gives by them. Document 01: "The reader holds the lent book
--- and a position in it and, the whole book having been checked first, hands out routine by routine, then the end." A routine comes with its
--- minutes (document 02, item 6). The theorem stands in proofs/Theorem.antt. Assumes nothing.
-use Rattle.std.specs.Prelude.{◌≡◌, ◌⊎◌, List, [], ℕ, suc, ◌<◌, ◌≤◌, length, get_or}
+-- and a position in it and, the whole book having been checked first, hands out routine by routine, then the end." The theorem stands in
+-- proofs/Theorem.antt. Assumes nothing.
+use Rattle.std.specs.Prelude.{◌≡◌, List, [], ℕ, suc, ◌<◌, ◌≤◌, length, get_or}
 use Rattle.std.specs.Borrow.{Bor}
-use Rattle.rules_routine.specs.Limits.{max_commands}
+use Rattle.rules_routine.specs.Routine.{commands_of}
+use Rattle.rules_routine.specs.declared.Command.{Command}
 use Rattle.rules_routine.specs.declared.Refusal.{Refusal}
 use Rattle.rules_routine.specs.declared.Verdict.TheVariants.{Accepted, Refused}
-use Rattle.rules_timed.specs.Timed.{TimedCommand, timed_commands_of}
-use Rattle.book_layout.specs.Reading.{book_check, routines_of, turns_down, next_of}
+use Rattle.book_layout.specs.Claims.{Hands}
+use Rattle.book_layout.specs.Reading.{book_check, turns_down, next_of}
 use Rattle.book_layout.specs.declared.Item.TheVariants.{Handed, End}
 use Rattle.book_layout.specs.declared.Next.{Next}
 use Rattle.book_read.specs.declared.reader.BookReader.{BookReader}
 
 -- ---- the contracts
 
--- A position is 0, or the book has been checked and accepted.
-abbrev pub Checked : List ℕ → ℕ → Type 0
-Checked b position = (position ≡ 0) ⊎ (book_check max_commands b ≡ Accepted)
-
--- Validity of a reader: what `start` gives and `advance` keeps. Only they set a position, since the fields are private. So the whole book
--- is checked at position 0 alone.
-pub record Valid (reader : BookReader) : Type 0 where
-  pub checked : Checked reader.book.now reader.position
-
 -- `start`: a reader at the beginning of the lent book.
 pub record Started (book : Bor (List ℕ)) (reader : BookReader) : Type 0 where
   pub holds : reader.book ≡ book
   pub beginning : reader.position ≡ 0
-  pub valid : Valid reader
 
 -- `advance`: the step of reading at the reader's position; the reader is moved on in the same book.
 pub record Advanced (before after : BookReader) (step : Next) : Type 0 where
-  pub read : step ≡ next_of max_commands before.book.now before.position
+  pub read : step ≡ next_of before.book.now before.position
   pub same_book : after.book ≡ before.book
   pub moved_on : after.position ≡ step.position
-  pub valid : Valid after
 
 -- ---- a whole reading
 
@@ -43,18 +33,13 @@ pub record Reading (book : Bor (List ℕ)) (n : ℕ) (reader : ℕ → BookReade
   pub started : Started book (reader 0)
   pub advanced : (k : ℕ) → k < n → Advanced (reader k) (reader (suc k)) (step k)
 
--- Steps hand out these routines with their minutes, one a step, and then the end.
-abbrev pub HandsOut : List (List TimedCommand) → ℕ → (ℕ → Next) → Type 0
-HandsOut rs n step =
-    (k : ℕ) → k < n →
-    (k < length rs → ((step k).item ≡ Handed) × (timed_commands_of (step k).timed ≡ get_or rs k [])) × (length rs ≤ k → (step k).item ≡ End)
-
 -- What the steps hand out of book b.
 pub record Reads (b : List ℕ) (n : ℕ) (step : ℕ → Next) : Type 0 where
   -- The whole book is checked first: of a refused one no routine is ever handed out, since each step turns it down.
-  pub refused : (r : Refusal) → book_check max_commands b ≡ Refused r → (k : ℕ) → k < n → step k ≡ turns_down r
-  -- Of an accepted one routine by routine, then the end.
-  pub accepted : book_check max_commands b ≡ Accepted → HandsOut (routines_of b) n step
+  pub refused : (r : Refusal) → book_check b ≡ Refused r → (k : ℕ) → k < n → step k ≡ turns_down r
+  -- Of an accepted one (which has such routines: `ReadThenWrite`) routine by routine, then the end.
+  pub accepted : (rs : List (List Command)) → book_check b ≡ Accepted → Hands b 0 rs → (k : ℕ) → k < n →
+      (k < length rs → ((step k).item ≡ Handed) × (commands_of (step k).routine ≡ get_or rs k [])) × (length rs ≤ k → (step k).item ≡ End)
 
 -- For every reading: "the whole book having been checked first, hands out routine by routine, then the end".
 abbrev pub RoutineByRoutine : Type 0

@@ -1,6 +1,6 @@
 // The reader of a routine book: document 01, "The routine book". Two thin functions over a struct that holds the lent book; the work is
-// `step`, on a plain slice.
-ghost use Rattle.book_read.specs.Reader.{Valid, Started, Advanced};
+// `next`, on a plain slice.
+ghost use Rattle.book_read.specs.Reader.{Started, Advanced};
 
 use book_layout::Next;
 
@@ -18,13 +18,12 @@ pub fn start<'a>(book: &'a [u8]) -> BookReader<'a>
     BookReader { book, position: 0 }
 }
 
-// The next step of reading, the whole book having been checked at the first; the reader is moved on.
+// The next step of reading, the whole book having been checked; the reader is moved on.
 pub fn advance<'s, 'a>(reader: &'s mut BookReader<'a>) -> Next
-    requires { Valid reader.old }
     ensures { Advanced reader.old reader.new result }
 {
     let held = *reader;
-    let step = crate::step(held.book, held.position);
+    let step = crate::next(held.book, held.position);
     reader.position = step.position;
     step
 }

@@ -9,7 +9,7 @@ use crate::text::{put_one, put_setting, put_two, put_word};
 use hub_answers::{Answer, MaybePutBack, PutBack, PutBacks, Sent};
 use rules_routine::Refusal;
 
-// The word, the number, and the index or the two if there are any; no line's end.
+// The word, the number, and the index if there is one; no line's end.
 pub fn put_refused(out: &mut [u8], at: usize, refusal: Refusal) -> usize
     requires { at + half_text ≤ length out.old }
     ensures { PutShort max_answer out.old out.new at result (refusal_text refusal) }
@@ -24,10 +24,6 @@ pub fn put_refused(out: &mut [u8], at: usize, refusal: Refusal) -> usize
             b" ",
             index as u64,
         ),
-        Refusal::Located(number, routine, command) => {
-            let named = put_two(out, at, b"refused ", number as u64, b" ", routine as u64);
-            put_one(out, named, b" ", command as u64)
-        }
     }
 }
 

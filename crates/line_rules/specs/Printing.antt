@@ -2,18 +2,17 @@
 use Rattle.std.specs.Prelude.{Bool, List, [], ◌∷◌, ◌++◌, ℕ, zero, suc, ℤ, length}
 use Rattle.rules_routine.specs.Choice.{if◌then◌else◌}
 use Rattle.rules_routine.specs.declared.Refusal.{Refusal}
-use Rattle.rules_routine.specs.declared.Refusal.TheVariants.{Number, Indexed, Located}
+use Rattle.rules_routine.specs.declared.Refusal.TheVariants.{Number, Indexed}
 use Rattle.rules.specs.State.{State}
 use Rattle.rules.specs.Due.{due}
 use Rattle.rules.specs.Answers.{Back, Answer, refused, placed, wait, send, done, skipped, held, not_held, committed, aborted, down, up}
 use Rattle.rules.specs.Answers.{limited}
 use Rattle.line_rules.specs.Text.{line_end, bytes, decimal, signed}
 
--- "Refusals print `refused`, the number and the index if there is one." No line is answered by the last.
+-- "Refusals print `refused`, the number and the index if there is one."
 unfoldable pub refusal_text : Refusal → List ℕ
 refusal_text (Number n) = bytes "refused " ++ decimal n
 refusal_text (Indexed n i) = bytes "refused " ++ decimal n ++ bytes " " ++ decimal i
-refusal_text (Located n i j) = (bytes "refused " ++ decimal n ++ bytes " " ++ decimal i) ++ (bytes " " ++ decimal j)
 
 -- "`back` a count, then device and setting for each"
 unfoldable pub back_list : List Back → List ℕ

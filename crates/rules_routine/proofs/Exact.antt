@@ -4,7 +4,7 @@ use Prim.Native.Nat.{ℕ, zero, suc, ◌+◌, ◌≤◌, ◌<◌}
 use mathlib.Core.Path.{◌≡◌, refl, sym, ap, subst, ◌∙◌}
 use mathlib.Core.Bool.{Bool, true, false, not, ◌&&◌, ◌||◌}
 use mathlib.Core.Logic.{◌⊎◌, inl, inr, ◌↔◌}
-use mathlib.Core.List.{List, [], ◌∷◌, ◌++◌}
+use mathlib.Core.List.{List, [], ◌∷◌, ◌++◌, map}
 use native.Mathlib.Omega.{arith}
 use borrow.Author.Tests.{ltb-true, ltb-false, leb-true, leb-false, eqb-true, eqb-false, not-true, not-false}
 use lib.Dec.{T, leb, ltb, eqb, lt→ltb, ltb→lt}
@@ -17,7 +17,7 @@ use Rattle.rules_routine.specs.Choice.{if◌then◌else◌}
 use Rattle.rules_routine.specs.Refusals.{Cause, devices_out_of_range, pass_limit_out_of_range, first_id_0, command_count}
 use Rattle.rules_routine.specs.Refusals.{device_not_below}
 use Rattle.rules_routine.specs.Refusals.{setting_out_of_range, tag_out_of_range, sequence_full, ids_used_up, not_running}
-use Rattle.rules_routine.specs.Refusals.{turn_in_flight, book_minutes, minutes_not_1}
+use Rattle.rules_routine.specs.Refusals.{turn_in_flight}
 use Rattle.rules_routine.specs.Refusals.{none_in_flight, report_code_out_of_range, event_device, failure_of_down, restart_of_up}
 use Rattle.rules_routine.specs.Refusals.{restart_setting}
 use Rattle.rules_routine.specs.Refusals.{book_cut_short, book_misplaced, book_length, no_room, condition_alone, refusal_of}
@@ -30,7 +30,7 @@ use Rattle.rules_routine.specs.Causes.{RoutineCause, count_is_out, device_is_out
 use Rattle.rules_routine.specs.Causes.{conditions_follow}
 use Rattle.rules_routine.specs.declared.Command.{Command}
 use Rattle.rules_routine.specs.declared.Refusal.{Refusal}
-use Rattle.rules_routine.specs.declared.Refusal.TheVariants.{Number, Indexed, Located}
+use Rattle.rules_routine.specs.declared.Refusal.TheVariants.{Number, Indexed}
 use Rattle.rules_routine.specs.declared.Verdict.{Verdict}
 use Rattle.rules_routine.specs.declared.Verdict.TheVariants.{Accepted, Refused}
 
@@ -199,6 +199,15 @@ widened Holds More cause_of up c none = none
 widened Holds More cause_of up c (passed p q) = passed (λ x. p (c.0 x)) (widened Holds More cause_of up c.1 q)
 widened Holds More cause_of up c (broken x) = broken (up _ x)
 
+-- causes as tests of another kind
+pub renamed : {T : Type 0} (Holds : Cause → Type 0) (More : T → Type 0) (cause_of : T → Cause) (f : Cause → T) →
+    ((c : Cause) → cause_of (f c) ≡ c) → ((c : Cause) → Holds c → More (f c)) → ((c : Cause) → More (f c) → Holds c) →
+    {ts : List Cause} {v : Verdict} → Outcome Holds itself ts v → Outcome More cause_of (map f ts) v
+renamed Holds More cause_of f e up down none = none
+renamed Holds More cause_of f e up down (passed {t = t} p q) = passed (λ x. p (down t x)) (renamed Holds More cause_of f e up down q)
+renamed Holds More cause_of f e up down (broken {t = t} {ts = ts} x) =
+    subst (λ (c : Cause). Outcome More cause_of (f t ∷ map f ts) (Refused (refusal_of c))) (e t) (broken (up t x))
+
 -- ---- a routine
 
 module _ (devices : ℕ) (cs : List Command) where
@@ -313,13 +322,12 @@ exact-routine devices cs =
 abbrev number_in : Refusal → ℕ
 number_in (Number n) = n
 number_in (Indexed n i) = n
-number_in (Located n i j) = n
 
 -- is n the number of this cause?
 abbrev is_of : ℕ → Cause → Bool
 is_of n cause = eqb n (number_in (refusal_of cause))
 
--- the cause that has a number, the one that has a number and an index, and the one that has two indexes
+-- the cause that has a number, and the one that has a number and an index
 abbrev numbered : ℕ → Cause
 numbered n =
     if is_of n devices_out_of_range then devices_out_of_range
@@ -348,13 +356,9 @@ indexed n i =
     else if is_of n (book_length i) then book_length i
     else condition_alone i
 
-abbrev located : ℕ → ℕ → ℕ → Cause
-located n i j = if is_of n (book_minutes i j) then book_minutes i j else minutes_not_1 i j
-
 abbrev told : Refusal → Cause
 told (Number n) = numbered n
 told (Indexed n i) = indexed n i
-told (Located n i j) = located n i j
 
 told_is : (c : Cause) → told (refusal_of c) ≡ c
 unfolding refusal_of
@@ -380,8 +384,6 @@ told_is book_misplaced = refl
 told_is (book_length i) = refl
 told_is no_room = refl
 told_is (condition_alone i) = refl
-told_is (book_minutes i j) = refl
-told_is (minutes_not_1 i j) = refl
 
 pub numbers_differ : NumbersDiffer
 numbers_differ c d e = sym (told_is c) ∙ ap told e ∙ told_is d

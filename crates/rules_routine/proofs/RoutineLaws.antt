@@ -10,8 +10,8 @@ use borrow.Author.Tests.{lt-ltb, le-ltb, le-leb, lt-leb, eq-eqb, ne_eqb, ltb-fal
 use lib.Dec.{leb, ltb, eqb}
 use lib.IntN.{pos, negsuc}
 use lib.Signed.{mag}
-use lib.ListN.{length, take, get_or, set, replicate, length-append, length-replicate, length-map, drop_of_length-le}
-use lib.Seq.{sets, set_at, take-append_seam, slice, slice-cons, slice_empty, take-append-le, length-take-le, drop-cons, get_or-take}
+use lib.ListN.{length, take, get_or, set, replicate, length-append, length-replicate, length-map}
+use lib.Seq.{sets, set_at, take-append_seam, slice, slice-cons, slice_empty, take-append-le, length-take-le}
 use Rattle.rules_routine.specs.Choice.{if◌then◌else◌}
 use Rattle.rules_routine.specs.Limits.{lowest_setting, highest_setting, max_commands}
 use Rattle.rules_routine.specs.Range.{in_range}
@@ -202,33 +202,15 @@ unfolding stands_alone
 alone_command c [] t = ne_eqb c.tag condition_tag t
 alone_command c (d ∷ rest) t = simp (ne_eqb c.tag condition_tag t)
 
-long_take : (n i : ℕ) (cs : List Command) → i < n → i < length cs → i < length (take n cs)
-long_take zero i cs h k = absurd (omega arith)
-long_take (suc n) i [] h k = absurd (omega arith)
-long_take (suc n) zero (c ∷ cs) h k = omega arith
-long_take (suc n) (suc i) (c ∷ cs) h k = omega (arith, long_take n i cs (omega arith) (omega arith))
-
-take_most : (n : ℕ) (cs : List Command) → (length (take n cs) ≤ n) × (length (take n cs) ≤ length cs)
-take_most zero cs = (omega arith, omega arith)
-take_most (suc n) [] = (omega arith, omega arith)
-take_most (suc n) (c ∷ cs) = let m = take_most n cs in (omega (arith, m.0), omega (arith, m.1))
-
 -- a condition, with those behind it that stand from index i on and are of the first n
 module _ (c : Command) (cs : List Command) (i n : ℕ) (t : c.tag ≡ condition_tag) where
-  none-behind : length (take n cs) ≤ i → stands_alone c (slice i n cs) ≡ true
+  pub alone_last : n ≤ i → i ≤ n → stands_alone c (slice i n cs) ≡ true
   unfolding stands_alone
-  none-behind h = rw (drop_of_length-le (take n cs) h) (eq-eqb c.tag condition_tag t)
+  alone_last h k = let e : i ≡ n = omega arith in rw (e, slice_empty n cs) (eq-eqb c.tag condition_tag t)
 
-  pub alone_last : n ≤ i → stands_alone c (slice i n cs) ≡ true
-  alone_last h = none-behind (omega (arith, (take_most n cs).0))
-
-  pub alone_past : length cs ≤ i → stands_alone c (slice i n cs) ≡ true
-  alone_past h = none-behind (omega (arith, (take_most n cs).1))
-
-  pub alone_followed : i < n → i < length cs → stands_alone c (slice i n cs) ≡ eqb (get_or cs i zero_command).tag condition_tag
+  pub alone_followed : i < n → n ≤ length cs → stands_alone c (slice i n cs) ≡ eqb (get_or cs i zero_command).tag condition_tag
   unfolding stands_alone
-  alone_followed h k =
-      rw (drop-cons (take n cs) i zero_command (long_take n i cs h k), get_or-take n cs i zero_command h, eq-eqb c.tag condition_tag t)
+  alone_followed h k = simp (slice-cons i n cs zero_command h k, eq-eqb c.tag condition_tag t)
 
 -- ---- the commands in turn: what is left from index i
 

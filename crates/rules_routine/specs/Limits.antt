@@ -1,5 +1,5 @@
--- Every capacity of documents 01 and 02, once in the definitions; `src/limits.rt` has the same numbers, in the same order, for the code.
--- Whoever changes one changes these two files. `negsuc n` is −(n + 1). Assumes nothing.
+-- Every capacity of document 01, once in the definitions; `src/limits.rt` has the same numbers, in the same order, for the code. Whoever
+-- changes one changes these two files. `negsuc n` is −(n + 1). Assumes nothing.
 use Rattle.std.specs.Prelude.{ℕ, ℤ, pos, negsuc}
 
 -- "Devices are 0 to N−1, N from 1 to 32."
@@ -17,13 +17,6 @@ lowest_setting = negsuc 999
 abbrev pub highest_setting : ℤ
 highest_setting = pos 1000
 
--- "Each command has minutes, 1 to 1,440." (document 02, item 5)
-abbrev pub lowest_minutes : ℕ
-lowest_minutes = 1
-
-abbrev pub highest_minutes : ℕ
-highest_minutes = 1440
-
 -- "an unsigned 32-bit number"
 abbrev pub highest_id : ℕ
 highest_id = 4294967295
@@ -40,9 +33,9 @@ max_sequence = 16
 abbrev pub max_routines : ℕ
 max_routines = 64
 
--- A book of either edition is judged by so many bytes, one more than the longest has.
+-- A book is judged by so many bytes, one more than the longest book has.
 abbrev pub first_bytes : ℕ
-first_bytes = 3589
+first_bytes = 2563
 
 -- "lines of up to 128 bytes"
 abbrev pub max_line : ℕ

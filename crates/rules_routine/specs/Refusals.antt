@@ -3,11 +3,11 @@
 use Rattle.std.specs.Prelude.{Bool, ℕ}
 use Rattle.rules_routine.specs.Choice.{if◌then◌else◌}
 use Rattle.rules_routine.specs.declared.Refusal.{Refusal}
-use Rattle.rules_routine.specs.declared.Refusal.TheVariants.{Number, Indexed, Located}
+use Rattle.rules_routine.specs.declared.Refusal.TheVariants.{Number, Indexed}
 use Rattle.rules_routine.specs.declared.Verdict.{Verdict}
 use Rattle.rules_routine.specs.declared.Verdict.TheVariants.{Accepted, Refused}
 
--- The causes, in the table's order. A cause that is returned with an index, or with two, has them here.
+-- The causes, in the table's order. A cause that is returned with an index has it here.
 pub data Cause : Type 0 where
   devices_out_of_range : Cause  -- N not 1 to 32
   pass_limit_out_of_range : Cause  -- K above 8
@@ -28,13 +28,11 @@ pub data Cause : Type 0 where
   restart_setting : Cause  -- restart setting out of range
   book_cut_short : Cause  -- book ends inside count or pairs, or count above 64
   book_misplaced : Cause  -- pair not where the layout puts it, past the end, or bytes left over
-  book_length : ℕ → Cause  -- length not 4 to 32 in fours, in a new book not 6 to 48 in sixes; the routine's index
+  book_length : ℕ → Cause  -- length not 4 to 32 in fours; the routine's index
   no_room : Cause  -- over 64 routines to write, or buffer too short; a list of settings shorter than N (document 02, item 14)
   condition_alone : ℕ → Cause  -- a condition that is last or followed by a condition (document 02, item 4); the command's index
-  book_minutes : ℕ → ℕ → Cause  -- minutes outside 1 to 1,440 in a book (document 02, item 6); the routine's index and the command's
-  minutes_not_1 : ℕ → ℕ → Cause  -- minutes other than 1, into the old edition (document 02, item 6); the routine's index and the command's
 
--- The table: the number of each cause, and the index or the two that come with it, if any do.
+-- The table: the number of each cause, and the index that comes with it, if one does.
 unfoldable pub refusal_of : Cause → Refusal
 refusal_of devices_out_of_range = Number 1
 refusal_of pass_limit_out_of_range = Number 2
@@ -58,8 +56,6 @@ refusal_of book_misplaced = Number 19
 refusal_of (book_length i) = Indexed 20 i
 refusal_of no_room = Number 21
 refusal_of (condition_alone i) = Indexed 22 i
-refusal_of (book_minutes i j) = Located 24 i j
-refusal_of (minutes_not_1 i j) = Located 25 i j
 
 -- A call is turned down for a cause if the test says so.
 infix 25 refuse◌when◌

@@ -5,9 +5,10 @@ pub mod refusals;
 pub mod reports;
 pub mod tags;
 
-ghost use Rattle.std.specs.Prelude.{◌≡◌, ◌+◌, ◌<◌, get_or};
+ghost use Rattle.std.specs.Prelude.{◌≡◌, ◌+◌, ◌<◌, ◌≤◌, get_or};
 ghost use Rattle.std.proofs.Math.Seq.{slice};
 ghost use Rattle.rules_routine.specs.Range.{in_range};
+ghost use Rattle.rules_routine.specs.Limits.{max_commands};
 ghost use Rattle.rules_routine.specs.Routine.{zero_command, commands_of, no_routine, with_command, command_check};
 ghost use Rattle.rules_routine.specs.Routine.{stands_alone};
 ghost use Rattle.rules_routine.specs.Routine.{routine_check};
@@ -30,12 +31,11 @@ pub struct Routine {
     pub count: usize,
 }
 
-// What a refusal returns: its number in the table, some with an index, and some of a book with a routine's index and a command's.
+// What a refusal returns: its number in the table, some with an index.
 #[derive(Drop)]
 pub enum Refusal {
     Number(u8),
     Indexed(u8, usize),
-    Located(u8, usize, usize),
 }
 
 #[derive(Drop)]
@@ -81,7 +81,7 @@ pub fn in_range(setting: i16) -> bool
 }
 
 // A command against a number of devices: 5, 6, 7, with the command's index.
-pub fn check_command(command: Command, devices: u8, index: usize) -> Verdict
+fn check_command(command: Command, devices: u8, index: usize) -> Verdict
     ensures { result ≡ command_check devices index command }
 {
     if devices <= command.device {
@@ -97,23 +97,18 @@ pub fn check_command(command: Command, devices: u8, index: usize) -> Verdict
     Verdict::Accepted
 }
 
-// Is the command at an index a condition that is last or is followed by another? Past the eighth stands none.
-pub fn stands_alone(routine: Routine, index: usize) -> bool
+// Is the command at an index a condition that is last or is followed by another?
+fn stands_alone(routine: Routine, index: usize) -> bool
+    requires { (index < routine.count) × (routine.count ≤ max_commands) }
     ensures { result ≡ stands_alone (get_or routine.commands index zero_command)
         (slice (index + 1) routine.count routine.commands) }
 {
-    if MAX_COMMANDS <= index {
-        return false;
-    }
     let command = routine.commands[index];
     if command.tag != CONDITION {
         return false;
     }
     let next = index + 1;
     if routine.count <= next {
-        return true;
-    }
-    if MAX_COMMANDS <= next {
         return true;
     }
     let after = routine.commands[next];

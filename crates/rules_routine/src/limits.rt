@@ -12,11 +12,6 @@ pub const LOWEST_SETTING: i16 = -1000;
 
 pub const HIGHEST_SETTING: i16 = 1000;
 
-// "Each command has minutes, 1 to 1,440." (document 02, item 5)
-pub const LOWEST_MINUTES: u16 = 1;
-
-pub const HIGHEST_MINUTES: u16 = 1440;
-
 // "an unsigned 32-bit number": the last id that can be given.
 pub const HIGHEST_ID: u64 = 4294967295;
 
@@ -29,9 +24,8 @@ pub const MAX_SEQUENCE: usize = 16;
 // "Count (16 bits, 0 to 64)": the most routines of a book.
 pub const MAX_ROUTINES: usize = 64;
 
-// A book of either edition is judged by so many bytes, one more than the longest has (theorem `judged_by_first-bytes` of crate
-// `book_layout`).
-pub const FIRST_BYTES: usize = 3589;
+// A book is judged by so many bytes, one more than the longest book has (theorem `judged_by_first-bytes` of crate `book_layout`).
+pub const FIRST_BYTES: usize = 2563;
 
 // "lines of up to 128 bytes"
 pub const MAX_LINE: usize = 128;

@@ -66,9 +66,3 @@ pub const NO_ROOM: u8 = 21;
 
 // a condition that is last in its routine or followed by another condition (document 02, item 4)
 pub const CONDITION_ALONE: u8 = 22;
-
-// minutes outside 1 to 1,440 (document 02, items 5 and 6)
-pub const MINUTES: u8 = 24;
-
-// minutes other than 1, into the old edition of a book (document 02, item 6)
-pub const MINUTES_NOT_1: u8 = 25;

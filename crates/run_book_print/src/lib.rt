@@ -1,12 +1,11 @@
-// Prints what reading a book gives: `edition new` of a new book, a line for each routine and then `end`; or the refusal.
+// Prints what reading a book gives: a line for each routine and then `end`, or the refusal.
 ghost use Rattle.std.specs.Prelude.{◌<◌};
 
-use book_layout::{Edition, Item, Next};
+use book_layout::{Item, Next};
 use book_read::reader;
 use libc::STDOUT_FILENO;
 use rules_routine::limits::{MAX_COMMANDS, MAX_ROUTINES};
-use rules_routine::{Command, Refusal, Verdict};
-use rules_timed::TimedRoutine;
+use rules_routine::{Command, Refusal, Routine};
 
 // What is left to print: 0 if a step could not be written, 1 if all is printed, else one more than the steps that may come. A whole
 // reading has a step for each routine, and the end.
@@ -24,7 +23,7 @@ pub fn print_number(n: u64) -> bool {
 }
 
 pub fn print_setting(setting: i16) -> bool {
-    let bits = book_bytes::bits_of(setting) as u64;
+    let bits = book_layout::bits_of(setting) as u64;
     if bits < 32768 {
         print_number(bits)
     } else {
@@ -32,7 +31,7 @@ pub fn print_setting(setting: i16) -> bool {
     }
 }
 
-// The word, the number, and the indexes if there are any; no line's end.
+// The word, the number, and the index if there is one; no line's end.
 pub fn print_refusal(refusal: Refusal) -> bool {
     if !io::write_all(STDOUT_FILENO, b"refused") {
         return false;
@@ -41,14 +40,7 @@ pub fn print_refusal(refusal: Refusal) -> bool {
         Refusal::Number(number) => print_number(number as u64),
         Refusal::Indexed(number, index) => print_number(number as u64)
             && print_number(index as u64),
-        Refusal::Located(number, routine, command) => print_number(number as u64)
-            && print_number(routine as u64)
-            && print_number(command as u64),
     }
-}
-
-fn print_refused(refusal: Refusal) -> bool {
-    print_refusal(refusal) && io::write_all(STDOUT_FILENO, b"\n")
 }
 
 fn print_command(command: Command) -> bool {
@@ -58,8 +50,7 @@ fn print_command(command: Command) -> bool {
         && print_setting(setting)
 }
 
-fn print_commands(timed: TimedRoutine, with_minutes: bool) -> bool {
-    let routine = timed.routine;
+fn print_commands(routine: Routine) -> bool {
     for i in 0..MAX_COMMANDS {
         if routine.count <= i {
             return true;
@@ -68,37 +59,32 @@ fn print_commands(timed: TimedRoutine, with_minutes: bool) -> bool {
         if !print_command(command) {
             return false;
         }
-        if with_minutes {
-            if !print_number(timed.minutes[i] as u64) {
-                return false;
-            }
-        }
     }
     true
 }
 
-fn print_routine(timed: TimedRoutine, with_minutes: bool) -> bool {
+fn print_routine(routine: Routine) -> bool {
     io::write_all(STDOUT_FILENO, b"routine")
-        && print_commands(timed, with_minutes)
+        && print_commands(routine)
         && io::write_all(STDOUT_FILENO, b"\n")
 }
 
-fn print_item(item: Item, timed: TimedRoutine, with_minutes: bool) -> bool {
+fn print_item(item: Item, routine: Routine) -> bool {
     match item {
-        Item::Handed => print_routine(timed, with_minutes),
+        Item::Handed => print_routine(routine),
         Item::End => io::write_all(STDOUT_FILENO, b"end\n"),
-        Item::Refused(refusal) => print_refused(refusal),
+        Item::Refused(refusal) => print_refusal(refusal) && io::write_all(STDOUT_FILENO, b"\n"),
     }
 }
 
 // A step of reading; what is left after it is less.
-fn print_step(step: Next, with_minutes: bool, left: usize) -> usize
+fn print_step(step: Next, left: usize) -> usize
     requires { 1 < left }
     ensures { result < left }
 {
     let item = step.item;
-    let timed = step.timed;
-    if !print_item(item, timed, with_minutes) {
+    let routine = step.routine;
+    if !print_item(item, routine) {
         return NOT_WRITTEN;
     }
     let Item::Handed = item else {
@@ -107,30 +93,13 @@ fn print_step(step: Next, with_minutes: bool, left: usize) -> usize
     left - 1
 }
 
-// The routines, as the reader hands them out, and the end.
-fn print_routines(book: &[u8], with_minutes: bool) -> bool {
+// The whole book, as the reader hands it out.
+pub fn print_book(book: &[u8]) -> bool {
     let mut reader = reader::start(book);
     let mut left = WHOLE;
     while PRINTED < left {
         let step = reader::advance(&mut reader);
-        left = print_step(step, with_minutes, left);
+        left = print_step(step, left);
     }
     left == PRINTED
-}
-
-fn print_accepted(book: &[u8], edition: Edition) -> bool {
-    match edition {
-        Edition::Old => print_routines(book, false),
-        Edition::New => io::write_all(STDOUT_FILENO, b"edition new\n")
-            && print_routines(book, true),
-    }
-}
-
-// The whole book.
-pub fn print_book(book: &[u8]) -> bool {
-    let verdict = book_read::check(book);
-    match verdict {
-        Verdict::Accepted => print_accepted(book, book_read::edition_of(book)),
-        Verdict::Refused(refusal) => print_refused(refusal),
-    }
 }

@@ -43,7 +43,7 @@ fn id_at(bytes: &[u8], at: usize) -> u32
 pub fn setting_at(bytes: &[u8], at: usize) -> i16
     requires { at < 65536 }
 {
-    book_bytes::setting_of(small_at(bytes, at), small_at(bytes, at + 1))
+    book_layout::setting_of(small_at(bytes, at), small_at(bytes, at + 1))
 }
 
 fn command_at(bytes: &[u8], at: usize) -> Command

@@ -1,4 +1,4 @@
-// A book is read and printed; if it is accepted, it is converted into its own edition and compared with what that gives.
+// A book is read and printed; if it is accepted, it is copied, that is read and written again, and the copy compared with it.
 use book_layout::Written;
 use libc::STDOUT_FILENO;
 use rules_routine::Verdict;
@@ -10,18 +10,17 @@ fn starts_with(out: &[u8], size: usize, book: &[u8]) -> bool {
     check::same(book, &out[..size])
 }
 
-fn same_into(book: &[u8], out: &mut [u8]) -> bool {
-    let edition = book_read::edition_of(book);
-    let written = book_convert::convert(book, edition, out);
+fn copied_into(book: &[u8], out: &mut [u8]) -> bool {
+    let written = book_copy::copied(book, out);
     let Written::Length(size) = written else {
         return false;
     };
     starts_with(out, size, book)
 }
 
-fn converted_same(book: &[u8]) -> bool {
+fn copied_same(book: &[u8]) -> bool {
     let mut out = io::buffer();
-    same_into(book, &mut out)
+    copied_into(book, &mut out)
 }
 
 pub fn read_again(book: &[u8]) {
@@ -30,7 +29,7 @@ pub fn read_again(book: &[u8]) {
     let Verdict::Accepted = verdict else {
         return;
     };
-    if converted_same(book) {
+    if copied_same(book) {
         io::write_all(STDOUT_FILENO, b"same\n");
     } else {
         io::write_all(STDOUT_FILENO, b"differs\n");

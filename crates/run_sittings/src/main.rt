@@ -12,7 +12,7 @@ fn key_room() -> [u8; 524288]
 }
 
 fn run_sitting(sitting: &[u8], out: &mut [u8]) {
-    let result = line::run_input(sitting, out);
+    let result = line::plot_hub_run(sitting, out);
     if result < 0 {
         io::write_all(STDOUT_FILENO, b"too short\n");
     }

@@ -1,6 +1,6 @@
 -- What a record lends. Assumes nothing.
 use Rattle.std.specs.Prelude.{ℕ}
 
--- A record lends at most this many settings, and as many minutes.
-abbrev pub most_commands : ℕ
-most_commands = 2048
+-- A record lends at most this many settings.
+abbrev pub most_settings : ℕ
+most_settings = 2048

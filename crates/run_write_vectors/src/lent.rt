@@ -1,58 +1,76 @@
 // Routines that a record lends are written into a buffer; the answer and a checksum of the whole buffer are printed.
 ghost use Rattle.std.specs.Prelude.{◌≡◌, ◌<◌, ◌≤◌, length};
-ghost use Rattle.run_write_vectors.specs.Lent.{most_commands};
+ghost use Rattle.run_write_vectors.specs.Lent.{most_settings};
 
-use book_layout::Edition;
+use book_layout::Written;
+use libc::STDOUT_FILENO;
 
-// A record lends at most this many settings, and as many minutes.
-const MOST_COMMANDS: usize = 2048;
+// A record lends at most this many settings.
+const MOST_SETTINGS: usize = 2048;
 
 // The settings of their bytes.
-fn settings_of(bytes: &[u8]) -> [i16; MOST_COMMANDS]
-    ensures { length result ≡ most_commands }
+fn settings_of(bytes: &[u8]) -> [i16; MOST_SETTINGS]
+    ensures { length result ≡ most_settings }
 {
-    let mut settings = [0i16; MOST_COMMANDS];
+    let mut settings = [0i16; MOST_SETTINGS];
     let n = bytes.len() / 2;
-    for i in 0..MOST_COMMANDS {
+    for i in 0..MOST_SETTINGS {
         if n <= i {
             return settings;
         }
-        settings[i] = book_bytes::setting_of(bytes[2 * i], bytes[2 * i + 1]);
+        settings[i] = book_layout::setting_of(bytes[2 * i], bytes[2 * i + 1]);
     }
     settings
 }
 
-// The minutes of theirs.
-fn minutes_of(bytes: &[u8]) -> [u16; MOST_COMMANDS]
-    ensures { length result ≡ most_commands }
+fn fill(out: &mut [u8], first: usize)
+    requires { first < 256 }
 {
-    let mut minutes = [0u16; MOST_COMMANDS];
-    let n = bytes.len() / 2;
-    for i in 0..MOST_COMMANDS {
-        if n <= i {
-            return minutes;
-        }
-        minutes[i] = run_records::number_at(bytes, 2 * i) as u16;
+    for i in 0..out.len() {
+        out[i] = ((first + i) % 256) as u8;
     }
-    minutes
 }
 
-// Routines as they are lent: a count for each, and the parts of their commands in rows.
+fn checksum(bytes: &[u8]) -> u64 {
+    let mut sum: u64 = 0;
+    for i in 0..bytes.len() {
+        sum = (sum * 257 + bytes[i] as u64 + 1) % 4294967291;
+    }
+    sum
+}
+
+fn print_written(written: Written) {
+    match written {
+        Written::Length(size) => {
+            io::write_all(STDOUT_FILENO, b"length ");
+            io::print_decimal(STDOUT_FILENO, size as u64);
+        }
+        Written::Refused(refusal) => {
+            run_book_print::print_refusal(refusal);
+        }
+    }
+}
+
+fn print_checksum(bytes: &[u8]) {
+    io::write_all(STDOUT_FILENO, b" sum ");
+    io::print_decimal(STDOUT_FILENO, checksum(bytes));
+    io::write_all(STDOUT_FILENO, b"\n");
+}
+
 fn write_over(
     counts: &[u8],
     devices: &[u8],
     tags: &[u8],
     settings: &[i16],
-    minutes: &[u16],
-    edition: Edition,
     first: usize,
     out: &mut [u8],
 )
     requires { first < 256 }
 {
-    run_lent_buffer::fill(out, first);
-    let written = book_write::write(counts, devices, tags, settings, minutes, edition, out);
-    run_lent_buffer::print_written(written, out);
+    fill(out, first);
+    let written = book_write::write(counts, devices, tags, settings, out);
+    print_written(written);
+    print_checksum(out);
 }
 
 fn write_one(
@@ -60,34 +78,22 @@ fn write_one(
     devices: &[u8],
     tags: &[u8],
     settings: &[i16],
-    minutes: &[u16],
-    edition: Edition,
     room: usize,
     first: usize,
 )
     requires { (room < 65536) × (first < 256) }
 {
     let mut out = io::large_buffer();
-    write_over(
-        counts,
-        devices,
-        tags,
-        settings,
-        minutes,
-        edition,
-        first,
-        &mut out[..room],
-    );
+    write_over(counts, devices, tags, settings, first, &mut out[..room]);
 }
 
-fn commands_lent(n: usize) -> usize
-    ensures { result ≤ most_commands }
+fn settings_lent(n: usize) -> usize
+    ensures { result ≤ most_settings }
 {
-    if n < MOST_COMMANDS { n } else { MOST_COMMANDS }
+    if n < MOST_SETTINGS { n } else { MOST_SETTINGS }
 }
 
-// The parts of a record in turn: counts, devices, tags, the bytes of the settings and of the minutes; then the edition, the buffer's length
-// and its first byte.
+// The parts of a record in turn: counts, devices, tags, the bytes of the settings; then the buffer's length and its first byte.
 pub fn write_lent(record: &[u8]) {
     let counts = run_records::part_at(record, 0);
     let a = counts.from;
@@ -101,23 +107,15 @@ pub fn write_lent(record: &[u8]) {
     let signed = run_records::part_at(record, f);
     let g = signed.from;
     let h = signed.to;
-    let timed = run_records::part_at(record, h);
-    let j = timed.from;
-    let k = timed.to;
     let settings = settings_of(&record[g..h]);
-    let n = commands_lent((h - g) / 2);
-    let minutes = minutes_of(&record[j..k]);
-    let m = commands_lent((k - j) / 2);
-    let edition = run_lent_buffer::edition_named(run_records::byte_at(record, k));
-    let room = run_records::number_at(record, k + 1);
-    let first = run_records::byte_at(record, k + 3);
+    let n = settings_lent((h - g) / 2);
+    let room = run_records::number_at(record, h);
+    let first = run_records::byte_at(record, h + 2);
     write_one(
         &record[a..b],
         &record[c..d],
         &record[e..f],
         &settings[..n],
-        &minutes[..m],
-        edition,
         room,
         first,
     );

@@ -1,11 +1,10 @@
-//! The plot hub, its line program and the routine book once more, in plain Rust, written from document 01 and, where a request changed
-//! them, document 02 alone.
+//! The plot hub and its line program once more, in plain Rust, written from document 01 and, where a request changed them, document 02
+//! alone.
 //!
 //! The product is compared with it, byte for byte, and timed against it. It shares no code with the product.
 
 #![forbid(unsafe_code)]
 
-pub mod book;
 pub mod examples;
 pub mod histories;
 pub mod hub;

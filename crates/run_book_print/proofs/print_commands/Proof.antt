@@ -6,10 +6,10 @@ use Rattle.run_book_print.proofs.print_commands.Statement.{statement}
 use Rattle.run_book_print.proofs.print_commands.Tie as tie
 
 abbrev invariant-loop : tie.invariant-loop
-invariant-loop with-minutes timed routine i₀ i = i ≤ max_commands
+invariant-loop routine i₀ i = i ≤ max_commands
 
 abbrev decreases-loop : tie.decreases-loop
-decreases-loop with-minutes timed routine i₀ i = max_commands - i
+decreases-loop routine i₀ i = max_commands - i
 
 loop-holds : tie.Need-loop-init invariant-loop decreases-loop
 loop-holds c = search rules
@@ -29,21 +29,6 @@ print-command-requires c κs = search rules
 returns-2 : tie.Need-returns-2 invariant-loop decreases-loop
 returns-2 c = search rules
 
-mul-print-number : tie.Need-overflow-mul-print-number invariant-loop decreases-loop
-mul-print-number c = search rules
-
-element-copy-out-print-number : tie.Need-element-copy-out-print-number invariant-loop decreases-loop
-element-copy-out-print-number c = search rules
-
-cast-print-number : tie.Need-overflow-cast-print-number invariant-loop decreases-loop
-cast-print-number c = search rules
-
-print-number-requires : tie.Need-print-number-requires invariant-loop decreases-loop
-print-number-requires c κs = search rules
-
-returns-3 : tie.Need-returns-3 invariant-loop decreases-loop
-returns-3 c = search rules
-
 add-i : tie.Need-overflow-add-i invariant-loop decreases-loop
 add-i c = search rules
 
@@ -53,8 +38,8 @@ loop-less c = search rules
 loop-again : tie.Need-loop-preserved invariant-loop decreases-loop
 loop-again c = search rules
 
-returns-4 : tie.Need-returns-4 invariant-loop decreases-loop
-returns-4 c = search rules
+returns-3 : tie.Need-returns-3 invariant-loop decreases-loop
+returns-3 c = search rules
 
 pub print_commands_spec : {M : Type 1} → statement M
 print_commands_spec =
@@ -68,12 +53,7 @@ print_commands_spec =
     element-copy-out-command
     print-command-requires
     returns-2
-    mul-print-number
-    element-copy-out-print-number
-    cast-print-number
-    print-number-requires
-    returns-3
     add-i
     loop-less
     loop-again
-    returns-4)
+    returns-3)

@@ -1,9 +1,8 @@
-//! Writes an input for timing: `bench_inputs busy|waits|refused LINES` or `bench_inputs devices`; or a book, `bench_inputs old|new|ones
-//! longest|middling`. The same words always give the same bytes.
+//! Writes an input for timing: `bench_inputs busy|waits|refused LINES` or `bench_inputs devices`. The same words always give the
+//! same bytes.
 
-use reference::book::{MOST_MINUTES, MOST_ROUTINES as MOST_BOOK_ROUTINES, OLD_MINUTES};
 use reference::histories::{submission, Random};
-use reference::hub::{Answer, Command, Hub, BEST_EFFORT, CONDITION, MOST_COMMANDS, MOST_DEVICES, MOST_ROUTINES, MOST_SETTING, MUST};
+use reference::hub::{Answer, Command, Hub, BEST_EFFORT, MOST_COMMANDS, MOST_ROUTINES, MUST};
 use reference::line::Program;
 use std::io::{self, Write};
 use std::process::exit;
@@ -18,9 +17,6 @@ fn main() -> io::Result<()> {
         return io::stdout().lock().write_all(&bench.text);
     }
     let [kind, lines] = words.as_slice() else { usage() };
-    if ["old", "new", "ones"].contains(&kind.as_str()) {
-        return io::stdout().lock().write_all(&book(kind, lines));
-    }
     let Ok(lines) = lines.parse::<usize>() else { usage() };
     let (open, step): (&str, fn(&mut Bench)) = match kind.as_str() {
         "busy" => ("O 32 4 1", Bench::busy),
@@ -38,50 +34,8 @@ fn main() -> io::Result<()> {
 }
 
 fn usage() -> ! {
-    eprintln!("bench_inputs busy|waits|refused LINES, or bench_inputs devices, or bench_inputs old|new|ones longest|middling");
+    eprintln!("bench_inputs busy|waits|refused LINES, or bench_inputs devices");
     exit(2)
-}
-
-/// A book of the old edition; of the new one with any minutes; or of the new one with those of old books, which can be converted to the
-/// old. The longest has as many routines and commands as there can be, the middling one 20 routines of 1 to 8 commands.
-fn book(kind: &str, size: &str) -> Vec<u8> {
-    let mut random = Random::new(SEED, 1);
-    let counts: Vec<usize> = match size {
-        "longest" => vec![MOST_COMMANDS; MOST_BOOK_ROUTINES],
-        "middling" => (0..20).map(|_| 1 + random.below(MOST_COMMANDS)).collect(),
-        _ => usage(),
-    };
-    let (mark, command_size): (&[u8], usize) = if kind == "old" { (&[], 4) } else { (&[255, 255], 6) };
-    let mut book = [mark, &(counts.len() as u16).to_le_bytes()].concat();
-    let mut offset = book.len() + 8 * counts.len();
-    for count in &counts {
-        let length = command_size * count;
-        book.extend_from_slice(&(offset as u32).to_le_bytes());
-        book.extend_from_slice(&(length as u32).to_le_bytes());
-        offset += length;
-    }
-    for count in counts {
-        let mut before = MUST;
-        for left in (0..count).rev() {
-            // A condition has a command behind it that is none.
-            let tag = match random.below(10) {
-                0..=1 if left > 0 && before != CONDITION => CONDITION,
-                0..=4 => BEST_EFFORT,
-                _ => MUST,
-            };
-            let setting = random.between(-i64::from(MOST_SETTING), i64::from(MOST_SETTING)) as i16;
-            let minutes = random.between(1, i64::from(MOST_MINUTES)) as u16; // drawn for each kind, so that all have the same routines
-            book.extend_from_slice(&[random.below(MOST_DEVICES) as u8, tag]);
-            book.extend_from_slice(&setting.to_le_bytes());
-            match kind {
-                "old" => {}
-                "new" => book.extend_from_slice(&minutes.to_le_bytes()),
-                _ => book.extend_from_slice(&OLD_MINUTES.to_le_bytes()),
-            }
-            before = tag;
-        }
-    }
-    book
 }
 
 struct Bench {

@@ -1,6 +1,6 @@
 -- `book_read::reader::advance` meets its contract: a walk of its MIR, by hand. The borrow is opened, the reader behind it is copied to a
--- local and taken apart, `book_read::step` is called, and the position that it gives is stored through the borrow. Assumes nothing.
-use mathlib.Core.Path.{◌≡◌, refl, sym, subst}
+-- local and taken apart, `book_read::next` is called, and the position that it gives is stored through the borrow. Assumes nothing.
+use mathlib.Core.Path.{◌≡◌, refl, subst}
 use Prim.Native.Nat.{ℕ, ◌<◌, ◌^◌}
 use mathlib.Core.List.{List, [], ◌∷◌}
 use lib.ListN.{length}
@@ -8,7 +8,7 @@ use seplogic.Ra.Ura.{Ura}
 use seplogic.Ra.TreeShare.{full_share}
 use mir.Syntax.{named, erased, w64}
 use mir.Val.{Val, vint, vptr}
-use base.Logic.{SProp, ent, snd∗, ex_e, id⊢}
+use base.Logic.{SProp, ent, emp, via, fst∗, snd∗, ex_e, id⊢}
 use base.Fml.{GName, Lft, Share, Fml, ftrue, flft, fobs, fbor, fat}
 use prog.Memory.{Memory}
 use prog.Routine.{Routine}
@@ -44,23 +44,20 @@ use denote.Triple.Call.{calls_at}
 use denote.Triple.Entry.{Vals, on_entry}
 use denote.Triple.Spec.{Meets, triple_of}
 use denote.Triple.Table.{entered, cited}
-use denote.Triple.Walked.{says, needs, Stays, stay_ref, walk_of, Goes-ref, Walks, ends_at, walked, walk_Meets}
+use denote.Triple.Walked.{says, Stays, stay_ref, walk_of, Goes-ref, Walks, ends_at, walked, walk_Meets}
 use denote.Triple.Clauses.{ensured, lasts}
-use Rattle.rules_routine.specs.Limits.{max_commands}
 use Rattle.book_layout.specs.Reading.{next_of}
-use Rattle.book_layout.specs.declared.Next.{Next}
-use Rattle.book_read.specs.Reader.{Valid, Checked}
 use Rattle.book_read.specs.declared.reader.BookReader.{BookReader}
-use Rattle.book_read.proofs.step.Symbol.{name as #book-read·step}
-use Rattle.book_read.specs.contracts.reader.advance.Key.{name as #book-read·reader·advance}
-use Rattle.book_read.proofs.Theorem.{checked-after}
+use Rattle.book_layout.specs.declared.Next.{Next}
 use Rattle.book_read.specs.contracts.reader.BookReader as T
 use Rattle.book_read.proofs.reader.BookReader.TheLaws as T'
 use Rattle.book_layout.specs.contracts.Next as S
 use Rattle.book_layout.proofs.Next.TheLaws as S'
-use Rattle.book_read.specs.contracts.step as one-step
-use Rattle.book_read.proofs.step.Symbol as one-step-def
-use Rattle.book_read.proofs.step.Met as one-step-thm
+use Rattle.book_read.specs.contracts.next as next
+use Rattle.book_read.proofs.next.Symbol as next-def
+use Rattle.book_read.proofs.next.Symbol.{name as #book-read·next}
+use Rattle.book_read.proofs.next.Met as next-thm
+use Rattle.book_read.specs.contracts.reader.advance.Key.{name as #book-read·reader·advance}
 use Rattle.book_read.specs.contracts.reader.advance as f
 use Rattle.book_read.proofs.reader.advance.Statement as stated
 use Rattle.book_read.proofs.reader.advance.Code as code
@@ -83,8 +80,8 @@ stayed = (stay_ref (0 ∷ []) tt behind, tt)
 
 module _ {M : Type 1} {𝓤 : Ura M} (𝓛 : Logic 𝓤) (at_mem : Memory → SProp 𝓤) (run : Routine → Fun 𝓤) where
   -- the contract that the proof cites
-  abbrev StepAt : Contract 𝓤
-  StepAt = triple_of 𝓛 one-step.signature (one-step.spec 𝓛 at_mem run)
+  abbrev NextAt : Contract 𝓤
+  NextAt = triple_of 𝓛 next.signature (next.spec 𝓛 at_mem run)
 
 module _ {M : Type 1} {𝓤 : Ura M} (𝓛 : Logic 𝓤) (at_mem : Memory → SProp 𝓤) (run : Routine → Fun 𝓤)
     (κ κ' : Lft) (q q' : Share) (bounds : AllOutlive 2 (f.signature).outlives (κ, (κ', tt))) (b o : ℕ) (γ : GName) (h : BookReader) where
@@ -100,7 +97,7 @@ module _ {M : Type 1} {𝓤 : Ura M} (𝓛 : Logic 𝓤) (at_mem : Memory → SP
   mach = T'.lowered h
 
   abbrev found : Next
-  found = next_of max_commands h.book.now h.position
+  found = next_of h.book.now h.position
 
   -- the reader moved on to m
   abbrev h' : ℕ → BookReader
@@ -121,27 +118,27 @@ module _ {M : Type 1} {𝓤 : Ura M} (𝓛 : Logic 𝓤) (at_mem : Memory → SP
   abbrev vd : Values D.parts
   vd = (h.book, (h.position, tt))
 
-  abbrev passed : Vals one-step.signature (κ', tt)
+  abbrev passed : Vals next.signature (κ', tt)
   passed = (slice_val h.book.ref_ptr (length h.book.now) ∷ [], (vint w64 h.position ∷ [], tt))
 
-  abbrev to : (StepAt 𝓛 at_mem run).Ghost
+  abbrev to : (NextAt 𝓛 at_mem run).Ghost
   to = (((κ', tt), (q', tt), tt, (h.book, (h.position, tt)), passed), tt)
 
   -- what the struct owns gives what the callee asks
-  apart : Valid h → h.position < 2 ^ 64 → ent 𝓤 (⋆ 𝓛 (‵ Own ∷ (‵ (flft κ' q') ⊛ ‵ ftrue) ∷ [])) ((StepAt 𝓛 at_mem run).pre to)
-  apart valid fits =
-      qed 𝓛 (‵ Own ∷ (‵ (flft κ' q') ⊛ ‵ ftrue) ∷ []) ∵ says ! valid.checked $
+  apart : h.position < 2 ^ 64 → ent 𝓤 (⋆ 𝓛 (‵ Own ∷ (‵ (flft κ' q') ⊛ ‵ ftrue) ∷ [])) ((NextAt 𝓛 at_mem run).pre to)
+  apart fits =
+      qed 𝓛 (‵ Own ∷ (‵ (flft κ' q') ⊛ ‵ ftrue) ∷ []) ∵
       use1 𝓛 (given (mach ∷ [] ≡ mach ∷ []) (‵ (all_own D.parts L vd))) (own_open 𝓛 D L vd mach) $ learn ! (λ _.
       use1 𝓛 (‵ (field_own D.parts L 0 h.book) ⊛ ‵ (rest D.parts L 0 vd)) (own_out 𝓛 D.parts L 0 vd) $ split ! $
       move ! (1 ∷ []) $ drop ! $ nothing ! $ owned ! usize (Is usize) (uint_Makes 𝓛 w64) h.position _ (refl, fits) $
-      fjoin ! $ move ! (1 ∷ 0 ∷ []) $ fjoin ! $ move ! (1 ∷ 0 ∷ []) $ frame ! $ done !)
+      fjoin ! $ move ! (1 ∷ 0 ∷ []) $ fjoin ! $ move ! (1 ∷ 0 ∷ []) $ join ! $ frame ! $ done !)
 
   -- what the callee says of its result
   abbrev Said : Next → SProp 𝓤
-  Said r = ensured 𝓛 one-step.ended (one-step.clauses 𝓛 at_mem run) (κ', tt) (h.book, (h.position, tt)) tt r
+  Said r = ensured 𝓛 next.ended (next.clauses 𝓛 at_mem run) (κ', tt) (h.book, (h.position, tt)) tt r
 
   said : (r : Next) → ent 𝓤 (Said r) (fact 𝓤 (r ≡ found))
-  said r = ex_e 𝓤 _ (λ ws. snd∗ 𝓤 (sem 𝓛 (lasts one-step.ended (κ', tt) (h.book, (h.position, tt)) ws)) (fact 𝓤 (r ≡ found)))
+  said r = ex_e 𝓤 _ (λ ws. snd∗ 𝓤 (sem 𝓛 (lasts next.ended (κ', tt) (h.book, (h.position, tt)) ws)) (fact 𝓤 (r ≡ found)))
 
   -- what the book owns is kept, and the position's facts are made anew
   again : (m : ℕ) → m < 2 ^ 64 → ent 𝓤 (sem 𝓛 Own) (sem 𝓛 ((B κ').own (h' m) (T'.lowered (h' m) ∷ [])))
@@ -152,10 +149,6 @@ module _ {M : Type 1} {𝓤 : Ura M} (𝓛 : Logic 𝓤) (at_mem : Memory → SP
   abbrev res : Next → Val
   res r = only (LL.vals S.the_type S'.the_laws r)
 
-  -- the book has been checked where the step leads
-  checked_then : (r : Next) → r ≡ found → Checked h.book.now r.position
-  checked_then r e = subst (λ (s : Next). Checked h.book.now s.position) (sym e) (checked-after h.book.now h.position)
-
   -- what is left at exit: the changed borrow, and both tokens
   abbrev Left : ℕ → List (Item 𝓤)
   Left m = ‵ (fobs γ ((B κ').coded.code (h' m))) ∷ ‵ (fbor κ (Body (mem (B κ')) b o γ)) ∷ ‵ (flft κ q) ∷ (‵ (flft κ' q') ⊛ ‵ ftrue) ∷ []
@@ -165,14 +158,13 @@ module _ {M : Type 1} {𝓤 : Ura M} (𝓛 : Logic 𝓤) (at_mem : Memory → SP
       qed 𝓛 (Left r.position) ∵
       suffices ! _ (ends_at 𝓛 f.ended stayed (f.clauses 𝓛 at_mem run)
       (((κ, (κ', tt)), (q, (q', tt)), bounds, x, at), tt) (res r) r (h' r.position, tt) (tt, tt)) $
-      says ! (record { read = e; same_book = refl; moved_on = refl; valid = record { checked = checked_then r e } }) $
-      move ! (2 ∷ 3 ∷ []) $ join ! $
+      says ! (record { read = e; same_book = refl; moved_on = refl }) $ move ! (2 ∷ 3 ∷ []) $ join ! $
       frame ! $ feq_i ! (List Val) (vptr b o ∷ []) (vptr b o ∷ []) refl $ fjoin3 ! $ nothing ! $ move ! (1 ∷ 0 ∷ []) $ fjoin ! $
       owned ! S.the_row (Is S.the_row) (LL.makes S.the_type S'.the_plain 𝓛) r _ is $ move ! (1 ∷ 0 ∷ []) $ done !
 
-  module _ (C : Calls 𝓤 H) (Λ : Loops 𝓤 H) (fm : FmC 𝓤 H 𝓛.laws C) (known : Triple 𝓤 (C #book-read·step) (StepAt 𝓛 at_mem run)) where
-    walk : Valid h → ent 𝓤 (on_entry 𝓛 f.signature (κ, (κ', tt)) (q, (q', tt)) x at) (WpFn 𝓤 H C Λ code.function (vptr b o ∷ []) Post)
-    walk valid =
+  module _ (C : Calls 𝓤 H) (Λ : Loops 𝓤 H) (fm : FmC 𝓤 H 𝓛.laws C) (known : Triple 𝓤 (C #book-read·next) (NextAt 𝓛 at_mem run)) where
+    walk : ent 𝓤 (on_entry 𝓛 f.signature (κ, (κ', tt)) (q, (q', tt)) x at) (WpFn 𝓤 H C Λ code.function (vptr b o ∷ []) Post)
+    walk =
         qed 𝓛 ((‵ (flft κ q) ⊛ ‵ (flft κ' q') ⊛ ‵ ftrue) ∷ ‵ (owns (MutRef (named 0) κ (B κ') ∷ []) x at) ∷ []) ∵
         enter ! C Λ code.function (vptr b o ∷ []) _ $
         alloc1 ! (λ l₀. alloc1 ! (λ l₁. alloc1 ! (λ l₂. alloc1 ! (λ l₃. alloc1 ! (λ l₄. alloc1 ! (λ l₅. alloc0 ! $
@@ -190,9 +182,9 @@ module _ {M : Type 1} {𝓤 : Ura M} (𝓛 : Logic 𝓤) (at_mem : Memory → SP
         assigns ! (of_opd ! (load ! (from ! (fld ! refl (stop !))) (look_in ! 13 (sub ! 1 refl (whole !))))) (from ! (stop !))
         (init ! 7 refl (tt, wt.1.1.0)) $
         use1 𝓛 (‵ Own ⊛ ‵ Own) ((LL.copy D (T'.the_copy (α κ')) 𝓛).twice h (mach ∷ [])) $ split ! $ move ! (0 ∷ 6 ∷ []) $
-        use2 𝓛 (raw ((StepAt 𝓛 at_mem run).pre to)) (apart valid wt.1.1.0.fits) $
+        use2 𝓛 (raw ((NextAt 𝓛 at_mem run).pre to)) (apart wt.1.1.0.fits) $
         -- [what the callee asks; what the reader owns; the cell; the open borrow; obs; auth; true; _5 at 7; and so on]
-        calls_at ! fm (StepAt 𝓛 at_mem run) known to
+        calls_at ! fm (NextAt 𝓛 at_mem run) known to
         (and_then ! (load ! (from ! (stop !)) (look ! 9 refl)) (and_then ! (load ! (from ! (stop !)) (look ! 7 refl)) (no_more !))) (λ u.
         use1 𝓛 (later (some (λ (r : Next). ((‵ (flft κ' q') ⊛ ‵ ftrue) ⊛ ‵ ((S.the_row).own_val r (u ∷ []))) ⊛ raw (Said r)))) (id⊢ 𝓤 _) $
         await ! tt $ pick ! (λ r.
@@ -222,18 +214,18 @@ module _ {M : Type 1} {𝓤 : Ura M} (𝓛 : Logic 𝓤) (at_mem : Memory → SP
 module _ {M : Type 1} {𝓤 : Ura M} (𝓛 : Logic 𝓤) (mem : Memory → SProp 𝓤) (run : Routine → Fun 𝓤) where
   open 𝓛 use {H}
 
-  advance-walks : (C : Calls 𝓤 H) (Λ : Loops 𝓤 H) → FmC 𝓤 H 𝓛.laws C → Triple 𝓤 (C #book-read·step) (StepAt 𝓛 mem run)
+  advance-walks : (C : Calls 𝓤 H) (Λ : Loops 𝓤 H) → FmC 𝓤 H 𝓛.laws C → Triple 𝓤 (C #book-read·next) (NextAt 𝓛 mem run)
       → Walks 𝓛 f.ended stayed (WpFn 𝓤 H C Λ code.function) (f.clauses 𝓛 mem run)
   advance-walks C Λ fm known =
       walked 𝓛 f.ended stayed (f.clauses 𝓛 mem run) (WpFn 𝓤 H C Λ code.function)
       (λ κs. (mut_vals, tt)) (λ κs. (mut_Tells (named 0) κs.0 (B κs.1.0), tt))
-      (λ κs qs bounds a _ are. needs 𝓤 (Valid a.0.now) _ (λ valid.
-      walk 𝓛 mem run κs.0 κs.1.0 qs.0 qs.1.0 bounds a.0.ref_ptr.0 a.0.ref_ptr.1 a.0.ghost_name a.0.now
-      C Λ fm known valid))
+      (λ κs qs bounds a _ are. via 𝓤 _ (fst∗ 𝓤 _ (emp 𝓤))
+      (walk 𝓛 mem run κs.0 κs.1.0 qs.0 qs.1.0 bounds a.0.ref_ptr.0 a.0.ref_ptr.1 a.0.ghost_name a.0.now
+      C Λ fm known))
 
 advance_meets :
     {M : Type 1} {𝓤 : Ura M} (𝓛 : Logic 𝓤) (mem : Memory → SProp 𝓤) (run : Routine → Fun 𝓤) (𝓣 : Tables 𝓤 𝓛.H)
-    → Triple 𝓤 (𝓣.C #book-read·step) (StepAt 𝓛 mem run)
+    → Triple 𝓤 (𝓣.C #book-read·next) (NextAt 𝓛 mem run)
     → Meets 𝓛 f.signature (WpFn 𝓤 𝓛.H 𝓣.C 𝓣.Λ code.function) (f.spec 𝓛 mem run)
 advance_meets {𝓤 = 𝓤} 𝓛 mem run 𝓣 known =
     walk_Meets 𝓛 f.ended stayed (Goes-ref 𝓛 2 0 tt behind, tt) (f.clauses 𝓛 mem run)
@@ -246,5 +238,5 @@ advance_spec 𝓤 𝓛 𝓜 𝓡 =
     entered 𝓤 𝓛.H (triple_of 𝓛 f.signature (f.spec 𝓛 𝓜.mem 𝓡.run))
     (tables 𝓤 𝓛.H 𝓜 𝓡 code.env).C (tables 𝓤 𝓛.H 𝓜 𝓡 code.env).Λ #book-read·reader·advance code.function (code.unfolded 𝓤 𝓛.H 𝓜 𝓡)
     (advance_meets 𝓛 𝓜.mem 𝓡.run (tables_of 𝓤 𝓛.H 𝓜 (tables 𝓤 𝓛.H 𝓜 𝓡 code.env))
-    (cited 𝓤 𝓛.H (StepAt 𝓛 𝓜.mem 𝓡.run) 𝓜 𝓡 code.env #book-read·step one-step-def.routine
-    code.calls-book-read::step (one-step-thm.met 𝓤 𝓛 𝓜 𝓡)))
+    (cited 𝓤 𝓛.H (NextAt 𝓛 𝓜.mem 𝓡.run) 𝓜 𝓡 code.env #book-read·next next-def.routine
+    code.calls-book-read::next (next-thm.met 𝓤 𝓛 𝓜 𝓡)))

@@ -1,7 +1,6 @@
 -- `book_read::reader::start` meets its contract: a walk of its MIR, by hand. A reader is made of the lent book and 0, in the result's
 -- local. A `&[u8]` is Copy, so what it owns is had twice: once for the parameter at exit, and once inside the result. Assumes nothing.
 use mathlib.Core.Path.{refl}
-use mathlib.Core.Logic.{inl}
 use Prim.Native.Nat.{ℕ}
 use mathlib.Core.List.{List, [], ◌∷◌}
 use lib.Dec.{lit<}
@@ -37,9 +36,9 @@ use denote.Triple.Table.{entered}
 use denote.Triple.Walked.{says, Stays, stay_none_slice, walk_of, Goes-none_slice, Walks, ends_at, walked, walk_Meets}
 use denote.Exit.{yes}
 use Rattle.book_read.specs.declared.reader.BookReader.{BookReader}
-use Rattle.book_read.specs.contracts.reader.start.Key.{name as #book-read·reader·start}
 use Rattle.book_read.specs.contracts.reader.BookReader as T
 use Rattle.book_read.proofs.reader.BookReader.TheLaws as T'
+use Rattle.book_read.specs.contracts.reader.start.Key.{name as #book-read·reader·start}
 use Rattle.book_read.specs.contracts.reader.start as f
 use Rattle.book_read.proofs.reader.start.Statement as stated
 use Rattle.book_read.proofs.reader.start.Code as code
@@ -75,7 +74,7 @@ module _ {M : Type 1} {𝓤 : Ura M} (𝓛 : Logic 𝓤) (mem : Memory → SProp
       qed 𝓛 ((‵ (flft κ q) ⊛ ‵ ftrue) ∷ ‵ (owns (ShrSlice (named 0) κ u8 ∷ []) (s, tt) at) ∷ []) ∵
       suffices ! _ (ends_at 𝓛 f.ended stayed (f.clauses 𝓛 mem run)
       (((κ, tt), (q, tt), tt, (s, tt), at), tt) (T'.lowered made) made (tt, tt) (tt, tt)) $
-      says ! (record { holds = refl; beginning = refl; valid = record { checked = inl refl } }) $
+      says ! (record { holds = refl; beginning = refl }) $
       frame ! $ fsplit ! $ use1 𝓛 (‵ Own ⊛ ‵ Own) ((shr_slice_copy 𝓛 (named 0) κ u8).twice s (v ∷ [])) $ split ! $
       move ! (0 ∷ 2 ∷ []) $ fjoin ! $ frame ! $
       -- [what the book owns]: it and the position's facts together are what the struct owns

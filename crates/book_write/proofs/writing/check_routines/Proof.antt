@@ -1,63 +1,26 @@
 -- `book_write::writing::check_routines` meets its contract. The loop's invariant: the check of the routines from the i-th on, which begin
 -- at `at` in the row, is the check of all of them. Assumes nothing.
 use borrow.Author.Rules.{rules}
+use borrow.Author.Rules.{rules}
 use Prim.Native.Nat.{◌+◌, ◌-◌, ◌≤◌}
 use mathlib.Core.Path.{◌≡◌, refl, sym, ap, ◌∙◌}
 use mathlib.Core.List.{◌∷◌}
 use native.Mathlib.Omega.{arith}
 use lib.ListN.{length, drop, get_or}
-use Rattle.rules_routine.specs.Refusals.{book_minutes}
-use Rattle.rules_routine.specs.Limits.{max_commands}
+use Rattle.rules_routine.specs.Routine.{routine_check}
 use Rattle.rules_routine.specs.declared.Verdict.TheVariants.{Accepted}
-use Rattle.rules_timed.specs.Timed.{timed_routine_check}
 use Rattle.book_layout.specs.Layout.{book_devices}
-use Rattle.book_layout.specs.Lending.{timeds_lent, lent_from, routines_lent}
-use Rattle.book_layout.specs.Writing.{routines_check}
+use Rattle.book_layout.specs.Writing.{commands_lent, routines_from, routines_lent, routines_check}
 use Rattle.book_write.proofs.Row.{routine-there, routines-more, routines_end, check_none, check_more, check_stops}
 use Rattle.book_write.proofs.writing.check_routines.Statement.{statement}
 use Rattle.book_write.proofs.writing.check_routines.Tie as tie
 
 abbrev invariant-loop : tie.invariant-loop
-invariant-loop counts devices tags settings minutes at₀ i₀ at i = (at ≤ length devices)
-    × (routines_check max_commands i (lent_from devices tags settings minutes at (drop i counts))
-    ≡ routines_check max_commands 0 (routines_lent counts devices tags settings minutes))
+invariant-loop counts devices tags settings at₀ i₀ at i = (at ≤ length devices)
+    × (routines_check (routines_from devices tags settings at (drop i counts)) ≡ routines_check (routines_lent counts devices tags settings))
 
 abbrev decreases-loop : tie.decreases-loop
-decreases-loop counts devices tags settings minutes at₀ i₀ at i = length counts - i
-
--- the next routine
-next : (c : tie.After-check-one invariant-loop decreases-loop) →
-    let l = c.before.before.before in
-    let a = l.before.before.before.before.before.args in
-    let count = get_or a.counts.now l.loop.i 0 in
-    lent_from a.devices.now a.tags.now a.settings.now a.minutes.now l.loop.at (drop l.loop.i a.counts.now)
-    ≡ timeds_lent a.devices.now a.tags.now a.settings.now a.minutes.now l.loop.at count
-    ∷ lent_from a.devices.now a.tags.now a.settings.now a.minutes.now (l.loop.at + count)
-    (drop (l.loop.i + 1) a.counts.now)
-next c =
-    let l = c.before.before.before in
-    let a = l.before.before.before.before.before.args in
-    routines-more a.devices.now a.tags.now a.settings.now a.minutes.now a.counts.now l.loop.i _
-    c.before.before.loop-test.true
-
--- the routine passes, so that all its commands are there
-accepted : (c : tie.After-enum-told invariant-loop decreases-loop) →
-    let l = c.before.before.before.before.before in
-    let a = l.before.before.before.before.before.args in
-    let count = get_or a.counts.now l.loop.i 0 in
-    timed_routine_check (book_minutes l.loop.i) max_commands book_devices
-    (timeds_lent a.devices.now a.tags.now a.settings.now a.minutes.now l.loop.at count) ≡ Accepted
-accepted c = sym c.before.before.check-one.ensures ∙ c.enum_told.given.1
-
-there : (c : tie.After-enum-told invariant-loop decreases-loop) →
-    let l = c.before.before.before.before.before in
-    let a = l.before.before.before.before.before.args in
-    l.loop.at + get_or a.counts.now l.loop.i 0 ≤ length a.devices.now
-there c =
-    let l = c.before.before.before.before.before in
-    let a = l.before.before.before.before.before.args in
-    routine-there a.devices.now a.tags.now a.settings.now a.minutes.now max_commands l.loop.i l.loop.at _
-    l.loop.invariant.0 (accepted c)
+decreases-loop counts devices tags settings at₀ i₀ at i = length counts - i
 
 loop-holds : tie.Need-loop-init invariant-loop decreases-loop
 loop-holds c = (search rules, refl)
@@ -66,7 +29,7 @@ shared-slice-read-count : tie.Need-shared-slice-read-count invariant-loop decrea
 shared-slice-read-count c = search rules
 
 cast-count : tie.Need-overflow-cast-count invariant-loop decreases-loop
-cast-count c = omega (arith, c.shared-slice-known5.given c.before.before.loop.i)
+cast-count c = omega (arith, c.shared-slice-known4.given c.before.before.loop.i)
 
 check-one-requires : tie.Need-check-one-requires invariant-loop decreases-loop
 check-one-requires c κs = search rules
@@ -77,12 +40,43 @@ enum_told c = search rules
 enum-told-2 : tie.Need-enum-told-2 invariant-loop decreases-loop
 enum-told-2 c = search rules
 
+-- the next routine
+next : (c : tie.After-check-one invariant-loop decreases-loop) →
+    let l = c.before.before.before in
+    let a = l.before.before.before.before.args in
+    let count = get_or a.counts.now l.loop.i 0 in
+    routines_from a.devices.now a.tags.now a.settings.now l.loop.at (drop l.loop.i a.counts.now)
+    ≡ commands_lent a.devices.now a.tags.now a.settings.now l.loop.at count
+    ∷ routines_from a.devices.now a.tags.now a.settings.now (l.loop.at + count) (drop (l.loop.i + 1) a.counts.now)
+next c =
+    let l = c.before.before.before in
+    let a = l.before.before.before.before.args in
+    routines-more a.devices.now a.tags.now a.settings.now a.counts.now l.loop.i _ c.before.before.loop-test.true
+
 returns : tie.Need-returns invariant-loop decreases-loop
 returns c = let l = c.before.before.before.before.before in
+    let a = l.before.before.before.before.args in
     c.enum-told2.given.1
-    ∙ sym (check_stops _ _ _ _ _ (sym c.before.before.check-one.ensures ∙ c.enum-told2.given.1))
-    ∙ ap (routines_check max_commands l.loop.i) (sym (next c.before.before))
+    ∙ sym (check_stops _ _ _ (sym c.before.before.check-one.ensures ∙ c.enum-told2.given.1))
+    ∙ ap routines_check (sym (next c.before.before))
     ∙ l.loop.invariant.1
+
+-- the routine passes, so that all its commands are there
+accepted : (c : tie.After-enum-told invariant-loop decreases-loop) →
+    let l = c.before.before.before.before.before in
+    let a = l.before.before.before.before.args in
+    let count = get_or a.counts.now l.loop.i 0 in
+    routine_check book_devices (commands_lent a.devices.now a.tags.now a.settings.now l.loop.at count) ≡ Accepted
+accepted c = sym c.before.before.check-one.ensures ∙ c.enum_told.given.1
+
+there : (c : tie.After-enum-told invariant-loop decreases-loop) →
+    let l = c.before.before.before.before.before in
+    let a = l.before.before.before.before.args in
+    l.loop.at + get_or a.counts.now l.loop.i 0 ≤ length a.devices.now
+there c =
+    let l = c.before.before.before.before.before in
+    let a = l.before.before.before.before.args in
+    routine-there a.devices.now a.tags.now a.settings.now l.loop.at _ l.loop.invariant.0 (accepted c)
 
 add_at : tie.Need-overflow-add-at invariant-loop decreases-loop
 add_at c = let h = there c in search rules
@@ -94,19 +88,19 @@ loop-less : tie.Need-loop-smaller invariant-loop decreases-loop
 loop-less c = search rules
 
 loop-again : tie.Need-loop-preserved invariant-loop decreases-loop
-loop-again c = let l = c.before.before.before.before.before in (
-  there c,
-  sym (check_more _ _ _ _ (accepted c))
-      ∙ ap (routines_check max_commands l.loop.i) (sym (next c.before.before))
-      ∙ l.loop.invariant.1,
-)
+loop-again c = let l = c.before.before.before.before.before in
+    let a = l.before.before.before.before.args in (
+      there c,
+      sym (check_more _ _ (accepted c))
+          ∙ ap routines_check (sym (next c.before.before))
+          ∙ l.loop.invariant.1,
+    )
 
 returns-2 : tie.Need-returns-2 invariant-loop decreases-loop
 returns-2 c = let l = c.before in
-    let a = l.before.before.before.before.before.args in
-    sym (check_none _ l.loop.i)
-    ∙ ap (routines_check max_commands l.loop.i)
-    (sym (routines_end a.devices.now a.tags.now a.settings.now a.minutes.now a.counts.now _ _ c.loop-test.false))
+    let a = l.before.before.before.before.args in
+    sym check_none
+    ∙ ap routines_check (sym (routines_end a.devices.now a.tags.now a.settings.now a.counts.now _ _ c.loop-test.false))
     ∙ l.loop.invariant.1
 
 pub check_routines_spec : {M : Type 1} → statement M

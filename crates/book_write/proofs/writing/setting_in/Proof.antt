@@ -5,7 +5,7 @@ use lib.ListN.{get_or, get_or-eq_default}
 use mir.Syntax.{w16}
 use mir.Val.{to_z, of_z}
 use Rattle.rules_routine.proofs.RoutineLaws.{any_default}
-use Rattle.book_layout.specs.Lending.{missing_setting}
+use Rattle.book_layout.specs.Writing.{missing_setting}
 use borrow.Author.Rules.{rules}
 use Rattle.book_write.proofs.writing.setting_in.Statement.{statement}
 use Rattle.book_write.proofs.writing.setting_in.Tie as tie

@@ -2,7 +2,7 @@
 use mathlib.Core.Path.{sym, ap}
 use native.Mathlib.Omega.{arith}
 use Rattle.line_rules.specs.Printing.{refusal_text}
-use Rattle.line_print.proofs.PutLaws.{short_then, within, as_text}
+use Rattle.line_print.proofs.PutLaws.{within, as_text}
 use borrow.Author.Rules.{rules}
 use Rattle.line_print.proofs.words.put_refused.Statement.{statement}
 use Rattle.line_print.proofs.words.put_refused.Tie as tie
@@ -34,27 +34,6 @@ slice-aggregate-put-two-2 c = search rules
 put-two-requires : tie.Need-put-two-requires
 put-two-requires c κs = search rules
 
-enum-known-refusal-3 : tie.Need-enum-known-refusal-3
-enum-known-refusal-3 c = search rules
-
-slice-aggregate-put-two-3 : tie.Need-slice-aggregate-put-two-3
-slice-aggregate-put-two-3 c = search rules
-
-cast-put-two-2 : tie.Need-overflow-cast-put-two-2
-cast-put-two-2 c = search rules
-
-slice-aggregate-put-two-4 : tie.Need-slice-aggregate-put-two-4
-slice-aggregate-put-two-4 c = search rules
-
-put-two-requires-2 : tie.Need-put-two-requires-2
-put-two-requires-2 c κs = search rules
-
-slice-aggregate-put-one-2 : tie.Need-slice-aggregate-put-one-2
-slice-aggregate-put-one-2 c = search rules
-
-put-one-requires-2 : tie.Need-put-one-requires-2
-put-one-requires-2 c κs = search rules
-
 same_length : tie.Need-same-length
 same_length c = search rules
 
@@ -73,17 +52,6 @@ returns-2 c =
     let e = c.before.before.before.before.before.before.before.refusal2.given.1 in
     within (omega arith) (as_text (ap refusal_text (sym e)) c.before.before.put_two.ensures)
 
-same-length-3 : tie.Need-same-length-3
-same-length-3 c = search rules
-
-returns-3 : tie.Need-returns-3
-unfolding refusal_text
-returns-3 c =
-    let t = c.before.before.before.before.before.before.before in
-    let e = t.before.before.before.before.before.refusal3.given.1 in
-    within (omega arith) (as_text (ap refusal_text (sym e))
-    (short_then t.put-two2.ensures c.before.before.put-one2.ensures))
-
 pub put_refused_spec : {M : Type 1} → statement M
 put_refused_spec =
     tie.close
@@ -97,16 +65,7 @@ put_refused_spec =
     cast-put-two
     slice-aggregate-put-two-2
     put-two-requires
-    enum-known-refusal-3
-    slice-aggregate-put-two-3
-    cast-put-two-2
-    slice-aggregate-put-two-4
-    put-two-requires-2
-    slice-aggregate-put-one-2
-    put-one-requires-2
     same_length
     returns
     same-length-2
-    returns-2
-    same-length-3
-    returns-3)
+    returns-2)

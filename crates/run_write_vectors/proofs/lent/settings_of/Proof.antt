@@ -3,15 +3,15 @@ use borrow.Author.Rules.{rules}
 use Prim.Native.Nat.{◌-◌, ◌≤◌}
 use mathlib.Core.Path.{◌≡◌}
 use lib.ListN.{length}
-use Rattle.run_write_vectors.specs.Lent.{most_commands}
+use Rattle.run_write_vectors.specs.Lent.{most_settings}
 use Rattle.run_write_vectors.proofs.lent.settings_of.Statement.{statement}
 use Rattle.run_write_vectors.proofs.lent.settings_of.Tie as tie
 
 abbrev invariant-loop : tie.invariant-loop
-invariant-loop bytes settings₀ n i₀ settings i = (i ≤ most_commands) × (length settings ≡ most_commands)
+invariant-loop bytes settings₀ n i₀ settings i = (i ≤ most_settings) × (length settings ≡ most_settings)
 
 abbrev decreases-loop : tie.decreases-loop
-decreases-loop bytes settings₀ n i₀ settings i = most_commands - i
+decreases-loop bytes settings₀ n i₀ settings i = most_settings - i
 
 loop-holds : tie.Need-loop-init invariant-loop decreases-loop
 loop-holds c = search rules

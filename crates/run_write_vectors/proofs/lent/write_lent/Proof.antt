@@ -1,14 +1,9 @@
 -- `run_write_vectors::lent::write_lent` is safe and ends. Assumes nothing.
 use native.Mathlib.Omega.{arith}
-use Prim.Native.Nat.{◌+◌, ◌<◌, ◌^◌}
 use lib.ListN.{length-take}
 use borrow.Author.Rules.{rules}
 use Rattle.run_write_vectors.proofs.lent.write_lent.Statement.{statement}
 use Rattle.run_write_vectors.proofs.lent.write_lent.Tie as tie
-
--- the parts end within the record, so that what follows them has a place
-ends : (c : tie.After-part-at5) → c.part-at5.result.to + 3 < 2 ^ 64
-ends c = search rules
 
 part-at-requires : tie.Need-part-at-requires
 part-at-requires c κs = search rules
@@ -22,9 +17,6 @@ part-at-requires-3 c κs = search rules
 part-at-requires-4 : tie.Need-part-at-requires-4
 part-at-requires-4 c κs = search rules
 
-part-at-requires-5 : tie.Need-part-at-requires-5
-part-at-requires-5 c κs = search rules
-
 sub-settings-of : tie.Need-overflow-sub-settings-of
 sub-settings-of c = search rules
 
@@ -37,47 +29,20 @@ part-settings-of-end c = search rules
 settings-of-requires : tie.Need-settings-of-requires
 settings-of-requires c κs = search rules
 
-sub-commands-lent : tie.Need-overflow-sub-commands-lent
-sub-commands-lent c = search rules
+sub-settings-lent : tie.Need-overflow-sub-settings-lent
+sub-settings-lent c = search rules
 
-commands-lent-requires : tie.Need-commands-lent-requires
-commands-lent-requires c κs = search rules
-
-sub-minutes-of : tie.Need-overflow-sub-minutes-of
-sub-minutes-of c = search rules
-
-part-minutes-of-start : tie.Need-slice-bounds-minutes-of-start
-part-minutes-of-start c = search rules
-
-part-minutes-of-end : tie.Need-slice-bounds-minutes-of-end
-part-minutes-of-end c = search rules
-
-minutes-of-requires : tie.Need-minutes-of-requires
-minutes-of-requires c κs = search rules
-
-sub-commands-lent-2 : tie.Need-overflow-sub-commands-lent-2
-sub-commands-lent-2 c = search rules
-
-commands-lent-requires-2 : tie.Need-commands-lent-requires-2
-commands-lent-requires-2 c κs = search rules
-
-byte-at-requires : tie.Need-byte-at-requires
-byte-at-requires c κs = search rules
-
-edition-named-requires : tie.Need-edition-named-requires
-edition-named-requires c κs = search rules
-
-add-number-at : tie.Need-overflow-add-number-at
-add-number-at c = search rules
+settings-lent-requires : tie.Need-settings-lent-requires
+settings-lent-requires c κs = search rules
 
 number-at-requires : tie.Need-number-at-requires
 number-at-requires c κs = search rules
 
 add-byte-at : tie.Need-overflow-add-byte-at
-add-byte-at c = record { fits = ends c.before.before.before.before.before.before.before.before.before }
+add-byte-at c = search rules
 
-byte-at-requires-2 : tie.Need-byte-at-requires-2
-byte-at-requires-2 c κs = search rules
+byte-at-requires : tie.Need-byte-at-requires
+byte-at-requires c κs = search rules
 
 sub-write-one : tie.Need-overflow-sub-write-one
 sub-write-one c = search rules
@@ -111,16 +76,8 @@ array-share-prefix-settings c = search rules
 
 slice-aggregate-write-one : tie.Need-slice-aggregate-write-one
 slice-aggregate-write-one c =
-    let s = c.before.before.before.before.before.before.before.before.before.before.before in
-    simp length-take (omega (arith, s.commands-lent.ensures, s.before.settings-of.ensures))
-
-array-share-prefix-minutes : tie.Need-array-share-prefix-minutes
-array-share-prefix-minutes c = search rules
-
-slice-aggregate-write-one-2 : tie.Need-slice-aggregate-write-one-2
-slice-aggregate-write-one-2 c =
-    let s = c.before.before.before.before.before.before.before.before.before in
-    simp length-take (omega (arith, s.commands-lent2.ensures, s.before.minutes-of.ensures))
+    let s = c.before.before.before.before.before.before in
+    simp length-take (omega (arith, s.settings-lent.ensures, s.before.settings-of.ensures))
 
 write-one-requires : tie.Need-write-one-requires
 write-one-requires c κs = search rules
@@ -136,25 +93,15 @@ write_lent_spec =
     part-at-requires-2
     part-at-requires-3
     part-at-requires-4
-    part-at-requires-5
     sub-settings-of
     part-settings-of-start
     part-settings-of-end
     settings-of-requires
-    sub-commands-lent
-    commands-lent-requires
-    sub-minutes-of
-    part-minutes-of-start
-    part-minutes-of-end
-    minutes-of-requires
-    sub-commands-lent-2
-    commands-lent-requires-2
-    byte-at-requires
-    edition-named-requires
-    add-number-at
+    sub-settings-lent
+    settings-lent-requires
     number-at-requires
     add-byte-at
-    byte-at-requires-2
+    byte-at-requires
     sub-write-one
     part-write-one-start
     part-write-one-end
@@ -166,7 +113,5 @@ write_lent_spec =
     part-write-one-end-3
     array-share-prefix-settings
     slice-aggregate-write-one
-    array-share-prefix-minutes
-    slice-aggregate-write-one-2
     write-one-requires
     returns)

@@ -1,4 +1,0 @@
-pub mod NumberLaws
-pub mod Bytes
-pub mod Sign
-pub mod Theorems

@@ -1,4 +1,0 @@
-pub mod Numbers
-pub mod Commands
-pub mod Sign
-pub mod Examples

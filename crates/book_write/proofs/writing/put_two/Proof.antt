@@ -1,0 +1,35 @@
+-- `book_write::writing::put_two` meets its contract. Assumes nothing.
+use native.Mathlib.Numerals.{add-one}
+use native.Mathlib.Omega.{arith}
+use lib.ListN.{length-set}
+use Rattle.book_layout.specs.Numbers.{two_bytes}
+use borrow.Author.Rules.{rules}
+use Rattle.book_write.proofs.writing.put_two.Statement.{statement}
+use Rattle.book_write.proofs.writing.put_two.Tie as tie
+
+cast-out : tie.Need-overflow-cast-out
+cast-out c = search rules
+
+slice-write-out : tie.Need-slice-write-out
+slice-write-out c = search rules
+
+cast-out-2 : tie.Need-overflow-cast-out-2
+cast-out-2 c = search rules
+
+add-out : tie.Need-overflow-add-out
+add-out c = search rules
+
+slice-write-out-2 : tie.Need-slice-write-out-2
+slice-write-out-2 c = simp length-set (omega arith)
+
+same_length : tie.Need-same-length
+same_length c = search rules
+
+returns : tie.Need-returns
+unfolding two_bytes
+returns c = rw add-one
+
+pub put_two_spec : {M : Type 1} → statement M
+put_two_spec =
+    tie.close
+    (tie.spec cast-out slice-write-out cast-out-2 add-out slice-write-out-2 same_length returns)

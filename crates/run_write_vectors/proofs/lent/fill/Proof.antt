@@ -1,0 +1,56 @@
+-- `run_write_vectors::lent::fill` is safe and ends. Assumes nothing.
+use borrow.Author.Rules.{rules}
+use Prim.Native.Nat.{◌-◌, ◌≤◌}
+use mathlib.Core.Path.{◌≡◌}
+use lib.ListN.{length}
+use Rattle.run_write_vectors.proofs.lent.fill.Statement.{statement}
+use Rattle.run_write_vectors.proofs.lent.fill.Tie as tie
+
+abbrev invariant-loop : tie.invariant-loop
+invariant-loop out₀ first i₀ i-end out i = (i ≤ i-end) × (i-end ≡ length out₀) × (length out ≡ length out₀)
+
+abbrev decreases-loop : tie.decreases-loop
+decreases-loop out₀ first i₀ i-end out i = i-end - i
+
+loop-holds : tie.Need-loop-init invariant-loop decreases-loop
+loop-holds c = search rules
+
+add-out : tie.Need-overflow-add-out invariant-loop decreases-loop
+add-out c = search rules
+
+cast-out : tie.Need-overflow-cast-out invariant-loop decreases-loop
+cast-out c = search rules
+
+slice-write-out : tie.Need-slice-write-out invariant-loop decreases-loop
+slice-write-out c = search rules
+
+add-i : tie.Need-overflow-add-i invariant-loop decreases-loop
+add-i c = search rules
+
+loop-less : tie.Need-loop-smaller invariant-loop decreases-loop
+loop-less c = search rules
+
+loop-again : tie.Need-loop-preserved invariant-loop decreases-loop
+loop-again c = search rules
+
+same_length : tie.Need-same-length invariant-loop decreases-loop
+same_length c = search rules
+
+returns : tie.Need-returns invariant-loop decreases-loop
+returns c = search rules
+
+pub fill_spec : {M : Type 1} → statement M
+fill_spec =
+    tie.close
+    (tie.spec
+    invariant-loop
+    decreases-loop
+    loop-holds
+    add-out
+    cast-out
+    slice-write-out
+    add-i
+    loop-less
+    loop-again
+    same_length
+    returns)
