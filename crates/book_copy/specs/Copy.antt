@@ -1,6 +1,6 @@
 -- A book that is read, and what was read is written: the same bytes. Document 01, "The routine book". Assumes nothing.
 use Rattle.std.specs.Prelude.{List, ℕ, ltb, length}
-use Rattle.rules_routine.specs.Refusals.{no_room, refuse◌when◌, ◌andThen◌}
+use Rattle.rules_routine.specs.Refusals.{no_room, refuse◌when◌, ◌and_then◌}
 use Rattle.rules_routine.specs.declared.Verdict.{Verdict}
 use Rattle.book_layout.specs.Reading.{book_check}
 use Rattle.book_layout.specs.Writing.{written_with, buffer_with}

@@ -1,5 +1,7 @@
 // A routine book that is read and written again: what crate `book_read` reads, lent to crate `book_write` as it takes it. So that the two
 // belong together is proved of the code: an accepted book gives the same bytes.
+#![tactic(auto)]
+
 mod reading;
 
 ghost use Rattle.std.specs.Prelude.{◌≡◌, ◌≤◌, length, take};
@@ -16,7 +18,7 @@ use rules_routine::limits::{MAX_COMMANDS, MAX_ROUTINES};
 const MOST_COMMANDS: usize = MAX_ROUTINES * MAX_COMMANDS;
 
 // Routines as the writer takes them: a count for each of them, and the parts of their commands in rows.
-#[derive(Drop)]
+#[derive(Clone, Copy)]
 pub struct Rows {
     pub counts: [u8; MAX_ROUTINES],
     pub devices: [u8; MOST_COMMANDS],
@@ -27,7 +29,7 @@ pub struct Rows {
 }
 
 // The rows of a book, or no rows and why it is turned down.
-#[derive(Drop)]
+#[derive(Clone, Copy)]
 pub struct RowsRead {
     pub verdict: Verdict,
     pub rows: Rows,

@@ -12,7 +12,7 @@ use lib.Signed.{mag}
 use lib.ListN.{length}
 use Rattle.rules_routine.specs.Limits.{lowest_setting, highest_setting, max_commands, max_routines}
 use Rattle.rules_routine.specs.Range.{in_range}
-use Rattle.rules_routine.specs.Refusals.{refuse◌when◌, ◌andThen◌}
+use Rattle.rules_routine.specs.Refusals.{refuse◌when◌, ◌and_then◌}
 use Rattle.rules_routine.specs.Routine.{condition_tag, highest_tag, command_check, stands_alone, commands_check}
 use Rattle.rules_routine.specs.declared.Verdict.{Verdict}
 use Rattle.rules_routine.specs.declared.Verdict.TheVariants.{Accepted}

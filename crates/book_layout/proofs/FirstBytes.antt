@@ -8,7 +8,7 @@ use borrow.Author.Tests.{le-ltb, ltb-true, ltb-false, not-false}
 use lib.Dec.{ltb}
 use lib.ListN.{length, take}
 use lib.Seq.{length-take-le, take_all, get_or-take}
-use Rattle.rules_routine.specs.Refusals.{book_length, refuse◌when◌, ◌andThen◌}
+use Rattle.rules_routine.specs.Refusals.{book_length, refuse◌when◌, ◌and_then◌}
 use Rattle.rules_routine.specs.Limits.{max_commands, max_routines}
 use Rattle.rules_routine.specs.declared.Verdict.{Verdict}
 use Rattle.rules_routine.specs.declared.Verdict.TheVariants.{Accepted, Refused}

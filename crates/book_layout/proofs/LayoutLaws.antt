@@ -16,7 +16,7 @@ use Rattle.rules_routine.specs.Routine.{routine_of, commands_check}
 use Rattle.rules_routine.specs.declared.Command.{Command}
 use Rattle.rules_routine.specs.declared.Refusal.{Refusal}
 use Rattle.rules_routine.specs.declared.Verdict.TheVariants.{Accepted, Refused}
-use Rattle.rules_routine.proofs.RoutineLaws.{and_true, both_accept, not-refused, or_false}
+use Rattle.rules_routine.proofs.RoutineLaws.{and-true, both_accept, not-refused, or-false}
 use Rattle.book_layout.specs.Numbers.{two_bytes, four_bytes, byte_at, two_at, four_at, bits_of, setting_of}
 use Rattle.book_layout.specs.Layout.{count_size, pair_size, offset_size, command_size, book_devices, pairs_end, length_in}
 use Rattle.book_layout.specs.Layout.{command_bytes, commands_bytes, pairs_bytes, count-of, offset_at, length_at, commands_at}
@@ -34,8 +34,8 @@ pub record InFours (n : ℕ) : Type 0 where
 pub fits_in_fours : (n : ℕ) → length_fits n ≡ true → InFours n
 unfolding length_fits
 fits_in_fours n e =
-    let a = and_true (leb command_size n && leb n (command_size * max_commands)) (eqb (n % command_size) 0) e in
-    let b = and_true (leb command_size n) (leb n (command_size * max_commands)) a.0 in
+    let a = and-true (leb command_size n && leb n (command_size * max_commands)) (eqb (n % command_size) 0) e in
+    let b = and-true (leb command_size n) (leb n (command_size * max_commands)) a.0 in
     let l = leb-true command_size n b.0 in
     let u = leb-true n (command_size * max_commands) b.1 in
     let m = eqb-true (n % command_size) 0 a.1 in
@@ -164,7 +164,7 @@ unfolding placed_check
 placed b i at e =
     let x = both_accept _ _ e in
     let y = both_accept _ _ x.1 in
-    let o = or_false _ _ (not-refused _ _ y.0) in
+    let o = or-false _ _ (not-refused _ _ y.0) in
     record {
       fits = not-false _ (not-refused _ _ x.0);
       offset = eqb-true (offset_at b i) at (not-false _ o.0);

@@ -16,7 +16,7 @@ use Rattle.rules_routine.specs.declared.Command.{Command}
 use Rattle.rules_routine.specs.declared.Refusal.{Refusal}
 use Rattle.rules_routine.specs.declared.Verdict.{Verdict}
 use Rattle.rules_routine.specs.declared.Verdict.TheVariants.{Accepted, Refused}
-use Rattle.rules_routine.proofs.RoutineLaws.{both_accept, accept_both, not-refused, or_false, check_counted, check_accepted}
+use Rattle.rules_routine.proofs.RoutineLaws.{both_accept, accept_both, not-refused, or-false, check_counted, check_accepted}
 use Rattle.rules_routine.proofs.RoutineLaws.{routine_of-commands}
 use Rattle.book_layout.specs.Numbers.{two_bytes, four_bytes}
 use Rattle.book_layout.specs.Layout.{book_devices, pairs_end, commands_bytes, length_in, pairs_bytes, body_bytes, book_bytes}
@@ -245,8 +245,8 @@ book-written : (b : List ℕ) → Bytes b → book_check b ≡ Accepted → (rs 
 unfolding book_check head_check count-of book_bytes
 book-written b bytes e =
     let a = both_accept (head_check b) _ e in
-    let t = or_false (ltb (length b) count_size || ltb max_routines (count-of b)) _ (not-refused book_cut_short _ a.0) in
-    let u = or_false (ltb (length b) count_size) _ t.0 in
+    let t = or-false (ltb (length b) count_size || ltb max_routines (count-of b)) _ (not-refused book_cut_short _ a.0) in
+    let u = or-false (ltb (length b) count_size) _ t.0 in
     let k = ltb-false max_routines (count-of b) u.1 in
     let l = ltb-false (length b) (pairs_end (count-of b)) t.1 in
     let z : 0 + count-of b ≡ count-of b = omega arith in
@@ -313,7 +313,7 @@ unfolding written_of write_check
 write_then_read rs buffer n e =
     let w = written-accepted (write_check rs (length buffer)) (book_bytes rs) n e in
     let a = both_accept (routines_check rs) _ w.0 in
-    let t = or_false (ltb max_routines (length rs)) _ (not-refused no_room _ a.1) in
+    let t = or-false (ltb max_routines (length rs)) _ (not-refused no_room _ a.1) in
     book-read rs (take n (buffer_after rs buffer)) (record {
       fine = a.0;
       few = ltb-false max_routines (length rs) t.0;

@@ -2,7 +2,7 @@
 -- commands; bytes left over last"). Assumes nothing.
 use Rattle.std.specs.Prelude.{Bool, not, ◌&&◌, ◌||◌, List, ℕ, zero, suc, ◌+◌, ◌*◌, ◌/◌, ◌%◌, leb, ltb, eqb, length}
 use Rattle.rules_routine.specs.Choice.{if◌then◌else◌}
-use Rattle.rules_routine.specs.Refusals.{book_cut_short, book_misplaced, book_length, refuse◌when◌, ◌andThen◌}
+use Rattle.rules_routine.specs.Refusals.{book_cut_short, book_misplaced, book_length, refuse◌when◌, ◌and_then◌}
 use Rattle.rules_routine.specs.Limits.{max_commands, max_routines}
 use Rattle.rules_routine.specs.Routine.{routine_of, no_routine, commands_check}
 use Rattle.rules_routine.specs.declared.Refusal.{Refusal}

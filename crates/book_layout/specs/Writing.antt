@@ -1,7 +1,7 @@
 -- Writing a book: document 01, "The routine book" and "When a call is turned down" ("Writing: the routines in turn (4, then commands), then
 -- 21"). Assumes nothing.
 use Rattle.std.specs.Prelude.{◌||◌, List, [], ◌∷◌, ◌++◌, map, ℕ, zero, suc, ◌+◌, ltb, ℤ, pos, length, drop, get_or}
-use Rattle.rules_routine.specs.Refusals.{no_room, refuse◌when◌, ◌andThen◌}
+use Rattle.rules_routine.specs.Refusals.{no_room, refuse◌when◌, ◌and_then◌}
 use Rattle.rules_routine.specs.Routine.{routine_check}
 use Rattle.rules_routine.specs.declared.Command.{Command}
 use Rattle.rules_routine.specs.declared.Verdict.{Verdict}

@@ -1,5 +1,7 @@
 // The routine book of document 01 as definitions, and the theorems about them: specs/ and proofs/. Here stand what
 // the code of reading and writing shares: the types of the answers, the layout's numbers, and two bytes as a setting, and back.
+#![tactic(auto)]
+
 ghost use Rattle.std.specs.Prelude.{◌≡◌};
 ghost use Rattle.book_layout.specs.Numbers.{bits_of, setting_of};
 
@@ -20,7 +22,7 @@ pub const COMMAND_SIZE: usize = 4;
 pub const BOOK_DEVICES: u8 = MAX_DEVICES as u8;
 
 // What a step of reading gives: a routine is handed out, or the end is reached, or the book is turned down.
-#[derive(Drop)]
+#[derive(Clone, Copy)]
 pub enum Item {
     Handed,
     End,
@@ -29,7 +31,7 @@ pub enum Item {
 
 // The routine stands beside the item, since an enum holds no array. Position 0 is that of a reading not begun, and of a book that is turned
 // down; any other is the place in the book of the next pair.
-#[derive(Drop)]
+#[derive(Clone, Copy)]
 pub struct Next {
     pub item: Item,
     pub routine: Routine,
@@ -37,7 +39,7 @@ pub struct Next {
 }
 
 // What writing gives: the length of the book written, or why nothing was.
-#[derive(Drop)]
+#[derive(Clone, Copy)]
 pub enum Written {
     Length(usize),
     Refused(Refusal),

@@ -1,4 +1,6 @@
 // The routine book, read as crate `book_layout` defines it. Document 01, "The routine book".
+#![tactic(auto)]
+
 mod bytes;
 pub mod reader;
 mod reading;

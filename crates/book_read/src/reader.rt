@@ -5,7 +5,7 @@ ghost use Rattle.book_read.specs.Reader.{Started, Advanced};
 use book_layout::Next;
 
 // The lent book and a position in it. Nobody else can set the position.
-#[derive(Drop)]
+#[derive(Clone, Copy)]
 pub struct BookReader<'a> {
     book: &'a [u8],
     position: usize,

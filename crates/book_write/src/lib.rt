@@ -1,4 +1,6 @@
 // The routine book, written as crate `book_layout` defines it. Document 01, "The routine book".
+#![tactic(auto)]
+
 mod writing;
 
 ghost use Rattle.std.specs.Prelude.{◌≡◌, length};

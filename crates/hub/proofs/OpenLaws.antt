@@ -8,12 +8,12 @@ use borrow.Author.Tests.{ltb-false, eq-eqb, ne_eqb, eqb-false}
 use lib.Dec.{eqb, ltb}
 use lib.IntN.{pos}
 use lib.ListN.{replicate, get_or}
-use Rattle.rules_routine.specs.Refusals.{devices_out_of_range, first_id_0, refusal_of, refuse◌when◌, ◌andThen◌}
+use Rattle.rules_routine.specs.Refusals.{devices_out_of_range, first_id_0, refusal_of, refuse◌when◌, ◌and_then◌}
 use Rattle.rules_routine.specs.Limits.{max_devices, max_commands, highest_id, max_sequence}
 use Rattle.rules_routine.specs.declared.Refusal.{Refusal}
 use Rattle.rules_routine.specs.declared.Verdict.{Verdict}
 use Rattle.rules_routine.specs.declared.Verdict.TheVariants.{Accepted, Refused as TurnedDown}
-use Rattle.rules_routine.proofs.RoutineLaws.{both_accept, not-refused, or_false}
+use Rattle.rules_routine.proofs.RoutineLaws.{both_accept, not-refused, or-false}
 use Rattle.rules.specs.Open.{devices_check, limit_check, open_check, new_hub, closed_hub, open_if, open_of}
 use Rattle.rules.specs.Limit.{new_limit_check}
 use Rattle.rules.specs.Calls.{StaysClosed}
@@ -70,7 +70,7 @@ module _ (n k first : ℕ) where
       let id = refuse first_id_0 when eqb first 0 in
       let a = both_accept (devices_check n) (limit_check k and_then id) e in
       let b = both_accept (limit_check k) id a.1 in
-      let m = ltb-false max_devices n (or_false (eqb n 0) (ltb max_devices n) (not-refused devices_out_of_range _ a.0)).1 in
+      let m = ltb-false max_devices n (or-false (eqb n 0) (ltb max_devices n) (not-refused devices_out_of_range _ a.0)).1 in
       let f = eqb-false first 0 (not-refused first_id_0 _ b.1) in
       (m, omega (arith, f))
 

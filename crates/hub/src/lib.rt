@@ -2,6 +2,8 @@
 // as it is, what it comes to (crates `hub_submit`, `hub_turn`, `hub_report`, `hub_events` and, the cancel, `hub_abort`); an applier makes
 // the next hub (crates `hub_apply`, `hub_settle`, `hub_events`), which then settles. Only a new pass limit (crate `hub_limit`) is made at
 // once, settling included. `specs/` reads a hub as the state of the rules, and an outcome as their answers.
+#![tactic(auto)]
+
 mod carrying;
 mod opening;
 
@@ -34,14 +36,14 @@ use hub_state::{Decision, HubState, Staged, readers};
 use rules_routine::{Routine, Verdict};
 
 // A hub. Others hold it and hand it on; nobody else can make one, look into it or change it.
-#[derive(Drop)]
+#[derive(Clone, Copy)]
 pub struct Hub {
     state: HubState,
 }
 
 // What an opening gives: whether it is accepted, and then the hub. An enum holds no array, so that a hub stands beside
 // a refusal too: the one of no devices.
-#[derive(Drop)]
+#[derive(Clone, Copy)]
 pub struct Opened {
     pub verdict: Verdict,
     pub hub: Hub,
@@ -49,7 +51,7 @@ pub struct Opened {
 
 // What a call gives: the next hub; the abort that comes first, if there is one; the answer; and the settings that devices are put back to,
 // beside the answer that they belong to.
-#[derive(Drop)]
+#[derive(Clone, Copy)]
 pub struct Outcome {
     pub hub: Hub,
     pub first: EventAbort,

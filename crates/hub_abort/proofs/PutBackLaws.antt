@@ -1,7 +1,7 @@
 -- Laws that the proofs of this crate, and those above it, cite. Assumes nothing.
 use mathlib.Core.Path.{◌≡◌, refl, sym, ap, ◌∙◌, subst, fun_ext}
 use mathlib.Core.Logic.{inl, inr}
-use mathlib.Core.Bool.{Bool, true, false, not, ◌&&◌, ◌||◌, or_true, or_false}
+use mathlib.Core.Bool.{Bool, true, false, not, ◌&&◌, ◌||◌, or-true, or-false}
 use mathlib.Core.List.{List, [], ◌∷◌, ◌++◌, append_assoc, append-nil}
 use mathlib.Core.Option.{none}
 use Prim.Native.Nat.{ℕ, zero, suc, ◌+◌, ◌-◌, ◌*◌, ◌<◌, ◌≤◌}
@@ -80,11 +80,11 @@ module _ (up others own : Bool) (before after : ℤ) where
   back-others u o = rw (not-false up u, o)
 
   pub back_own : not up ≡ false → others ≡ false → own ≡ true → true ≡ goes_back
-  back_own u o w = rw (not-false up u, o, w) (sym (or_true (not (same_setting before after))))
+  back_own u o w = rw (not-false up u, o, w) (sym (or-true (not (same_setting before after))))
 
   pub back_changed : to_z w16 (of_z w16 before) ≡ before → to_z w16 (of_z w16 after) ≡ after → not up ≡ false → others ≡ false → own ≡ false →
       not (eqb (of_z w16 before) (of_z w16 after)) ≡ goes_back
-  back_changed b a u o w = rw (not-false up u, o, w, same_bits before after b a) (sym (or_false (not (same_setting before after))))
+  back_changed b a u o w = rw (not-false up u, o, w, same_bits before after b a) (sym (or-false (not (same_setting before after))))
 
 -- the test by the tables, of what was read of them
 pub test_read : (t : Tables) (d : ℕ) (r u : Bool) (x y : ℤ) →

@@ -1,5 +1,7 @@
 // Document 01, "Abort of R": what an abort puts back, from the due settings before and after it; in `cancel`, "Cancel aborts R". How the
 // routine leaves stands in crate `hub_settle`.
+#![tactic(auto)]
+
 pub mod cancel;
 
 ghost use Rattle.std.specs.Prelude.{◌≡◌, not, ◌&&◌, ◌||◌, ◌≤◌};
@@ -19,7 +21,7 @@ use rules_routine::limits::MAX_DEVICES;
 
 // The tables that tell which devices are put back: up; with a command in flight of those left, and of the one that left; and due before
 // and after.
-#[derive(Drop)]
+#[derive(Clone, Copy)]
 pub struct Tables {
     pub up: [bool; MAX_DEVICES],
     pub others: [bool; MAX_DEVICES],

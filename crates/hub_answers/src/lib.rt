@@ -1,5 +1,7 @@
 // What the hub answers, as values: document 01, "Things and ranges" ("holds them as one record inside its case") and "The steps".
 // `specs/` sets out for each case of each enum which answer of document 01 it is, and with which values.
+#![tactic(auto)]
+
 ghost use Rattle.std.specs.Prelude.{◌≡◌, [], ◌∷◌, ◌++◌, suc, ◌<◌};
 ghost use Rattle.rules_routine.specs.Limits.{max_devices};
 ghost use Rattle.hub_answers.specs.View.{put_backs_of, back_of, one_of, PutBacksOk, changes_nothing};
@@ -8,14 +10,14 @@ use rules_routine::limits::MAX_DEVICES;
 use rules_routine::{Command, Refusal};
 
 // A routine was placed: its id, and the id it follows, 0 for the settled part.
-#[derive(Drop)]
+#[derive(Clone, Copy)]
 pub struct Placed {
     pub id: u32,
     pub after: u32,
 }
 
 // A command is to be sent: the id of its routine, and the command.
-#[derive(Drop)]
+#[derive(Clone, Copy)]
 pub struct Sent {
     pub id: u32,
     pub command: Command,
@@ -23,7 +25,7 @@ pub struct Sent {
 
 // What a call answers. A wait has the id and the id it waits on; an event its device and the id it follows; a new pass limit the K now in
 // force; the others the routine's id.
-#[derive(Drop)]
+#[derive(Clone, Copy)]
 pub enum Answer {
     Refused(Refusal),
     Placed(Placed),
@@ -54,28 +56,28 @@ pub fn changes_nothing(answer: Answer) -> bool
 }
 
 // The routine that a failure or a restart aborted before its own answer.
-#[derive(Drop)]
+#[derive(Clone, Copy)]
 pub enum EventAbort {
     NoAbort,
     Abort(u32),
 }
 
 // A setting that a device is put back to.
-#[derive(Drop)]
+#[derive(Clone, Copy)]
 pub struct PutBack {
     pub device: u8,
     pub setting: i16,
 }
 
 // What an answer that is no abort puts back.
-#[derive(Drop)]
+#[derive(Clone, Copy)]
 pub enum MaybePutBack {
     Nothing,
     One(PutBack),
 }
 
 // The first `count` of the items, by rising device.
-#[derive(Drop)]
+#[derive(Clone, Copy)]
 pub struct PutBacks {
     pub items: [PutBack; MAX_DEVICES],
     pub count: usize,

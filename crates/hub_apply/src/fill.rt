@@ -33,7 +33,7 @@ pub fn passed_behind(
 }
 
 // The rows of the commands' devices, tags and settings.
-#[derive(Drop)]
+#[derive(Clone, Copy)]
 pub struct CommandRows {
     pub device: [u8; STEPS],
     pub tag: [u8; STEPS],

@@ -1,6 +1,8 @@
 // Changes that were decided: a command comes to a stage, the commands left on a device are skipped, a routine commits, a routine joins the
 // sequence. Each takes the rows that it changes out of the state, and puts the state together again by one literal, so that a row which
 // stays is not copied.
+#![tactic(auto)]
+
 mod fill;
 
 ghost use Rattle.std.specs.Prelude.{◌≡◌, ◌*◌, ◌≤◌};

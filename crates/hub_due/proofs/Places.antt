@@ -1,7 +1,7 @@
 -- Commands by their places in the rows: what a device is due after them. Neither a tag counts nor the due setting of one in flight. Assumes
 -- nothing.
 use mathlib.Core.Path.{◌≡◌, refl, sym, ap, ◌∙◌}
-use mathlib.Core.Bool.{Bool, true, false, ◌&&◌, and_true, and-false}
+use mathlib.Core.Bool.{Bool, true, false, ◌&&◌, and-true, and-false}
 use mathlib.Core.List.{List}
 use Prim.Native.Nat.{ℕ, zero, suc, ◌+◌, ◌-◌, ◌≤◌, ◌<◌}
 use native.Mathlib.Omega.{arith}
@@ -31,7 +31,7 @@ module _ (device stage : List ℕ) where
 
     -- of a done command the device decides
     place-device : get_or stage k 0 ≡ done_code → done_on d k ≡ eqb d (get_or device k 0)
-    place-device e = rw (eq-eqb (get_or stage k 0) done_code e) (and_true (eqb (get_or device k 0) d)) ∙ eqb_sym (get_or device k 0) d
+    place-device e = rw (eq-eqb (get_or stage k 0) done_code e) (and-true (eqb (get_or device k 0) d)) ∙ eqb_sym (get_or device k 0) d
 
     pub place_other : (get_or device k 0 ≡ d → ⊥) → done_on d k ≡ false
     place_other n = rw (ne_eqb (get_or device k 0) d n)

@@ -1,7 +1,7 @@
 -- Slots by what their rows have: what a device is due after them, along the sequence and back, and which have a command in flight on it.
 -- Assumes nothing.
 use mathlib.Core.Path.{◌≡◌, refl, sym, ap, ◌∙◌, subst, fun_ext}
-use mathlib.Core.Bool.{Bool, true, false, not, ◌&&◌, ◌||◌, and_true, and-false, or_true, or_false, or_assoc}
+use mathlib.Core.Bool.{Bool, true, false, not, ◌&&◌, ◌||◌, and-true, and-false, or-true, or-false, or_assoc}
 use mathlib.Core.List.{List, [], ◌∷◌, map, reverse, reverse_aux}
 use mathlib.Core.Option.{Option, none, some}
 use Prim.Native.Nat.{ℕ, zero, suc, ◌+◌, ◌-◌, ◌*◌, ◌≤◌, ◌<◌}
@@ -408,7 +408,7 @@ module _ {row counts answered device stage : List ℕ} {but first x : ℕ} {busy
   -- no slot is left
   pub flights_end : max_sequence ≤ x → (d : ℕ) → flags_of busy d ≡ any_of (flies_but counts answered device stage but d) (along row first)
   flights_end h d =
-      sym (or_false (flags_of busy d))
+      sym (or-false (flags_of busy d))
       ∙ sym (ap (λ (l : List ℕ). flags_of busy d || any_of (flies_but counts answered device stage but d) l) (walks_end t h))
       ∙ f.same d
 
@@ -431,7 +431,7 @@ module _ {row counts answered device stage : List ℕ} {but first x : ℕ} {busy
         FlightsTo row counts answered device stage but first (get_or row x 0) next
     flights_same {next} q e =
         flights_more next (ap length q)
-        (λ d. ap (λ (l : List Bool). flags_of l d) q ∙ sym (or_false (flags_of busy d)) ∙ ap (λ (s : Bool). flags_of busy d || s) (sym (e d)))
+        (λ d. ap (λ (l : List Bool). flags_of l d) q ∙ sym (or-false (flags_of busy d)) ∙ ap (λ (s : Bool). flags_of busy d || s) (sym (e d)))
 
     -- the slot is left out
     pub flights_left_out : {next : List Bool} → next ≡ busy → x ≡ but →
@@ -469,8 +469,8 @@ module _ {row counts answered device stage : List ℕ} {but first x : ℕ} {busy
         at = get_or device (x * max_commands + get_or answered x 0) 0
 
         added : (b s : Bool) → (if s then true else b) ≡ b || s
-        added b true = sym (or_true b)
-        added b false = sym (or_false b)
+        added b true = sym (or-true b)
+        added b false = sym (or-false b)
 
         here : (d : ℕ) → flies_but counts answered device stage but d x ≡ eqb d at
         here d =
@@ -478,5 +478,5 @@ module _ {row counts answered device stage : List ℕ} {but first x : ℕ} {busy
               ne_eqb x but n,
               lt-ltb (get_or answered x 0) (get_or counts x 0) i,
               eq-eqb (get_or stage (x * max_commands + get_or answered x 0) 0) in_flight_code e,
-            ) (and_true (eqb at d))
+            ) (and-true (eqb at d))
             ∙ eqb_sym at d

@@ -1,5 +1,7 @@
 // What devices are due after the settled part and the sequence: document 01, "Abort of R". One device, from the last routine on; and all,
 // in one pass (`due_settings_without`), which is the only one.
+#![tactic(auto)]
+
 ghost use Rattle.std.specs.Prelude.{◌≡◌, ◌*◌, ◌≤◌, ◌<◌, length};
 ghost use Rattle.rules_routine.specs.Limits.{max_commands, max_devices, max_sequence};
 ghost use Rattle.rules.specs.Tables.{any_of};

@@ -1,4 +1,6 @@
 // All due settings in one reading: document 02, item 14. The pass along the sequence is `due_settings_without` of crate `hub_due`.
+#![tactic(auto)]
+
 ghost use Rattle.std.specs.Prelude.{◌≡◌, length};
 ghost use Rattle.rules.specs.AllDue.{list_check, list_after};
 ghost use Rattle.hub_state.specs.View.{state_of};

@@ -1,4 +1,6 @@
 // Document 01, "Failure or restart of D", with document 02, item 3. Refusals: failure 14, 15; restart 14, 16, 17.
+#![tactic(auto)]
+
 ghost use Rattle.std.specs.Prelude.{◌≡◌, true, [], ◌<◌};
 ghost use Rattle.rules_routine.specs.Limits.{max_devices};
 ghost use Rattle.rules.specs.Tables.{put};
@@ -19,7 +21,7 @@ use rules_routine::refusals::{EVENT_DEVICE, FAILURE_OF_DOWN, RESTART_OF_UP, REST
 
 // The routine that is halfway with an event's device, by its slot, MAX_SEQUENCE if there is none; its abort as it is told, if it aborts;
 // and the device's mark after that.
-#[derive(Drop)]
+#[derive(Clone, Copy)]
 pub struct Affected {
     pub slot: usize,
     pub first: EventAbort,

@@ -1,4 +1,6 @@
 // A new pass limit: document 02, item 13, "New pass limit without a stop".
+#![tactic(auto)]
+
 ghost use Rattle.std.specs.Prelude.{◌≡◌};
 ghost use Rattle.rules.specs.Settle.{settle};
 ghost use Rattle.rules.specs.Limit.{new_limit_check, with_pass_limit};
@@ -14,7 +16,7 @@ use rules_routine::refusals::{DEVICES_OUT_OF_RANGE, PASS_LIMIT_OUT_OF_RANGE};
 use rules_routine::{Refusal, Verdict};
 
 // What comes of it: the state, and the answer.
-#[derive(Drop)]
+#[derive(Clone, Copy)]
 pub struct NewLimit {
     pub state: HubState,
     pub answer: Answer,

@@ -3,7 +3,7 @@ use Prim.Native.Nat.{ℕ, zero, suc, ◌+◌, ◌-◌, ◌*◌, ◌≤◌, ◌<�
 use native.Mathlib.Omega.{arith}
 use borrow.Author.Tests.{eq-eqb, ne_eqb, lt-ltb, le-ltb, le-leb, lt-leb}
 use mathlib.Core.Path.{◌≡◌, refl, sym, ap, ◌∙◌}
-use mathlib.Core.Bool.{Bool, true, false, not, ◌&&◌, ◌||◌, and_true, and-false, or_true, or_false, not-not, and-or_distrib_left}
+use mathlib.Core.Bool.{Bool, true, false, not, ◌&&◌, ◌||◌, and-true, and-false, or-true, or-false, not-not, and-or_distrib_left}
 use mathlib.Core.List.{List, [], ◌∷◌}
 use lib.Dec.{eqb, ltb, leb}
 use lib.IntN.{ℤ, pos}
@@ -60,7 +60,7 @@ at_or q r k (suc n) = four (q k) (any_at q (suc k) n) (r k) (any_at r (suc k) n)
   where
     four : (a b c d : Bool) → ((a || b) || (c || d)) ≡ ((a || c) || (b || d))
     four true b c d = refl
-    four false true c d = sym (or_true c)
+    four false true c d = sym (or-true c)
     four false false c d = refl
 
 at_same : (q r : ℕ → Bool) (k n : ℕ) → ((j : ℕ) → q j ≡ r j) → any_at q k n ≡ any_at r k n
@@ -233,7 +233,7 @@ module _ (rows : Rows) (u : ℤ) (d k n : ℕ) where
       ≡ any_at (below_at rows.devices rows.stages (bound_of condition) d) k n
   unfolding step_at below_at
   steps_below false =
-      or_false (any_of (is_left_on d) (steps_from rows u k n))
+      or-false (any_of (is_left_on d) (steps_from rows u k n))
       ∙ steps-at (is_left_on d) rows u k n
       ∙ at_same _ _ k n (λ j. ap (λ (t : Bool). on_at rows.devices d j && t) (code_answered (get_or rows.stages j 0) u))
   steps_below true =
@@ -251,7 +251,7 @@ module _ (rows : Rows) (u : ℤ) (d k n : ℕ) where
       ∙ at_same _ _ k n
       (λ j.
       let code = get_or rows.stages j 0 in
-      rw (code_left code u, le-leb to_do_code code (omega arith), and_true (on_at rows.devices d j)))
+      rw (code_left code u, le-leb to_do_code code (omega arith), and-true (on_at rows.devices d j)))
       ∙ staged-at rows.devices rows.stages d to_do_code in_flight_code k n
 
   steps-begun : ((j : ℕ) → get_or rows.stages j 0 ≤ highest_stage) →
@@ -262,7 +262,7 @@ module _ (rows : Rows) (u : ℤ) (d k n : ℕ) where
       ∙ at_same _ _ k n
       (λ j.
       let code = get_or rows.stages j 0 in
-      rw (code_begun code u, le-leb code highest_stage (b j)) (sym (and_true (on_at rows.devices d j && leb in_flight_code code))))
+      rw (code_begun code u, le-leb code highest_stage (b j)) (sym (and-true (on_at rows.devices d j && leb in_flight_code code))))
       ∙ staged-at rows.devices rows.stages d in_flight_code highest_stage k n
 
 -- what the tag that counts says of a command, with those behind it
@@ -272,7 +272,7 @@ unfolding step_at
 counts_must rows u k zero = rw (and-false (eqb (get_or rows.tags k 0) condition_tag))
 counts_must rows u k (suc n) =
     let tag = rows.tags in
-    rw (lt-ltb 1 (suc (suc n)) (omega arith), and_true (eqb (get_or tag k 0) condition_tag))
+    rw (lt-ltb 1 (suc (suc n)) (omega arith), and-true (eqb (get_or tag k 0) condition_tag))
     (by_test (λ (t : Bool). (if t then eqb (get_or tag (suc k) 0) must_tag else eqb (get_or tag k 0) must_tag)
     ≡ eqb (if t then get_or tag (suc k) 0 else get_or tag k 0) must_tag)
     (eqb (get_or tag k 0) condition_tag) (λ _. refl) (λ _. refl))

@@ -3,7 +3,7 @@ use Prim.Native.Nat.{ℕ, zero, suc, ◌+◌, ◌-◌, ◌*◌, ◌≤◌, ◌<�
 use native.Mathlib.Omega.{arith}
 use borrow.Author.Tests.{eq-eqb, ne_eqb, le-leb, lt-leb}
 use mathlib.Core.Path.{◌≡◌, refl, sym, ap, ◌∙◌, subst}
-use mathlib.Core.Bool.{Bool, true, false, not, ◌&&◌, ◌||◌, and-false, or_true}
+use mathlib.Core.Bool.{Bool, true, false, not, ◌&&◌, ◌||◌, and-false, or-true}
 use mathlib.Core.List.{List, [], ◌∷◌, ◌++◌, map-append, reverse}
 use mathlib.Core.Option.{none as nothing, some}
 use lib.Dec.{eqb, leb}
@@ -396,7 +396,7 @@ module _ (h : HubState) (v : StateOk h) where
       unfolding blocks_in
       latest_passed i o e =
           latest_is x
-          (seeks_found s i (rw (o, le-leb h.pass_limit (get_or h.passed x 0) e) (or_true (any_on marks (get_or h.ids x 0) 0 n))))
+          (seeks_found s i (rw (o, le-leb h.pass_limit (get_or h.passed x 0) e) (or-true (any_on marks (get_or h.ids x 0) 0 n))))
 
       pub latest_none : max_sequence ≤ x → Latest h cs none
       latest_none i = latest_is none (seeks_end s i)

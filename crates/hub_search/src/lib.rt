@@ -1,5 +1,7 @@
 // Searches along the links: for a routine, for the one to wait for, for the one that is halfway with a device, and for the one that a
 // newcomer follows. They take the rows that they read out of the state; the long rows of a call are lent to them.
+#![tactic(auto)]
+
 ghost use Rattle.std.specs.Prelude.{◌≡◌, ◌-◌, ◌*◌, ◌<◌, ◌≤◌, take};
 ghost use Rattle.rules_routine.specs.Limits.{max_commands, max_sequence};
 ghost use Rattle.rules_routine.specs.Routine.{commands_of};

@@ -1,6 +1,8 @@
 // The sequence: document 01, "Things and ranges" and "The steps"; document 02, item 8. It is kept as links between slots: a slot that is
 // taken knows the slot ahead of it and the one behind it. No routine moves. The free slots hang on a list along `behind`. Only this crate
 // changes links.
+#![tactic(auto)]
+
 pub mod link;
 pub mod order;
 
@@ -9,7 +11,7 @@ use rules_routine::limits::MAX_SEQUENCE;
 // No slot: what stands before the first and behind the last.
 pub const NONE: u8 = 255;
 
-#[derive(Drop)]
+#[derive(Clone, Copy)]
 pub struct Links {
     pub ahead: [u8; MAX_SEQUENCE],
     pub behind: [u8; MAX_SEQUENCE],
@@ -20,7 +22,7 @@ pub struct Links {
 }
 
 // The links with one slot more, and which slot that is.
-#[derive(Drop)]
+#[derive(Clone, Copy)]
 pub struct Joined {
     pub links: Links,
     pub slot: u8,

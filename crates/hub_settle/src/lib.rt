@@ -1,5 +1,7 @@
 // A routine leaves the sequence, by an abort or since it settles; restarts are attached. Document 01, "Abort of R", "Failure or restart of
 // D" and "Settling". Each has a module of its name.
+#![tactic(auto)]
+
 pub mod attach;
 pub mod leave;
 pub mod settle;

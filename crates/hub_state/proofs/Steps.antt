@@ -1,7 +1,7 @@
 -- The commands of a routine, of which the first so many are answered: what the tests along them come to, and what a changed status keeps.
 -- Assumes nothing.
 use mathlib.Core.Path.{◌≡◌, refl, sym, ap, ◌∙◌}
-use mathlib.Core.Bool.{Bool, true, false, not, ◌&&◌, and_true, and-false, or_false}
+use mathlib.Core.Bool.{Bool, true, false, not, ◌&&◌, and-true, and-false, or-false}
 use mathlib.Core.List.{List, [], ◌∷◌, map}
 use mathlib.Core.Option.{Option, none, some}
 use Prim.Native.Nat.{ℕ, zero, suc, ◌≤◌, ◌<◌}
@@ -184,7 +184,7 @@ pub flights_some : (n : ℕ) (l : List Step) → AnsweredUpTo n l → (f : Fligh
 flights_some zero [] a f e d = not_none f e
 flights_some zero (x ∷ l) a f e d =
     let t = flight_this x x.status (flight l) f (behind-flight l a.1) e in
-    rw (t.1, and_true (is_on d x), behind_flies d l a.1) (or_false (is_on d x)) ∙ ap (λ (c : Command). eqb c.device d) t.2
+    rw (t.1, and-true (is_on d x), behind_flies d l a.1) (or-false (is_on d x)) ∙ ap (λ (c : Command). eqb c.device d) t.2
 flights_some (suc n) [] a f e d = absurd a
 flights_some (suc n) (x ∷ l) a f e d =
     let t = (answered-is x.status a.0).1 in
@@ -213,7 +213,7 @@ flights_all n l a h d = flights_none n l a (flight_all n l a h) d
 pub flights_open : (n : ℕ) (l : List Step) → AnsweredUpTo n l → (x : Step) (r : List Step) → drop n l ≡ x ∷ r → (d : ℕ) →
     any_of (flies d) l ≡ flies d x
 flights_open zero [] a x r e d = no_steps x r e
-flights_open zero (y ∷ l) a x r e d = rw (behind_flies d l a.1) (or_false (flies d y)) ∙ ap (flies d) (same_first y x l r e)
+flights_open zero (y ∷ l) a x r e d = rw (behind_flies d l a.1) (or-false (flies d y)) ∙ ap (flies d) (same_first y x l r e)
 flights_open (suc n) [] a x r e d = absurd a
 flights_open (suc n) (y ∷ l) a x r e d = rw ((answered-is y.status a.0).1, and-false (is_on d y)) (flights_open n l a.1 x r e d)
 

@@ -1,6 +1,8 @@
 // The hub's state by value: rows over the slots of the sequence, whose order the links keep; and what a call comes to on it, as a decision.
 // Document 01, "Things and ranges" and "The steps". `specs/` reads the rows as the state of the rules, and a decision as their result. Only
 // crate `hub` has a hub to give to others; the crates of the calls decide on its state, and those of the appliers change it.
+#![tactic(auto)]
+
 pub mod decisions;
 pub mod readers;
 
@@ -31,7 +33,7 @@ pub const NOT_HELD: u8 = 5;
 pub const NO_RESTART: i16 = 32767;
 
 // The hub: a row has an entry for each slot of the sequence, for each command of a slot, for each slot and device, or for each device.
-#[derive(Drop)]
+#[derive(Clone, Copy)]
 pub struct HubState {
     // N.
     pub devices: u8,
@@ -72,21 +74,21 @@ pub struct HubState {
 }
 
 // The slot of a routine.
-#[derive(Drop)]
+#[derive(Clone, Copy)]
 pub enum Place {
     At(usize),
     Nowhere,
 }
 
 // The first routine ahead that is to be waited for, by its id.
-#[derive(Drop)]
+#[derive(Clone, Copy)]
 pub enum Holder {
     Routine(u32),
     Nobody,
 }
 
 // The first command of a routine that is not answered, by its place in the rows.
-#[derive(Drop)]
+#[derive(Clone, Copy)]
 pub enum Unanswered {
     Nothing,
     ToDo(usize),
@@ -95,7 +97,7 @@ pub enum Unanswered {
 
 // The first command of the routine in a slot that is not answered comes to a stage; `begins`: the routine begins its device by that, which
 // gets its mark.
-#[derive(Drop)]
+#[derive(Clone, Copy)]
 pub struct Staged {
     pub at: usize,
     pub stage: u8,
@@ -108,7 +110,7 @@ pub struct Staged {
 // What a call changes, by slots of the state that it was decided on. `Join` has the slot that the newcomer follows, `Fail` and `Restart`
 // the one of the routine that is halfway with the device, which aborts first or has its commands left there skipped; a number past the
 // slots stands for none.
-#[derive(Drop)]
+#[derive(Clone, Copy)]
 pub enum Change {
     Nothing,
     Stage(Staged),
@@ -121,7 +123,7 @@ pub enum Change {
 
 // What a call comes to: the abort that comes first, if there is one, the answer, what the answer puts back, and the change. What an abort
 // puts back is known once it is carried out.
-#[derive(Drop)]
+#[derive(Clone, Copy)]
 pub struct Decision {
     pub first: EventAbort,
     pub answer: Answer,

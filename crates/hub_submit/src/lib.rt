@@ -1,4 +1,6 @@
 // Document 01, "Submit". Refusals: 4; then the commands in turn, each 5, 6, 7 and 22 (document 02, item 4); then 8, 9.
+#![tactic(auto)]
+
 ghost use Rattle.std.specs.Prelude.{◌≡◌, map};
 ghost use Rattle.rules_routine.specs.Routine.{commands_of};
 ghost use Rattle.rules_routine.specs.declared.Verdict.TheVariants.{Accepted};

@@ -1,5 +1,7 @@
 // Document 01, "Mark" and "Turn of R", with the conditions of document 02, item 4. Refusals: 10, 11. The rows of devices, tags and stages
 // are taken out of the state once and lent.
+#![tactic(auto)]
+
 ghost use Rattle.std.specs.Prelude.{◌≡◌, not, [], ◌*◌, ◌<◌};
 ghost use Rattle.rules_routine.specs.Limits.{max_commands, max_sequence};
 ghost use Rattle.rules.specs.Turn.{proceed_up, proceed, turn_of, turn_next};

@@ -13,14 +13,14 @@ use lib.Dec.{ltb, eqb}
 use lib.ListN.{length, length-append}
 use Rattle.rules_routine.specs.Choice.{if◌then◌else◌}
 use Rattle.rules_routine.specs.Refusals.{command_count, devices_out_of_range, pass_limit_out_of_range, first_id_0, refusal_of, refuse◌when◌}
-use Rattle.rules_routine.specs.Refusals.{◌andThen◌}
+use Rattle.rules_routine.specs.Refusals.{◌and_then◌}
 use Rattle.rules_routine.specs.Limits.{max_devices, max_commands, highest_pass_limit}
 use Rattle.rules_routine.specs.Routine.{commands_of, routine_of, no_routine, with_command}
 use Rattle.rules_routine.specs.declared.Command.{Command}
 use Rattle.rules_routine.specs.declared.Routine.{Routine}
 use Rattle.rules_routine.specs.declared.Verdict.{Verdict}
 use Rattle.rules_routine.specs.declared.Verdict.TheVariants.{Accepted, Refused}
-use Rattle.rules_routine.proofs.RoutineLaws.{by_test, both_accept, not-refused, or_false, length-commands_of, routine_of-commands}
+use Rattle.rules_routine.proofs.RoutineLaws.{by_test, both_accept, not-refused, or-false, length-commands_of, routine_of-commands}
 use Rattle.rules_routine.proofs.RoutineLaws.{routine_of-count}
 use Rattle.rules_routine.proofs.RoutineLaws.{with_more, check_long}
 use Rattle.rules.specs.State.{State}
@@ -192,7 +192,7 @@ unfolding open_check
 open_some n k first e =
     let rest = refuse pass_limit_out_of_range when ltb highest_pass_limit k and_then refuse first_id_0 when eqb first 0 in
     let a = (both_accept (refuse devices_out_of_range when (eqb n 0 || ltb max_devices n)) rest e).0 in
-    eqb-false n 0 (or_false (eqb n 0) (ltb max_devices n) (not-refused devices_out_of_range _ a)).0
+    eqb-false n 0 (or-false (eqb n 0) (ltb max_devices n) (not-refused devices_out_of_range _ a)).0
 
 opened_as : (v : Verdict) (s : State) {t : State} → open_if v s ≡ opened t → opened s ≡ opened t
 opened_as Accepted s e = e

@@ -1,5 +1,7 @@
 // The line program on byte slices: document 01, "The line program". Here stand the calls that others make: the exported one for C, the one
 // over a hub that is lent and changed there, and those for an input that comes in parts. All below them is by value.
+#![tactic(auto)]
+
 mod lines;
 mod running;
 
@@ -18,7 +20,7 @@ use hub::Hub;
 pub const TOO_SHORT: i64 = -21;
 
 // The hub afterwards, and the length written or −21.
-#[derive(Drop)]
+#[derive(Clone, Copy)]
 pub struct RunResult {
     pub hub: Hub,
     pub result: i64,

@@ -69,7 +69,7 @@ pub fn devices_of(hub: Hub) -> Devices
 }
 
 // A line: what of it is heard, the routine that it submits, and where it ends.
-#[derive(Drop)]
+#[derive(Clone, Copy)]
 pub struct NextLine {
     pub said: Line,
     pub routine: Routine,

@@ -19,7 +19,7 @@ use line_rules::LINE_END;
 const CHUNK_LENGTH: usize = 240;
 
 // The hub after some lines, and the place behind what they print.
-#[derive(Drop)]
+#[derive(Clone, Copy)]
 pub struct Lines {
     pub hub: Hub,
     pub at: usize,

@@ -1,4 +1,6 @@
 // Why a line prints `unread`: for people who write sittings. specs/Why.antt says which reason is told of a line.
+#![tactic(auto)]
+
 mod letters;
 mod scans;
 mod words;
@@ -12,7 +14,7 @@ use line_rules::SPACE;
 use rules_routine::limits::MAX_LINE;
 
 // Why a line is unread; `Nothing` of a line that is read.
-#[derive(Drop)]
+#[derive(Clone, Copy)]
 pub enum Hint {
     Nothing,
     TooLong,

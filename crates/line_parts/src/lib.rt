@@ -1,5 +1,7 @@
 // The line program over an input that comes in parts, as a program reads it: document 01, "The line program". The steps are code on byte
 // slices: nothing here reads or writes. specs/Claims.antt says what the steps in turn print.
+#![tactic(auto)]
+
 pub mod whole;
 
 ghost use Rattle.std.specs.Prelude.{◌≡◌, ◌+◌, ◌≤◌, length};
@@ -32,7 +34,7 @@ pub fn out_buffer() -> [u8; OUT_ROOM]
 }
 
 // The hub after a part, how many bytes are pending of a line whose end has not come, and how long the text is that the part prints.
-#[derive(Drop)]
+#[derive(Clone, Copy)]
 pub struct AfterPart {
     pub hub: Hub,
     pub pending: usize,

@@ -1,6 +1,8 @@
 // The lines that the line program prints: document 01, "The line program". A line's text is put into a lent buffer in which any line fits,
 // so that no byte needs a test for room. `put_text` then copies it once to the output: what lies past the output's end is counted and not
 // put, so that a text can be measured on an output of one byte.
+#![tactic(auto)]
+
 mod text;
 mod words;
 
@@ -141,7 +143,7 @@ pub fn put_text(out: &mut [u8], at: usize, text: &[u8]) -> usize
 }
 
 // What the device lines tell: how many devices there are, and of each whether it is up and its due setting.
-#[derive(Drop)]
+#[derive(Clone, Copy)]
 pub struct Devices {
     pub count: u8,
     pub up: [bool; MAX_DEVICES],

@@ -1,7 +1,7 @@
 -- The forms of lines by the words of a line: one law for each way out. Assumes nothing.
 use mathlib.Core.Path.{◌≡◌, refl, sym, ap, ap₂, ◌∙◌}
 use mathlib.Core.Logic.{◌≢◌}
-use mathlib.Core.Bool.{Bool, true, false, and_true, and-false}
+use mathlib.Core.Bool.{Bool, true, false, and-true, and-false}
 use mathlib.Core.List.{List, [], ◌∷◌}
 use mathlib.Core.Option.{Option, none, some}
 use Prim.Native.Nat.{ℕ, suc, ◌+◌, ◌≤◌, ◌<◌}
@@ -291,7 +291,7 @@ pub letter_other : (letter : ℕ) (ws : List (List ℕ)) → letter ≢ letter_o
 unfolding line_with same
 letter_other letter ws a b c d =
     simp (
-      and_true,
+      and-true,
       ne_eqb letter (letter_of "O") a,
       ne_eqb letter (letter_of "S") b,
       ne_eqb letter (letter_of "F") c,

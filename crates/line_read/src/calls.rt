@@ -122,7 +122,7 @@ fn id_line(line: &[u8], letter: u8) -> Line
 }
 
 // A command and where its last word ends; or none.
-#[derive(Drop)]
+#[derive(Clone, Copy)]
 struct CommandRead {
     found: bool,
     command: Command,

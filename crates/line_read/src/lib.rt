@@ -1,4 +1,6 @@
 // Lines found in bytes, and what a line says: document 01, "The line program". `specs/` sets out how what a line says is read here.
+#![tactic(auto)]
+
 mod calls;
 mod numbers;
 mod pieces;
@@ -18,7 +20,7 @@ use rules_routine::limits::MAX_LINE;
 pub const BEHIND_LETTER: usize = 2;
 
 // The calls that lines make. The commands of a submission stand beside it.
-#[derive(Drop)]
+#[derive(Clone, Copy)]
 pub enum Call {
     Submit,
     Turn(u32),
@@ -29,7 +31,7 @@ pub enum Call {
 }
 
 // What a line says: an opening with N, K and the first id, a call, or nothing that is read.
-#[derive(Drop)]
+#[derive(Clone, Copy)]
 pub enum Line {
     Open(u8, u8, u32),
     Calling(Call),
@@ -37,7 +39,7 @@ pub enum Line {
 }
 
 // What a line says, and the routine that it submits; without a submission the empty one.
-#[derive(Drop)]
+#[derive(Clone, Copy)]
 pub struct LineRead {
     pub line: Line,
     pub routine: Routine,

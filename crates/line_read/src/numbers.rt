@@ -11,14 +11,14 @@ const HIGHEST_16: u64 = 32767;
 const LOWEST_16: u64 = 32768;
 
 // A number and where its word ends.
-#[derive(Drop)]
+#[derive(Clone, Copy)]
 pub enum Number {
     Found(u64, usize),
     Missing,
 }
 
 // A setting and where its word ends.
-#[derive(Drop)]
+#[derive(Clone, Copy)]
 pub enum Setting {
     Found(i16, usize),
     Missing,

@@ -15,7 +15,7 @@ use Rattle.rules_routine.specs.Refusals.{setting_out_of_range}
 use Rattle.rules_routine.specs.Refusals.{tag_out_of_range, condition_alone, sequence_full, ids_used_up, not_running, turn_in_flight}
 use Rattle.rules_routine.specs.Refusals.{none_in_flight}
 use Rattle.rules_routine.specs.Refusals.{report_code_out_of_range}
-use Rattle.rules_routine.specs.Refusals.{event_device, failure_of_down, restart_of_up, restart_setting, refusal_of, refuse◌when◌, ◌andThen◌}
+use Rattle.rules_routine.specs.Refusals.{event_device, failure_of_down, restart_of_up, restart_setting, refusal_of, refuse◌when◌, ◌and_then◌}
 use Rattle.rules_routine.specs.Limits.{max_commands, max_devices, highest_pass_limit, max_sequence, highest_id}
 use Rattle.rules_routine.specs.Routine.{is_condition}
 use Rattle.rules_routine.specs.Causes.{NoneOf, FirstIn, itself, OutOfRange, RoutineCause, command_causes, routine_causes}

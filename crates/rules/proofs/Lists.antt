@@ -9,7 +9,7 @@ use borrow.Author.Tests.{eqb-true, eqb-false, eq-eqb, ne_eqb}
 use lib.Dec.{eqb}
 use lib.IntN.{ℤ, pos, negsuc}
 use Rattle.rules_routine.specs.Choice.{if◌then◌else◌}
-use Rattle.rules_routine.proofs.RoutineLaws.{or_false, and_true}
+use Rattle.rules_routine.proofs.RoutineLaws.{or-false, and-true}
 use Rattle.rules.specs.State.{Member}
 use Rattle.rules.specs.Due.{after_members}
 use Rattle.rules.specs.Tables.{any_of, Each, put, same_setting}
@@ -25,16 +25,16 @@ pub t≠f {ℓ} : {A : Type ℓ} → true ≡ false → A
 t≠f e = let z : ◌≡◌ {A = ℕ} 0 1 = cc in absurd (omega arith)
 
 pub or_left : (s t : Bool) → s || t ≡ false → s ≡ false
-or_left s t e = (or_false s t e).0
+or_left s t e = (or-false s t e).0
 
 pub or_right : (s t : Bool) → s || t ≡ false → t ≡ false
-or_right s t e = (or_false s t e).1
+or_right s t e = (or-false s t e).1
 
 pub and_left : (s t : Bool) → s && t ≡ true → s ≡ true
-and_left s t e = (and_true s t e).0
+and_left s t e = (and-true s t e).0
 
 pub and_right : (s t : Bool) → s && t ≡ true → t ≡ true
-and_right s t e = (and_true s t e).1
+and_right s t e = (and-true s t e).1
 
 pub eqb_sym : (i j : ℕ) → eqb i j ≡ eqb j i
 eqb_sym i j = go (eqb j i) refl

@@ -53,9 +53,9 @@ is_limit (restart d v) = false
 is_limit (cancel i) = false
 is_limit (limit k) = true
 
-or_true : (t : Bool) → (t || true) ≡ true
-or_true true = refl
-or_true false = refl
+or-true : (t : Bool) → (t || true) ≡ true
+or-true true = refl
+or-true false = refl
 
 turns_are_none : (l : List ℕ) → any_of is_limit (map turn l) ≡ false
 turns_are_none [] = refl
@@ -85,7 +85,7 @@ module _ (k new : ℕ) (start h : List Told) (other : eqb new (limit_told k h) �
           inr (ap (λ z. any_of is_limit (accepted_in (z ∷ l))) (head-eq_of_cons-eq x) ∙ ap (λ z. any_of is_limit (accepted_in (change ∷ z))) y)
       more (inr x) =
           inr (by_if (λ z. any_of is_limit z ≡ true) (is_accepted t.answers)
-          (λ _. ap (λ z. is_limit t.call || z) x ∙ or_true (is_limit t.call)) (λ _. x))
+          (λ _. ap (λ z. is_limit t.call || z) x ∙ or-true (is_limit t.call)) (λ _. x))
 
   module _ (idle : idle_of (change ∷ h) i ≡ true) where
     no_round : (g turns reports : List Told) → Round g turns reports → told_then (told_then g turns) reports ≡ change ∷ h → ⊥

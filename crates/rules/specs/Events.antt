@@ -4,7 +4,7 @@ use Rattle.std.specs.Prelude.{Bool, true, false, not, ◌&&◌, ◌||◌, List, 
 use Rattle.std.proofs.Math.Option.{Option, none, some}
 use Rattle.rules_routine.specs.Choice.{if◌then◌else◌}
 use Rattle.rules_routine.specs.Range.{in_range}
-use Rattle.rules_routine.specs.Refusals.{event_device, failure_of_down, restart_of_up, restart_setting, refuse◌when◌, ◌andThen◌}
+use Rattle.rules_routine.specs.Refusals.{event_device, failure_of_down, restart_of_up, restart_setting, refuse◌when◌, ◌and_then◌}
 use Rattle.rules.specs.Tables.{put}
 use Rattle.rules.specs.State.{was_skipped, Step, Member, State}
 use Rattle.rules.specs.Answers.{Result, down, up, unless_refused}

@@ -1,7 +1,7 @@
 -- The opening. Document 01, "Things and ranges": "At the opening all are up at 0." Refusals: 1, 2, 3. Assumes nothing.
 use Rattle.std.specs.Prelude.{true, ◌||◌, [], ℕ, ltb, eqb, pos}
 use Rattle.rules_routine.specs.Limits.{max_devices, highest_pass_limit}
-use Rattle.rules_routine.specs.Refusals.{devices_out_of_range, pass_limit_out_of_range, first_id_0, refuse◌when◌, ◌andThen◌}
+use Rattle.rules_routine.specs.Refusals.{devices_out_of_range, pass_limit_out_of_range, first_id_0, refuse◌when◌, ◌and_then◌}
 use Rattle.rules_routine.specs.declared.Refusal.{Refusal}
 use Rattle.rules_routine.specs.declared.Verdict.{Verdict}
 use Rattle.rules_routine.specs.declared.Verdict.TheVariants.{Accepted, Refused}

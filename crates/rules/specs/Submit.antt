@@ -2,7 +2,7 @@
 use Rattle.std.specs.Prelude.{Bool, false, ◌&&◌, ◌||◌, List, [], ◌∷◌, ◌++◌, map, ℕ, suc, leb, ltb, eqb, length}
 use Rattle.std.proofs.Math.Option.{none}
 use Rattle.rules_routine.specs.Choice.{if◌then◌else◌}
-use Rattle.rules_routine.specs.Refusals.{sequence_full, ids_used_up, refuse◌when◌, ◌andThen◌}
+use Rattle.rules_routine.specs.Refusals.{sequence_full, ids_used_up, refuse◌when◌, ◌and_then◌}
 use Rattle.rules_routine.specs.Routine.{routine_check}
 use Rattle.rules_routine.specs.declared.Command.{Command}
 use Rattle.rules_routine.specs.declared.Verdict.{Verdict}

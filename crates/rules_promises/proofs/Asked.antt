@@ -2,7 +2,7 @@
 -- what is in flight is no condition. Every call keeps both. Assumes nothing.
 use mathlib.Core.Path.{◌≡◌, refl, sym, ap, ◌∙◌, subst}
 use mathlib.Core.Logic.{◌≢◌}
-use mathlib.Core.Bool.{Bool, true, false, not, ◌&&◌, ◌||◌, and_true, and-false}
+use mathlib.Core.Bool.{Bool, true, false, not, ◌&&◌, ◌||◌, and-true, and-false}
 use mathlib.Core.List.{List, [], ◌∷◌, ◌++◌}
 use mathlib.Core.Option.{none, some, none-ne-some, some-injective}
 use Prim.Native.Nat.{ℕ}
@@ -96,7 +96,7 @@ set_is d m = ap (λ b. is_running m && b) (go m.steps)
         by : (b : Bool) → any_of (λ x. is_on d x && is_done x.status) l ≡ any_of (is_for d) (done_steps l) →
             ((is_on d x && b) || any_of (λ x. is_on d x && is_done x.status) l)
             ≡ any_of (is_for d) (if b then x.command ∷ done_steps l else done_steps l)
-        by true e = rw (and_true (is_on d x), e) refl
+        by true e = rw (and-true (is_on d x), e) refl
         by false e = rw (and-false (is_on d x)) e
 
 same_set : (d : ℕ) (m n : Member) → n.committed ≡ m.committed → done_steps n.steps ≡ done_steps m.steps → has_set d n ≡ has_set d m

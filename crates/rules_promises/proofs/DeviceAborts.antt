@@ -2,7 +2,7 @@
 -- Assumes nothing.
 use mathlib.Core.Path.{◌≡◌, refl, sym, ap, ◌∙◌, subst}
 use mathlib.Core.Logic.{◌≢◌}
-use mathlib.Core.Bool.{Bool, true, false, not, ◌&&◌, ◌||◌, or_true}
+use mathlib.Core.Bool.{Bool, true, false, not, ◌&&◌, ◌||◌, or-true}
 use mathlib.Core.List.{List, [], ◌∷◌, ◌++◌}
 use mathlib.Core.Option.{Option, none, some}
 use Prim.Native.Nat.{ℕ, zero, suc, ◌+◌, ◌<◌, ◌≤◌}
@@ -137,7 +137,7 @@ leave_at d s a b x g y w u h q at = go at
         let z = flight_on g.member (in-turn s x g y h) d f in
         let r = one_this d a w x g y z.0 z.1 f o in
         let l = each_++ (NoFlightOn d) x y r.0 r.2 in
-        ends p l true (rw f (or_true (not (same_setting (due s d) (due t d))))) (none_on_it p (no_flights_on l) (goes-back u.sent refl))
+        ends p l true (rw f (or-true (not (same_setting (due s d) (due t d))))) (none_on_it p (no_flights_on l) (goes-back u.sent refl))
     somebody_flies p o false f = subst Goal (sym (back_is true p (one_any d b u k hub.turns flies))) (one_on_it p flies)
       where
         flies : OneFlightOn d b u k

@@ -2,7 +2,7 @@
 -- counts. Every change of its commands keeps them. Assumes nothing.
 use mathlib.Core.Path.{◌≡◌, refl, sym, ap, ap₂, ◌∙◌, subst}
 use mathlib.Core.Logic.{◌≢◌, ◌⊎◌, inl, inr}
-use mathlib.Core.Bool.{Bool, true, false, not, ◌&&◌, ◌||◌, and_true, and-false}
+use mathlib.Core.Bool.{Bool, true, false, not, ◌&&◌, ◌||◌, and-true, and-false}
 use mathlib.Core.List.{List, [], ◌∷◌, map}
 use mathlib.Core.Option.{none, some, none-ne-some, some-ne-none, some-injective}
 use Prim.Native.Nat.{ℕ}
@@ -82,7 +82,7 @@ fit_spared d u w e skipping (x ∷ l) n h = (
   where
     other : is_left x.outcome ≡ false → is_for d x.command ≡ false
     other k =
-        sym (and_true (is_for d x.command)) ∙ ap (λ b. is_for d x.command && not b) (sym k)
+        sym (and-true (is_for d x.command)) ∙ ap (λ b. is_for d x.command && not b) (sym k)
         ∙ or_left (answered_for d x) (any_of (answered_for d) l) n
 
 pub fit_new : (u : ℕ → Bool) (skipping : Bool) (cs : List Command) → Fit u skipping (map (noted_as not_yet) cs)

@@ -1,7 +1,7 @@
 -- The third ground of part 3 of demand 3 is kept by every call: behind a routine whose commands an event skipped stands an event of their
 -- device, before the next routine. Assumes nothing.
 use mathlib.Core.Path.{◌≡◌, refl, sym, ap, ◌∙◌, subst, fun_ext}
-use mathlib.Core.Bool.{Bool, true, false, ◌&&◌, ◌||◌, or_true}
+use mathlib.Core.Bool.{Bool, true, false, ◌&&◌, ◌||◌, or-true}
 use mathlib.Core.List.{List, [], ◌∷◌, ◌++◌, map, append_assoc}
 use mathlib.Core.Option.{Option}
 use Prim.Native.Nat.{ℕ}
@@ -289,7 +289,7 @@ new_followed x f (y ∷ l) h = (
       ∙ ap (λ b. any_of (is_of y.command.device) f || (b || false))
       (eq-eqb (device_of x) y.command.device
       (sym (eqb-true y.command.device (device_of x) (and_left (is_for (device_of x) y.command) (is_left y.outcome) e))))
-      ∙ or_true (any_of (is_of y.command.device) f))
+      ∙ or-true (any_of (is_of y.command.device) f))
       (λ _. h.0),
   new_followed x f l h.1,
 )

@@ -20,7 +20,7 @@ use Rattle.rules_routine.specs.Limits.{max_commands, highest_id, highest_pass_li
 use Rattle.rules_routine.specs.declared.Command.{Command}
 use Rattle.rules_routine.specs.declared.Verdict.{Verdict}
 use Rattle.rules_routine.specs.declared.Verdict.TheVariants.{Accepted}
-use Rattle.rules_routine.specs.Refusals.{pass_limit_out_of_range, sequence_full, ids_used_up, refuse◌when◌, ◌andThen◌}
+use Rattle.rules_routine.specs.Refusals.{pass_limit_out_of_range, sequence_full, ids_used_up, refuse◌when◌, ◌and_then◌}
 use Rattle.rules_promises.proofs.RoundsExist.{state_on, sitting_limit}
 use Rattle.rules.specs.Open.{opened, limit_check, open_of}
 use Rattle.rules.specs.Limit.{with_pass_limit}

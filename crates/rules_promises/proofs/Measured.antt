@@ -2,7 +2,7 @@
 -- report on it, makes it fall or sends a command of the first. Assumes nothing.
 use mathlib.Core.Path.{◌≡◌, refl, sym, ap, ◌∙◌, subst}
 use mathlib.Core.Logic.{◌≢◌}
-use mathlib.Core.Bool.{Bool, true, false, ◌||◌, or_true}
+use mathlib.Core.Bool.{Bool, true, false, ◌||◌, or-true}
 use mathlib.Core.List.{List, [], ◌∷◌, ◌++◌}
 use mathlib.Core.Option.{some}
 use Prim.Native.Nat.{ℕ, suc, ◌+◌, ◌<◌, ◌≤◌}
@@ -54,7 +54,7 @@ runs-more i a g b r =
   where
     go : (x y z : Bool) → (x || z) ≡ true → (x || (y || z)) ≡ true
     go true y z e = refl
-    go false y z e = rw e (or_true y)
+    go false y z e = rw e (or-true y)
 
 -- what a call does to the routine with id i and its measure
 abbrev pub NotRaised : ℕ → ℕ → List Group → List Group → Type 0

@@ -2,7 +2,7 @@
 -- nothing.
 use mathlib.Core.Path.{◌≡◌, refl, sym, ap, ◌∙◌, subst}
 use mathlib.Core.Logic.{◌≢◌}
-use mathlib.Core.Bool.{Bool, true, false, not, ◌&&◌, and-false, or_false}
+use mathlib.Core.Bool.{Bool, true, false, not, ◌&&◌, and-false, or-false}
 use mathlib.Core.List.{List, [], ◌∷◌, ◌++◌, map}
 use mathlib.Core.Option.{Option}
 use Prim.Native.Nat.{ℕ, ◌<◌}
@@ -160,7 +160,7 @@ hub_places s cs a b h u p n = record {
 
 -- events that are not of d, behind others
 no_more : (d : ℕ) (l f : List Event) → any_of (is_of d) f ≡ false → any_of (is_of d) (l ++ f) ≡ any_of (is_of d) l
-no_more d l f n = any_of_++ (is_of d) l f ∙ rw n (or_false (any_of (is_of d) l))
+no_more d l f n = any_of_++ (is_of d) l f ∙ rw n (or-false (any_of (is_of d) l))
 
 -- those ahead of g, when it has left
 abbrev heirs : Group → List Group → List Group

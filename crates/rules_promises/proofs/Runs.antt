@@ -1,6 +1,6 @@
 -- What entries, events and groups do to one device: the setting that they leave it at, and whether it is up. Assumes nothing.
 use mathlib.Core.Path.{◌≡◌, refl, sym, ap, ◌∙◌, subst}
-use mathlib.Core.Bool.{Bool, true, false, ◌&&◌, and_true, and-false}
+use mathlib.Core.Bool.{Bool, true, false, ◌&&◌, and-true, and-false}
 use mathlib.Core.List.{List, [], ◌∷◌, ◌++◌, map, append-nil}
 use mathlib.Core.Option.{Option, none, some}
 use Prim.Native.Nat.{ℕ}
@@ -117,7 +117,7 @@ set-done d (x ∷ l) v = go (λ w. set-done d l w) (is_done x.status)
     go : ((w : ℤ) → set_commands d (done_steps l) w ≡ after_steps d l w) → (t : Bool) →
         set_commands d (if t then x.command ∷ done_steps l else done_steps l) v ≡ after_steps d l
         (if is_on d x && t then x.command.setting else v)
-    go ih true = ih _ ∙ ap (λ t. after_steps d l (if t then x.command.setting else v)) (sym (and_true (is_on d x)))
+    go ih true = ih _ ∙ ap (λ t. after_steps d l (if t then x.command.setting else v)) (sym (and-true (is_on d x)))
     go ih false = ih v ∙ ap (λ t. after_steps d l (if t then x.command.setting else v)) (sym (and-false (is_on d x)))
 
 -- the groups' entries leave d at what is due after their members

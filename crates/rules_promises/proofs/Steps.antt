@@ -2,7 +2,7 @@
 -- are to do or were skipped so. Assumes nothing.
 use mathlib.Core.Path.{◌≡◌, refl, sym, ap, ◌∙◌, subst}
 use mathlib.Core.Logic.{◌≢◌}
-use mathlib.Core.Bool.{Bool, true, false, not, ◌&&◌, ◌||◌, and_true, and-false, or_true, or_false}
+use mathlib.Core.Bool.{Bool, true, false, not, ◌&&◌, ◌||◌, and-true, and-false, or-true, or-false}
 use mathlib.Core.List.{List, [], ◌∷◌, ◌++◌, map, append-nil, cons≢nil}
 use mathlib.Core.Option.{none, some, none-ne-some, some-ne-none, some-injective}
 use Prim.Native.Nat.{ℕ}
@@ -288,7 +288,7 @@ fewer_on d j k h = fewer (on d j) (on d k) (λ x. go (is_on d x) (j x.status) (k
 -- a list with x in it, or with y in its place
 module _ (t : Step → Bool) (p : List Step) (x : Step) (q : List Step) where
   any_here : t x ≡ true → any_of t (p ++ (x ∷ q)) ≡ true
-  any_here e = rw (any_of_++ t p (x ∷ q), e) (or_true (any_of t p))
+  any_here e = rw (any_of_++ t p (x ∷ q), e) (or-true (any_of t p))
 
   any_same : (y : Step) → t x ≡ t y → any_of t (p ++ (x ∷ q)) ≡ any_of t (p ++ (y ∷ q))
   any_same y e = rw (any_of_++ t p (x ∷ q), any_of_++ t p (y ∷ q), e) refl
@@ -338,7 +338,7 @@ module _ (p : List Step) (a : AllAnswered p) (c : Command) (q : List Step) (w : 
       (λ b p k e. e) (λ b p k e. e) (λ b p k e. e) (λ b p k e. e) p a
 
   flies-at : (d : ℕ) (s : Status) → any_of (on d is_in_flight) (at p c q s) ≡ on d is_in_flight (step c s)
-  flies-at d s = rw (past_flies d (step c s ∷ q) p a, behind-pass d is_in_flight refl refl q w) (or_false (on d is_in_flight (step c s)))
+  flies-at d s = rw (past_flies d (step c s ∷ q) p a, behind-pass d is_in_flight refl refl q w) (or-false (on d is_in_flight (step c s)))
 
   left_at : (s : Status) → left_steps (at p c q s) ≡ (let l = left_steps q in if is_answered s then l else c ∷ l)
   left_at s = over (λ p k. left_steps k ≡ left_steps (step c s ∷ q)) (step c s ∷ q) refl (λ b p k e. e)
@@ -375,7 +375,7 @@ module _ (p : List Step) (a : AllAnswered p) (c : Command) (q : List Step) (w : 
     finishes = λ d. ap not (same_at is_open (in_flight u) to-do refl d);
     begins = own_at is_begun (in_flight u) refl;
     other_begun = other_at is_begun (in_flight u) to-do;
-    flies = λ d. flies-at d (in_flight u) ∙ and_true (eqb c.device d);
+    flies = λ d. flies-at d (in_flight u) ∙ and-true (eqb c.device d);
     flight_is = flight-at (in_flight u);
     same_after = λ d v. after_at d v (in_flight u) ∙ sym (after_at d v to-do);
     same-done = done_at (in_flight u) ∙ sym (done_at to-do);
@@ -403,7 +403,7 @@ module _ (p : List Step) (a : AllAnswered p) (c : Command) (q : List Step) (w : 
   done-after_at : (u : ℤ) (d : ℕ) (v : ℤ) →
       after_steps d (at p c q was_done) v ≡ (if eqb c.device d then c.setting else after_steps d (at p c q (in_flight u)) v)
   done-after_at u d v =
-      rw (after_at d v was_done, after_at d v (in_flight u), and_true (eqb c.device d), and-false (eqb c.device d)) refl
+      rw (after_at d v was_done, after_at d v (in_flight u), and-true (eqb c.device d), and-false (eqb c.device d)) refl
 
   skipped-at : (m : Member) (s : Status) → Passing s → Skipped c s (with_steps m (at p c q to-do)) (with_steps m (at p c q s))
   unfolding begun finished in_flight_on
@@ -430,7 +430,7 @@ module _ (p : List Step) (a : AllAnswered p) (c : Command) (q : List Step) (w : 
     in-turn = turn_at s;
     unfinished = ap not (own_at is_open (in_flight u) refl);
     had_begun = own_at is_begun (in_flight u) refl;
-    flew = λ d. flies-at d (in_flight u) ∙ and_true (eqb c.device d);
+    flew = λ d. flies-at d (in_flight u) ∙ and-true (eqb c.device d);
     finishes = ends_at (in_flight u) s e;
     same-begun = same_at is_begun s (in_flight u) (ap not (landed s e).1);
     flies = lands_at s e;
@@ -745,8 +745,8 @@ module _ (d : ℕ) where
       stays : (c : Command) (s : Status) (l : List Step) → (eqb c.device d && is_open s) ≡ false →
           left_steps (skip_left d l) ≡ not_on d (left_steps l) →
           left_steps (step c s ∷ skip_left d l) ≡ not_on d (left_steps (step c s ∷ l))
-      stays c to-do l t h = rw (sym (and_true (eqb c.device d)) ∙ t) (ap (λ m. c ∷ m) h)
-      stays c (in_flight u) l t h = rw (sym (and_true (eqb c.device d)) ∙ t) (ap (λ m. c ∷ m) h)
+      stays c to-do l t h = rw (sym (and-true (eqb c.device d)) ∙ t) (ap (λ m. c ∷ m) h)
+      stays c (in_flight u) l t h = rw (sym (and-true (eqb c.device d)) ∙ t) (ap (λ m. c ∷ m) h)
       stays c was_done l t h = h
       stays c was_skipped l t h = h
       stays c was_held l t h = h
@@ -771,7 +771,7 @@ module _ (d : ℕ) where
           let y : record { command = c; due_then = u } ≡ x = some-injective (record { command = c; due_then = u }) x e in (
             e,
             λ z. t≠f (sym (eq-eqb c.device d (ap (λ (f : Flight). f.command.device) y ∙ z))
-                ∙ sym (and_true (eqb c.device d)) ∙ t),
+                ∙ sym (and-true (eqb c.device d)) ∙ t),
           )
       stays c was_done l t h w e = h w e
       stays c was_skipped l t h w e = h w e

@@ -2,14 +2,14 @@
 -- nothing.
 use mathlib.Core.Path.{◌≡◌, refl, sym, ap, ◌∙◌, subst}
 use mathlib.Core.Logic.{◌≢◌}
-use mathlib.Core.Bool.{Bool, true, false, not, or_true}
+use mathlib.Core.Bool.{Bool, true, false, not, or-true}
 use mathlib.Core.List.{List, [], ◌∷◌, ◌++◌, map, append_assoc, append-nil, tail-eq_of_cons-eq, nil≢cons}
 use Prim.Native.Nat.{ℕ, ◌<◌, ◌≤◌}
 use native.Mathlib.Omega.{arith}
 use borrow.Author.Tests.{ltb-false, le-ltb, eqb-true, eqb-false}
 use lib.Dec.{ltb, eqb}
 use lib.IntN.{ℤ, pos}
-use Rattle.rules_routine.specs.Refusals.{pass_limit_out_of_range, first_id_0, refuse◌when◌, ◌andThen◌}
+use Rattle.rules_routine.specs.Refusals.{pass_limit_out_of_range, first_id_0, refuse◌when◌, ◌and_then◌}
 use Rattle.rules_routine.specs.declared.Verdict.{Verdict}
 use Rattle.rules_routine.specs.declared.Verdict.TheVariants.{Accepted, Refused}
 use Rattle.rules_routine.proofs.RoutineLaws.{both_accept, not-refused}
@@ -393,7 +393,7 @@ nobody_left w (g ∷ l) n f t = t≠f (sym (t.0.runs ∙ ap not f) ∙ n g.membe
 -- what puts a device back is the last of what was sent to it, and none is left
 reaches_to : (u v : ℤ) (l : List Message) → any_of is_back l ≡ false → ReachesSetting u v l → u ≡ v
 reaches_to u v l n (has e f) = f
-reaches_to u v l n (goes-back k e) = t≠f (sym (ap (any_of is_back) e ∙ any_of_++ is_back k (back_to v ∷ []) ∙ or_true (any_of is_back k)) ∙ n)
+reaches_to u v l n (goes-back k e) = t≠f (sym (ap (any_of is_back) e ∙ any_of_++ is_back k (back_to v ∷ []) ∙ or-true (any_of is_back k)) ∙ n)
 
 settles_at : (d : ℕ) (s : State) (a : ℕ → Account) (w : Device) → s.up d ≡ true → any_of is_back w.sent ≡ false →
     DeviceAt d (s.up d) (due s d) a [] w → due s d ≡ w.setting

@@ -10,7 +10,7 @@ use borrow.Author.Tests.{eqb-true, eqb-false, ltb-false, not-true, not-false}
 use lib.Dec.{leb, ltb, eqb}
 use lib.IntN.{ℤ}
 use Rattle.rules_routine.specs.Range.{in_range}
-use Rattle.rules_routine.specs.Refusals.{failure_of_down, restart_of_up, restart_setting, refuse◌when◌, ◌andThen◌}
+use Rattle.rules_routine.specs.Refusals.{failure_of_down, restart_of_up, restart_setting, refuse◌when◌, ◌and_then◌}
 use Rattle.rules_routine.specs.Routine.{is_condition}
 use Rattle.rules_routine.specs.declared.Command.{Command}
 use Rattle.rules_routine.specs.declared.Refusal.{Refusal}

@@ -21,7 +21,7 @@ use Rattle.rules_routine.specs.Refusals.{turn_in_flight}
 use Rattle.rules_routine.specs.Refusals.{none_in_flight, report_code_out_of_range, event_device, failure_of_down, restart_of_up}
 use Rattle.rules_routine.specs.Refusals.{restart_setting}
 use Rattle.rules_routine.specs.Refusals.{book_cut_short, book_misplaced, book_length, no_room, condition_alone, refusal_of}
-use Rattle.rules_routine.specs.Refusals.{refuse◌when◌, ◌andThen◌}
+use Rattle.rules_routine.specs.Refusals.{refuse◌when◌, ◌and_then◌}
 use Rattle.rules_routine.specs.Routine.{condition_tag, highest_tag, command_check, stands_alone, commands_check, routine_check}
 use Rattle.rules_routine.specs.Causes.{NoneOf, FirstIn, Exactly, itself, NumbersDiffer, OutOfRange, command_no, command_causes}
 use Rattle.rules_routine.specs.Causes.{routine_causes}

@@ -17,7 +17,7 @@ use Rattle.rules_routine.specs.Limits.{lowest_setting, highest_setting, max_comm
 use Rattle.rules_routine.specs.Range.{in_range}
 use Rattle.rules_routine.specs.Refusals.{Cause, command_count, device_not_below, setting_out_of_range, tag_out_of_range}
 use Rattle.rules_routine.specs.Refusals.{condition_alone}
-use Rattle.rules_routine.specs.Refusals.{refusal_of, refuse◌when◌, ◌andThen◌}
+use Rattle.rules_routine.specs.Refusals.{refusal_of, refuse◌when◌, ◌and_then◌}
 use Rattle.rules_routine.specs.Routine.{condition_tag, highest_tag, zero_command, commands_of, routine_of, with_command}
 use Rattle.rules_routine.specs.Routine.{command_check, stands_alone, commands_check, routine_check}
 use Rattle.rules_routine.specs.declared.Command.{Command}
@@ -46,13 +46,13 @@ pub by_test {ℓ} : (P : Bool → Type ℓ) (t : Bool) → (t ≡ true → P tru
 by_test P true yes' no' = yes' refl
 by_test P false yes' no' = no' refl
 
-pub or_false : (s t : Bool) → s || t ≡ false → (s ≡ false) × (t ≡ false)
-or_false true t e = let z : ◌≡◌ {A = ℕ} 0 1 = cc in absurd (omega arith)
-or_false false t e = (refl, e)
+pub or-false : (s t : Bool) → s || t ≡ false → (s ≡ false) × (t ≡ false)
+or-false true t e = let z : ◌≡◌ {A = ℕ} 0 1 = cc in absurd (omega arith)
+or-false false t e = (refl, e)
 
-pub and_true : (s t : Bool) → s && t ≡ true → (s ≡ true) × (t ≡ true)
-and_true true t e = (refl, e)
-and_true false t e = let z : ◌≡◌ {A = ℕ} 0 1 = cc in absurd (omega arith)
+pub and-true : (s t : Bool) → s && t ≡ true → (s ≡ true) × (t ≡ true)
+and-true true t e = (refl, e)
+and-true false t e = let z : ◌≡◌ {A = ℕ} 0 1 = cc in absurd (omega arith)
 
 -- ---- settings
 
@@ -182,7 +182,7 @@ pub check_accepted : (devices : ℕ) (cs : List Command) → routine_check devic
 unfolding routine_check
 check_accepted devices cs e =
     let a = both_accept (refuse command_count when (eqb (length cs) 0 || ltb max_commands (length cs))) _ e in
-    let t = or_false _ _ (not-refused command_count _ a.0) in
+    let t = or-false _ _ (not-refused command_count _ a.0) in
     let n = eqb-false (length cs) 0 t.0 in
     (omega arith, ltb-false max_commands (length cs) t.1, a.1)
 

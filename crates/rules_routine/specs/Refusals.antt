@@ -63,7 +63,7 @@ abbrev pub refuse◌when◌ : Cause → Bool → Verdict
 refuse◌when◌ cause test = if test then Refused (refusal_of cause) else Accepted
 
 -- The first of two verdicts that refuses.
-infixr 20 ◌andThen◌
-abbrev pub ◌andThen◌ : Verdict → Verdict → Verdict
+infixr 20 ◌and_then◌
+abbrev pub ◌and_then◌ : Verdict → Verdict → Verdict
 Accepted and_then v = v
 Refused r and_then v = Refused r

@@ -6,7 +6,7 @@ use Rattle.rules_routine.specs.Limits.{max_commands}
 use Rattle.rules_routine.specs.Choice.{if◌then◌else◌}
 use Rattle.rules_routine.specs.Range.{in_range}
 use Rattle.rules_routine.specs.Refusals.{command_count, device_not_below, setting_out_of_range, tag_out_of_range, condition_alone}
-use Rattle.rules_routine.specs.Refusals.{refuse◌when◌, ◌andThen◌}
+use Rattle.rules_routine.specs.Refusals.{refuse◌when◌, ◌and_then◌}
 use Rattle.rules_routine.specs.declared.Command.{Command}
 use Rattle.rules_routine.specs.declared.Routine.{Routine}
 use Rattle.rules_routine.specs.declared.Verdict.{Verdict}

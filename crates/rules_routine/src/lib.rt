@@ -1,5 +1,7 @@
 // Commands, routines, and what turns a call down: document 01, "Things and ranges" and "When a call is turned down"; conditions: document
 // 02, item 4.
+#![tactic(auto)]
+
 pub mod limits;
 pub mod refusals;
 pub mod reports;
@@ -17,7 +19,7 @@ use limits::{HIGHEST_SETTING, LOWEST_SETTING, MAX_COMMANDS};
 use refusals::{COMMAND_COUNT, CONDITION_ALONE, DEVICE, SETTING, TAG};
 use tags::{CONDITION, HIGHEST_TAG};
 
-#[derive(Drop)]
+#[derive(Clone, Copy)]
 pub struct Command {
     pub device: u8,
     pub tag: u8,
@@ -25,20 +27,20 @@ pub struct Command {
 }
 
 // The first `count` of the commands; a count above MAX_COMMANDS is a routine that is turned down.
-#[derive(Drop)]
+#[derive(Clone, Copy)]
 pub struct Routine {
     pub commands: [Command; MAX_COMMANDS],
     pub count: usize,
 }
 
 // What a refusal returns: its number in the table, some with an index.
-#[derive(Drop)]
+#[derive(Clone, Copy)]
 pub enum Refusal {
     Number(u8),
     Indexed(u8, usize),
 }
 
-#[derive(Drop)]
+#[derive(Clone, Copy)]
 pub enum Verdict {
     Accepted,
     Refused(Refusal),

@@ -1,4 +1,6 @@
 // Prints what reading a book gives: a line for each routine and then `end`, or the refusal.
+#![tactic(auto)]
+
 ghost use Rattle.std.specs.Prelude.{◌<◌};
 
 use book_layout::{Item, Next};

@@ -1,5 +1,7 @@
 // Runs test vectors of the hub, the examples of document 01 among them: standard input is a row of records (crate run_records).
 // tests/hub/make_vectors.py says what a record holds and what is printed for it.
+#![tactic(auto)]
+
 mod calls;
 mod print;
 mod readings;

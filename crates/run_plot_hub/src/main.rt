@@ -1,5 +1,7 @@
 // The line program from standard input to standard output: document 01, "The line program". The input may have any length: a part is read,
 // crate `line_parts` takes it, and what it prints is written before the next is read.
+#![tactic(auto)]
+
 ghost use Rattle.std.specs.Prelude.{suc, ◌<◌, ◌≤◌, length};
 ghost use Rattle.rules_routine.specs.Limits.{max_line};
 ghost use Rattle.line_parts.specs.Contract.{room_for, Reached, Adds};
@@ -7,7 +9,7 @@ ghost use Rattle.line_parts.specs.Contract.{room_for, Reached, Adds};
 use hub::Hub;
 
 // How far the reading came: the hub, how many bytes are pending of a line whose end has not come, and whether all went well.
-#[derive(Drop)]
+#[derive(Clone, Copy)]
 struct Read {
     hub: Hub,
     pending: usize,

@@ -1,5 +1,7 @@
 // For people who write sittings: of each line that prints `unread` its number and why, and at the end how many lines were unread and
 // refused. It reads what `plot_hub` reads and prints no key. What is said of a line is `line_hints::of_line`.
+#![tactic(auto)]
+
 mod said;
 
 ghost use Rattle.std.specs.Prelude.{◌+◌, ◌<◌, ◌≤◌, length};
@@ -16,7 +18,7 @@ const OUT_ROOM: usize = 4 * MAX_TEXT;
 const REFUSED: u8 = 114;
 
 // The hub after the lines so far, how many there were, and whether all could be written.
-#[derive(Drop)]
+#[derive(Clone, Copy)]
 struct Tally {
     hub: Hub,
     lines: u64,
@@ -98,7 +100,7 @@ fn take_lines(tally: Tally, input: &[u8], out: &mut [u8]) -> Tally
 }
 
 // The lines so far, and how many bytes are pending of a line whose end has not come.
-#[derive(Drop)]
+#[derive(Clone, Copy)]
 struct Taken {
     tally: Tally,
     pending: usize,
@@ -119,7 +121,7 @@ fn take_part(tally: Tally, filled: usize, input: &mut [u8], out: &mut [u8]) -> T
 }
 
 // The lines of all whole pieces, how many bytes are pending, and whether all could be read.
-#[derive(Drop)]
+#[derive(Clone, Copy)]
 struct Read {
     tally: Tally,
     pending: usize,

@@ -1,11 +1,13 @@
 // Records of test vectors: two bytes of length, low first, and then so many bytes; within a record, parts of the same form.
+#![tactic(auto)]
+
 ghost use Rattle.std.specs.Prelude.{◌≡◌, ◌≤◌, ◌<◌, length};
 ghost use Rattle.run_records.specs.Within.{Within};
 
 use libc::{STDIN_FILENO, STDOUT_FILENO};
 
 // A part of a slice: from a place up to, not including, another.
-#[derive(Drop)]
+#[derive(Clone, Copy)]
 pub struct Part {
     pub from: usize,
     pub to: usize,

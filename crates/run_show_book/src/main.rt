@@ -1,6 +1,8 @@
 // Reads a routine book from standard input and prints its routines, or its refusal. A book is judged by its first bytes (theorem
 // judged-by-first-bytes of crate book_layout), so what a longer input has behind the buffer changes nothing. Where the input
 // cannot be read or the output cannot be written, it says so on standard error; of an input that cannot be read it prints nothing.
+#![tactic(auto)]
+
 ghost use Rattle.std.specs.Prelude.{◌≡◌, length};
 ghost use Rattle.rules_routine.specs.Limits.{first_bytes};
 

@@ -1,5 +1,7 @@
 // Runs sittings through the line program: standard input is a row of records (crate run_records), each the input of a sitting. For each it
 // prints the key, and then a line `end`. tests/reference makes the records and what is printed.
+#![tactic(auto)]
+
 ghost use Rattle.std.specs.Prelude.{◌≡◌, length};
 
 use libc::STDOUT_FILENO;

@@ -1,5 +1,7 @@
 // Standard input and output of the programs for people, and what a program says on standard error where they fail: its name and what
 // it could not do.
+#![tactic(auto)]
+
 ghost use Rattle.std.specs.Prelude.{◌+◌, ◌≤◌, ◌≡◌, length, take};
 
 use libc::{STDERR_FILENO, STDIN_FILENO, STDOUT_FILENO};
@@ -16,7 +18,7 @@ pub fn say_not_written(program: &[u8]) {
 }
 
 // How many bytes were read, 0 at the end of the input, and whether they could be read.
-#[derive(Drop)]
+#[derive(Clone, Copy)]
 pub struct Got {
     pub count: usize,
     pub good: bool,

@@ -1,5 +1,7 @@
 // Runs test vectors of writing a book: standard input is a row of records (crate run_records). tests/book/make_vectors.py says what
 // a record holds and what is printed for it.
+#![tactic(auto)]
+
 mod lent;
 
 fn run_all(all: &[u8]) {

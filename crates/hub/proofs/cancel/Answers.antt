@@ -1,0 +1,11 @@
+-- `hub::cancel` meets its contract. Assumes nothing.
+use borrow.Author.Rules.{rules}
+use Rattle.rules.specs.Answers.{cancel}
+use Rattle.hub.proofs.CallLaws.{decided_none, gives_none}
+use Rattle.hub.proofs.cancel.Goals as goal
+
+pub carried_out-requires : goal.carried_out-requires
+carried_out-requires c = (c.requires, decided_none (cancel _) _ tt c.empty-routine.ensures c.decide_cancel-decision.ensures)
+
+pub returns : goal.returns
+returns c = gives_none c.empty-routine.result c.empty-routine.ensures c.decide_cancel-decision.ensures c.carried_out.ensures

@@ -1,0 +1,9 @@
+-- `hub::settle` meets its contract. Assumes nothing.
+use borrow.Author.Rules.{rules}
+use Rattle.hub.proofs.CallLaws.{settled_rests, rests_as}
+use Rattle.hub.proofs.settle.Goals as goal
+
+pub returns : goal.returns
+returns c = let w = c.settle-next.ensures in
+    let e = rests_as _ w.valid w.gives (settled_rests _) in
+    (e, w.gives, record { only_leave = w.only-leave; left_committed = w.left-committed })

@@ -1,0 +1,19 @@
+-- `hub_apply::fill::passed_behind` meets its contract: with each round one slot more of the walk is passed. Assumes nothing.
+use borrow.Author.Rules.{rules}
+use native.Mathlib.Omega.{arith}
+use borrow.Author.Tests.{not-true, not-false}
+use mathlib.Core.Path.{◌≡◌}
+use mathlib.Core.Logic.{⊎_elim}
+use lib.ListN.{length, length-set}
+use Rattle.rules_routine.specs.Limits.{max_sequence}
+use Rattle.hub_sequence.specs.Links.{along, Walks}
+use Rattle.hub_sequence.proofs.WalkLaws.{walks_next, walks_less}
+use Rattle.hub_apply.proofs.FillLaws.{PassedSoFar, passes_none, room_left, passes_running, passes_committed, passes_all}
+use Rattle.hub_apply.proofs.fill.passed_behind.Given as goal
+
+abbrev pub invariant-loop-i : goal.invariant-loop-i
+invariant-loop-i l = (length l.initial.i ≡ max_sequence) × (Walks l.behind l.i)
+    × (PassedSoFar l.committed l.initial.passed (along l.behind l.passed) (along l.behind l.i) l.initial.i)
+
+abbrev pub decreases-loop-i : goal.decreases-loop-i
+decreases-loop-i l = length (along l.behind l.i)

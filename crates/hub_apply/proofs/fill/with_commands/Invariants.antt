@@ -1,0 +1,24 @@
+-- `hub_apply::fill::with_commands` meets its contract: with each round one entry more is filled in. Assumes nothing.
+use borrow.Author.Rules.{rules}
+use Prim.Native.Nat.{◌*◌, ◌-◌, ◌≤◌}
+use native.Mathlib.Omega.{arith}
+use mathlib.Core.Path.{◌≡◌, refl}
+use mir.Syntax.{w16}
+use mir.Val.{to_z, of_z}
+use lib.IntN.{pos}
+use lib.ListN.{length, get_or, length-set}
+use Rattle.rules_routine.specs.Limits.{max_commands, max_sequence}
+use Rattle.rules_routine.specs.Routine.{zero_command}
+use Rattle.hub_apply.specs.Fill.{Fills}
+use Rattle.hub_apply.proofs.FillLaws.{fills_none, fills_more, fills_all}
+use Rattle.hub_apply.proofs.fill.with_commands.Given as goal
+
+abbrev pub invariant-loop-j : goal.invariant-loop-j
+invariant-loop-j l = (length l.initial.setting ≡ max_sequence * max_commands) × (length l.setting ≡ max_sequence * max_commands) × (length l.initial.j ≡ max_sequence * max_commands)
+    × (l.j ≤ l.count)
+    × (Fills 0 l.initial.device (l.slot * max_commands) l.j (λ i. (get_or l.commands i zero_command).device) l.initial.setting)
+    × (Fills 0 l.device (l.slot * max_commands) l.j (λ i. (get_or l.commands i zero_command).tag) l.setting)
+    × (Fills (pos 0) l.initial.tag (l.slot * max_commands) l.j (λ i. (get_or l.commands i zero_command).setting) l.initial.j)
+
+abbrev pub decreases-loop-j : goal.decreases-loop-j
+decreases-loop-j l = l.count - l.j

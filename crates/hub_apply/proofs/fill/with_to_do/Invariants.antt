@@ -1,0 +1,18 @@
+-- `hub_apply::fill::with_to_do` meets its contract: with each round one entry more is filled in. Assumes nothing.
+use borrow.Author.Rules.{rules}
+use Prim.Native.Nat.{◌*◌, ◌-◌, ◌≤◌}
+use native.Mathlib.Omega.{arith}
+use mathlib.Core.Path.{◌≡◌, refl}
+use lib.ListN.{length, length-set}
+use Rattle.rules_routine.specs.Limits.{max_commands, max_sequence}
+use Rattle.hub_state.specs.View.{to_do_code}
+use Rattle.hub_apply.specs.Fill.{Fills}
+use Rattle.hub_apply.proofs.FillLaws.{fills_none, fills_more, fills_all}
+use Rattle.hub_apply.proofs.fill.with_to_do.Given as goal
+
+abbrev pub invariant-loop-j : goal.invariant-loop-j
+invariant-loop-j l = (length l.initial.j ≡ max_sequence * max_commands) × (l.j ≤ max_commands)
+    × (Fills 0 l.initial.filled (l.slot * max_commands) l.j (λ i. to_do_code) l.initial.j)
+
+abbrev pub decreases-loop-j : goal.decreases-loop-j
+decreases-loop-j l = max_commands - l.j

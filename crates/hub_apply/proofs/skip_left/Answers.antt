@@ -1,0 +1,47 @@
+-- `hub_apply::skip_left` meets its contract. The loop: of those passed the ones left on the device are skipped. Assumes nothing.
+use borrow.Author.Rules.{rules}
+use Prim.Native.Nat.{◌-◌, ◌*◌, ◌≤◌}
+use native.Mathlib.Omega.{arith}
+use mathlib.Core.Path.{◌≡◌}
+use mathlib.Core.Logic.{⊎_elim}
+use lib.ListN.{length, length-set}
+use Rattle.rules_routine.specs.Limits.{max_commands, max_sequence}
+use Rattle.rules_routine.proofs.RoutineLaws.{length_mapped}
+use Rattle.hub_apply.specs.Stages.{SkipsLeft}
+use Rattle.hub_apply.proofs.CodeLaws.{skip_none, skip_here, skip_other, skip_answered, skip_all}
+use Rattle.hub_apply.proofs.skip_left.Goals.{Start}
+use Rattle.hub_apply.proofs.skip_left.Goals as goal
+
+long : (c : Start) → length c.args.stage ≡ max_sequence * max_commands
+long c = search (rules, length_mapped)
+
+pub loop-k-init : goal.loop-k-init
+loop-k-init c = (omega arith, c.requires.0, long c, skip_none _ _ _ _)
+
+pub bounds-device-k : goal.bounds-device-k
+bounds-device-k c = omega (arith, c.loop-test.true, c.requires.1)
+
+pub bounds-skipped-k : goal.bounds-skipped-k
+bounds-skipped-k c = omega (arith, c.loop-test.true, c.requires.1)
+
+pub bounds-skipped-k-then-skipped-k-lt-DONE : goal.bounds-skipped-k-then-skipped-k-lt-DONE
+bounds-skipped-k-then-skipped-k-lt-DONE c = omega (arith, c.loop-test.true, c.requires.1)
+
+pub loop-k-smaller : goal.loop-k-smaller
+loop-k-smaller c = omega (arith, c.loop-test.true)
+
+pub loop-k-preserved : goal.loop-k-preserved
+loop-k-preserved c = let v = c.loop.invariant in
+    let i = c.loop-test.true in
+    let e = c.requires.1 in (
+      omega (arith, v.0),
+      omega (arith, i),
+      ⊎_elim (λ w. rw w.2 (simp length-set v.2)) (⊎_elim (λ w. rw w.2 v.2) (λ w. rw w.1 v.2)) c.if-device-k.branch,
+      ⊎_elim (λ w. rw w.2 (skip_here _ _ _ _ _ _ v.3 v.0 (omega (arith, v.2)) w.0.taken w.1.taken))
+          (⊎_elim (λ w. rw w.2 (skip_answered _ _ _ _ _ _ v.3 v.0 w.1.left))
+          (λ w. rw w.1 (skip_other _ _ _ _ _ _ v.3 v.0 w.0.left)))
+          c.if-device-k.branch,
+    )
+
+pub returns : goal.returns
+returns c = let v = c.loop-k.invariant in skip_all _ _ _ _ _ _ v.3 _ v.1 c.loop-k-test.false

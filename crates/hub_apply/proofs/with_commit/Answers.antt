@@ -1,0 +1,22 @@
+-- `hub_apply::with_commit` meets its contract. Assumes nothing.
+use borrow.Author.Rules.{rules}
+use mathlib.Core.Path.{◌≡◌}
+use lib.ListN.{length}
+use Rattle.rules_routine.proofs.RoutineLaws.{length_mapped}
+use Rattle.rules_routine.specs.Limits.{max_sequence}
+use Rattle.hub_state.proofs.Members.{stands_below}
+use Rattle.hub_apply.proofs.StageLaws.{commit_applied}
+use Rattle.hub_apply.proofs.with_commit.Goals.{Start}
+use Rattle.hub_apply.proofs.with_commit.Goals as goal
+
+long : (c : Start) → length c.args.state.committed ≡ max_sequence
+long c = search (rules, length_mapped)
+
+abbrev start : tie.After-committed → tie.Start
+start c = c.before.before.before.before.before.before.before.before.before.before.before.before.before.before.before
+
+pub bounds-committed-at : goal.bounds-committed-at
+bounds-committed-at c = let s = start c in stands_below _ _ s.pre.0 s.pre.1
+
+pub returns : goal.returns
+returns c = let s = start c in commit_applied _ _ s.pre.0 s.pre.1 (long s)

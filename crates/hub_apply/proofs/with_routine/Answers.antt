@@ -1,0 +1,89 @@
+-- `hub_apply::with_routine` meets its contract. Assumes nothing.
+use borrow.Author.Rules.{rules}
+use Prim.Native.Nat.{◌<◌}
+use native.Mathlib.Omega.{arith}
+use Rattle.rules_routine.proofs.RoutineLaws.{length_mapped}
+use Rattle.rules_routine.specs.Limits.{max_sequence}
+use Rattle.hub_apply.specs.Fill.{CanFill}
+use Rattle.hub_apply.proofs.PlaceLaws.{Long, can_join, count_fits, can_fill, can_pass, join_places}
+use Rattle.hub_apply.proofs.with_routine.Goals.{After-join-joined, Start}
+use Rattle.hub_apply.proofs.with_routine.Goals as goal
+
+abbrev start : tie.After-join → tie.Start
+start c = c.before.before.before.before.before.before
+
+abbrev joined : tie.After-old-restarts → tie.After-join
+joined c = c.before.before.before.before.before.before.before.before.before.before.before.before
+
+long : (c : Start) → Long c.args.state c.args.routine
+long c =
+    record {
+      ids = search (rules, length_mapped);
+      committed = search (rules, length_mapped);
+      counts = search (rules, length_mapped);
+      answered = search (rules, length_mapped);
+      commands = search (rules, length_mapped);
+    }
+
+slot : (c : After-join-joined) → c.join-joined.result.slot < max_sequence
+slot c = c.join-joined.ensures.slot
+
+pub join-joined-requires : goal.join-joined-requires
+join-joined-requires c = can_join _ _ _ c.requires.0 c.requires.1
+
+pub passed_behind-passed-requires : goal.passed_behind-passed-requires
+passed_behind-passed-requires c = let j = joined c in
+    let s = start j in
+    can_pass _ _ _ s.pre.0 s.pre.1 j.join.result j.join.ensures
+
+pub overflow_cast-ids : goal.overflow_cast-ids
+overflow_cast-ids c = let s = start (joined (goal.at.overflow_cast-ids c).After-old_restarts-1) in let h = s.pre.1.id_left in omega arith
+
+pub offset_bounds-ids-slot : goal.offset_bounds-ids-slot
+offset_bounds-ids-slot c = let h = slot (joined (goal.at.offset_bounds-ids-slot c).After-old_restarts-1) in omega arith
+
+pub bounds-ids-slot : goal.bounds-ids-slot
+bounds-ids-slot c = slot (joined (goal.at.bounds-ids-slot c).After-old_restarts-1)
+
+pub bounds-committed-slot : goal.bounds-committed-slot
+bounds-committed-slot c = slot (joined (goal.at.bounds-committed-slot c).After-old_restarts-1)
+
+pub overflow_cast-counts : goal.overflow_cast-counts
+overflow_cast-counts c = let s = start (joined (goal.at.overflow_cast-counts c).After-old_restarts-1) in let h = count_fits _ _ _ s.pre.0 s.pre.1 in omega arith
+
+pub bounds-counts-slot : goal.bounds-counts-slot
+bounds-counts-slot c = slot (joined (goal.at.bounds-counts-slot c).After-old_restarts-1)
+
+pub bounds-answered-slot : goal.bounds-answered-slot
+bounds-answered-slot c = slot (joined (goal.at.bounds-answered-slot c).After-old_restarts-1)
+
+-- the newcomer's commands can be filled in
+fill : (c : After-join-joined) → let s = start c in CanFill c.join-joined.result.slot s.args.routine
+fill c = let s = start c in can_fill _ _ _ s.pre.0 s.pre.1 c.join-joined.result c.join-joined.ensures
+
+pub with_commands-filled-requires : goal.with_commands-filled-requires
+with_commands-filled-requires c = fill (joined (goal.at.with_commands-filled-requires c).After-old_restarts-1)
+
+pub with_to_do-stage-requires : goal.with_to_do-stage-requires
+with_to_do-stage-requires c = slot (joined (goal.at.with_to_do-stage-requires c).After-old_restarts-1)
+
+pub without_restarts-restarts-requires : goal.without_restarts-restarts-requires
+without_restarts-restarts-requires c = slot (joined (goal.at.without_restarts-restarts-requires c).After-old_restarts-1)
+
+pub overflow_add-result : goal.overflow_add-result
+overflow_add-result c = let s = start (joined (goal.at.overflow_add-result c).After-old_restarts-1) in let h = s.pre.1.id_left in
+    omega arith
+
+pub returns : goal.returns
+returns c = let j = joined (goal.at.returns c).After-old_restarts-1 in
+    let s = start j in
+    join_places _ _ _ s.pre.0 s.pre.1 j.join.result j.join.ensures _
+    (record {
+      passes = c.passed_behind-passed.ensures;
+      devices = c.with_commands-filled.ensures.devices;
+      tags = c.with_commands-filled.ensures.tags;
+      settings = c.with_commands-filled.ensures.settings;
+      stages = c.with_to_do-stage.ensures;
+      no-restart = c.without_restarts-restarts.ensures;
+    })
+    (long s)

@@ -1,0 +1,26 @@
+-- `hub_due::behind_last_done` meets its contract. The loop's invariant: the commands from the k-th on leave the device as it was. Assumes
+-- nothing.
+use borrow.Author.Rules.{rules}
+use native.Mathlib.Omega.{arith}
+use Prim.Native.Nat.{◌≤◌}
+use Rattle.hub_due.proofs.Places.{NoneFrom, none_yet, other_more, not-done-more, last_found, last_none}
+use mathlib.Core.Logic.{⊎_elim}
+use Rattle.hub_due.proofs.behind_last_done.Goals as goal
+
+pub loop-k-init : goal.loop-k-init
+loop-k-init c = (c.requires.0, omega arith, none_yet)
+
+pub returns-then-stage-k-eq-DONE : goal.returns-then-stage-k-eq-DONE
+returns-then-stage-k-eq-DONE c = let v = c.loop.invariant in
+    last_found v.2 c.loop-test.true v.1 c.if1.true c.if-stage-k-eq-DONE.true
+
+pub loop-k-preserved : goal.loop-k-preserved
+loop-k-preserved c = let v = c.loop.invariant in (
+  omega (arith, c.loop-test.true),
+  omega (arith, v.1),
+  ⊎_elim (λ w. not-done-more v.2 c.loop-test.true w.2.left) (λ w. other_more v.2 c.loop-test.true w.left)
+      c.if-device-k.branch,
+)
+
+pub returns : goal.returns
+returns c = last_none c.loop-k.invariant.2 c.requires.0 c.loop-k-test.false

@@ -1,0 +1,14 @@
+-- `hub_due::behind_last_done` meets its contract. The loop's invariant: the commands from the k-th on leave the device as it was. Assumes
+-- nothing.
+use borrow.Author.Rules.{rules}
+use native.Mathlib.Omega.{arith}
+use Prim.Native.Nat.{◌≤◌}
+use Rattle.hub_due.proofs.Places.{NoneFrom, none_yet, other_more, not-done-more, last_found, last_none}
+use mathlib.Core.Logic.{⊎_elim}
+use Rattle.hub_due.proofs.behind_last_done.Given as goal
+
+abbrev pub invariant-loop-k : goal.invariant-loop-k
+invariant-loop-k l = (l.from ≤ l.k) × (l.k ≤ l.end) × NoneFrom l.device l.stage l.from l.end l.wanted l.k
+
+abbrev pub decreases-loop-k : goal.decreases-loop-k
+decreases-loop-k l = l.k

@@ -1,0 +1,112 @@
+-- `hub_due::due_on` meets its contract. The loop's invariant: the slots that are left, from the last of them on, leave the device as all
+-- slots do. Assumes nothing.
+use borrow.Author.Rules.{rules}
+use native.Mathlib.Omega.{arith}
+use mathlib.Core.Path.{◌≡◌, ◌∙◌}
+use mathlib.Core.Logic.{⊎_elim}
+use mathlib.Core.Option.{none}
+use Prim.Native.Nat.{◌+◌, ◌*◌, ◌-◌, ◌≤◌}
+use lib.IntN.{pos}
+use lib.ListN.{length, get_or}
+use mir.Val.{to_z, of_z}
+use mir.Syntax.{w16}
+use Rattle.rules_routine.specs.Limits.{max_devices, max_commands, max_sequence}
+use Rattle.rules_routine.proofs.RoutineLaws.{length_mapped}
+use Rattle.rules.specs.Due.{after_members}
+use Rattle.hub_sequence.specs.Links.{along, back_of, Walks, Stands}
+use Rattle.hub_sequence.proofs.ReadLaws.{walks-ahead}
+use Rattle.hub_sequence.proofs.WalkLaws.{walks_spot, walks_next, walks_less}
+use Rattle.hub_state.specs.View.{restarts_at, members_of}
+use Rattle.hub_state.proofs.Rows.{restarts-past}
+use Rattle.hub_due.proofs.Restarts.{restart-there, restart_absent}
+use Rattle.hub_due.proofs.Slots.{Within, within_self, walk-within, walk_here, back-stands, answered_end, back_slots, BackTo, back_yet}
+use Rattle.hub_due.proofs.Slots.{back-restart, back_found, back-past, back_done, due-lent}
+use Rattle.hub_due.proofs.due_on.Goals.{In-loop-i, Joined-d-lt-MAX_DEVICES, Start}
+use Rattle.hub_due.proofs.due_on.Goals as goal
+
+-- the row of restarts
+long : (c : Start) → length c.args.state.restarts ≡ max_sequence * max_devices
+long c = search (rules, length_mapped)
+
+-- the slot that the walk has come to is taken
+stands : (c : In-loop-i) →
+    Stands c.args.state.links c.loop-i.i
+stands c = let v = c.loop-i.invariant in
+    back-stands c.args.state c.requires.0 _ (walk_here v.0 v.1 c.loop-i-test.true)
+
+-- where its answered commands end
+ends : (c : In-loop-i) →
+    c.loop-i.i * max_commands + get_or c.args.state.answered
+    c.loop-i.i 0 ≤ max_sequence * max_commands
+ends c = answered_end c.args.state _ c.requires.0 (stands c)
+
+-- all slots together
+whole : (c : Start) →
+    back_slots c.args.device.now c.args.stage.now c.args.setting.now c.args.state.restarts c.args.state.answered
+    c.args.wanted
+    (back_of c.args.state.links) (to_z w16 (of_z w16 c.args.settled))
+    ≡ after_members c.args.wanted (members_of c.args.state) c.args.settled
+whole c = due-lent c.args.state c.requires.0 _ _ _ _ c.requires.1 c.requires.2 c.requires.3 _ _ (search rules)
+
+-- the slot has no restart of the device
+absent : (c : Joined-d-lt-MAX_DEVICES) →
+    restarts_at c.args.state.restarts
+    c.loop-i.i c.args.wanted ≡ none
+absent c = let r = get_or c.args.state.restarts (c.loop-i.i * max_devices + c.args.wanted) (pos 0) in
+    ⊎_elim
+    (λ w. let g = w.1.given in
+    let b : to_z w16 (of_z w16 r) ≡ r = search rules in
+    restart_absent _ _ _ (long c.before.before.before.before.before.before.before.before) c.loop-i-test.true w.0.taken b w.2.left)
+    (λ w. restarts-past _ _ _ w.left)
+    c.if-d-lt-MAX_DEVICES.branch
+
+pub loop-i-init : goal.loop-i-init
+loop-i-init c = (walks-ahead _ c.requires.0.links-ok, within_self _, back_yet _ _ _ _ _ _ _ _ _)
+
+pub returns-then-restart-ne-NO_RESTART : goal.returns-then-restart-ne-NO_RESTART
+returns-then-restart-ne-NO_RESTART c = let v = c.loop-i.invariant in
+    let r = get_or c.args.state.restarts (c.loop-i.i * max_devices + c.args.wanted) (pos 0) in
+    let b : to_z w16 (of_z w16 r) ≡ r = search rules in
+    b ∙ back-restart v.0 v.2 c.loop-i-test.true r
+    (restart-there _ _ _ (long (goal.at.returns-then-restart-ne-NO_RESTART c).Start) c.loop-i-test.true c.if-d-lt-MAX_DEVICES.true c.if-restart-ne-NO_RESTART.true) ∙ whole (goal.at.returns-then-restart-ne-NO_RESTART c).Start
+
+pub overflow_cast-end : goal.overflow_cast-end
+overflow_cast-end c = let h = ends (goal.at.overflow_cast-end c).In-loop-i in omega arith
+
+pub overflow_add-end : goal.overflow_add-end
+overflow_add-end c = let h = ends (goal.at.overflow_add-end c).In-loop-i in omega arith
+
+pub behind_last_done-k-requires : goal.behind_last_done-k-requires
+behind_last_done-k-requires c = (omega arith, ends (goal.at.behind_last_done-k-requires c).In-loop-i)
+
+pub offset_bounds-setting-k : goal.offset_bounds-setting-k
+offset_bounds-setting-k c = let h = ends (goal.at.offset_bounds-setting-k c).In-loop-i in omega (arith, c.behind_last_done-k.ensures.within)
+
+pub bounds-setting-k : goal.bounds-setting-k
+bounds-setting-k c = let h = ends (goal.at.bounds-setting-k c).In-loop-i in omega (arith, c.behind_last_done-k.ensures.within)
+
+pub returns-then-from-k : goal.returns-then-from-k
+returns-then-from-k c = let v = c.loop-i.invariant in
+    let r = get_or c.args.setting.now (c.behind_last_done-k.result - 1) (pos 0) in
+    let b : to_z w16 (of_z w16 r) ≡ r = search rules in
+    b ∙ back_found v.0 v.2 c.loop-i-test.true (absent (goal.at.returns-then-from-k c).Joined-d-lt-MAX_DEVICES) c.behind_last_done-k.ensures c.if-from-k.true ∙ whole (goal.at.returns-then-from-k c).Start
+
+pub overflow_cast-i-in-loop-i : goal.overflow_cast-i-in-loop-i
+overflow_cast-i-in-loop-i c = let s = walks_spot (walks_next c.loop-i.invariant.0 c.loop-i-test.true).1 in
+    omega arith
+
+pub loop-i-smaller : goal.loop-i-smaller
+loop-i-smaller c = walks_less c.loop-i.invariant.0 c.loop-i-test.true
+
+pub loop-i-preserved : goal.loop-i-preserved
+loop-i-preserved c = let h = c.loop-i-test.true in
+    let v = c.loop-i.invariant in (
+      (walks_next v.0 h).1,
+      walk-within v.0 v.1 h,
+      back-past v.0 v.2 h (absent (goal.at.loop-i-preserved c).Joined-d-lt-MAX_DEVICES) c.behind_last_done-k.ensures
+          c.if-from-k.false,
+    )
+
+pub returns : goal.returns
+returns c = let v = c.loop-i.invariant in
+    back_done v.0 v.2 c.loop-i-test.false ∙ whole (goal.at.returns c).Start

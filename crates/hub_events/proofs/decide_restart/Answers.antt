@@ -1,0 +1,49 @@
+-- `hub_events::decide_restart` meets its contract. Assumes nothing.
+use borrow.Author.Rules.{rules}
+use native.Mathlib.Omega.{arith}
+use borrow.Author.Tests.{not-true, not-false}
+use mathlib.Core.Path.{sym, ap, ◌∙◌}
+use mathlib.Core.List.{[]}
+use lib.IntN.{ℤ}
+use mir.Facts.{to_z-of_z}
+use Rattle.rules_routine.specs.Range.{in_range}
+use Rattle.rules.specs.Settle.{settling}
+use Rattle.rules.specs.Events.{restart_result}
+use Rattle.hub_state.specs.View.{state_of}
+use Rattle.hub_abort.proofs.PutBackLaws.{refused_as}
+use Rattle.hub_events.proofs.EventLaws.{restart_14, restart_16, restart_17, restart_passes, restart-decides, restart_entry}
+use Rattle.hub_events.proofs.decide_restart.Goals as goal
+
+pub returns-then-state-device : goal.returns-then-state-device
+unfolding state_of
+returns-then-state-device c = let a = c.args in
+    refused_as a.state [] 14 c.refused.result _ c.refused.ensures
+    (restart_14 (state_of a.state) a.device a.setting c.if-state-device.true)
+
+pub returns-then-is_up : goal.returns-then-is_up
+unfolding state_of
+returns-then-is_up c = let a = c.args in
+    refused_as a.state [] 16 c.refused-then-is_up.result _ c.refused-then-is_up.ensures
+    (restart_16 (state_of a.state) a.device a.setting c.if-state-device.false (sym c.is_up.ensures ∙ c.if-is_up.true))
+
+pub returns-then-not-in_range : goal.returns-then-not-in_range
+unfolding state_of
+returns-then-not-in_range c = let a = c.args in
+    let z = to_z-of_z c.ranges.setting in
+    refused_as a.state [] 17 c.refused-then-not-in_range.result _ c.refused-then-not-in_range.ensures
+    (restart_17 (state_of a.state) a.device a.setting c.if-state-device.false (sym c.is_up.ensures ∙ c.if-is_up.false)
+    (ap in_range (sym z) ∙ sym c.in_range.ensures ∙ not-true c.in_range.result c.if-not-in_range.true-raw))
+
+pub halfway-half-requires : goal.halfway-half-requires
+halfway-half-requires c = (c.requires, omega (arith, c.requires.devices-fit, c.if-state-device.false))
+
+pub returns : goal.returns
+unfolding state_of
+returns c = let a = c.args in
+    let z = to_z-of_z c.ranges.setting in
+    let i = sym c.in_range.ensures ∙ not-false c.in_range.result c.if-not-in_range.false-raw in
+    restart-decides a.state a.device c.halfway-half.result c.halfway-half.ensures _ _ (omega (arith, c.requires.devices-fit, c.if-state-device.false))
+    (restart_entry _ i)
+    (ap (λ (v : ℤ). settling (restart_result (state_of a.state) a.device v)) z
+    ∙ restart_passes (state_of a.state) a.device a.setting c.if-state-device.false (sym c.is_up.ensures ∙ c.if-is_up.false)
+    (ap in_range (sym z) ∙ i))

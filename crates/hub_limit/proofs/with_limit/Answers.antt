@@ -1,0 +1,12 @@
+-- `hub_limit::with_limit` meets its contract. Assumes nothing.
+use mathlib.Core.Path.{ap, ◌∙◌}
+use Rattle.rules.specs.Settle.{settle}
+use Rattle.hub_limit.proofs.LimitLaws.{limited-state, limited-unmoved}
+use Rattle.hub_limit.proofs.with_limit.Goals as goal
+
+pub settle-requires : goal.settle-requires
+settle-requires c = (limited-state _ _ c.requires).0
+
+pub returns : goal.returns
+returns c = let e = c.settle.ensures in
+    (e.valid, e.gives ∙ ap settle (limited-state _ _ c.requires).1, limited-unmoved _ _ _ e.only-leave.unmoved)

@@ -1,0 +1,42 @@
+-- `hub_search::any_must` meets its contract. The loop: what is left gives what the whole gives. Assumes nothing.
+use borrow.Author.Rules.{rules}
+use Prim.Native.Nat.{◌-◌}
+use native.Mathlib.Omega.{arith}
+use mathlib.Core.Path.{◌≡◌, sym, ◌∙◌}
+use mathlib.Core.Logic.{⊎_elim}
+use Rattle.hub_search.specs.Contract.{any_must}
+use Rattle.hub_search.proofs.Commands.{any_at, must_at, at_hit, at_on, at_end, must-at, must-here, must_other, must-answered}
+use Rattle.hub_search.proofs.Commands.{must-not}
+use Rattle.hub_search.proofs.any_must.Goals as goal
+
+pub loop-k-init : goal.loop-k-init
+loop-k-init c = let a = c.args in
+    must-at a.device.now a.tag.now a.stage.now a.end a.wanted a.from (a.end - a.from) (omega (arith, c.requires.0))
+
+pub bounds-device-k : goal.bounds-device-k
+bounds-device-k c = omega (arith, c.loop-test.true, c.requires.1)
+
+pub bounds-stage-k : goal.bounds-stage-k
+bounds-stage-k c = omega (arith, c.loop-test.true, c.requires.1)
+
+pub counting_tag-requires : goal.counting_tag-requires
+counting_tag-requires c = let e = c.requires.1 in (omega (arith, c.loop-test.true), omega (arith, c.loop-test.true))
+
+pub returns-then-counting_tag-eq-MUST : goal.returns-then-counting_tag-eq-MUST
+returns-then-counting_tag-eq-MUST c = sym
+    (at_hit _ _ _ c.loop-test.true
+    (must-here _ _ _ _ _ _ c.if1.true c.if-stage-k-le-IN_FLIGHT.true c.counting_tag.ensures c.if-counting_tag-eq-MUST.true))
+    ∙ c.loop.invariant
+
+pub loop-k-smaller : goal.loop-k-smaller
+loop-k-smaller c = omega (arith, c.loop-test.true)
+
+pub loop-k-preserved : goal.loop-k-preserved
+loop-k-preserved c = at_on _ _ _ c.loop-test.true
+    (⊎_elim (λ w. must-not _ _ _ _ _ _ w.3.ensures w.4.left)
+    (⊎_elim (λ w. must-answered _ _ _ _ _ _ w.2.left) (λ w. must_other _ _ _ _ _ _ w.left))
+    c.if-device-k.branch)
+    ∙ c.loop.invariant
+
+pub returns : goal.returns
+returns c = sym (at_end _ _ _ c.loop-k-test.false) ∙ c.loop-k.invariant

@@ -1,0 +1,16 @@
+-- `hub_search::any_must` meets its contract. The loop: what is left gives what the whole gives. Assumes nothing.
+use borrow.Author.Rules.{rules}
+use Prim.Native.Nat.{◌-◌}
+use native.Mathlib.Omega.{arith}
+use mathlib.Core.Path.{◌≡◌, sym, ◌∙◌}
+use mathlib.Core.Logic.{⊎_elim}
+use Rattle.hub_search.specs.Contract.{any_must}
+use Rattle.hub_search.proofs.Commands.{any_at, must_at, at_hit, at_on, at_end, must-at, must-here, must_other, must-answered}
+use Rattle.hub_search.proofs.Commands.{must-not}
+use Rattle.hub_search.proofs.any_must.Given as goal
+
+abbrev pub invariant-loop-k : goal.invariant-loop-k
+invariant-loop-k l = any_at (must_at l.device l.tag l.stage l.end l.wanted) l.k (l.end - l.k) ≡ any_must l.device l.tag l.stage l.wanted l.from (l.end - l.from)
+
+abbrev pub decreases-loop-k : goal.decreases-loop-k
+decreases-loop-k l = l.end - l.k

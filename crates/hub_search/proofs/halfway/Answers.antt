@@ -1,0 +1,80 @@
+-- `hub_search::halfway` meets its contract. The loop seeks along the links. Assumes nothing.
+use borrow.Author.Rules.{rules}
+use Prim.Native.Nat.{ℕ, ◌≤◌, ◌<◌}
+use native.Mathlib.Omega.{arith}
+use mathlib.Core.Logic.{⊎_elim}
+use lib.ListN.{length, get_or}
+use mir.Syntax.{w8}
+use mir.Val.{Fits}
+use Rattle.rules_routine.specs.Limits.{max_commands, max_sequence}
+use Rattle.hub_sequence.specs.Links.{along}
+use Rattle.hub_sequence.proofs.ReadLaws.{walks-behind}
+use Rattle.hub_search.specs.Contract.{highest_stage}
+use Rattle.hub_search.proofs.Slots.{Seeks, seeks_start, seeks_there, seeks_on, seeks_less, seeks_spot}
+use Rattle.hub_search.proofs.SearchLaws.{halfway_in, halfway_committed, halfway_unbegun, halfway_finished, commands_fit, halfway_at}
+use Rattle.hub_search.proofs.SearchLaws.{halfway_nowhere}
+use Rattle.hub_search.proofs.halfway.Goals.{In-loop-i, Start}
+use Rattle.hub_search.proofs.halfway.Goals as goal
+
+abbrev start : tie.At-loop invariant-loop decreases-loop → tie.Start invariant-loop decreases-loop
+start c = c.before.before.before.before.before.before.before.before
+
+-- the slot, and how many commands it has
+fits : (c : In-loop-i) →
+    let h = (start c.before).args.state in
+    let x = c.loop-i.i in
+    (x < max_sequence) × (get_or h.counts x 0 ≤ max_commands)
+fits c =
+    commands_fit _ (start c.before).pre _ (seeks_there c.loop-i.invariant c.loop-i-test.true)
+
+-- a stage has 8 bits
+stages-fit : (c : Start) (j : ℕ) → get_or c.args.state.stage j 0 ≤ highest_stage
+stages-fit c j = let f : Fits w8 (get_or c.args.state.stage j 0) = search rules in omega (arith, f.fits)
+
+pub loop-i-init : goal.loop-i-init
+loop-i-init c = seeks_start _ _ _ (walks-behind _ c.requires.links-ok)
+
+pub bounds-committed-i : goal.bounds-committed-i
+bounds-committed-i c = c.loop-i-test.true
+
+pub overflow_mul-from : goal.overflow_mul-from
+overflow_mul-from c = omega (arith, c.loop-i-test.true)
+
+pub bounds-counts-i : goal.bounds-counts-i
+bounds-counts-i c = c.loop-i-test.true
+
+pub overflow_cast-end : goal.overflow_cast-end
+overflow_cast-end c = let f = fits (goal.at.overflow_cast-end c).In-loop-i in omega arith
+
+pub overflow_add-end : goal.overflow_add-end
+overflow_add-end c = let f = fits (goal.at.overflow_add-end c).In-loop-i in omega arith
+
+pub is_staged-requires : goal.is_staged-requires
+is_staged-requires c = let f = fits (goal.at.is_staged-requires c).In-loop-i in (omega arith, omega arith)
+
+pub is_staged-requires-then-is_staged : goal.is_staged-requires-then-is_staged
+is_staged-requires-then-is_staged c = let f = fits (goal.at.is_staged-requires-then-is_staged c).In-loop-i in (omega arith, omega arith)
+
+pub returns-then-is_staged-2 : goal.returns-then-is_staged-2
+returns-then-is_staged-2 c = let s = start (goal.at.returns-then-is_staged-2 c).At-loop-i in
+    halfway_at _ s.pre _ (stages-fit s) c.loop-i.invariant c.loop-i-test.true c.if-not-committed-i.true-raw c.is_staged.ensures
+    c.is_staged-then-is_staged.ensures c.if-is_staged.true c.if-is_staged-2.true
+
+pub bounds-behind-i : goal.bounds-behind-i
+bounds-behind-i c = c.loop-i-test.true
+
+pub overflow_cast-i-in-loop-i : goal.overflow_cast-i-in-loop-i
+overflow_cast-i-in-loop-i c = let s = seeks_spot c.loop-i.invariant c.loop-i-test.true in omega arith
+
+pub loop-i-smaller : goal.loop-i-smaller
+loop-i-smaller c = seeks_less c.loop-i.invariant c.loop-i-test.true
+
+pub loop-i-preserved : goal.loop-i-preserved
+loop-i-preserved c = seeks_on c.loop-i.invariant c.loop-i-test.true
+    (⊎_elim (λ w. halfway_unbegun _ _ _ _ _ _ w.7.ensures w.8.left)
+    (⊎_elim (λ w. halfway_finished _ _ _ _ _ _ w.3.ensures w.4.left) (λ w. halfway_committed _ _ _ _ _ _ w.left))
+    c.if-not-committed-i.branch)
+
+pub returns : goal.returns
+returns c = let s = start (goal.at.returns c).At-loop-i in
+    halfway_nowhere _ s.pre _ (stages-fit s) c.loop-i.invariant c.loop-i-test.false

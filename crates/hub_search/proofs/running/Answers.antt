@@ -1,0 +1,31 @@
+-- `hub_search::running` meets its contract. The loop seeks along the links. Assumes nothing.
+use borrow.Author.Rules.{rules}
+use native.Mathlib.Omega.{arith}
+use lib.ListN.{length}
+use Rattle.hub_sequence.specs.Links.{along}
+use Rattle.hub_sequence.proofs.ReadLaws.{walks-behind}
+use Rattle.hub_search.proofs.Slots.{Seeks, seeks_start, seeks_on, seeks_less, seeks_spot}
+use mathlib.Core.Logic.{⊎_elim}
+use Rattle.hub_search.proofs.SearchLaws.{runs_in, runs_other, runs-committed, running_at, running_nowhere}
+use Rattle.hub_search.proofs.running.Goals as goal
+
+pub loop-i-init : goal.loop-i-init
+loop-i-init c = seeks_start _ _ _ (walks-behind _ c.requires.links-ok)
+
+pub returns-then-not-committed-i : goal.returns-then-not-committed-i
+returns-then-not-committed-i c = running_at _ c.requires _ c.loop-i.invariant c.loop-i-test.true
+    c.if-ids-i.true
+    c.if-not-committed-i.true-raw
+
+pub overflow_cast-i-in-loop-i : goal.overflow_cast-i-in-loop-i
+overflow_cast-i-in-loop-i c = let s = seeks_spot c.loop-i.invariant c.loop-i-test.true in omega arith
+
+pub loop-i-smaller : goal.loop-i-smaller
+loop-i-smaller c = seeks_less c.loop-i.invariant c.loop-i-test.true
+
+pub loop-i-preserved : goal.loop-i-preserved
+loop-i-preserved c = seeks_on c.loop-i.invariant c.loop-i-test.true
+    (⊎_elim (λ w. runs-committed _ _ _ _ w.1.left) (λ w. runs_other _ _ _ _ w.left) c.if-ids-i.branch)
+
+pub returns : goal.returns
+returns c = running_nowhere _ c.requires _ c.loop-i.invariant c.loop-i-test.false

@@ -1,0 +1,18 @@
+-- `hub_sequence::order::free_row` meets its contract. Assumes nothing.
+use lib.Seq.{get_or-set_same, get_or-set_other}
+use borrow.Author.Rules.{rules}
+use native.Mathlib.Omega.{arith}
+use mathlib.Core.Path.{◌≡◌, ◌∙◌}
+use Prim.Native.Nat.{ℕ, ◌+◌, ◌-◌, ◌≤◌, ◌<◌}
+use lib.ListN.{length, get_or, length-set, get_or-replicate}
+use Rattle.rules_routine.specs.Limits.{max_sequence}
+use Rattle.hub_sequence.specs.Links.{none}
+use Rattle.hub_sequence.proofs.Tables.{by_eq}
+use Rattle.hub_sequence.proofs.order.free_row.Given as goal
+
+abbrev pub invariant-loop-i : goal.invariant-loop-i
+invariant-loop-i l = (length l.initial.i ≡ max_sequence) × (l.i + 1 ≤ max_sequence) × ((x : ℕ) → x < l.i → get_or l.initial.i x 0 ≡ x + 1)
+    × ((x : ℕ) → l.i ≤ x → x < max_sequence → get_or l.initial.i x 0 ≡ none)
+
+abbrev pub decreases-loop-i : goal.decreases-loop-i
+decreases-loop-i l = max_sequence - l.i

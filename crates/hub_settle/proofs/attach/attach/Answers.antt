@@ -1,0 +1,87 @@
+-- `hub_settle::attach::attach` meets its contract. Assumes nothing.
+use borrow.Author.Rules.{rules}
+use Prim.Native.Nat.{ℕ, ◌+◌, ◌*◌, ◌<◌}
+use native.Mathlib.Omega.{arith}
+use mathlib.Core.Path.{◌≡◌, subst}
+use mir.Val.{to_z, of_z}
+use mir.Syntax.{w16}
+use lib.ListN.{length}
+use Rattle.rules_routine.specs.Limits.{max_devices, max_sequence}
+use Rattle.rules_routine.proofs.RoutineLaws.{length_mapped}
+use Rattle.hub_sequence.proofs.ReadLaws.{stands-slot}
+use Rattle.hub_search.specs.Contract.{has_id, Finds}
+use Rattle.hub_state.specs.declared.Place.TheVariants.{At, Nowhere}
+use Rattle.hub_state.proofs.UnmovedLaws.{itself_in_place}
+use Rattle.hub_settle.proofs.RestartLaws.{attaches_one}
+use Rattle.hub_settle.proofs.StateLaws.{valid_tables, tables_in_place, attach-settled, attach_nowhere, attach-at, settles-one}
+use Rattle.hub_settle.proofs.attach.attach.Goals.{In-At, Start}
+use Rattle.hub_settle.proofs.attach.attach.Goals as goal
+
+-- the lengths of the rows
+long : (c : Start) → (length c.args.state.settled_at ≡ max_devices)
+    × (length c.args.state.restarts ≡ max_sequence * max_devices)
+long c = (search (rules, length_mapped), search (rules, length_mapped))
+
+pub returns-then-id-eq0 : goal.returns-then-id-eq0
+returns-then-id-eq0 c = let a = c.args in
+    let z : to_z w16 (of_z w16 a.setting) ≡ a.setting = search rules in
+    let l = (long (goal.at.returns-then-id-eq0 c).Start).0 in
+    let d = c.requires.1 in (
+      valid_tables a.state _ _ _ _ c.requires.0,
+      rw z
+          (attach-settled a.state a.id _ _ c.if-id-eq0.true
+          (settles-one a.state.settled_at a.device a.setting (omega arith))),
+      tables_in_place a.state _ _ _ _,
+    )
+
+pub with_id-place-requires : goal.with_id-place-requires
+with_id-place-requires c = c.requires.0
+
+pub returns-in_default : goal.returns-in_default
+returns-in_default c = let f : Finds c.args.state (has_id c.args.id) Nowhere =
+    subst (Finds c.args.state (has_id c.args.id)) c.in_default.is c.with_id-place.ensures in
+    (c.requires.0, attach_nowhere c.args.state c.args.id _ c.if-id-eq0.false f, itself_in_place c.args.state)
+
+-- ---- the routine is found
+abbrev start : tie.After-known-told → tie.Start
+start c = c.before.before.before.before.before
+
+abbrev to : tie.After-known-told → ℕ
+to c = c.before.place.given.0.0
+
+found : (c : In-At) → Finds (start c).args.state (has_id (start c).args.id) (At (to c))
+found c =
+    let s = start c in
+    subst (Finds s.args.state (has_id s.args.id)) c.in-At.is c.with_id-place.ensures
+
+-- its slot, and the place in the row
+slot : (c : In-At) → to c < max_sequence
+slot c = stands-slot _ _ (start c).requires.0.links-ok (found c).place_ok
+
+place : (c : In-At) → to c * max_devices + (start c).args.device < max_sequence * max_devices
+place c = let h = slot c in
+    let d = (start c).requires.1 in
+    omega arith
+
+pub overflow_mul-setting : goal.overflow_mul-setting
+overflow_mul-setting c = let h = slot c in omega arith
+
+pub overflow_add-setting : goal.overflow_add-setting
+overflow_add-setting c = let h = place c in omega arith
+
+pub offset_bounds-changed-to : goal.offset_bounds-changed-to
+offset_bounds-changed-to c = let h = place c in omega arith
+
+pub bounds-changed-to : goal.bounds-changed-to
+bounds-changed-to c = place c
+
+pub returns : goal.returns
+returns c = let a = c.args in
+    let z : to_z w16 (of_z w16 a.setting) ≡ a.setting = search rules in (
+      valid_tables a.state _ _ _ _ c.requires.0,
+      rw z
+          (attach-at a.state a.id _ _ _
+          (attaches_one a.state.restarts _ a.device a.setting (long (goal.at.returns c).Start).1 (slot c) c.requires.1 c.requires.2) c.if-id-eq0.false
+          c.requires.0 (found c)),
+      tables_in_place a.state _ _ _ _,
+    )

@@ -1,0 +1,11 @@
+-- `hub_submit::decide` meets its contract. Assumes nothing.
+use borrow.Author.Rules.{rules}
+use mathlib.Core.Path.{sym, ◌∙◌}
+use Rattle.hub_submit.proofs.SubmitLaws.{submit-turned-down}
+use Rattle.hub_submit.proofs.decide.Goals as goal
+
+pub place-requires : goal.place-requires
+place-requires c = (c.requires, sym c.check-verdict.ensures ∙ c.in_default.is)
+
+pub returns : goal.returns
+returns c = submit-turned-down c.args.state _ _ _ (sym c.check-verdict.ensures ∙ c.in-Refused.is) c.turned_down.ensures

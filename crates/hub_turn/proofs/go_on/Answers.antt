@@ -1,0 +1,143 @@
+-- `hub_turn::go_on` meets its contract. Assumes nothing.
+use borrow.Author.Rules.{rules}
+use mathlib.Core.Path.{◌≡◌, sym, ap, ◌∙◌, subst}
+use mathlib.Core.Logic.{⊎_elim}
+use mathlib.Core.Bool.{Bool, true, false, not, not-not}
+use Prim.Native.Nat.{◌*◌, ◌≤◌, ◌<◌}
+use native.Mathlib.Omega.{arith}
+use lib.ListN.{get_or}
+use Rattle.rules_routine.specs.Limits.{max_commands, max_sequence}
+use Rattle.rules.specs.Progress.{begun, next_is_skipped}
+use Rattle.rules.specs.Settle.{settling}
+use Rattle.rules.specs.Turn.{skip_turn, proceed_up, proceed}
+use Rattle.rules.proofs.Lists.{t≠f}
+use Rattle.hub_state.specs.View.{steps_at, state_of, there, member_at}
+use Rattle.hub_state.specs.Unanswered.{command_at}
+use Rattle.hub_state.specs.Contract.{Decides}
+use Rattle.hub_search.proofs.SearchLaws.{commands_fit}
+use Rattle.hub_turn.proofs.TurnLaws.{in_rows, device-read, skipped-is, counts_as, must-decides, skip_decides, proceed-skipped}
+use Rattle.hub_turn.proofs.TurnLaws.{proceed-up}
+use Rattle.hub_turn.proofs.TurnLaws.{proceed-must, proceed_skip}
+use Rattle.hub_turn.proofs.go_on.Goals.{After-is_skipped-skips, Joined-not-skips, Start}
+use Rattle.hub_turn.proofs.go_on.Goals as goal
+
+-- the place of the command is in the rows
+within : (c : Start) → c.args.k < max_sequence * max_commands
+within c = in_rows _ _ _ c.requires.0 c.requires.1 c.requires.2
+
+-- the slot, and how many commands it has
+fits : (c : Start) → (c.args.at < max_sequence) × (get_or c.args.state.counts c.args.at 0 ≤ max_commands)
+fits c = commands_fit _ c.requires.0 _ c.requires.1
+
+abbrev start : tie.After-is-skipped → tie.Start
+start c = c.before.before.before
+
+abbrev outset : tie.After-counts → tie.Start
+outset c = start c.before.before.before.before.before
+
+pub bounds-device-k : goal.bounds-device-k
+bounds-device-k c = within c
+
+pub has_begun-begun-requires : goal.has_begun-begun-requires
+has_begun-begun-requires c = let p = c.requires in (p.0, p.1, p.4, p.6)
+
+pub is_skipped-skips-requires : goal.is_skipped-skips-requires
+is_skipped-skips-requires c = within (goal.at.is_skipped-skips-requires c).After-way_told-1
+
+pub bounds-device-k-then-not-skips : goal.bounds-device-k-then-not-skips
+bounds-device-k-then-not-skips c = within (start (goal.at.bounds-device-k-then-not-skips c).After-is_skipped-skips)
+
+pub bounds-counts-at : goal.bounds-counts-at
+bounds-counts-at c = (fits (outset c)).0
+
+pub overflow_cast-end : goal.overflow_cast-end
+overflow_cast-end c = let f = fits (outset c) in omega arith
+
+pub overflow_add-end : goal.overflow_add-end
+overflow_add-end c = let f = fits (outset c) in omega arith
+
+pub counting_tag-requires : goal.counting_tag-requires
+counting_tag-requires c = let f = fits (outset c) in let i = within (outset c) in (omega arith, omega arith)
+
+-- ---- what the code has found out
+begun-is : (c : After-is_skipped-skips) →
+    let a = (start c).args in
+    c.has_begun-begun.result ≡ begun (command_at a.state a.k).device (member_at a.state a.at)
+begun-is c = let l = start c in
+    let h = l.args.state in
+    c.has_begun-begun.ensures ∙ ap (λ d. begun d (member_at h l.args.at)) (device-read h l.args.k _ l.pre.4)
+
+is-skipped-is : (c : After-is_skipped-skips) →
+    let a = (start c).args in
+    c.is_skipped-skips.result ≡ next_is_skipped false (steps_at a.state a.at)
+is-skipped-is c = let p = (start c).requires in skipped-is _ _ _ p.2 _ _ p.5 p.6 c.is_skipped-skips.ensures
+
+un_not : (b : Bool) → not b ≡ true → b ≡ false
+un_not b e = sym (not-not b) ∙ ap not e
+
+no_not : (b : Bool) → not b ≡ false → b ≡ true
+no_not b e = sym (not-not b) ∙ ap not e
+
+-- ---- the ways to go on
+-- it is skipped: by the condition before it, or its device is down and it does not count as a must
+skipped : (c : Joined-not-skips) → c.if-not-skips.skips ≡ true →
+    let a = (start c.before).args in
+    settling (skip_turn (state_of a.state) (there a.state a.at) (command_at a.state a.k))
+    ≡ proceed (state_of a.state) (there a.state a.at) (command_at a.state a.k)
+skipped c t =
+    let l = start c.before in
+    let h = l.args.state in
+    let e = is-skipped-is c.before in
+    ⊎_elim
+    (λ w. proceed_skip h _ _ _ e (un_not _ w.0.taken) _ (device-read h l.args.k _ l.pre.4) _ w.2.ensures
+    (un_not _ w.3.taken) _ (counts_as _ _ _ l.pre.2 _ l.pre.5 _ w.5.ensures) w.6.left)
+    (⊎_elim
+    (λ w. absurd (t≠f (sym t ∙ w.4 ∙ un_not _ w.0.taken)))
+    (λ w. proceed-skipped h _ _ _ e (sym w.1 ∙ t)))
+    c.if-not-skips.branch
+
+-- its device is up
+goes-up : (c : Joined-not-skips) → c.if-not-skips.skips ≡ false →
+    let a = (start c.before).args in
+    proceed_up (state_of a.state) (there a.state a.at) (command_at a.state a.k)
+    ≡ proceed (state_of a.state) (there a.state a.at) (command_at a.state a.k)
+goes-up c f =
+    let l = start c.before in
+    let h = l.args.state in
+    let e = is-skipped-is c.before in
+    ⊎_elim
+    (λ w. absurd (t≠f (sym w.7 ∙ f)))
+    (⊎_elim
+    (λ w. proceed-up h _ _ _ e (un_not _ w.0.taken) _ (device-read h l.args.k _ l.pre.4) _ w.2.ensures
+    (no_not _ w.3.left))
+    (λ w. absurd (t≠f (sym (no_not _ w.0.left) ∙ sym w.1 ∙ f))))
+    c.if-not-skips.branch
+
+pub returns-then-counting_tag-eq-MUST : goal.returns-then-counting_tag-eq-MUST
+returns-then-counting_tag-eq-MUST c = let l = start (goal.at.returns-then-counting_tag-eq-MUST c).After-is_skipped-skips in
+    let h = l.args.state in
+    let k = l.args.k in
+    let p = l.pre in
+    subst (Decides _ _ _)
+    (proceed-must h _ _ _ (is-skipped-is (goal.at.returns-then-counting_tag-eq-MUST c).After-is_skipped-skips) (un_not _ c.if-not-skips.true-raw) _ (device-read h k _ p.4) _ c.is_up.ensures
+    (un_not _ c.if-not-is_up.true-raw) _ (counts_as _ _ _ p.2 _ p.5 _ c.counting_tag.ensures) c.if-counting_tag-eq-MUST.true)
+    (must-decides h _ k p.1 p.2 _ p.3 _ c.plain.ensures)
+
+pub bounds-device-k-then-skips : goal.bounds-device-k-then-skips
+bounds-device-k-then-skips c = within (start (goal.at.bounds-device-k-then-skips c).Joined-not-skips)
+
+pub returns-then-skips : goal.returns-then-skips
+returns-then-skips c = let l = start (goal.at.returns-then-skips c).Joined-not-skips in
+    let h = l.args.state in
+    let k = l.args.k in
+    let p = l.pre in
+    subst (Decides _ _ _) (skipped (goal.at.returns-then-skips c).Then-skips c.if4.true)
+    (skip_decides h l.args.at k p.1 p.2 _ _ _ (device-read h k _ p.4) (begun-is (goal.at.returns-then-skips c).Joined-not-skips) p.3 _ _ _ c.plain-then-skips.ensures
+    c.staged-change.ensures)
+
+pub go_on_up-requires : goal.go_on_up-requires
+go_on_up-requires c = let p = (start (goal.at.go_on_up-requires c).After-is_skipped-skips).requires in
+    (p.0, p.1, p.2, p.3, p.4, p.5, p.6, begun-is (goal.at.go_on_up-requires c).After-is_skipped-skips)
+
+pub returns : goal.returns
+returns c = subst (Decides _ _ _) (goes-up (goal.at.returns c).Joined-not-skips c.if-skips.false) c.go_on_up.ensures

@@ -1,0 +1,48 @@
+-- `line::lines::devices_of` meets its contract. The loop's invariant: of the first devices it is known which are up. Assumes nothing.
+use mathlib.Core.Path.{◌≡◌, refl, ap, ◌∙◌}
+use mathlib.Core.Bool.{false}
+use mathlib.Core.List.{List}
+use Prim.Native.Nat.{ℕ, ◌-◌, ◌<◌, ◌≤◌}
+use native.Mathlib.Omega.{arith}
+use borrow.Author.Rules.{rules}
+use lib.IntN.{ℤ, pos}
+use lib.ListN.{length, get_or, length-set}
+use Rattle.rules_routine.specs.Limits.{max_devices}
+use Rattle.rules.proofs.AllDue.{list_entry}
+use Rattle.hub.specs.View.{view}
+use Rattle.line.proofs.Loops.{devices_are, devices-told, up_more}
+use Rattle.line.proofs.lines.devices_of.Goals.{After-device_count-count}
+use Rattle.line.proofs.lines.devices_of.Goals as goal
+
+-- the tables have a place for each device
+few : (c : After-device_count-count) → c.device_count-count.result ≤ max_devices
+few c =
+    omega (arith, c.requires.in_order.devices-fit, devices_are c.args.hub, c.device_count-count.ensures)
+
+pub slice_bounds-due_settings-end : goal.slice_bounds-due_settings-end
+slice_bounds-due_settings-end c = refl
+
+pub loop-device-init : goal.loop-device-init
+loop-device-init c = (omega arith, refl, λ d h. absurd (omega arith))
+
+pub bounds-up-d : goal.bounds-up-d
+bounds-up-d c = omega (arith, few (goal.at.bounds-up-d c).After-device_count-count, c.loop-device-test.true)
+
+pub loop-device-preserved : goal.loop-device-preserved
+loop-device-preserved c = let n = c.loop-device.device in
+    let h : n < length c.loop-device.up = omega (arith, few (goal.at.loop-device-preserved c).After-device_count-count, c.loop-device-test.true, c.loop-device.invariant.1) in (
+      omega (arith, c.loop-device-test.true),
+      length-set c.loop-device.up n c.is_up.result ∙ c.loop-device.invariant.1,
+      up_more (view c.args.hub) c.loop-device.up n c.is_up.result h c.is_up.ensures c.loop-device.invariant.2,
+    )
+
+pub returns : goal.returns
+returns c = let h = c.args.hub in
+    let all : c.loop-device.device ≡ (view h).devices = omega (arith, c.device_count-count.ensures, c.loop-device.invariant.0, c.loop-device-test.false) in (
+      few (goal.at.returns c).After-device_count-count,
+      devices-told h _ c.device_count-count.ensures
+          (λ d k. c.loop-device.invariant.2 d (omega arith))
+          (λ d k.
+          ap (λ (t : List ℤ). get_or t d (pos 0)) c.due_settings.ensures.1
+          ∙ list_entry (view h) _ (omega (arith, c.requires.in_order.devices-fit, devices_are h)) d k),
+    )

@@ -1,0 +1,21 @@
+-- `line::lines::next_line` meets its contract. Assumes nothing.
+use mathlib.Core.Path.{ap, ◌∙◌}
+use Prim.Native.Nat.{◌≤◌}
+use native.Mathlib.Omega.{arith}
+use lib.ListN.{length}
+use Rattle.line_read.specs.declared.LineRead.{LineRead}
+use Rattle.line.specs.View.{heard_of}
+use Rattle.line.proofs.Loops.{end_within}
+use borrow.Author.Rules.{rules}
+use Rattle.line.proofs.lines.next_line.Goals as goal
+
+pub slice_bounds-read_line-count : goal.slice_bounds-read_line-count
+slice_bounds-read_line-count c = omega (arith, c.line_end-end.ensures)
+
+pub returns : goal.returns
+returns c = let a = c.args in
+    record {
+      ends = c.line_end-end.ensures;
+      hears = c.heard-said.ensures ∙ ap (λ (x : LineRead). heard_of x.line a.devices) c.read_line-read.ensures;
+      beside = ap (λ (x : LineRead). x.routine) c.read_line-read.ensures;
+    }

@@ -1,0 +1,7 @@
+-- `line::running::lines_length` meets its contract. Assumes nothing.
+use Rattle.line.proofs.Loops.{lines_measured}
+use borrow.Author.Rules.{rules}
+use Rattle.line.proofs.running.lines_length.Goals as goal
+
+pub returns : goal.returns
+returns c = lines_measured c.run_lines-ran.ensures

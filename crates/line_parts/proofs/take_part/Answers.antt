@@ -1,0 +1,79 @@
+-- `line_parts::take_part` meets its contract. Assumes nothing.
+use mathlib.Core.Path.{◌≡◌, ap, subst, ◌∙◌}
+use mathlib.Core.List.{List}
+use Prim.Native.Nat.{ℕ, ◌<◌, ◌≤◌, ◌^◌}
+use native.Mathlib.Omega.{arith}
+use lib.ListN.{length, take, drop, length-take}
+use mir.Syntax.{w64}
+use mir.Val.{to_z, of_z}
+use Rattle.line_rules.specs.Pieces.{lines_of}
+use Rattle.line_rules.specs.Program.{steps}
+use Rattle.line_rules.specs.Claims.{cut}
+use Rattle.line.specs.View.{hub_in}
+use Rattle.line.specs.Contract.{Ample, Runs}
+use Rattle.line_parts.specs.Parts.{whole_lines}
+use Rattle.line_parts.proofs.Steps.{filled, ran, ample, length-written, length-fits, whole_near, whole_taken, takes_part}
+use borrow.Author.Rules.{rules}
+use Rattle.line_parts.proofs.take_part.Goals.{After-run_part-written, After-whole_length-whole}
+use Rattle.line_parts.proofs.take_part.Goals as goal
+
+abbrev start : tie.After-run-part → tie.Start
+start c = c.before.before.before.before.before.before.before
+
+-- the whole lines end within the input
+whole_inside : (c : After-whole_length-whole) → c.whole_length-whole.result ≤ length c.before.before.before.before.args.input.now
+whole_inside c =
+    omega (arith, c.whole_length-whole.ensures, whole_near s.args.hub s.args.pending s.args.got s.args.input.now, s.requires.1)
+
+small : (c : After-run_part-written) → length (start c).args.out.now < 2 ^ 63
+small c = search rules
+
+-- what was run are the whole lines
+whole_ran : (c : After-run_part-written) →
+    let a = (start c).args in
+    let r = c.run_part-written.result in
+    let whole = whole_lines (filled a.hub a.pending a.got a.input.now) in
+    Runs (ran a.hub a.pending a.got a.input.now) whole a.hub r.hub a.out.now c.run_part-written.new.1.1.0 r.result
+whole_ran c =
+    let a = (start c).args in
+    let r = c.run_part-written.result in
+    let w = c.whole_length in
+    let are = ap (λ (n : ℕ). take n a.input.now) w.ensures ∙ whole_taken a.hub a.pending a.got a.input.now in
+    subst
+    (λ (l : List ℕ). Runs (steps (hub_in a.hub) (lines_of l)) l a.hub r.hub a.out.now c.run_part-written.new.1.1.0 r.result)
+    are c.run_part-written.ensures
+
+-- the buffer has ample room
+room : (c : After-run_part-written) →
+    let a = (start c).args in
+    Ample (whole_lines (filled a.hub a.pending a.got a.input.now)) (length a.out.now)
+room c =
+    let s = start c in
+    let a = s.args in
+    ample a.input.now (whole_lines (filled a.hub a.pending a.got a.input.now)) a.out.now
+    (omega (arith, whole_near a.hub a.pending a.got a.input.now, s.pre.1)) s.pre.2
+
+pub slice_bounds-whole_length-end-2 : goal.slice_bounds-whole_length-end-2
+slice_bounds-whole_length-end-2 c = simp length-take (omega arith)
+
+pub slice_bounds-run_part-end : goal.slice_bounds-run_part-end
+slice_bounds-run_part-end c = let h = whole_inside c in search rules
+
+pub slice_bounds-run_part-end-2 : goal.slice_bounds-run_part-end-2
+slice_bounds-run_part-end-2 c = let h = whole_inside (goal.at.slice_bounds-run_part-end-2 c).After-slice_known-2-1 in simp length-take (omega arith)
+
+pub overflow_cast-length : goal.overflow_cast-length
+overflow_cast-length c = let e : to_z w64 (of_z w64 c.run_part-written.result.result) ≡ c.run_part-written.result.result = search rules in
+    rw e (length-fits (whole_ran (goal.at.overflow_cast-length c).After-run_part-written) (room (goal.at.overflow_cast-length c).After-run_part-written) (small (goal.at.overflow_cast-length c).After-run_part-written))
+
+pub keep-kept-requires : goal.keep-kept-requires
+keep-kept-requires c = (omega (arith, c.whole_length.ensures, whole_near s.args.hub s.args.pending s.args.got s.args.input.now), s.requires.1)
+
+pub returns : goal.returns
+returns c = let k = c.keep-kept.ensures in
+    let a = (start (goal.at.returns c).After-run_part-written).args in
+    let bytes = filled a.hub a.pending a.got a.input.now in
+    let e : to_z w64 (of_z w64 c.run_part-written.result.result) ≡ c.run_part-written.result.result = search rules in
+    rw (e, length-written (whole_ran (goal.at.returns c).After-run_part-written) (room (goal.at.returns c).After-run_part-written))
+    (takes_part a.hub a.pending a.got a.input.now (whole_ran (goal.at.returns c).After-run_part-written) (room (goal.at.returns c).After-run_part-written) c.keep-kept.result k.0
+    (k.1 ∙ ap (λ (n : ℕ). cut (drop n bytes)) c.whole_length.ensures))

@@ -1,0 +1,15 @@
+-- `line_print::put_text` meets its contract. The loop's invariant: the first i bytes are put. Assumes nothing.
+use mathlib.Core.Path.{◌≡◌, refl, ◌∙◌}
+use Prim.Native.Nat.{◌+◌, ◌-◌, ◌≤◌, ◌<◌}
+use native.Mathlib.Omega.{arith}
+use lib.ListN.{length, take, get_or, length-set}
+use lib.Seq.{sets}
+use Rattle.line_print.proofs.Stores.{copied_next, copied_all}
+use borrow.Author.Rules.{rules}
+use Rattle.line_print.proofs.put_text.Given as goal
+
+abbrev pub invariant-loop-i : goal.invariant-loop-i
+invariant-loop-i l = (l.i ≤ l.text) × (length l.initial.i ≡ length l.initial.out) × (l.initial.i ≡ sets l.initial.out l.out (take l.i l.at))
+
+abbrev pub decreases-loop-i : goal.decreases-loop-i
+decreases-loop-i l = l.text - l.i

@@ -1,0 +1,18 @@
+-- `line_print::text::put_digits` meets its contract. The loop's invariant: the digits of what is left of the number are
+-- still to be put. Assumes nothing.
+use mathlib.Core.Path.{◌≡◌, refl, sym, ap, ◌∙◌}
+use mathlib.Core.List.{List}
+use Prim.Native.Nat.{ℕ, suc, ◌+◌, ◌-◌, ◌/◌, ◌%◌, ◌≤◌}
+use native.Mathlib.Omega.{arith}
+use lib.ListN.{length, set, length-set}
+use lib.Seq.{sets}
+use Rattle.line_rules.specs.Text.{digit0, decimal}
+use Rattle.line_print.proofs.Stores.{last_digits, last_all, last-next}
+use borrow.Author.Rules.{rules}
+use Rattle.line_print.proofs.text.put_digits.Given as goal
+
+abbrev pub invariant-loop-k : goal.invariant-loop-k
+invariant-loop-k l = (l.out ≤ l.k) × (l.k ≤ l.at) × (length l.left ≡ length l.initial.out) × (sets l.left l.out (last_digits (l.k - l.out) l.initial.k) ≡ sets l.initial.out l.out (decimal l.end))
+
+abbrev pub decreases-loop-k : goal.decreases-loop-k
+decreases-loop-k l = l.k - l.out

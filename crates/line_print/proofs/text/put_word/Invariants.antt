@@ -1,0 +1,16 @@
+-- `line_print::text::put_word` meets its contract. The loop's invariant: the first i bytes are put. Assumes nothing.
+use mathlib.Core.Path.{◌≡◌, refl, ap, ◌∙◌}
+use mathlib.Core.List.{List}
+use Prim.Native.Nat.{ℕ, ◌+◌, ◌-◌, ◌≤◌, ◌<◌}
+use native.Mathlib.Omega.{arith}
+use lib.ListN.{length, take, get_or, length-set}
+use lib.Seq.{sets, take_all}
+use Rattle.line_print.proofs.Stores.{copied_next}
+use borrow.Author.Rules.{rules}
+use Rattle.line_print.proofs.text.put_word.Given as goal
+
+abbrev pub invariant-loop-i : goal.invariant-loop-i
+invariant-loop-i l = (l.i ≤ length l.at) × (length l.initial.i ≡ length l.initial.out) × (l.initial.i ≡ sets l.initial.out l.out (take l.i l.at))
+
+abbrev pub decreases-loop-i : goal.decreases-loop-i
+decreases-loop-i l = length l.at - l.i

@@ -1,0 +1,19 @@
+-- `line_print::words::put_at_most_one` meets its contract. Assumes nothing.
+use mathlib.Core.Path.{sym, ap}
+use native.Mathlib.Omega.{arith}
+use Rattle.hub_answers.specs.View.{one_of}
+use Rattle.hub_answers.specs.declared.MaybePutBack.{MaybePutBack}
+use Rattle.line_rules.specs.Text.{digits, decimal}
+use Rattle.line_rules.specs.Printing.{back_list, back_text}
+use Rattle.line_print.proofs.PutLaws.{exactly, within, as_text}
+use borrow.Author.Rules.{rules}
+use Rattle.line_print.proofs.words.put_at_most_one.Goals as goal
+
+pub returns-in-Nothing : goal.returns-in-Nothing
+unfolding back_list back_text decimal digits
+returns-in-Nothing c = as_text (ap (λ (b : MaybePutBack). back_text (one_of b)) (sym c.enum_told.given.1))
+    (within (omega arith) (exactly c.put_word.ensures))
+
+pub returns-in-One : goal.returns-in-One
+returns-in-One c = as_text (ap (λ (b : MaybePutBack). back_text (one_of b)) (sym c.in-One.is))
+    c.put_one_back.ensures

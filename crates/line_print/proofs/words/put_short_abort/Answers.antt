@@ -1,0 +1,11 @@
+-- `line_print::words::put_short_abort` meets its contract. Assumes nothing.
+use native.Mathlib.Omega.{arith}
+use Rattle.line_rules.specs.Printing.{answer_text}
+use Rattle.line_print.proofs.PutLaws.{short_then, within}
+use borrow.Author.Rules.{rules}
+use Rattle.line_print.proofs.words.put_short_abort.Goals as goal
+
+pub returns : goal.returns
+unfolding answer_text
+returns c = within (omega arith)
+    (short_then c.put_one-named.ensures c.put_at_most_one.ensures)

@@ -1,0 +1,30 @@
+-- `line_read::calls::fail_line` meets its contract. Assumes nothing.
+use mathlib.Core.Path.{refl, sym, ap, ◌∙◌}
+use native.Mathlib.Omega.{arith}
+use Rattle.line_rules.specs.Reading.{fails}
+use Rattle.line_rules.specs.Reading.{highest8, call_with, number_up_to}
+use Rattle.line_read.specs.Places.{behind_letter}
+use Rattle.line_read.proofs.WordLaws.{WordSays, no_number, number_says, number_bound}
+use Rattle.line_read.proofs.Forms.{held_as, one_none, one_more, one_found}
+use borrow.Author.Rules.{rules}
+use Rattle.line_read.proofs.calls.fail_line.Goals.{In-Found}
+use Rattle.line_read.proofs.calls.fail_line.Goals as goal
+
+-- the device's word
+device : (c : In-Found) → let g = c.device-1.given.0 in
+    WordSays (number_up_to highest8) c.args.line.now behind_letter g.0 g.1.0
+device c = number_says highest8 _ _ _ _ (sym c.number_at-device.ensures ∙ c.in-Found.is)
+
+pub returns-in_default : goal.returns-in_default
+returns-in_default c = sym (ap held_as
+    (one_none highest8 (call_with fails) refl _ _
+    (no_number highest8 _ _ (sym c.number_at-device.ensures ∙ c.in_default.is))))
+
+pub returns-then-end-line : goal.returns-then-end-line
+returns-then-end-line c = sym (ap held_as (one_more highest8 (call_with fails) refl _ _ (device (goal.at.returns-then-end-line c).In-Found) c.if-end-line.true))
+
+pub overflow_cast-result : goal.overflow_cast-result
+overflow_cast-result c = omega (arith, number_bound highest8 _ _ _ _ (sym c.number_at-device.ensures ∙ c.in-Found.is))
+
+pub returns : goal.returns
+returns c = sym (ap held_as (one_found highest8 (call_with fails) refl _ _ (device (goal.at.returns c).In-Found) c.if-end-line.false))
