@@ -5,4 +5,4 @@ use borrow.Author.Rules.{rules}
 use Rattle.hub_answers.proofs.changes_nothing.Goals as goal
 
 pub returns-in_default-answer : goal.returns-in_default-answer
-returns-in_default-answer c = sym (changes c.args.answer c.in_default.keys2 c.in_default-answer.keys2)
+returns-in_default-answer c = sym (changes c.args.answer c.in_default.not-Refused c.in_default-answer.not-Wait)
