@@ -17,8 +17,8 @@ use Rattle.line_print.proofs.PutLaws.{put-none, short_then, within, as_text, rea
 use Rattle.line_print.proofs.put_devices.Given as goal
 
 abbrev pub invariant-loop-device : goal.invariant-loop-device
-invariant-loop-device l = (l.device ≤ l.devices) × (length l.initial.to ≡ length l.initial.out) × (length l.to ≡ max_device_line)
-    × PutShort (max_device_line * l.device) l.initial.out l.initial.to l.out l.initial.device (lines_from l.at 0 l.device)
+invariant-loop-device l = (l.device ≤ l.count) × (length l.out ≡ length l.initial.out) × (length l.text ≡ max_device_line)
+    × PutShort (max_device_line * l.device) l.initial.out l.out l.at l.to (lines_from l.devices 0 l.device)
 
 abbrev pub decreases-loop-device : goal.decreases-loop-device
-decreases-loop-device l = l.devices - l.device
+decreases-loop-device l = l.count - l.device

@@ -9,7 +9,7 @@ use borrow.Author.Rules.{rules}
 use Rattle.line_print.proofs.put_text.Given as goal
 
 abbrev pub invariant-loop-i : goal.invariant-loop-i
-invariant-loop-i l = (l.i ≤ l.text) × (length l.initial.i ≡ length l.initial.out) × (l.initial.i ≡ sets l.initial.out l.out (take l.i l.at))
+invariant-loop-i l = (l.i ≤ l.fit) × (length l.out ≡ length l.initial.out) × (l.out ≡ sets l.initial.out l.at (take l.i l.text))
 
 abbrev pub decreases-loop-i : goal.decreases-loop-i
-decreases-loop-i l = l.text - l.i
+decreases-loop-i l = l.fit - l.i

@@ -14,7 +14,7 @@ use Rattle.line.proofs.Loops.{devices_are, devices-told, up_more}
 use Rattle.line.proofs.lines.devices_of.Given as goal
 
 abbrev pub invariant-loop-device : goal.invariant-loop-device
-invariant-loop-device l = (l.device ≤ l.up) × (length l.initial.device ≡ max_devices) × ((d : ℕ) → d < l.device → get_or l.initial.device d false ≡ (view l.hub).up d)
+invariant-loop-device l = (l.device ≤ l.count) × (length l.up ≡ max_devices) × ((d : ℕ) → d < l.device → get_or l.up d false ≡ (view l.hub).up d)
 
 abbrev pub decreases-loop-device : goal.decreases-loop-device
-decreases-loop-device l = l.up - l.device
+decreases-loop-device l = l.count - l.device

@@ -11,7 +11,7 @@ use Rattle.line.proofs.Loops.{times_end, times_on, times-last}
 use Rattle.line.proofs.running.ends_in.Given as goal
 
 abbrev pub invariant-loop-i : goal.invariant-loop-i
-invariant-loop-i l = (l.initial.i ≤ l.i) × (l.initial.i + times line_end (drop l.i l.chunk) ≡ times line_end l.chunk)
+invariant-loop-i l = (l.count ≤ l.i) × (l.count + times line_end (drop l.i l.chunk) ≡ times line_end l.chunk)
 
 abbrev pub decreases-loop-i : goal.decreases-loop-i
 decreases-loop-i l = length l.chunk - l.i

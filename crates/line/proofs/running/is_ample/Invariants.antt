@@ -14,9 +14,9 @@ use Rattle.line.proofs.Loops.{part_length, count_part, count-last, lines_counted
 use Rattle.line.proofs.running.is_ample.Given as goal
 
 abbrev pub invariant-loop-i : goal.invariant-loop-i
-invariant-loop-i l = (l.initial.i ≤ suc l.i)
+invariant-loop-i l = (l.count ≤ suc l.i)
     × (l.i ≤ length l.input)
-    × (l.initial.i + length (pieces line_end (drop l.i l.input)) ≡ suc (length (pieces line_end l.input)))
+    × (l.count + length (pieces line_end (drop l.i l.input)) ≡ suc (length (pieces line_end l.input)))
 
 abbrev pub decreases-loop-i : goal.decreases-loop-i
 decreases-loop-i l = length l.input - l.i

@@ -35,7 +35,7 @@ use borrow.Author.Rules.{rules}
 use Rattle.line.proofs.running.run_lines.Given as goal
 
 abbrev pub invariant-loop-from : goal.invariant-loop-from
-invariant-loop-from l = (length l.at ≡ max_text) × Ran l.room l.input l.initial.out l.text l.out l.initial.at l.initial.from l.from
+invariant-loop-from l = (length l.text ≡ max_text) × Ran l.initial.now l.input l.initial.out l.out l.room l.now l.at l.from
 
 abbrev pub decreases-loop-from : goal.decreases-loop-from
 decreases-loop-from l = length l.input - l.from

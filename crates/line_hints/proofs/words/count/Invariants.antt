@@ -10,7 +10,7 @@ use borrow.Author.Rules.{rules}
 use Rattle.line_hints.proofs.words.count.Given as goal
 
 abbrev pub invariant-loop-at : goal.invariant-loop-at
-invariant-loop-at l = (l.initial.at + length (words_from l.line l.at) ≡ length (words_from l.line behind_letter)) × (l.initial.at ≤ l.at)
+invariant-loop-at l = (l.words + length (words_from l.line l.at) ≡ length (words_from l.line behind_letter)) × (l.words ≤ l.at)
 
 abbrev pub decreases-loop-at : goal.decreases-loop-at
 decreases-loop-at l = suc (length l.line) - l.at

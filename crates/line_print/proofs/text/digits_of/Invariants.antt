@@ -13,7 +13,7 @@ use borrow.Author.Rules.{rules}
 use Rattle.line_print.proofs.text.digits_of.Given as goal
 
 abbrev pub invariant-loop-power : goal.invariant-loop-power
-invariant-loop-power l = (0 < l.count) × (l.count ≤ length (decimal l.n)) × (l.initial.count * 10 ≡ 10 ^ l.count)
+invariant-loop-power l = (0 < l.count) × (l.count ≤ length (decimal l.n)) × (l.power * 10 ≡ 10 ^ l.count)
 
 abbrev pub decreases-loop-power : goal.decreases-loop-power
 decreases-loop-power l = length (decimal l.n) - l.count

@@ -12,7 +12,7 @@ use borrow.Author.Rules.{rules}
 use Rattle.line_print.proofs.text.put_digits.Given as goal
 
 abbrev pub invariant-loop-k : goal.invariant-loop-k
-invariant-loop-k l = (l.out ≤ l.k) × (l.k ≤ l.at) × (length l.left ≡ length l.initial.out) × (sets l.left l.out (last_digits (l.k - l.out) l.initial.k) ≡ sets l.initial.out l.out (decimal l.end))
+invariant-loop-k l = (l.at ≤ l.k) × (l.k ≤ l.end) × (length l.out ≡ length l.initial.out) × (sets l.out l.at (last_digits (l.k - l.at) l.left) ≡ sets l.initial.out l.at (decimal l.n))
 
 abbrev pub decreases-loop-k : goal.decreases-loop-k
-decreases-loop-k l = l.k - l.out
+decreases-loop-k l = l.k - l.at

@@ -16,7 +16,7 @@ use Rattle.line_print.proofs.PutLaws.{put-none, short_then, shorter, within, as_
 use Rattle.line_print.proofs.words.put_backs.Given as goal
 
 abbrev pub invariant-loop-i : goal.invariant-loop-i
-invariant-loop-i l = (l.i ≤ l.backs) × (length l.to ≡ length l.initial.out) × PutShort (max_put_back * l.i) l.initial.out l.to l.count l.initial.i (back_list (map back_of (take l.i l.at.items)))
+invariant-loop-i l = (l.i ≤ l.count) × (length l.out ≡ length l.initial.out) × PutShort (max_put_back * l.i) l.initial.out l.out l.initial.to l.to (back_list (map back_of (take l.i l.backs.items)))
 
 abbrev pub decreases-loop-i : goal.decreases-loop-i
-decreases-loop-i l = l.backs - l.i
+decreases-loop-i l = l.count - l.i

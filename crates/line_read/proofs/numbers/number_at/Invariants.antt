@@ -11,7 +11,7 @@ use borrow.Author.Rules.{rules}
 use Rattle.line_read.proofs.numbers.number_at.Given as goal
 
 abbrev pub invariant-loop-at : goal.invariant-loop-at
-invariant-loop-at l = Left l.line l.from l.initial.value l.value × (l.value ≤ l.highest)
+invariant-loop-at l = Left l.line l.from l.at l.value × (l.value ≤ l.highest)
 
 abbrev pub decreases-loop-at : goal.decreases-loop-at
-decreases-loop-at l = length l.line - l.initial.value
+decreases-loop-at l = length l.line - l.at
