@@ -26,7 +26,7 @@ read_one : (c : Else-not-read) → let line = c.args.line.now in
     × (c.command_at-read.result.end ≤ length line)
     × (commands (words_from line c.loop-at.at) ≡ command_behind c.command_at-read.result.command
     (commands (words_from line (c.command_at-read.result.end + 1))))
-read_one c = c.command_at-read.ensures.found-one (not-false _ c.if-not-read.false)
+read_one c = c.command_at-read.ensures.found_one (not-false _ c.if-not-read.false)
 
 pub overflow_add-at : goal.overflow_add-at
 overflow_add-at c = let r = read_one (goal.at.overflow_add-at c).Else-not-read in search rules
