@@ -53,7 +53,7 @@ module _ {k : Links} {l f : List ℕ} {s : ℕ} (v : Keeps k l (s ∷ f)) (after
   off_next : s ≡ behind_of k after → ⊥
   off_next e =
       let i = fresh-slot in
-      let q : 1 ≤ count s (none ∷ l) = rw e (behind-there after v.linked h) in
+      let q : 1 ≤ count s (none ∷ l) = subst (λ (x : ℕ). 1 ≤ count x (none ∷ l)) (sym e) (behind-there after v.linked h) in
       omega (arith, new_slot.0, same_other s none (λ j. omega arith))
 
   -- the two links that are set along each row

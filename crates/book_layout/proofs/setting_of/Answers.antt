@@ -29,10 +29,10 @@ number : (c : Start) →
 number c = let n : number_of c < 2 ^ 31 = omega arith in rw (sum c, to_z_pos w32 n)
 
 pub overflow_mul-number : goal.overflow_mul-number
-overflow_mul-number c = rw (times c) (record { sfits = omega arith })
+overflow_mul-number c = rw (times (goal.at.overflow_mul-number c).Start) (record { sfits = omega arith })
 
 pub overflow_add-number : goal.overflow_add-number
-overflow_add-number c = rw (sum c) (record { sfits = omega arith })
+overflow_add-number c = rw (sum (goal.at.overflow_add-number c).Start) (record { sfits = omega arith })
 
 -- each case fits 16 bits
 low : (c : Then-upper-lt128) → SFits w16 (pos (number_of c.before))
@@ -42,17 +42,17 @@ high : (c : Else-upper-lt128) → SFits w16 (pos (number_of c.before) -ℤ pos 6
 high c = rw (less_65536 (number_of c.before) (omega arith)) (record { sfits = omega arith })
 
 pub overflow_cast-result : goal.overflow_cast-result
-overflow_cast-result c = rw (number (goal.at.overflow_cast-result c).Start) (low c)
+overflow_cast-result c = rw (number (goal.at.overflow_cast-result c).Start) (low (goal.at.overflow_cast-result c).Then-upper-lt128)
 
 pub overflow_sub-result : goal.overflow_sub-result
-overflow_sub-result c = rw (number (goal.at.overflow_sub-result c).Start) (sfits_widen {w = w16} tt (high c))
+overflow_sub-result c = rw (number (goal.at.overflow_sub-result c).Start) (sfits_widen {w = w16} tt (high (goal.at.overflow_sub-result c).Else-upper-lt128))
 
 pub overflow_cast-result-else-upper-lt128 : goal.overflow_cast-result-else-upper-lt128
-overflow_cast-result-else-upper-lt128 c = rw (number (goal.at.overflow_cast-result-else-upper-lt128 c).Start, to_z-of_z {w = w32} (sfits_widen {w = w16} tt (high c))) (high c)
+overflow_cast-result-else-upper-lt128 c = rw (number (goal.at.overflow_cast-result-else-upper-lt128 c).Start, to_z-of_z {w = w32} (sfits_widen {w = w16} tt (high (goal.at.overflow_cast-result-else-upper-lt128 c).Else-upper-lt128))) (high (goal.at.overflow_cast-result-else-upper-lt128 c).Else-upper-lt128)
 
 pub returns-then-upper-lt128 : goal.returns-then-upper-lt128
-returns-then-upper-lt128 c = rw (number (goal.at.returns-then-upper-lt128 c).Start) (to_z-of_z (low c) ∙ sym (setting_low c.args.lower c.args.upper (omega arith)))
+returns-then-upper-lt128 c = rw (number (goal.at.returns-then-upper-lt128 c).Start) (to_z-of_z (low (goal.at.returns-then-upper-lt128 c).Then-upper-lt128) ∙ sym (setting_low c.args.lower c.args.upper (omega arith)))
 
 pub returns-else-upper-lt128 : goal.returns-else-upper-lt128
-returns-else-upper-lt128 c = rw (number (goal.at.returns-else-upper-lt128 c).Start, to_z-of_z {w = w32} (sfits_widen {w = w16} tt (high c)))
-    (to_z-of_z (high c) ∙ sym (setting_high c.args.lower c.args.upper (omega arith)))
+returns-else-upper-lt128 c = rw (number (goal.at.returns-else-upper-lt128 c).Start, to_z-of_z {w = w32} (sfits_widen {w = w16} tt (high (goal.at.returns-else-upper-lt128 c).Else-upper-lt128)))
+    (to_z-of_z (high (goal.at.returns-else-upper-lt128 c).Else-upper-lt128) ∙ sym (setting_high c.args.lower c.args.upper (omega arith)))

@@ -38,10 +38,10 @@ returns-then-counts-gt-MAX_ROUTINES c = let a = c.args in
     turned-down rs a.out.now _ (write_many rs _ (accepted (goal.at.returns-then-counts-gt-MAX_ROUTINES c).In_default) (omega arith))
 
 pub overflow_mul-size-2 : goal.overflow_mul-size-2
-overflow_mul-size-2 c = let f = few c in search rules
+overflow_mul-size-2 c = let f = few (goal.at.overflow_mul-size-2 c).After-count_commands-commands in search rules
 
 pub overflow_add-size-2 : goal.overflow_add-size-2
-overflow_add-size-2 c = let f = few c in search rules
+overflow_add-size-2 c = let f = few (goal.at.overflow_add-size-2 c).After-count_commands-commands in search rules
 
 pub returns-then-out-size : goal.returns-then-out-size
 unfolding refusal_of

@@ -12,7 +12,7 @@ use Rattle.hub_apply.proofs.CodeLaws.{skip_none, skip_here, skip_other, skip_ans
 use Rattle.hub_apply.proofs.skip_left.Given as goal
 
 abbrev pub invariant-loop-k : goal.invariant-loop-k
-invariant-loop-k l = (l.from ≤ l.k) × (l.k ≤ l.end) × (length l.initial.k ≡ max_sequence * max_commands) × SkipsLeft l.initial.skipped l.device l.wanted l.from l.k l.initial.k
+invariant-loop-k l = (l.from ≤ l.k) × (l.k ≤ l.end) × (length l.skipped ≡ max_sequence * max_commands) × SkipsLeft l.initial.skipped l.device l.wanted l.from l.k l.skipped
 
 abbrev pub decreases-loop-k : goal.decreases-loop-k
 decreases-loop-k l = l.end - l.k

@@ -14,7 +14,7 @@ use Rattle.hub_due.proofs.Places.{DoneTo, done_yet, done_all, done_store, done_k
 use Rattle.hub_due.proofs.after_done.Given as goal
 
 abbrev pub invariant-loop-k : goal.invariant-loop-k
-invariant-loop-k l = (l.from ≤ l.k) × (l.k ≤ l.end) × DoneTo l.device l.stage l.setting l.from l.end l.initial.after l.k l.initial.k
+invariant-loop-k l = (l.from ≤ l.k) × (l.k ≤ l.end) × DoneTo l.device l.stage l.setting l.from l.end l.initial.after l.k l.after
 
 abbrev pub decreases-loop-k : goal.decreases-loop-k
 decreases-loop-k l = l.end - l.k

@@ -14,7 +14,7 @@ use Rattle.hub_due.proofs.Restarts.{restarts_all}
 use Rattle.hub_due.proofs.after_restarts.Given as goal
 
 abbrev pub invariant-loop-d : goal.invariant-loop-d
-invariant-loop-d l = (l.d ≤ max_devices) × RestartsTo l.restarts l.at l.initial.after l.d l.initial.d
+invariant-loop-d l = (l.d ≤ max_devices) × RestartsTo l.restarts l.at l.initial.after l.d l.after
 
 abbrev pub decreases-loop-d : goal.decreases-loop-d
 decreases-loop-d l = max_devices - l.d

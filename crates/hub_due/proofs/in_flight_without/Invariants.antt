@@ -16,7 +16,7 @@ use Rattle.hub_due.proofs.Slots.{flights_left_out, flights_past, flights_to_do, 
 use Rattle.hub_due.proofs.in_flight_without.Given as goal
 
 abbrev pub invariant-loop-i : goal.invariant-loop-i
-invariant-loop-i l = (Walks l.behind l.i) × (Within (along l.behind l.i) (along l.behind l.busy)) × (FlightsTo l.behind l.counts l.answered l.device l.stage l.but l.busy l.i l.initial.i)
+invariant-loop-i l = (Walks l.behind l.i) × (Within (along l.behind l.i) (along l.behind l.initial.i)) × (FlightsTo l.behind l.counts l.answered l.device l.stage l.but l.initial.i l.i l.busy)
 
 abbrev pub decreases-loop-i : goal.decreases-loop-i
 decreases-loop-i l = length (along l.behind l.i)

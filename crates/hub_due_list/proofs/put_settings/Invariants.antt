@@ -17,8 +17,8 @@ use Rattle.hub_state.specs.View.{settings_of, state_of}
 use Rattle.hub_due_list.proofs.put_settings.Given as goal
 
 abbrev pub invariant-loop-d : goal.invariant-loop-d
-invariant-loop-d l = (l.d ≤ l.list) × (length l.initial.d ≡ length l.initial.list)
-    × (sets l.initial.d l.d (settings_from (settings_of l.count) l.d (l.list - l.d)) ≡ sets l.initial.list 0 (settings_from (settings_of l.count) 0 l.list))
+invariant-loop-d l = (l.d ≤ l.count) × (length l.list ≡ length l.initial.list)
+    × (sets l.list l.d (settings_from (settings_of l.table) l.d (l.count - l.d)) ≡ sets l.initial.list 0 (settings_from (settings_of l.table) 0 l.count))
 
 abbrev pub decreases-loop-d : goal.decreases-loop-d
-decreases-loop-d l = l.list - l.d
+decreases-loop-d l = l.count - l.d

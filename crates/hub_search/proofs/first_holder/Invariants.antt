@@ -20,16 +20,16 @@ use Rattle.hub_search.proofs.SearchLaws.{holder_nobody, holder_found}
 use Rattle.hub_search.proofs.first_holder.Given as goal
 
 abbrev pub invariant-loop-k : goal.invariant-loop-k
-invariant-loop-k l = (l.initial.k ≡ Nobody)
-    × (l.i ≤ max_sequence * max_commands)
-    × (any_at (below_at l.device l.stage l.bound l.wanted) l.k (l.i - l.k) ≡ below_in l.counts l.device l.stage l.bound l.wanted l.holder)
+invariant-loop-k l = (l.holder ≡ Nobody)
+    × (l.end ≤ max_sequence * max_commands)
+    × (any_at (below_at l.device l.stage l.bound l.wanted) l.k (l.end - l.k) ≡ below_in l.counts l.device l.stage l.bound l.wanted l.i)
 
 abbrev pub decreases-loop-k : goal.decreases-loop-k
-decreases-loop-k l = l.i - l.k
+decreases-loop-k l = l.end - l.k
 
 abbrev pub invariant-ahead : goal.invariant-ahead
-invariant-ahead l = (l.initial.i ≡ Nobody)
-    × Seeks (stop_at l.at (holds_in l.committed l.counts l.device l.stage l.bound l.wanted)) l.behind l.holder l.i
+invariant-ahead l = (l.holder ≡ Nobody)
+    × Seeks (stop_at l.at (holds_in l.committed l.counts l.device l.stage l.bound l.wanted)) l.behind l.initial.i l.i
 
 abbrev pub decreases-ahead : goal.decreases-ahead
 decreases-ahead l = length (along l.behind l.i)

@@ -12,8 +12,8 @@ use Rattle.hub_search.proofs.SearchLaws.{mark-none, mark-more, mark_all, device_
 use Rattle.hub_search.proofs.marks_of.Given as goal
 
 abbrev pub invariant-loop-j : goal.invariant-loop-j
-invariant-loop-j l = (length l.initial.j ≡ max_commands) × (l.j ≤ l.count)
-    × (take l.j l.initial.j ≡ marks_for l.marks (take l.j l.commands))
+invariant-loop-j l = (length l.wanted ≡ max_commands) × (l.j ≤ l.count)
+    × (take l.j l.wanted ≡ marks_for l.marks (take l.j l.commands))
 
 abbrev pub decreases-loop-j : goal.decreases-loop-j
 decreases-loop-j l = l.count - l.j

@@ -16,8 +16,8 @@ use Rattle.hub_settle.proofs.MarkLaws.{remark, remarked, remark_more, remark_end
 use Rattle.hub_settle.proofs.moved_marks.Given as goal
 
 abbrev pub invariant-loop-d : goal.invariant-loop-d
-invariant-loop-d l = (l.d ≤ max_devices) × (length l.initial.d ≡ max_devices)
-    × (remarked l.from l.to l.d l.initial.d ≡ map (remark l.from l.to) l.initial.moved)
+invariant-loop-d l = (l.d ≤ max_devices) × (length l.moved ≡ max_devices)
+    × (remarked l.from l.to l.d l.moved ≡ map (remark l.from l.to) l.initial.moved)
 
 abbrev pub decreases-loop-d : goal.decreases-loop-d
 decreases-loop-d l = max_devices - l.d

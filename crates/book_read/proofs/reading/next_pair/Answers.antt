@@ -45,7 +45,7 @@ fits c =
 
 pub routine_at-routine-requires : goal.routine_at-routine-requires
 routine_at-routine-requires c = let s = c.four_at-size.ensures.0 in
-    let i = fits_in_fours _ (fits c) in
+    let i = fits_in_fours _ (fits (goal.at.routine_at-routine-requires c).After-four_at-size) in
     (omega arith, omega arith)
 
 pub returns : goal.returns

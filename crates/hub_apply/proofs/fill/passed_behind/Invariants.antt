@@ -12,8 +12,8 @@ use Rattle.hub_apply.proofs.FillLaws.{PassedSoFar, passes_none, room_left, passe
 use Rattle.hub_apply.proofs.fill.passed_behind.Given as goal
 
 abbrev pub invariant-loop-i : goal.invariant-loop-i
-invariant-loop-i l = (length l.initial.i ≡ max_sequence) × (Walks l.behind l.i)
-    × (PassedSoFar l.committed l.initial.passed (along l.behind l.passed) (along l.behind l.i) l.initial.i)
+invariant-loop-i l = (length l.passed ≡ max_sequence) × (Walks l.behind l.i)
+    × (PassedSoFar l.committed l.initial.passed (along l.behind l.initial.i) (along l.behind l.i) l.passed)
 
 abbrev pub decreases-loop-i : goal.decreases-loop-i
 decreases-loop-i l = length (along l.behind l.i)

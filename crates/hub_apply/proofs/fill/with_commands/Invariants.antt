@@ -14,11 +14,11 @@ use Rattle.hub_apply.proofs.FillLaws.{fills_none, fills_more, fills_all}
 use Rattle.hub_apply.proofs.fill.with_commands.Given as goal
 
 abbrev pub invariant-loop-j : goal.invariant-loop-j
-invariant-loop-j l = (length l.initial.setting ≡ max_sequence * max_commands) × (length l.setting ≡ max_sequence * max_commands) × (length l.initial.j ≡ max_sequence * max_commands)
+invariant-loop-j l = (length l.device ≡ max_sequence * max_commands) × (length l.tag ≡ max_sequence * max_commands) × (length l.setting ≡ max_sequence * max_commands)
     × (l.j ≤ l.count)
-    × (Fills 0 l.initial.device (l.slot * max_commands) l.j (λ i. (get_or l.commands i zero_command).device) l.initial.setting)
-    × (Fills 0 l.device (l.slot * max_commands) l.j (λ i. (get_or l.commands i zero_command).tag) l.setting)
-    × (Fills (pos 0) l.initial.tag (l.slot * max_commands) l.j (λ i. (get_or l.commands i zero_command).setting) l.initial.j)
+    × (Fills 0 l.initial.device (l.slot * max_commands) l.j (λ i. (get_or l.commands i zero_command).device) l.device)
+    × (Fills 0 l.initial.tag (l.slot * max_commands) l.j (λ i. (get_or l.commands i zero_command).tag) l.tag)
+    × (Fills (pos 0) l.initial.setting (l.slot * max_commands) l.j (λ i. (get_or l.commands i zero_command).setting) l.setting)
 
 abbrev pub decreases-loop-j : goal.decreases-loop-j
 decreases-loop-j l = l.count - l.j

@@ -11,8 +11,8 @@ use Rattle.hub_apply.proofs.FillLaws.{fills_none, fills_more, fills_all}
 use Rattle.hub_apply.proofs.fill.with_to_do.Given as goal
 
 abbrev pub invariant-loop-j : goal.invariant-loop-j
-invariant-loop-j l = (length l.initial.j ≡ max_sequence * max_commands) × (l.j ≤ max_commands)
-    × (Fills 0 l.initial.filled (l.slot * max_commands) l.j (λ i. to_do_code) l.initial.j)
+invariant-loop-j l = (length l.filled ≡ max_sequence * max_commands) × (l.j ≤ max_commands)
+    × (Fills 0 l.initial.filled (l.slot * max_commands) l.j (λ i. to_do_code) l.filled)
 
 abbrev pub decreases-loop-j : goal.decreases-loop-j
 decreases-loop-j l = max_commands - l.j

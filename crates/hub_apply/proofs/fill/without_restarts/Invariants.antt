@@ -11,8 +11,8 @@ use Rattle.hub_apply.proofs.FillLaws.{fills_none, fills_more, fills_all}
 use Rattle.hub_apply.proofs.fill.without_restarts.Given as goal
 
 abbrev pub invariant-loop-d : goal.invariant-loop-d
-invariant-loop-d l = (length l.initial.d ≡ max_sequence * max_devices) × (l.d ≤ max_devices)
-    × (Fills no_restart l.initial.filled (l.slot * max_devices) l.d (λ i. no_restart) l.initial.d)
+invariant-loop-d l = (length l.filled ≡ max_sequence * max_devices) × (l.d ≤ max_devices)
+    × (Fills no_restart l.initial.filled (l.slot * max_devices) l.d (λ i. no_restart) l.filled)
 
 abbrev pub decreases-loop-d : goal.decreases-loop-d
 decreases-loop-d l = max_devices - l.d

@@ -11,8 +11,8 @@ use Rattle.hub_sequence.proofs.Tables.{by_eq}
 use Rattle.hub_sequence.proofs.order.free_row.Given as goal
 
 abbrev pub invariant-loop-i : goal.invariant-loop-i
-invariant-loop-i l = (length l.initial.i ≡ max_sequence) × (l.i + 1 ≤ max_sequence) × ((x : ℕ) → x < l.i → get_or l.initial.i x 0 ≡ x + 1)
-    × ((x : ℕ) → l.i ≤ x → x < max_sequence → get_or l.initial.i x 0 ≡ none)
+invariant-loop-i l = (length l.row ≡ max_sequence) × (l.i + 1 ≤ max_sequence) × ((x : ℕ) → x < l.i → get_or l.row x 0 ≡ x + 1)
+    × ((x : ℕ) → l.i ≤ x → x < max_sequence → get_or l.row x 0 ≡ none)
 
 abbrev pub decreases-loop-i : goal.decreases-loop-i
 decreases-loop-i l = max_sequence - l.i

@@ -14,8 +14,8 @@ use Rattle.hub_settle.proofs.RestartLaws.{MovedUpTo, moved_none, moved_some, mov
 use Rattle.hub_settle.proofs.leave.moved_restarts.Given as goal
 
 abbrev pub invariant-loop-d : goal.invariant-loop-d
-invariant-loop-d l = (l.d ≤ max_devices) × (length l.initial.d ≡ max_sequence * max_devices)
-    × MovedUpTo l.row l.from l.to l.d l.initial.d
+invariant-loop-d l = (l.d ≤ max_devices) × (length l.moved ≡ max_sequence * max_devices)
+    × MovedUpTo l.row l.from l.to l.d l.moved
 
 abbrev pub decreases-loop-d : goal.decreases-loop-d
 decreases-loop-d l = max_devices - l.d
