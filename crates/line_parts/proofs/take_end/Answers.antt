@@ -12,18 +12,14 @@ use borrow.Author.Rules.{rules}
 use Rattle.line_parts.proofs.take_end.Goals.{After-slice_known-1, After-struct_told-1}
 use Rattle.line_parts.proofs.take_end.Goals as goal
 
-abbrev start : tie.After-struct-told → tie.Start
-start c = c.before.before.before.before.before.before.before.before.before
-
 small : (c : After-slice_known-1) → length c.args.out.now < 2 ^ 63
 small c = search rules
 
 -- the buffer has ample room
-room : (c : After-struct_told-1) → Ample (take (start c).args.pending (start c).args.input.now) (length (start c).args.out.now)
+room : (c : After-struct_told-1) → Ample (take c.args.pending c.args.input.now) (length c.args.out.now)
 room c =
-    let s = start c in
-    ample s.args.input.now (take s.args.pending s.args.input.now) s.args.out.now
-    (omega (arith, length-take s.args.pending s.args.input.now)) s.pre.2
+    ample c.args.input.now (take c.args.pending c.args.input.now) c.args.out.now
+    (omega (arith, length-take c.args.pending c.args.input.now)) c.requires.2
 
 pub slice_bounds-run_last-end : goal.slice_bounds-run_last-end
 slice_bounds-run_last-end c = simp length-take (omega arith)
@@ -33,7 +29,6 @@ overflow_cast-result c = let e : to_z w64 (of_z w64 c.run_last-written.result.re
     rw e (length-fits c.run_last-written.ensures (room (goal.at.overflow_cast-result c).After-struct_told-1) (small (goal.at.overflow_cast-result c).After-slice_known-1))
 
 pub returns : goal.returns
-returns c = let s = start c in
-    let e : to_z w64 (of_z w64 c.run_last-written.result.result) ≡ c.run_last-written.result.result = search rules in
+returns c = let e : to_z w64 (of_z w64 c.run_last-written.result.result) ≡ c.run_last-written.result.result = search rules in
     rw (e, length-written c.run_last-written.ensures (room (goal.at.returns c).After-struct_told-1))
-    (takes_end s.args.hub s.args.pending s.args.input.now c.run_last-written.ensures (room (goal.at.returns c).After-struct_told-1))
+    (takes_end c.args.hub c.args.pending c.args.input.now c.run_last-written.ensures (room (goal.at.returns c).After-struct_told-1))

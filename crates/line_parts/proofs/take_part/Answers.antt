@@ -17,25 +17,22 @@ use borrow.Author.Rules.{rules}
 use Rattle.line_parts.proofs.take_part.Goals.{After-run_part-written, After-whole_length-whole}
 use Rattle.line_parts.proofs.take_part.Goals as goal
 
-abbrev start : tie.After-run-part → tie.Start
-start c = c.before.before.before.before.before.before.before
-
 -- the whole lines end within the input
-whole_inside : (c : After-whole_length-whole) → c.whole_length-whole.result ≤ length c.before.before.before.before.args.input.now
+whole_inside : (c : After-whole_length-whole) → c.whole_length-whole.result ≤ length c.args.input.now
 whole_inside c =
-    omega (arith, c.whole_length-whole.ensures, whole_near s.args.hub s.args.pending s.args.got s.args.input.now, s.requires.1)
+    omega (arith, c.whole_length-whole.ensures, whole_near c.args.hub c.args.pending c.args.got c.args.input.now, c.requires.1)
 
-small : (c : After-run_part-written) → length (start c).args.out.now < 2 ^ 63
+small : (c : After-run_part-written) → length c.args.out.now < 2 ^ 63
 small c = search rules
 
 -- what was run are the whole lines
 whole_ran : (c : After-run_part-written) →
-    let a = (start c).args in
+    let a = c.args in
     let r = c.run_part-written.result in
     let whole = whole_lines (filled a.hub a.pending a.got a.input.now) in
     Runs (ran a.hub a.pending a.got a.input.now) whole a.hub r.hub a.out.now c.run_part-written.new.1.1.0 r.result
 whole_ran c =
-    let a = (start c).args in
+    let a = c.args in
     let r = c.run_part-written.result in
     let w = c.whole_length-whole in
     let are = ap (λ (n : ℕ). take n a.input.now) w.ensures ∙ whole_taken a.hub a.pending a.got a.input.now in
@@ -45,13 +42,12 @@ whole_ran c =
 
 -- the buffer has ample room
 room : (c : After-run_part-written) →
-    let a = (start c).args in
+    let a = c.args in
     Ample (whole_lines (filled a.hub a.pending a.got a.input.now)) (length a.out.now)
 room c =
-    let s = start c in
-    let a = s.args in
+    let a = c.args in
     ample a.input.now (whole_lines (filled a.hub a.pending a.got a.input.now)) a.out.now
-    (omega (arith, whole_near a.hub a.pending a.got a.input.now, s.pre.1)) s.pre.2
+    (omega (arith, whole_near a.hub a.pending a.got a.input.now, c.requires.1)) c.requires.2
 
 pub slice_bounds-whole_length-end-2 : goal.slice_bounds-whole_length-end-2
 slice_bounds-whole_length-end-2 c = simp length-take (omega arith)
@@ -67,11 +63,11 @@ overflow_cast-length c = let e : to_z w64 (of_z w64 c.run_part-written.result.re
     rw e (length-fits (whole_ran (goal.at.overflow_cast-length c).After-run_part-written) (room (goal.at.overflow_cast-length c).After-run_part-written) (small (goal.at.overflow_cast-length c).After-run_part-written))
 
 pub keep-kept-requires : goal.keep-kept-requires
-keep-kept-requires c = (omega (arith, c.whole_length-whole.ensures, whole_near s.args.hub s.args.pending s.args.got s.args.input.now), s.requires.1)
+keep-kept-requires c = (omega (arith, c.whole_length-whole.ensures, whole_near c.args.hub c.args.pending c.args.got c.args.input.now), c.requires.1)
 
 pub returns : goal.returns
 returns c = let k = c.keep-kept.ensures in
-    let a = (start (goal.at.returns c).After-run_part-written).args in
+    let a = c.args in
     let bytes = filled a.hub a.pending a.got a.input.now in
     let e : to_z w64 (of_z w64 c.run_part-written.result.result) ≡ c.run_part-written.result.result = search rules in
     rw (e, length-written (whole_ran (goal.at.returns c).After-run_part-written) (room (goal.at.returns c).After-run_part-written))

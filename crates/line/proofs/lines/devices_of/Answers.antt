@@ -17,7 +17,7 @@ use Rattle.line.proofs.lines.devices_of.Goals as goal
 -- the tables have a place for each device
 few : (c : After-device_count-count) → c.device_count-count.result ≤ max_devices
 few c =
-    omega (arith, c.requires.in_order.devices-fit, devices_are c.args.hub, c.device_count-count.ensures)
+    omega (arith, c.requires.in_order.devices_fit, devices_are c.args.hub, c.device_count-count.ensures)
 
 pub slice_bounds-due_settings-end : goal.slice_bounds-due_settings-end
 slice_bounds-due_settings-end c = refl
@@ -44,5 +44,5 @@ returns c = let h = c.args.hub in
           (λ d k. c.loop-device.invariant.2 d (omega arith))
           (λ d k.
           ap (λ (t : List ℤ). get_or t d (pos 0)) c.due_settings.ensures.1
-          ∙ list_entry (view h) _ (omega (arith, c.requires.in_order.devices-fit, devices_are h)) d k),
+          ∙ list_entry (view h) _ (omega (arith, c.requires.in_order.devices_fit, devices_are h)) d k),
     )

@@ -35,31 +35,18 @@ use borrow.Author.Rules.{rules}
 use Rattle.line.proofs.running.run_lines.Goals.{After-decided-decision, After-next_line-next, After-routine-1, After-text-in-Calling-2-1, Joined-change, Joined-else-not-changes_nothing, Joined-said, Then-settles}
 use Rattle.line.proofs.running.run_lines.Goals as goal
 
--- ---- places, from the last back
-abbrev loop_of : tie.After-next-line invariant-loop decreases-loop → tie.At-loop invariant-loop decreases-loop
-loop_of n = n.before.before.before.before
-
-abbrev line_of : tie.After-routine invariant-loop decreases-loop → tie.After-next-line invariant-loop decreases-loop
-line_of x = x.before
-
-abbrev heard-of : tie.After-decided invariant-loop decreases-loop → tie.After-routine invariant-loop decreases-loop
-heard-of d = d.before.before.before.before
-
-abbrev decided_of : tie.After-text4 invariant-loop decreases-loop → tie.After-decided invariant-loop decreases-loop
-decided_of y = y.before.before.before
-
 -- ---- the line
 abbrev now_at : tie.After-next-line invariant-loop decreases-loop → Hub
-now_at n = (loop_of n).loop.now
+now_at n = n.before.before.before.before.loop.now
 
 -- what it says
 abbrev says : tie.After-next-line invariant-loop decreases-loop → Said
 says n =
-    let o = loop_of n in
+    let o = n.before.before.before.before in
     read_line (take (n.next-line.result.end - o.loop.from) (drop o.loop.from o.before.before.before.args.input.now))
 
 -- it ends within the input
-ends : (c : After-next_line-next) → c.next_line-next.result.end ≤ length (loop_of c).before.before.before.args.input.now
+ends : (c : After-next_line-next) → c.next_line-next.result.end ≤ length c.args.input.now
 ends c =
     omega (
       arith,
@@ -70,45 +57,41 @@ ends c =
 
 -- what of it is heard
 heard : (c : After-routine-1) →
-    let n = line_of c in
-    heard_of (read_as (says n)).line (view (now_at n)).devices ≡ n.next-line.result.said
+    heard_of (read_as (says c.before)).line (view (now_at c.before)).devices ≡ c.next_line-next.result.said
 heard c =
-    let n = line_of c in
-    sym (n.next-line.ensures.hears ∙ (λ i. heard_of (read_as (says n)).line (n.before.device-count.ensures i)))
+    sym (c.next_line-next.ensures.hears ∙ (λ i. heard_of (read_as (says c.before)).line (c.device_count.ensures i)))
 
 -- any text fits into its buffer
-room : (c : After-routine-1) → length (loop_of (line_of c)).loop.text ≡ max_text
-room c = (loop_of (line_of c)).loop.inv.0
+room : (c : After-routine-1) → length (loop_of c.before).loop.text ≡ max_text
+room c = (loop_of c.before).loop.inv.0
 
-valid : (c : After-routine-1) → Valid (now_at (line_of c))
-valid c = (loop_of (line_of c)).loop.inv.1.valid
+valid : (c : After-routine-1) → Valid (now_at c.before)
+valid c = (loop_of c.before).loop.inv.1.valid
 
 -- ---- a call
 -- which one
 calls : (c : After-decided-decision) →
-    let n = line_of (heard-of c) in
+    let n = line_of c.before.before.before.before in
     heard_of (read_as (says n)).line (view (now_at n)).devices ≡ Calling c.in-Calling.call
-calls c = heard (heard-of c) ∙ c.in-Calling.is
+calls c = heard c.before.before.before.before ∙ c.in-Calling.is
 
 abbrev commands_at : tie.After-decided invariant-loop decreases-loop → List Command
-commands_at d = commands_of (line_of (heard-of d)).next-line.result.routine
+commands_at d = commands_of (line_of d.before.before.before.before).next-line.result.routine
 
 -- what it comes to was decided on the hub
-decided_now : (c : After-decided-decision) → DecidedOn (now_at (line_of (heard-of c))) (commands_at c) c.decided-decision.result
+decided_now : (c : After-decided-decision) → DecidedOn (now_at (line_of c.before.before.before.before)) (commands_at c) c.decided-decision.result
 decided_now c = decided_on _ c.in-Calling.call _ c.decided-decision.ensures
 
 -- its change can be made
 change_is : (c : After-text-in-Calling-2-1) (c : Change) →
-    let d = decided_of c in
-    d.decided.result.change ≡ c → Decided (now_at (line_of (heard-of d))) (commands_at d) c
-change_is c c e = record { decision = _; made = decided_now (decided_of c); change_is = e }
+    c.decided-decision.result.change ≡ c → Decided (now_at (line_of c.before.before.before.before.before.before.before)) (commands_at c.before.before.before) c
+change_is c c e = record { decision = _; made = decided_now c.before.before.before; change_is = e }
 
 -- and is made
 made : (c : Joined-change) →
-    let d = decided_of c.before in
-    Carries (now_at (line_of (heard-of d))) (commands_at d) d.decided.result.change c.match-change.now
+    Carries (now_at (line_of c.before.before.before.before.before.before.before.before)) (commands_at c.before.before.before.before) c.decided-decision.result.change c.match-change.now
 made c =
-    let x = heard-of (decided_of c.before) in
+    let x = heard-of c.before.before.before.before in
     ⊎_elim (λ w. carries_as w.2 (carries_nothing _ _ (valid x) w.1.given.1))
     (⊎_elim (λ w. carries_as w.4 (carries _ _ (Stage _) w.1.given.1 refl w.3.ensures))
     (⊎_elim (λ w. carries_as w.4 (carries _ _ (Commit _) w.1.given.1 refl w.3.ensures))
@@ -124,44 +107,40 @@ made c =
 -- its answers, and the hub that it leaves
 abbrev Leaves : tie.At-match2-branch invariant-loop decreases-loop → Hub → Type 0
 Leaves m next =
-    let d = decided_of m.before in
-    let n = line_of (heard-of d) in
+    let d = m.before.before.before.before in
+    let n = line_of d.before.before.before.before in
     Does (now_at n) (says n) next (answers_text (told_by (now_at n).state d.decided.result))
 
 leaves-settled : (c : Then-settles) (next : Hub) →
     (Valid next) × (view next ≡ settle (view c.match-change.now)) →
     Leaves c.before.before.before.before next
 leaves-settled c next settled =
-    let d = decided_of c.before.before.before.before.before in
-    let n = line_of (heard-of d) in
-    does_settle _ (says n) _ (calls d) n.next-line.ensures.beside d.decided.result d.decided.ensures _ (made c.before.before.before.before)
+    let n = line_of c.before.before.before.before.before.before.before.before.before.before.before.before in
+    does_settle _ (says n) _ (calls c.before.before.before.before.before.before.before.before) n.next-line.ensures.beside c.decided-decision.result c.decided-decision.ensures _ (made c.before.before.before.before)
     (sym c.changes_nothing.ensures ∙ not-true _ c.if-not-changes_nothing.true-raw) next settled
 
 leaves-joined : (c : Joined-else-not-changes_nothing) → Leaves c.before.before c.match-change.now
 leaves-joined c =
-    let d = decided_of c.before.before.before in
-    let n = line_of (heard-of d) in
+    let n = line_of c.before.before.before.before.before.before.before.before.before.before in
     ⊎_elim
-    (λ w. does_change _ (says n) _ (calls d) n.next-line.ensures.beside d.decided.result d.decided.ensures _
+    (λ w. does_change _ (says n) _ (calls c.before.before.before.before.before.before) n.next-line.ensures.beside c.decided-decision.result c.decided-decision.ensures _
     (made c.before.before) (sym c.changes_nothing.ensures ∙ not-true _ w.0.taken) (sym w.1.ensures ∙ w.2.left))
-    (λ w. does_same _ (says n) _ (calls d) n.next-line.ensures.beside d.decided.result d.decided.ensures _
-    (made c.before.before) (valid (heard-of d)) (sym c.changes_nothing.ensures ∙ not-false _ w.left))
+    (λ w. does_same _ (says n) _ (calls c.before.before.before.before.before.before) n.next-line.ensures.beside c.decided-decision.result c.decided-decision.ensures _
+    (made c.before.before) (valid c.before.before.before.before.before.before.before.before.before.before) (sym c.changes_nothing.ensures ∙ not-false _ w.left))
     c.else-not-changes_nothing.branch
 
 -- ---- each way that the line can go
 line-prints : (c : Joined-said) →
-    let n = line_of c.before in
-    Prints (now_at n) (says n) c.match-said.now c.match-said.text c.match-said.printed
+    Prints (now_at c.before.before) (says c.before.before) c.match-said.now c.match-said.text c.match-said.printed
 line-prints c =
-    let n = line_of c.before in
     ⊎_elim
     (λ w. prints
-    (does_open (now_at n) (says n) _ _ _ (heard c.before ∙ w.1.given.1) w.3.result w.3.ensures w.9.result w.9.ensures
+    (does_open (now_at c.before.before) (says c.before.before) _ _ _ (heard c.before ∙ w.1.given.1) w.3.result w.3.ensures w.9.result w.9.ensures
     (sym w.7.ensures ∙ w.8.taken))
     w.5.ensures (room c.before) w.11 w.12 w.13)
     (⊎_elim
     (λ w. prints
-    (does_not_open (now_at n) (says n) _ _ _ (heard c.before ∙ w.1.given.1) w.3.result w.3.ensures (valid c.before)
+    (does_not_open (now_at c.before.before) (says c.before.before) _ _ _ (heard c.before ∙ w.1.given.1) w.3.result w.3.ensures (valid c.before)
     (sym w.7.ensures ∙ w.8.left))
     w.5.ensures (room c.before) w.9 w.10 w.11)
     (⊎_elim
@@ -170,7 +149,7 @@ line-prints c =
     w.13 w.14 w.15)
     (⊎_elim
     (λ w. prints (leaves-joined (record { before = _; if3 = w.9 })) w.5.ensures (room c.before) w.10 w.11 w.12)
-    (λ w. prints (does_unread (now_at n) (says n) (valid c.before) (heard c.before ∙ w.1.given.1)) w.3.ensures (room c.before) w.5 w.6 w.7))))
+    (λ w. prints (does_unread (now_at c.before.before) (says c.before.before) (valid c.before) (heard c.before ∙ w.1.given.1)) w.3.ensures (room c.before) w.5 w.6 w.7))))
     c.match-said.branch
 
 -- ---- the needs
@@ -190,45 +169,44 @@ pub put_opening-printed-requires : goal.put_opening-printed-requires
 put_opening-printed-requires c = omega (arith, room (goal.at.put_opening-printed-requires c).After-routine-1)
 
 pub decided-decision-requires : goal.decided-decision-requires
-decided-decision-requires c = let n = line_of (goal.at.decided-decision-requires c).After-routine-1 in
-    (valid (goal.at.decided-decision-requires c).After-routine-1, fits_line (now_at n) (says n) _ _ (heard (goal.at.decided-decision-requires c).After-routine-1 ∙ c.in-Calling.is) n.next-line.ensures.beside)
+decided-decision-requires c = (valid (goal.at.decided-decision-requires c).After-routine-1, fits_line (now_at (goal.at.decided-decision-requires c).After-next_line-next) (says (goal.at.decided-decision-requires c).After-next_line-next) _ _ (heard (goal.at.decided-decision-requires c).After-routine-1 ∙ c.in-Calling.is) c.next_line-next.ensures.beside)
 
 pub slice_bounds-put_answers-end : goal.slice_bounds-put_answers-end
 slice_bounds-put_answers-end c = sym (room (goal.at.slice_bounds-put_answers-end c).After-routine-1)
 
 pub put_answers-printed-requires : goal.put_answers-printed-requires
-put_answers-printed-requires c = let x = heard-of (goal.at.put_answers-printed-requires c).After-decided-decision in (
-  valid x,
+put_answers-printed-requires c = (
+  valid (goal.at.put_answers-printed-requires c).After-routine-1,
   (commands_at (goal.at.put_answers-printed-requires c).After-decided-decision, decided_now (goal.at.put_answers-printed-requires c).After-decided-decision),
-  omega (arith, room x),
+  omega (arith, room (goal.at.put_answers-printed-requires c).After-routine-1),
 )
 
 pub with_stage-now-requires : goal.with_stage-now-requires
 with_stage-now-requires c = let k = change_is (goal.at.with_stage-now-requires c).After-text-in-Calling-2-1 (Stage _) c.in-Stage.is in
-    (valid (heard-of (decided_of (goal.at.with_stage-now-requires c).After-text-in-Calling-2-1)), (_, k))
+    (valid (heard-of (goal.at.with_stage-now-requires c).After-decided-decision), (_, k))
 
 pub with_commit-now-requires : goal.with_commit-now-requires
 with_commit-now-requires c = let k = change_is (goal.at.with_commit-now-requires c).After-text-in-Calling-2-1 (Commit _) c.in-Commit.is in
-    (valid (heard-of (decided_of (goal.at.with_commit-now-requires c).After-text-in-Calling-2-1)), (_, k))
+    (valid (heard-of (goal.at.with_commit-now-requires c).After-decided-decision), (_, k))
 
 pub with_routine-now-requires : goal.with_routine-now-requires
 with_routine-now-requires c = let k = change_is (goal.at.with_routine-now-requires c).After-text-in-Calling-2-1 (Join _) c.in-Join.is in
-    (valid (heard-of (decided_of (goal.at.with_routine-now-requires c).After-text-in-Calling-2-1)), k)
+    (valid (heard-of (goal.at.with_routine-now-requires c).After-decided-decision), k)
 
 pub with_abort-now-requires : goal.with_abort-now-requires
 with_abort-now-requires c = let k = change_is (goal.at.with_abort-now-requires c).After-text-in-Calling-2-1 (Abort _) c.in-Abort.is in
-    (valid (heard-of (decided_of (goal.at.with_abort-now-requires c).After-text-in-Calling-2-1)), (_, k))
+    (valid (heard-of (goal.at.with_abort-now-requires c).After-decided-decision), (_, k))
 
 pub with_failure-now-requires : goal.with_failure-now-requires
 with_failure-now-requires c = let k = change_is (goal.at.with_failure-now-requires c).After-text-in-Calling-2-1 (Fail _ _) c.in-Fail.is in
-    (valid (heard-of (decided_of (goal.at.with_failure-now-requires c).After-text-in-Calling-2-1)), (_, k))
+    (valid (heard-of (goal.at.with_failure-now-requires c).After-decided-decision), (_, k))
 
 pub with_restart-now-requires : goal.with_restart-now-requires
 with_restart-now-requires c = let x = c.change-in-Restart-1.given.0 in
     let v = x.1.0 in
     let held : to_z w16 (of_z w16 v) ≡ v = search rules in
     let k = change_is (goal.at.with_restart-now-requires c).After-text-in-Calling-2-1 (Restart _ _ _) (c.in-Restart.is ∙ ap (λ (z : ℤ). Restart x.0 z x.1.1.0) (sym held)) in
-    (valid (heard-of (decided_of (goal.at.with_restart-now-requires c).After-text-in-Calling-2-1)), (_, k))
+    (valid (heard-of (goal.at.with_restart-now-requires c).After-decided-decision), (_, k))
 
 pub settles-requires : goal.settles-requires
 settles-requires c = (made (goal.at.settles-requires c).Joined-change).in_order
