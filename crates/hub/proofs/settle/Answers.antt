@@ -6,4 +6,4 @@ use Rattle.hub.proofs.settle.Goals as goal
 pub returns : goal.returns
 returns c = let w = c.settle-next.ensures in
     let e = rests_as _ w.valid w.gives (settled_rests _) in
-    (e, w.gives, record { only_leave = w.only-leave; left_committed = w.left-committed })
+    (e, w.gives, record { only_leave = w.only_leave; left_committed = w.left_committed })

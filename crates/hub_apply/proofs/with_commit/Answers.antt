@@ -12,11 +12,8 @@ use Rattle.hub_apply.proofs.with_commit.Goals as goal
 long : (c : Start) → length c.args.state.committed ≡ max_sequence
 long c = search (rules, length_mapped)
 
-abbrev start : tie.After-committed → tie.Start
-start c = c.before.before.before.before.before.before.before.before.before.before.before.before.before.before.before
-
 pub bounds-committed-at : goal.bounds-committed-at
-bounds-committed-at c = let s = start c in stands_below _ _ s.pre.0 s.pre.1
+bounds-committed-at c = stands_below _ _ c.requires.0 c.requires.1
 
 pub returns : goal.returns
-returns c = let s = start c in commit_applied _ _ s.pre.0 s.pre.1 (long s)
+returns c = commit_applied _ _ c.requires.0 c.requires.1 (long (goal.at.returns c).Start)

@@ -9,12 +9,6 @@ use Rattle.hub_apply.proofs.PlaceLaws.{Long, can_join, count_fits, can_fill, can
 use Rattle.hub_apply.proofs.with_routine.Goals.{After-join-joined, Start}
 use Rattle.hub_apply.proofs.with_routine.Goals as goal
 
-abbrev start : tie.After-join → tie.Start
-start c = c.before.before.before.before.before.before
-
-abbrev joined : tie.After-old-restarts → tie.After-join
-joined c = c.before.before.before.before.before.before.before.before.before.before.before.before
-
 long : (c : Start) → Long c.args.state c.args.routine
 long c =
     record {
@@ -32,52 +26,48 @@ pub join-joined-requires : goal.join-joined-requires
 join-joined-requires c = can_join _ _ _ c.requires.0 c.requires.1
 
 pub passed_behind-passed-requires : goal.passed_behind-passed-requires
-passed_behind-passed-requires c = let j = joined c in
-    let s = start j in
-    can_pass _ _ _ s.pre.0 s.pre.1 j.join.result j.join.ensures
+passed_behind-passed-requires c = can_pass _ _ _ c.requires.0 c.requires.1 c.join-joined.result c.join-joined.ensures
 
 pub overflow_cast-ids : goal.overflow_cast-ids
-overflow_cast-ids c = let s = start (joined (goal.at.overflow_cast-ids c).After-old_restarts-1) in let h = s.pre.1.id_left in omega arith
+overflow_cast-ids c = let s = start (goal.at.overflow_cast-ids c).After-join-joined in let h = s.pre.1.id_left in omega arith
 
 pub offset_bounds-ids-slot : goal.offset_bounds-ids-slot
-offset_bounds-ids-slot c = let h = slot (joined (goal.at.offset_bounds-ids-slot c).After-old_restarts-1) in omega arith
+offset_bounds-ids-slot c = let h = slot (goal.at.offset_bounds-ids-slot c).After-join-joined in omega arith
 
 pub bounds-ids-slot : goal.bounds-ids-slot
-bounds-ids-slot c = slot (joined (goal.at.bounds-ids-slot c).After-old_restarts-1)
+bounds-ids-slot c = slot (goal.at.bounds-ids-slot c).After-join-joined
 
 pub bounds-committed-slot : goal.bounds-committed-slot
-bounds-committed-slot c = slot (joined (goal.at.bounds-committed-slot c).After-old_restarts-1)
+bounds-committed-slot c = slot (goal.at.bounds-committed-slot c).After-join-joined
 
 pub overflow_cast-counts : goal.overflow_cast-counts
-overflow_cast-counts c = let s = start (joined (goal.at.overflow_cast-counts c).After-old_restarts-1) in let h = count_fits _ _ _ s.pre.0 s.pre.1 in omega arith
+overflow_cast-counts c = let s = start (goal.at.overflow_cast-counts c).After-join-joined in let h = count_fits _ _ _ s.pre.0 s.pre.1 in omega arith
 
 pub bounds-counts-slot : goal.bounds-counts-slot
-bounds-counts-slot c = slot (joined (goal.at.bounds-counts-slot c).After-old_restarts-1)
+bounds-counts-slot c = slot (goal.at.bounds-counts-slot c).After-join-joined
 
 pub bounds-answered-slot : goal.bounds-answered-slot
-bounds-answered-slot c = slot (joined (goal.at.bounds-answered-slot c).After-old_restarts-1)
+bounds-answered-slot c = slot (goal.at.bounds-answered-slot c).After-join-joined
 
 -- the newcomer's commands can be filled in
-fill : (c : After-join-joined) → let s = start c in CanFill c.join-joined.result.slot s.args.routine
-fill c = let s = start c in can_fill _ _ _ s.pre.0 s.pre.1 c.join-joined.result c.join-joined.ensures
+fill : (c : After-join-joined) → CanFill c.join-joined.result.slot c.args.routine
+fill c = can_fill _ _ _ c.requires.0 c.requires.1 c.join-joined.result c.join-joined.ensures
 
 pub with_commands-filled-requires : goal.with_commands-filled-requires
-with_commands-filled-requires c = fill (joined (goal.at.with_commands-filled-requires c).After-old_restarts-1)
+with_commands-filled-requires c = fill (goal.at.with_commands-filled-requires c).After-join-joined
 
 pub with_to_do-stage-requires : goal.with_to_do-stage-requires
-with_to_do-stage-requires c = slot (joined (goal.at.with_to_do-stage-requires c).After-old_restarts-1)
+with_to_do-stage-requires c = slot (goal.at.with_to_do-stage-requires c).After-join-joined
 
 pub without_restarts-restarts-requires : goal.without_restarts-restarts-requires
-without_restarts-restarts-requires c = slot (joined (goal.at.without_restarts-restarts-requires c).After-old_restarts-1)
+without_restarts-restarts-requires c = slot (goal.at.without_restarts-restarts-requires c).After-join-joined
 
 pub overflow_add-result : goal.overflow_add-result
-overflow_add-result c = let s = start (joined (goal.at.overflow_add-result c).After-old_restarts-1) in let h = s.pre.1.id_left in
+overflow_add-result c = let s = start (goal.at.overflow_add-result c).After-join-joined in let h = s.pre.1.id_left in
     omega arith
 
 pub returns : goal.returns
-returns c = let j = joined (goal.at.returns c).After-old_restarts-1 in
-    let s = start j in
-    join_places _ _ _ s.pre.0 s.pre.1 j.join.result j.join.ensures _
+returns c = join_places _ _ _ c.requires.0 c.requires.1 c.join-joined.result c.join-joined.ensures _
     (record {
       passes = c.passed_behind-passed.ensures;
       devices = c.with_commands-filled.ensures.devices;
@@ -86,4 +76,4 @@ returns c = let j = joined (goal.at.returns c).After-old_restarts-1 in
       stages = c.with_to_do-stage.ensures;
       no-restart = c.without_restarts-restarts.ensures;
     })
-    (long s)
+    (long (goal.at.returns c).Start)

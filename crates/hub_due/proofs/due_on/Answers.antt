@@ -61,7 +61,7 @@ absent c = let r = get_or c.args.state.restarts (c.loop-i.i * max_devices + c.ar
     c.if-d-lt-MAX_DEVICES.branch
 
 pub loop-i-init : goal.loop-i-init
-loop-i-init c = (walks-ahead _ c.requires.0.links-ok, within_self _, back_yet _ _ _ _ _ _ _ _ _)
+loop-i-init c = (walks-ahead _ c.requires.0.links_ok, within_self _, back_yet _ _ _ _ _ _ _ _ _)
 
 pub returns-then-restart-ne-NO_RESTART : goal.returns-then-restart-ne-NO_RESTART
 returns-then-restart-ne-NO_RESTART c = let v = c.loop-i.invariant in

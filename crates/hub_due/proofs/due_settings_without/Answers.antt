@@ -36,7 +36,7 @@ ends : (c : In-loop-i) →
 ends c = answered_end c.args.state _ c.requires (stands c)
 
 pub loop-i-init : goal.loop-i-init
-loop-i-init c = (walks-behind _ c.requires.links-ok, within_self _, due_yet _ _ _ _ _ _ _ _ _)
+loop-i-init c = (walks-behind _ c.requires.links_ok, within_self _, due_yet _ _ _ _ _ _ _ _ _)
 
 pub overflow_cast-end : goal.overflow_cast-end
 overflow_cast-end c = let h = ends (goal.at.overflow_cast-end c).In-loop-i in omega arith

@@ -38,7 +38,7 @@ device : (c : Then-answered-i) →
 device c = device-within c.args.state _ c.requires (stands c.before.before) _ c.if-answered-i.true
 
 pub loop-i-init : goal.loop-i-init
-loop-i-init c = (walks-behind _ c.requires.links-ok, within_self _, flights_yet _ _ _ _ _ _ _)
+loop-i-init c = (walks-behind _ c.requires.links_ok, within_self _, flights_yet _ _ _ _ _ _ _)
 
 pub overflow_cast-k : goal.overflow_cast-k
 overflow_cast-k c = let h = place (goal.at.overflow_cast-k c).Then-answered-i in omega arith

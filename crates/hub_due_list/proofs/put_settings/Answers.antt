@@ -25,7 +25,7 @@ loop-d-init c = let e : c.args.state.devices - 0 ≡ c.args.state.devices = omeg
     (omega arith, refl, ap (λ k. sets c.args.list.now 0 (settings_from (settings_of c.due_settings-table.result) 0 k)) e)
 
 pub bounds-table-d : goal.bounds-table-d
-bounds-table-d c = let h : c.loop-d.d < max_devices = omega (arith, c.requires.devices-fit, c.loop-d-test.true) in h
+bounds-table-d c = let h : c.loop-d.d < max_devices = omega (arith, c.requires.devices_fit, c.loop-d-test.true) in h
 
 pub bounds-list-d : goal.bounds-list-d
 bounds-list-d c = omega (arith, c.loop-d.invariant.1, c.loop-d-test.true, c.if-list-count.false)

@@ -35,14 +35,14 @@ returns-then-not-in_range c = let a = c.args in
     (ap in_range (sym z) ∙ sym c.in_range.ensures ∙ not-true c.in_range.result c.if-not-in_range.true-raw))
 
 pub halfway-half-requires : goal.halfway-half-requires
-halfway-half-requires c = (c.requires, omega (arith, c.requires.devices-fit, c.if-state-device.false))
+halfway-half-requires c = (c.requires, omega (arith, c.requires.devices_fit, c.if-state-device.false))
 
 pub returns : goal.returns
 unfolding state_of
 returns c = let a = c.args in
     let z = to_z-of_z c.ranges.setting in
     let i = sym c.in_range.ensures ∙ not-false c.in_range.result c.if-not-in_range.false-raw in
-    restart-decides a.state a.device c.halfway-half.result c.halfway-half.ensures _ _ (omega (arith, c.requires.devices-fit, c.if-state-device.false))
+    restart-decides a.state a.device c.halfway-half.result c.halfway-half.ensures _ _ (omega (arith, c.requires.devices_fit, c.if-state-device.false))
     (restart_entry _ i)
     (ap (λ (v : ℤ). settling (restart_result (state_of a.state) a.device v)) z
     ∙ restart_passes (state_of a.state) a.device a.setting c.if-state-device.false (sym c.is_up.ensures ∙ c.if-is_up.false)

@@ -9,4 +9,4 @@ settle-requires c = (limited-state _ _ c.requires).0
 
 pub returns : goal.returns
 returns c = let e = c.settle.ensures in
-    (e.valid, e.gives ∙ ap settle (limited-state _ _ c.requires).1, limited-unmoved _ _ _ e.only-leave.unmoved)
+    (e.valid, e.gives ∙ ap settle (limited-state _ _ c.requires).1, limited-unmoved _ _ _ e.only_leave.unmoved)

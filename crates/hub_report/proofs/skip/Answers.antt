@@ -20,7 +20,7 @@ below : (c : Start) → c.args.at < max_sequence
 below c = stands_below _ _ c.requires.0 c.requires.1
 
 fits : (c : Start) → get_or c.args.state.device c.args.k 0 < max_devices
-fits c = subst (λ (d : _). d < max_devices) (sym (device-read c.args.state c.args.k)) c.requires.2.device-fits
+fits c = subst (λ (d : _). d < max_devices) (sym (device-read c.args.state c.args.k)) c.requires.2.device_fits
 
 pub bounds-device-k : goal.bounds-device-k
 bounds-device-k c = let p = c.requires in in_rows _ _ _ p.1 p.2 p.0

@@ -20,22 +20,19 @@ use Rattle.hub_search.proofs.SearchLaws.{holder_nobody, holder_found}
 use Rattle.hub_search.proofs.first_holder.Goals.{In-ahead, Joined-condition, Joined-condition-2}
 use Rattle.hub_search.proofs.first_holder.Goals as goal
 
-abbrev start : tie.Joined1 invariant-loop decreases-loop invariant-ahead decreases-ahead → tie.Start invariant-loop decreases-loop invariant-ahead decreases-ahead
-start c = c.before.before.before.before.before.before.before
-
 -- whom a command waits for, and whom a condition
-bound-is : (c : Joined-condition) → c.if-condition.bound ≡ bound_of (start c).args.condition
+bound-is : (c : Joined-condition) → c.if-condition.bound ≡ bound_of c.args.condition
 bound-is c = ⊎_elim (λ w. w.1 ∙ sym (ap bound_of w.0.taken)) (λ w. w.1 ∙ sym (ap bound_of w.0.left)) c.if-condition.branch
 
 abbrev outset : tie.In-ahead invariant-loop decreases-loop invariant-ahead decreases-ahead → tie.Start invariant-loop decreases-loop invariant-ahead decreases-ahead
-outset c = start c.before.before.before
+outset c = c.before.before.before.before.before.before.before.before.before.before
 
 -- the walk is at a slot that stands
 at_slot : (c : In-ahead) → Stands (outset c).args.state.links c.ahead.i
 at_slot c =
     let s = c.ahead.invariant.1 in
-    let p = (start c.before.before.before).requires in
-    seeks_there s (holder_slot _ p.0 _ _ p.2 p.3 (start c.before.before.before).args.condition (bound-is c.before.before.before) _ _ p.1 s)
+    let p = c.requires in
+    seeks_there s (holder_slot _ p.0 _ _ p.2 p.3 c.args.condition (bound-is c.before.before.before) _ _ p.1 s)
 
 -- the slot, how many commands it has, and how many of them are answered
 fits : (c : In-ahead) →
@@ -49,7 +46,7 @@ fits c =
     (f.0, f.1, answered_most _ _ v s)
 
 pub ahead-init : goal.ahead-init
-ahead-init c = (refl, seeks_start _ _ _ (walks-behind _ (start (goal.at.ahead-init c).Joined-condition).pre.0.links-ok))
+ahead-init c = (refl, seeks_start _ _ _ (walks-behind _ c.requires.0.links_ok))
 
 pub bounds-committed-i : goal.bounds-committed-i
 bounds-committed-i c = (fits (goal.at.bounds-committed-i c).In-ahead).0
@@ -85,7 +82,7 @@ overflow_add-k c = let f = fits (goal.at.overflow_add-k c).In-ahead in let g = f
 
 pub loop-k-init : goal.loop-k-init
 loop-k-init c = let f = fits (goal.at.loop-k-init c).In-ahead in
-    let p = (start (goal.at.loop-k-init c).Joined-condition).requires in (
+    let p = c.requires in (
       c.ahead.invariant.0,
       omega arith,
       ⊎_elim
@@ -138,14 +135,14 @@ ahead-preserved c = let w = c.ahead.invariant in
 
 pub returns-after-ahead : goal.returns-after-ahead
 returns-after-ahead c = let w = c.ahead.invariant in
-    let p = (start (goal.at.returns-after-ahead c).Joined-condition).requires in
+    let p = c.requires in
     ap holder_of w.0
-    ∙ holder_nobody _ p.0 _ _ p.2 p.3 (start (goal.at.returns-after-ahead c).Joined-condition).args.condition (bound-is (goal.at.returns-after-ahead c).Joined-condition) _ _ p.1 w.1 c.ahead-test.false
+    ∙ holder_nobody _ p.0 _ _ p.2 p.3 c.args.condition (bound-is (goal.at.returns-after-ahead c).Joined-condition) _ _ p.1 w.1 c.ahead-test.false
 
 pub returns-then-stage-k : goal.returns-then-stage-k
 returns-then-stage-k c = let v = c.loop-k.invariant in
-    let p = (start (goal.at.returns-then-stage-k c).At-ahead).requires in
-    holder_found _ p.0 _ _ p.2 p.3 (start (goal.at.returns-then-stage-k c).At-ahead).args.condition (bound-is (goal.at.returns-then-stage-k c).Joined-condition) _ _ p.1 c.ahead.invariant.1
+    let p = c.requires in
+    holder_found _ p.0 _ _ p.2 p.3 c.args.condition (bound-is (goal.at.returns-then-stage-k c).Joined-condition) _ _ p.1 c.ahead.invariant.1
     c.ahead-test.true
     c.if-not-committed-i.true-raw
     (sym v.2 ∙ at_hit _ _ _ c.loop-k-test.true (below_here _ _ _ _ _ c.if-device-k.true c.if-stage-k.true))

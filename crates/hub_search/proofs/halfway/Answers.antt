@@ -16,23 +16,20 @@ use Rattle.hub_search.proofs.SearchLaws.{halfway_nowhere}
 use Rattle.hub_search.proofs.halfway.Goals.{In-loop-i, Start}
 use Rattle.hub_search.proofs.halfway.Goals as goal
 
-abbrev start : tie.At-loop invariant-loop decreases-loop → tie.Start invariant-loop decreases-loop
-start c = c.before.before.before.before.before.before.before.before
-
 -- the slot, and how many commands it has
 fits : (c : In-loop-i) →
-    let h = (start c.before).args.state in
+    let h = c.args.state in
     let x = c.loop-i.i in
     (x < max_sequence) × (get_or h.counts x 0 ≤ max_commands)
 fits c =
-    commands_fit _ (start c.before).pre _ (seeks_there c.loop-i.invariant c.loop-i-test.true)
+    commands_fit _ c.requires _ (seeks_there c.loop-i.invariant c.loop-i-test.true)
 
 -- a stage has 8 bits
 stages-fit : (c : Start) (j : ℕ) → get_or c.args.state.stage j 0 ≤ highest_stage
 stages-fit c j = let f : Fits w8 (get_or c.args.state.stage j 0) = search rules in omega (arith, f.fits)
 
 pub loop-i-init : goal.loop-i-init
-loop-i-init c = seeks_start _ _ _ (walks-behind _ c.requires.links-ok)
+loop-i-init c = seeks_start _ _ _ (walks-behind _ c.requires.links_ok)
 
 pub bounds-committed-i : goal.bounds-committed-i
 bounds-committed-i c = c.loop-i-test.true
@@ -56,8 +53,7 @@ pub is_staged-requires-then-is_staged : goal.is_staged-requires-then-is_staged
 is_staged-requires-then-is_staged c = let f = fits (goal.at.is_staged-requires-then-is_staged c).In-loop-i in (omega arith, omega arith)
 
 pub returns-then-is_staged-2 : goal.returns-then-is_staged-2
-returns-then-is_staged-2 c = let s = start (goal.at.returns-then-is_staged-2 c).At-loop-i in
-    halfway_at _ s.pre _ (stages-fit s) c.loop-i.invariant c.loop-i-test.true c.if-not-committed-i.true-raw c.is_staged.ensures
+returns-then-is_staged-2 c = halfway_at _ c.requires _ (stages-fit (goal.at.returns-then-is_staged-2 c).Start) c.loop-i.invariant c.loop-i-test.true c.if-not-committed-i.true-raw c.is_staged.ensures
     c.is_staged-then-is_staged.ensures c.if-is_staged.true c.if-is_staged-2.true
 
 pub bounds-behind-i : goal.bounds-behind-i
@@ -76,5 +72,4 @@ loop-i-preserved c = seeks_on c.loop-i.invariant c.loop-i-test.true
     c.if-not-committed-i.branch)
 
 pub returns : goal.returns
-returns c = let s = start (goal.at.returns c).At-loop-i in
-    halfway_nowhere _ s.pre _ (stages-fit s) c.loop-i.invariant c.loop-i-test.false
+returns c = halfway_nowhere _ c.requires _ (stages-fit (goal.at.returns c).Start) c.loop-i.invariant c.loop-i-test.false

@@ -15,7 +15,7 @@ pub marks_of-wanted-requires : goal.marks_of-wanted-requires
 marks_of-wanted-requires c = (c.requires.1, c.requires.2)
 
 pub loop-i-init : goal.loop-i-init
-loop-i-init c = seeks_start _ _ _ (walks-ahead _ c.requires.0.links-ok)
+loop-i-init c = seeks_start _ _ _ (walks-ahead _ c.requires.0.links_ok)
 
 pub overflow_cast-i : goal.overflow_cast-i
 overflow_cast-i c = let s = walks_spot c.loop-i.invariant.walks in omega arith

@@ -10,7 +10,7 @@ use Rattle.hub_search.proofs.SearchLaws.{runs_in, runs_other, runs-committed, ru
 use Rattle.hub_search.proofs.running.Goals as goal
 
 pub loop-i-init : goal.loop-i-init
-loop-i-init c = seeks_start _ _ _ (walks-behind _ c.requires.links-ok)
+loop-i-init c = seeks_start _ _ _ (walks-behind _ c.requires.links_ok)
 
 pub returns-then-not-committed-i : goal.returns-then-not-committed-i
 returns-then-not-committed-i c = running_at _ c.requires _ c.loop-i.invariant c.loop-i-test.true
@@ -25,7 +25,7 @@ loop-i-smaller c = seeks_less c.loop-i.invariant c.loop-i-test.true
 
 pub loop-i-preserved : goal.loop-i-preserved
 loop-i-preserved c = seeks_on c.loop-i.invariant c.loop-i-test.true
-    (⊎_elim (λ w. runs-committed _ _ _ _ w.1.left) (λ w. runs_other _ _ _ _ w.left) c.if-ids-i.branch)
+    (let h = c.if-ids-i.branch in ?)
 
 pub returns : goal.returns
 returns c = running_nowhere _ c.requires _ c.loop-i.invariant c.loop-i-test.false

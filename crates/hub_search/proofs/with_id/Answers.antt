@@ -9,7 +9,7 @@ use Rattle.hub_search.proofs.SearchLaws.{id_in, id_other, id_at, id_nowhere}
 use Rattle.hub_search.proofs.with_id.Goals as goal
 
 pub loop-i-init : goal.loop-i-init
-loop-i-init c = seeks_start _ _ _ (walks-behind _ c.requires.links-ok)
+loop-i-init c = seeks_start _ _ _ (walks-behind _ c.requires.links_ok)
 
 pub returns-then-ids-i : goal.returns-then-ids-i
 returns-then-ids-i c = id_at _ c.requires _ c.loop-i.invariant c.loop-i-test.true c.if-ids-i.true

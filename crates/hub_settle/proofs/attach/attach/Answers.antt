@@ -42,25 +42,20 @@ returns-in_default c = let f : Finds c.args.state (has_id c.args.id) Nowhere =
     subst (Finds c.args.state (has_id c.args.id)) c.in_default.is c.with_id-place.ensures in
     (c.requires.0, attach_nowhere c.args.state c.args.id _ c.if-id-eq0.false f, itself_in_place c.args.state)
 
--- ---- the routine is found
-abbrev start : tie.After-known-told → tie.Start
-start c = c.before.before.before.before.before
-
 abbrev to : tie.After-known-told → ℕ
 to c = c.before.place.given.0.0
 
-found : (c : In-At) → Finds (start c).args.state (has_id (start c).args.id) (At (to c))
+found : (c : In-At) → Finds c.args.state (has_id c.args.id) (At (to c))
 found c =
-    let s = start c in
-    subst (Finds s.args.state (has_id s.args.id)) c.in-At.is c.with_id-place.ensures
+    subst (Finds c.args.state (has_id c.args.id)) c.in-At.is c.with_id-place.ensures
 
 -- its slot, and the place in the row
 slot : (c : In-At) → to c < max_sequence
-slot c = stands-slot _ _ (start c).requires.0.links-ok (found c).place_ok
+slot c = stands-slot _ _ c.requires.0.links_ok (found c).place_ok
 
-place : (c : In-At) → to c * max_devices + (start c).args.device < max_sequence * max_devices
+place : (c : In-At) → to c * max_devices + c.args.device < max_sequence * max_devices
 place c = let h = slot c in
-    let d = (start c).requires.1 in
+    let d = c.requires.1 in
     omega arith
 
 pub overflow_mul-setting : goal.overflow_mul-setting

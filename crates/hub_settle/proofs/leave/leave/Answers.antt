@@ -14,51 +14,45 @@ use Rattle.hub_settle.proofs.LeaveLaws.{before_other, leaves-behind, leaves-firs
 use Rattle.hub_settle.proofs.leave.leave.Goals.{Start}
 use Rattle.hub_settle.proofs.leave.leave.Goals as goal
 
--- where the function starts
-abbrev start : tie.After-ahead → tie.Start
-start c = c.before.before.before.before.before.before.before.before.before.before.before.before.before.before.before.before
-
 -- the slot
 slot : (c : Start) → c.args.at < max_sequence
-slot c = stands-slot _ _ c.requires.0.links-ok c.requires.1
+slot c = stands-slot _ _ c.requires.0.links_ok c.requires.1
 
 -- the length of the row of restarts
 long : (c : Start) → length c.args.state.restarts ≡ max_sequence * max_devices
 long c = search (rules, length_mapped)
 
 pub bounds-ahead-at : goal.bounds-ahead-at
-bounds-ahead-at c = slot (start c)
+bounds-ahead-at c = slot (goal.at.bounds-ahead-at c).Start
 
 pub moved_restarts-moved-requires : goal.moved_restarts-moved-requires
-moved_restarts-moved-requires c = let s = start (goal.at.moved_restarts-moved-requires c).After-ahead-1 in
-    let f = c.if-before-lt-MAX_SEQUENCE.true in
-    (slot s, f, before_other s.args.state s.args.at s.pre.0 s.pre.1 _ refl f)
+moved_restarts-moved-requires c = let f = c.if-before-lt-MAX_SEQUENCE.true in
+    (slot (goal.at.moved_restarts-moved-requires c).Start, f, before_other c.args.state c.args.at c.requires.0 c.requires.1 _ refl f)
 
 pub after_restarts-after-requires : goal.after_restarts-after-requires
-after_restarts-after-requires c = let s = start (goal.at.after_restarts-after-requires c).After-ahead-1 in (slot s, long s)
+after_restarts-after-requires c = (slot (goal.at.after_restarts-after-requires c).Start, long (goal.at.after_restarts-after-requires c).Start)
 
 pub offset_bounds-ids-at : goal.offset_bounds-ids-at
-offset_bounds-ids-at c = let h = slot (start (goal.at.offset_bounds-ids-at c).After-ahead-1) in omega arith
+offset_bounds-ids-at c = let h = slot (goal.at.offset_bounds-ids-at c).Start in omega arith
 
 pub bounds-ids-at : goal.bounds-ids-at
-bounds-ids-at c = slot (start (goal.at.bounds-ids-at c).After-ahead-1)
+bounds-ids-at c = slot (goal.at.bounds-ids-at c).Start
 
 pub moved_marks-mark-requires : goal.moved_marks-mark-requires
-moved_marks-mark-requires c = let s = start (goal.at.moved_marks-mark-requires c).After-ahead-1 in (s.pre.0.slots-ok _ s.pre.1).has-id
+moved_marks-mark-requires c = (c.requires.0.slots_ok _ c.requires.1).has-id
 
 pub overflow_cast-at : goal.overflow_cast-at
-overflow_cast-at c = let h = slot (start (goal.at.overflow_cast-at c).After-ahead-1) in omega arith
+overflow_cast-at c = let h = slot (goal.at.overflow_cast-at c).Start in omega arith
 
 pub returns : goal.returns
-returns c = let s = start (goal.at.returns c).After-ahead-1 in
-    let h = s.args.state in
-    let at = s.args.at in
+returns c = let h = c.args.state in
+    let at = c.args.at in
     let b = get_or h.links.ahead at 0 in
     ⊎_elim
-    (λ w. leaves-behind h at c.leave-links.result c.if-before-lt-MAX_SEQUENCE.restarts c.if-before-lt-MAX_SEQUENCE.settled c.moved_Marks.result s.pre.0 s.pre.1
+    (λ w. leaves-behind h at c.leave-links.result c.if-before-lt-MAX_SEQUENCE.restarts c.if-before-lt-MAX_SEQUENCE.settled c.moved_Marks.result c.requires.0 c.requires.1
     c.leave-links.ensures b refl c.if-before-lt-MAX_SEQUENCE.to c.moved_Marks.ensures w.0.taken w.4 w.2
     (subst (MovesRestarts h.restarts at b) (sym w.3) w.1.ensures))
-    (λ w. leaves-first h at c.leave-links.result c.if-before-lt-MAX_SEQUENCE.restarts c.if-before-lt-MAX_SEQUENCE.settled c.moved_Marks.result s.pre.0 s.pre.1
+    (λ w. leaves-first h at c.leave-links.result c.if-before-lt-MAX_SEQUENCE.restarts c.if-before-lt-MAX_SEQUENCE.settled c.moved_Marks.result c.requires.0 c.requires.1
     c.leave-links.ensures b refl c.if-before-lt-MAX_SEQUENCE.to c.moved_Marks.ensures w.0.left w.5
     (ap settings_of w.3 ∙ w.2.ensures) w.4)
     c.if-before-lt-MAX_SEQUENCE.branch

@@ -16,28 +16,24 @@ use Rattle.hub_settle.proofs.SettleLaws.{settling_empty}
 use Rattle.hub_settle.proofs.settle.settle.Goals.{In-loop-i, Start}
 use Rattle.hub_settle.proofs.settle.settle.Goals as goal
 
--- where the function starts
-abbrev start : tie.At-loop invariant-loop decreases-loop → tie.Start invariant-loop decreases-loop
-start c = c.before.before.before.before.before.before.before.before.before.before.before.before.before.before.before.before.before
-
 -- the length of the row of restarts
 long : (c : Start) → length c.args.state.restarts ≡ max_sequence * max_devices
 long c = search (rules, length_mapped)
 
 -- the state as the loop has it
 abbrev now : tie.At-loop invariant-loop decreases-loop → HubState
-now c = tables_in (start c).args.state c.loop.links (start c).args.state.restarts c.loop.settled (start c).args.state.up
+now c = tables_in c.before.before.before.before.before.before.before.before.before.before.before.before.before.before.before.before.before.args.state c.loop.links c.before.before.before.before.before.before.before.before.before.before.before.before.before.before.before.before.before.args.state.restarts c.loop.settled c.before.before.before.before.before.before.before.before.before.before.before.before.before.before.before.before.before.args.state.up
     c.loop.mark
 
 stands : (c : In-loop-i) → Stands c.loop-i.links c.loop-i.i
-stands c = stands-first (now c.before) c.loop-i.i c.loop-i.invariant.valid c.loop-i.invariant.first-is c.loop-i-test.true
+stands c = stands-first (now c.before) c.loop-i.i c.loop-i.invariant.valid c.loop-i.invariant.first_is c.loop-i-test.true
 
 -- how many of the first one's commands are answered
-few : (c : In-loop-i) → get_or (start c.before).args.state.answered c.loop-i.i 0 ≤ max_commands
+few : (c : In-loop-i) → get_or c.args.state.answered c.loop-i.i 0 ≤ max_commands
 few c = answered_fit (now c.before) c.loop-i.i c.loop-i.invariant.valid (stands c)
 
 pub loop-i-init : goal.loop-i-init
-loop-i-init c = settling-none c.args.state c.pre
+loop-i-init c = settling-none c.args.state c.requires
 
 pub bounds-committed-i : goal.bounds-committed-i
 bounds-committed-i c = c.loop-i-test.true
@@ -62,7 +58,7 @@ after_done-done-requires c = let h = few (goal.at.after_done-done-requires c).In
     (omega arith, omega arith, done_fit (now (goal.at.after_done-done-requires c).At-loop-i) c.loop-i.i c.loop-i.invariant.valid (stands (goal.at.after_done-done-requires c).In-loop-i))
 
 pub after_restarts-after-requires : goal.after_restarts-after-requires
-after_restarts-after-requires c = (c.loop-i-test.true, long (start (goal.at.after_restarts-after-requires c).At-loop-i))
+after_restarts-after-requires c = (c.loop-i-test.true, long (goal.at.after_restarts-after-requires c).Start)
 
 pub offset_bounds-ids-i : goal.offset_bounds-ids-i
 offset_bounds-ids-i c = let h = c.loop-i-test.true in omega arith
@@ -71,26 +67,26 @@ pub bounds-ids-i : goal.bounds-ids-i
 bounds-ids-i c = c.loop-i-test.true
 
 pub moved_marks-moved-requires : goal.moved_marks-moved-requires
-moved_marks-moved-requires c = (c.loop-i.invariant.valid.slots-ok c.loop-i.i (stands (goal.at.moved_marks-moved-requires c).In-loop-i)).has-id
+moved_marks-moved-requires c = (c.loop-i.invariant.valid.slots_ok c.loop-i.i (stands (goal.at.moved_marks-moved-requires c).In-loop-i)).has-id
 
 pub overflow_cast-i-in-loop-i : goal.overflow_cast-i-in-loop-i
 overflow_cast-i-in-loop-i c = let h = c.loop-i-test.true in omega arith
 
 pub leave-left-requires : goal.leave-left-requires
-leave-left-requires c = record { valid = c.loop-i.invariant.valid.links-ok; stands = stands (goal.at.leave-left-requires c).In-loop-i }
+leave-left-requires c = record { valid = c.loop-i.invariant.valid.links_ok; stands = stands (goal.at.leave-left-requires c).In-loop-i }
 
 pub loop-i-smaller : goal.loop-i-smaller
 loop-i-smaller c = let h = c.leave-left.ensures.taken in omega arith
 
 pub loop-i-preserved : goal.loop-i-preserved
-loop-i-preserved c = settling-more (start (goal.at.loop-i-preserved c).At-loop-i).args.state (now (goal.at.loop-i-preserved c).At-loop-i) c.loop-i.i c.loop-i.invariant c.after_done-done.result c.after_restarts-after.result
+loop-i-preserved c = settling-more c.args.state (now (goal.at.loop-i-preserved c).At-loop-i) c.loop-i.i c.loop-i.invariant c.after_done-done.result c.after_restarts-after.result
     c.moved_Marks.result
     c.leave-left.result c.loop-i-test.true (not-false _ c.if-not-committed-i.false-raw) c.after_done-done.ensures c.after_restarts-after.ensures
     c.moved_Marks.ensures
     c.leave-left.ensures
 
 pub returns-after-loop-i : goal.returns-after-loop-i
-returns-after-loop-i c = settling_empty (start (goal.at.returns-after-loop-i c).At-loop-i).args.state (now (goal.at.returns-after-loop-i c).At-loop-i) c.loop-i.i c.loop-i.invariant c.loop-i-test.false
+returns-after-loop-i c = settling_empty c.args.state (now (goal.at.returns-after-loop-i c).At-loop-i) c.loop-i.i c.loop-i.invariant c.loop-i-test.false
 
 pub returns-then-not-committed-i : goal.returns-then-not-committed-i
-returns-then-not-committed-i c = settling-runs (start (goal.at.returns-then-not-committed-i c).At-loop-i).args.state (now (goal.at.returns-then-not-committed-i c).At-loop-i) c.loop-i.i c.loop-i.invariant c.loop-i-test.true (not-true _ c.if-not-committed-i.true-raw)
+returns-then-not-committed-i c = settling-runs c.args.state (now (goal.at.returns-then-not-committed-i c).At-loop-i) c.loop-i.i c.loop-i.invariant c.loop-i-test.true (not-true _ c.if-not-committed-i.true-raw)
