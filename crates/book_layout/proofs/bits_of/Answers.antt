@@ -17,7 +17,7 @@ narrow : (c : Start) → to_z w16 (of_z w16 c.args.setting) ≡ c.args.setting
 narrow c = to_z-of_z c.ranges.setting
 
 wide : (c : Start) → to_z w32 (of_z w32 c.args.setting) ≡ c.args.setting
-wide c = to_z-of_z (sfits_widen {w = w16} tt c.ranges.setting)
+wide c = to_z-of_z {w = w32} (sfits_widen {w = w16} tt c.ranges.setting)
 
 -- what the test says of it
 above : (c : Then-setting-ge0) → le_z (pos 0) c.args.setting ≡ true

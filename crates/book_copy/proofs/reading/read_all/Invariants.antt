@@ -23,7 +23,7 @@ use Rattle.book_copy.proofs.reading.read_all.Given as goal
 
 abbrev pub invariant-loop-i : goal.invariant-loop-i
 invariant-loop-i l = (l.i ≤ max_routines)
-    × ((rs : List (List Command)) → Hands l.book 0 rs → Hands l.book l.initial.i (drop l.i rs) × (l.position ≡ rows_of (take l.i rs)))
+    × ((rs : List (List Command)) → Hands l.book 0 rs → Hands l.book l.position (drop l.i rs) × (l.rows ≡ rows_of (take l.i rs)))
 
 abbrev pub decreases-loop-i : goal.decreases-loop-i
 decreases-loop-i l = max_routines - l.i

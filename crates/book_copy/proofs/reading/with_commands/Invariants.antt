@@ -16,7 +16,7 @@ use Rattle.book_copy.proofs.reading.with_commands.Given as goal
 
 abbrev pub invariant-loop-i : goal.invariant-loop-i
 invariant-loop-i l = (l.i ≤ l.routine.count)
-    × (with_commands l.initial.i (slice l.i l.routine.count l.routine.commands)
+    × (with_commands l.longer (slice l.i l.routine.count l.routine.commands)
     ≡ with_commands l.initial.longer (take l.routine.count l.routine.commands))
 
 abbrev pub decreases-loop-i : goal.decreases-loop-i

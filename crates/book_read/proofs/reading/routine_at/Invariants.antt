@@ -16,7 +16,7 @@ use Rattle.rules_routine.specs.Routine.{routine_of, with_command}
 use Rattle.book_read.proofs.reading.routine_at.Given as goal
 
 abbrev pub invariant-loop-i : goal.invariant-loop-i
-invariant-loop-i l = (l.i ≤ l.count) × (l.initial.i ≡ routine_of (commands_at l.book l.at l.i))
+invariant-loop-i l = (l.i ≤ l.count) × (l.routine ≡ routine_of (commands_at l.book l.at l.i))
 
 abbrev pub decreases-loop-i : goal.decreases-loop-i
 decreases-loop-i l = l.count - l.i

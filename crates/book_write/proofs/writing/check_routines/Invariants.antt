@@ -15,8 +15,8 @@ use Rattle.book_write.proofs.Row.{routine-there, routines-more, routines_end, ch
 use Rattle.book_write.proofs.writing.check_routines.Given as goal
 
 abbrev pub invariant-loop-i : goal.invariant-loop-i
-invariant-loop-i l = (l.initial.i ≤ length l.devices)
-    × (routines_check (routines_from l.devices l.tags l.settings l.initial.i (drop l.i l.counts)) ≡ routines_check (routines_lent l.counts l.devices l.tags l.settings))
+invariant-loop-i l = (l.at ≤ length l.devices)
+    × (routines_check (routines_from l.devices l.tags l.settings l.at (drop l.i l.counts)) ≡ routines_check (routines_lent l.counts l.devices l.tags l.settings))
 
 abbrev pub decreases-loop-i : goal.decreases-loop-i
 decreases-loop-i l = length l.counts - l.i

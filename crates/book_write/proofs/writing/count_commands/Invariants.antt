@@ -11,7 +11,7 @@ use Rattle.book_write.proofs.Row.{counted-more, counted-end}
 use Rattle.book_write.proofs.writing.count_commands.Given as goal
 
 abbrev pub invariant-loop-i : goal.invariant-loop-i
-invariant-loop-i l = (l.initial.i ≤ 255 * l.i) × (l.initial.i + commands_counted (drop l.i l.counts) ≡ commands_counted l.counts)
+invariant-loop-i l = (l.total ≤ 255 * l.i) × (l.total + commands_counted (drop l.i l.counts) ≡ commands_counted l.counts)
 
 abbrev pub decreases-loop-i : goal.decreases-loop-i
 decreases-loop-i l = length l.counts - l.i

@@ -15,8 +15,8 @@ use Rattle.book_write.proofs.Row.{commands-put, commands-put_end}
 use Rattle.book_write.proofs.writing.put_commands.Given as goal
 
 abbrev pub invariant-loop-i : goal.invariant-loop-i
-invariant-loop-i l = (l.i ≤ l.count) × (length l.initial.i ≡ length l.initial.out)
-    × (sets l.initial.i (l.from + command_size * l.i) (commands_bytes (commands_lent l.devices l.tags l.settings l.i (l.count - l.i)))
+invariant-loop-i l = (l.i ≤ l.count) × (length l.out ≡ length l.initial.out)
+    × (sets l.out (l.from + command_size * l.i) (commands_bytes (commands_lent l.devices l.tags l.settings l.i (l.count - l.i)))
     ≡ sets l.initial.out l.from (commands_bytes (commands_lent l.devices l.tags l.settings 0 l.count)))
 
 abbrev pub decreases-loop-i : goal.decreases-loop-i

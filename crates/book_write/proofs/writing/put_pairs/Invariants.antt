@@ -15,8 +15,8 @@ use Rattle.book_write.proofs.Row.{pairs_more, pairs-end}
 use Rattle.book_write.proofs.writing.put_pairs.Given as goal
 
 abbrev pub invariant-loop-i : goal.invariant-loop-i
-invariant-loop-i l = (l.initial.i ≤ pairs_end (length l.counts) + command_size * (255 * l.i)) × (length l.at ≡ length l.initial.out)
-    × (sets l.at (pair_place l.i) (pairs_counted l.initial.i (drop l.i l.counts)) ≡ sets l.initial.out count_size (pairs_counted (pairs_end (length l.counts)) l.counts))
+invariant-loop-i l = (l.at ≤ pairs_end (length l.counts) + command_size * (255 * l.i)) × (length l.out ≡ length l.initial.out)
+    × (sets l.out (pair_place l.i) (pairs_counted l.at (drop l.i l.counts)) ≡ sets l.initial.out count_size (pairs_counted (pairs_end (length l.counts)) l.counts))
 
 abbrev pub decreases-loop-i : goal.decreases-loop-i
 decreases-loop-i l = length l.counts - l.i

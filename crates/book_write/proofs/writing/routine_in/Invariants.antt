@@ -17,7 +17,7 @@ use Rattle.book_write.proofs.writing.routine_in.Given as goal
 
 abbrev pub invariant-loop-i : goal.invariant-loop-i
 invariant-loop-i l = (l.i ≤ l.count)
-    × (l.initial.i ≡ routine_of (commands_lent l.devices l.tags l.settings l.at l.i))
+    × (l.routine ≡ routine_of (commands_lent l.devices l.tags l.settings l.at l.i))
 
 abbrev pub decreases-loop-i : goal.decreases-loop-i
 decreases-loop-i l = l.count - l.i
