@@ -16,23 +16,23 @@ long : (c : Start) → length c.args.stage ≡ max_sequence * max_commands
 long c = search (rules, length_mapped)
 
 pub loop-k-init : goal.loop-k-init
-loop-k-init c = (omega arith, c.requires.0, long c, skip_none _ _ _ _)
+loop-k-init c = (omega arith, c.requires.0, long (goal.at.loop-k-init c).Start, skip_none _ _ _ _)
 
 pub bounds-device-k : goal.bounds-device-k
-bounds-device-k c = omega (arith, c.loop-test.true, c.requires.1)
+bounds-device-k c = omega (arith, c.loop-k-test.true, c.requires.1)
 
 pub bounds-skipped-k : goal.bounds-skipped-k
-bounds-skipped-k c = omega (arith, c.loop-test.true, c.requires.1)
+bounds-skipped-k c = omega (arith, c.loop-k-test.true, c.requires.1)
 
 pub bounds-skipped-k-then-skipped-k-lt-DONE : goal.bounds-skipped-k-then-skipped-k-lt-DONE
-bounds-skipped-k-then-skipped-k-lt-DONE c = omega (arith, c.loop-test.true, c.requires.1)
+bounds-skipped-k-then-skipped-k-lt-DONE c = omega (arith, c.loop-k-test.true, c.requires.1)
 
 pub loop-k-smaller : goal.loop-k-smaller
-loop-k-smaller c = omega (arith, c.loop-test.true)
+loop-k-smaller c = omega (arith, c.loop-k-test.true)
 
 pub loop-k-preserved : goal.loop-k-preserved
-loop-k-preserved c = let v = c.loop.invariant in
-    let i = c.loop-test.true in
+loop-k-preserved c = let v = c.loop-k.invariant in
+    let i = c.loop-k-test.true in
     let e = c.requires.1 in (
       omega (arith, v.0),
       omega (arith, i),

@@ -59,10 +59,10 @@ next-within c =
     (omega (arith, w.0), omega (arith, w.1))
 
 pub overflow_sub-answered : goal.overflow_sub-answered
-overflow_sub-answered c = (next-within c).0
+overflow_sub-answered c = (next-within (goal.at.overflow_sub-answered c).After-first_unanswered-next).0
 
 pub overflow_cast-answered : goal.overflow_cast-answered
-overflow_cast-answered c = let w = next-within c in omega arith
+overflow_cast-answered c = let w = next-within (goal.at.overflow_cast-answered c).After-first_unanswered-next in omega arith
 
 pub bounds-answered-at-2 : goal.bounds-answered-at-2
 bounds-answered-at-2 c = (fits (start (goal.at.bounds-answered-at-2 c).After-answered-1)).0

@@ -80,10 +80,10 @@ next-within c =
     (omega (arith, w.0), omega (arith, w.1))
 
 pub overflow_sub-answered : goal.overflow_sub-answered
-overflow_sub-answered c = (next-within c).0
+overflow_sub-answered c = (next-within (goal.at.overflow_sub-answered c).After-first_unanswered-next).0
 
 pub overflow_cast-answered : goal.overflow_cast-answered
-overflow_cast-answered c = let w = next-within c in omega arith
+overflow_cast-answered c = let w = next-within (goal.at.overflow_cast-answered c).After-first_unanswered-next in omega arith
 
 pub bounds-answered-at-then-change-ne-IN_FLIGHT : goal.bounds-answered-at-then-change-ne-IN_FLIGHT
 bounds-answered-at-then-change-ne-IN_FLIGHT c = (fits (start (goal.at.bounds-answered-at-then-change-ne-IN_FLIGHT c).After-mark-1)).0

@@ -22,31 +22,31 @@ pub loop-k-init : goal.loop-k-init
 loop-k-init c = (omega arith, c.requires.0, done_yet _ _ _ _ _ _ (search rules))
 
 pub overflow_cast-d : goal.overflow_cast-d
-overflow_cast-d c = let b = below (goal.at.overflow_cast-d c).After-t14-1 in omega arith
+overflow_cast-d c = let b = below (goal.at.overflow_cast-d c).In-loop-k in omega arith
 
 pub offset_bounds-after-d : goal.offset_bounds-after-d
-offset_bounds-after-d c = let b = below (goal.at.offset_bounds-after-d c).After-t14-1 in omega arith
+offset_bounds-after-d c = let b = below (goal.at.offset_bounds-after-d c).In-loop-k in omega arith
 
 pub bounds-after-d : goal.bounds-after-d
-bounds-after-d c = below (goal.at.bounds-after-d c).After-t14-1
+bounds-after-d c = below (goal.at.bounds-after-d c).In-loop-k
 
 pub loop-k-preserved : goal.loop-k-preserved
-loop-k-preserved c = let v = c.loop.invariant in
+loop-k-preserved c = let v = c.loop-k.invariant in
     ⊎_elim
     (λ w. let a = c.args in
-    let after = c.loop.after in
-    let at = get_or a.device.now c.loop.k 0 in
-    let to = get_or a.setting.now c.loop.k (pos 0) in
+    let after = c.loop-k.after in
+    let at = get_or a.device.now c.loop-k.k 0 in
+    let to = get_or a.setting.now c.loop-k.k (pos 0) in
     let b : to_z w16 (of_z w16 to) ≡ to = search rules in
     let e : c.if-stage-k-eq-DONE.after ≡ set after at to = w.3 ∙ ap (set after at) b in (
       omega (arith, v.0),
-      omega (arith, c.loop-test.true),
-      done_store v.2 c.loop-test.true e w.0.taken (below (goal.at.loop-k-preserved c).After-way_told-1),
+      omega (arith, c.loop-k-test.true),
+      done_store v.2 c.loop-k-test.true e w.0.taken (below (goal.at.loop-k-preserved c).In-loop-k),
     ))
     (λ w. (
       omega (arith, v.0),
-      omega (arith, c.loop-test.true),
-      done_keep v.2 c.loop-test.true w.1 w.0.left,
+      omega (arith, c.loop-k-test.true),
+      done_keep v.2 c.loop-k-test.true w.1 w.0.left,
     ))
     c.if-stage-k-eq-DONE.branch
 

@@ -11,14 +11,14 @@ pub loop-k-init : goal.loop-k-init
 loop-k-init c = (c.requires.0, omega arith, none_yet)
 
 pub returns-then-stage-k-eq-DONE : goal.returns-then-stage-k-eq-DONE
-returns-then-stage-k-eq-DONE c = let v = c.loop.invariant in
-    last_found v.2 c.loop-test.true v.1 c.if1.true c.if-stage-k-eq-DONE.true
+returns-then-stage-k-eq-DONE c = let v = c.loop-k.invariant in
+    last_found v.2 c.loop-k-test.true v.1 c.if-device-k.true c.if-stage-k-eq-DONE.true
 
 pub loop-k-preserved : goal.loop-k-preserved
-loop-k-preserved c = let v = c.loop.invariant in (
-  omega (arith, c.loop-test.true),
+loop-k-preserved c = let v = c.loop-k.invariant in (
+  omega (arith, c.loop-k-test.true),
   omega (arith, v.1),
-  ⊎_elim (λ w. not-done-more v.2 c.loop-test.true w.2.left) (λ w. other_more v.2 c.loop-test.true w.left)
+  ⊎_elim (λ w. not-done-more v.2 c.loop-k-test.true w.2.left) (λ w. other_more v.2 c.loop-k-test.true w.left)
       c.if-device-k.branch,
 )
 

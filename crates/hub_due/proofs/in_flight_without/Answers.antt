@@ -41,13 +41,13 @@ pub loop-i-init : goal.loop-i-init
 loop-i-init c = (walks-behind _ c.requires.links-ok, within_self _, flights_yet _ _ _ _ _ _ _)
 
 pub overflow_cast-k : goal.overflow_cast-k
-overflow_cast-k c = let h = place c in omega arith
+overflow_cast-k c = let h = place (goal.at.overflow_cast-k c).Then-answered-i in omega arith
 
 pub overflow_add-k : goal.overflow_add-k
-overflow_add-k c = let h = place c in omega arith
+overflow_add-k c = let h = place (goal.at.overflow_add-k c).Then-answered-i in omega arith
 
 pub bounds-stage-k : goal.bounds-stage-k
-bounds-stage-k c = place c
+bounds-stage-k c = place (goal.at.bounds-stage-k c).Then-answered-i
 
 pub bounds-device-k : goal.bounds-device-k
 bounds-device-k c = place (goal.at.bounds-device-k c).Then-answered-i

@@ -34,10 +34,10 @@ below c =
     stands_below c.args.state c.in-At.slot c.requires.0 (stands c.before.before.before.before)
 
 pub offset_bounds-ids-slot : goal.offset_bounds-ids-slot
-offset_bounds-ids-slot c = let i = below c in omega arith
+offset_bounds-ids-slot c = let i = below (goal.at.offset_bounds-ids-slot c).After-ids-1 in omega arith
 
 pub bounds-ids-slot : goal.bounds-ids-slot
-bounds-ids-slot c = below c
+bounds-ids-slot c = below (goal.at.bounds-ids-slot c).After-ids-1
 
 pub returns-then-mark-id : goal.returns-then-mark-id
 returns-then-mark-id c = let t = c.must_left.result in

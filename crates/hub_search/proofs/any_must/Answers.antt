@@ -14,29 +14,29 @@ loop-k-init c = let a = c.args in
     must-at a.device.now a.tag.now a.stage.now a.end a.wanted a.from (a.end - a.from) (omega (arith, c.requires.0))
 
 pub bounds-device-k : goal.bounds-device-k
-bounds-device-k c = omega (arith, c.loop-test.true, c.requires.1)
+bounds-device-k c = omega (arith, c.loop-k-test.true, c.requires.1)
 
 pub bounds-stage-k : goal.bounds-stage-k
-bounds-stage-k c = omega (arith, c.loop-test.true, c.requires.1)
+bounds-stage-k c = omega (arith, c.loop-k-test.true, c.requires.1)
 
 pub counting_tag-requires : goal.counting_tag-requires
-counting_tag-requires c = let e = c.requires.1 in (omega (arith, c.loop-test.true), omega (arith, c.loop-test.true))
+counting_tag-requires c = let e = c.requires.1 in (omega (arith, c.loop-k-test.true), omega (arith, c.loop-k-test.true))
 
 pub returns-then-counting_tag-eq-MUST : goal.returns-then-counting_tag-eq-MUST
 returns-then-counting_tag-eq-MUST c = sym
-    (at_hit _ _ _ c.loop-test.true
-    (must-here _ _ _ _ _ _ c.if1.true c.if-stage-k-le-IN_FLIGHT.true c.counting_tag.ensures c.if-counting_tag-eq-MUST.true))
-    ∙ c.loop.invariant
+    (at_hit _ _ _ c.loop-k-test.true
+    (must-here _ _ _ _ _ _ c.if-device-k.true c.if-stage-k-le-IN_FLIGHT.true c.counting_tag.ensures c.if-counting_tag-eq-MUST.true))
+    ∙ c.loop-k.invariant
 
 pub loop-k-smaller : goal.loop-k-smaller
-loop-k-smaller c = omega (arith, c.loop-test.true)
+loop-k-smaller c = omega (arith, c.loop-k-test.true)
 
 pub loop-k-preserved : goal.loop-k-preserved
-loop-k-preserved c = at_on _ _ _ c.loop-test.true
+loop-k-preserved c = at_on _ _ _ c.loop-k-test.true
     (⊎_elim (λ w. must-not _ _ _ _ _ _ w.3.ensures w.4.left)
     (⊎_elim (λ w. must-answered _ _ _ _ _ _ w.2.left) (λ w. must_other _ _ _ _ _ _ w.left))
     c.if-device-k.branch)
-    ∙ c.loop.invariant
+    ∙ c.loop-k.invariant
 
 pub returns : goal.returns
 returns c = sym (at_end _ _ _ c.loop-k-test.false) ∙ c.loop-k.invariant

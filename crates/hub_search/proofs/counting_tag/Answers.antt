@@ -9,4 +9,4 @@ returns-then-k-end c = counting_next c.args.tag.now _ _ c.if-tag-k-eq-CONDITION.
 
 pub returns : goal.returns
 returns c = let t = c.args.tag.now in
-    ⊎_elim (λ w. counting_last t _ _ w.1.left) (λ w. counting_own t _ _ w.left) c.if1.branch
+    ⊎_elim (λ w. counting_last t _ _ w.1.left) (λ w. counting_own t _ _ w.left) c.if-tag-k-eq-CONDITION.branch

@@ -52,7 +52,7 @@ pub ahead-init : goal.ahead-init
 ahead-init c = (refl, seeks_start _ _ _ (walks-behind _ (start (goal.at.ahead-init c).Joined-condition).pre.0.links-ok))
 
 pub bounds-committed-i : goal.bounds-committed-i
-bounds-committed-i c = (fits c).0
+bounds-committed-i c = (fits (goal.at.bounds-committed-i c).In-ahead).0
 
 pub overflow_mul-end : goal.overflow_mul-end
 overflow_mul-end c = let f = fits (goal.at.overflow_mul-end c).In-ahead in omega (arith, f.0)
@@ -95,27 +95,27 @@ loop-k-init c = let f = fits (goal.at.loop-k-init c).In-ahead in
     )
 
 pub bounds-device-k : goal.bounds-device-k
-bounds-device-k c = omega (arith, c.loop-test.true, c.loop.invariant.1)
+bounds-device-k c = omega (arith, c.loop-k-test.true, c.loop-k.invariant.1)
 
 pub bounds-stage-k : goal.bounds-stage-k
-bounds-stage-k c = omega (arith, c.loop-test.true, c.loop.invariant.1)
+bounds-stage-k c = omega (arith, c.loop-k-test.true, c.loop-k.invariant.1)
 
 pub offset_bounds-ids-i : goal.offset_bounds-ids-i
-offset_bounds-ids-i c = let f = fits (goal.at.offset_bounds-ids-i c).Joined-condition-2 in omega (arith, f.0)
+offset_bounds-ids-i c = let f = fits (goal.at.offset_bounds-ids-i c).In-ahead in omega (arith, f.0)
 
 pub bounds-ids-i : goal.bounds-ids-i
-bounds-ids-i c = (fits (goal.at.bounds-ids-i c).Joined-condition-2).0
+bounds-ids-i c = (fits (goal.at.bounds-ids-i c).In-ahead).0
 
 pub overflow_add-k-in-loop-k : goal.overflow_add-k-in-loop-k
-overflow_add-k-in-loop-k c = omega (arith, c.loop-test.true, c.loop.invariant.1)
+overflow_add-k-in-loop-k c = omega (arith, c.loop-k-test.true, c.loop-k.invariant.1)
 
 pub loop-k-smaller : goal.loop-k-smaller
-loop-k-smaller c = omega (arith, c.loop-test.true)
+loop-k-smaller c = omega (arith, c.loop-k-test.true)
 
 pub loop-k-preserved : goal.loop-k-preserved
-loop-k-preserved c = let v = c.loop.invariant in
+loop-k-preserved c = let v = c.loop-k.invariant in
     let o = ⊎_elim (λ w. below_bound _ _ _ _ _ w.2.left) (λ w. below_other _ _ _ _ _ w.left) c.if-device-k.branch in
-    (v.0, v.1, at_on _ _ _ c.loop-test.true o ∙ v.2)
+    (v.0, v.1, at_on _ _ _ c.loop-k-test.true o ∙ v.2)
 
 pub bounds-behind-i : goal.bounds-behind-i
 bounds-behind-i c = (fits (goal.at.bounds-behind-i c).In-ahead).0
@@ -143,9 +143,9 @@ returns-after-ahead c = let w = c.ahead.invariant in
     ∙ holder_nobody _ p.0 _ _ p.2 p.3 (start (goal.at.returns-after-ahead c).Joined-condition).args.condition (bound-is (goal.at.returns-after-ahead c).Joined-condition) _ _ p.1 w.1 c.ahead-test.false
 
 pub returns-then-stage-k : goal.returns-then-stage-k
-returns-then-stage-k c = let v = c.loop.invariant in
+returns-then-stage-k c = let v = c.loop-k.invariant in
     let p = (start (goal.at.returns-then-stage-k c).At-ahead).requires in
-    holder_found _ p.0 _ _ p.2 p.3 (start (goal.at.returns-then-stage-k c).At-ahead).args.condition (bound-is (goal.at.returns-then-stage-k c).At-ahead) _ _ p.1 c.ahead.invariant.1
+    holder_found _ p.0 _ _ p.2 p.3 (start (goal.at.returns-then-stage-k c).At-ahead).args.condition (bound-is (goal.at.returns-then-stage-k c).Joined-condition) _ _ p.1 c.ahead.invariant.1
     c.ahead-test.true
-    c.if2.true
-    (sym v.2 ∙ at_hit _ _ _ c.loop-test.true (below_here _ _ _ _ _ c.if4.true c.if-stage-k.true))
+    c.if-not-committed-i.true-raw
+    (sym v.2 ∙ at_hit _ _ _ c.loop-k-test.true (below_here _ _ _ _ _ c.if-device-k.true c.if-stage-k.true))

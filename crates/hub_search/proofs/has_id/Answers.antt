@@ -16,13 +16,13 @@ pub bounds-ids-j : goal.bounds-ids-j
 bounds-ids-j c = omega (arith, c.requires)
 
 pub returns-then-ids-j : goal.returns-then-ids-j
-returns-then-ids-j c = sym (at_hit _ _ _ c.loop-test.true (eq-eqb _ _ c.if-ids-j.true)) ∙ c.loop.invariant
+returns-then-ids-j c = sym (at_hit _ _ _ c.loop-j-test.true (eq-eqb _ _ c.if-ids-j.true)) ∙ c.loop-j.invariant
 
 pub loop-j-smaller : goal.loop-j-smaller
-loop-j-smaller c = omega (arith, c.loop-test.true)
+loop-j-smaller c = omega (arith, c.loop-j-test.true)
 
 pub loop-j-preserved : goal.loop-j-preserved
-loop-j-preserved c = at_on _ _ _ c.loop-test.true (ne_eqb _ _ c.if-ids-j.false) ∙ c.loop.invariant
+loop-j-preserved c = at_on _ _ _ c.loop-j-test.true (ne_eqb _ _ c.if-ids-j.false) ∙ c.loop-j.invariant
 
 pub returns : goal.returns
 returns c = sym (at_end _ _ _ c.loop-j-test.false) ∙ c.loop-j.invariant

@@ -13,28 +13,28 @@ pub loop-k-init : goal.loop-k-init
 loop-k-init c = let a = c.args in staged-at a.device.now a.stage.now a.wanted a.low a.high a.from (a.end - a.from)
 
 pub bounds-device-k : goal.bounds-device-k
-bounds-device-k c = omega (arith, c.loop-test.true, c.requires.1)
+bounds-device-k c = omega (arith, c.loop-k-test.true, c.requires.1)
 
 pub bounds-stage-k : goal.bounds-stage-k
-bounds-stage-k c = omega (arith, c.loop-test.true, c.requires.1)
+bounds-stage-k c = omega (arith, c.loop-k-test.true, c.requires.1)
 
 pub bounds-stage-k-then-low-stage : goal.bounds-stage-k-then-low-stage
-bounds-stage-k-then-low-stage c = omega (arith, c.loop-test.true, c.requires.1)
+bounds-stage-k-then-low-stage c = omega (arith, c.loop-k-test.true, c.requires.1)
 
 pub returns-then-stage-k : goal.returns-then-stage-k
 returns-then-stage-k c = sym
-    (at_hit _ _ _ c.loop-test.true (staged-here _ _ _ _ _ _ c.if1.true c.if-low-stage.true c.if-stage-k.true))
-    ∙ c.loop.invariant
+    (at_hit _ _ _ c.loop-k-test.true (staged-here _ _ _ _ _ _ c.if-device-k.true c.if-low-stage.true c.if-stage-k.true))
+    ∙ c.loop-k.invariant
 
 pub loop-k-smaller : goal.loop-k-smaller
-loop-k-smaller c = omega (arith, c.loop-test.true)
+loop-k-smaller c = omega (arith, c.loop-k-test.true)
 
 pub loop-k-preserved : goal.loop-k-preserved
-loop-k-preserved c = at_on _ _ _ c.loop-test.true
+loop-k-preserved c = at_on _ _ _ c.loop-k-test.true
     (⊎_elim (λ w. staged_above _ _ _ _ _ _ w.4.left)
     (⊎_elim (λ w. staged_below _ _ _ _ _ _ w.2.left) (λ w. staged_other _ _ _ _ _ _ w.left))
     c.if-device-k.branch)
-    ∙ c.loop.invariant
+    ∙ c.loop-k.invariant
 
 pub returns : goal.returns
 returns c = sym (at_end _ _ _ c.loop-k-test.false) ∙ c.loop-k.invariant

@@ -28,10 +28,10 @@ pub loop-j-init : goal.loop-j-init
 loop-j-init c = (refl, omega arith, mark-none _)
 
 pub offset_bounds-commands-j : goal.offset_bounds-commands-j
-offset_bounds-commands-j c = let h = below c in omega arith
+offset_bounds-commands-j c = let h = below (goal.at.offset_bounds-commands-j c).In-loop-j in omega arith
 
 pub bounds-commands-j : goal.bounds-commands-j
-bounds-commands-j c = below c
+bounds-commands-j c = below (goal.at.bounds-commands-j c).In-loop-j
 
 pub overflow_cast-d : goal.overflow_cast-d
 overflow_cast-d c = let h = fits (goal.at.overflow_cast-d c).In-loop-j in omega arith
@@ -40,27 +40,27 @@ pub offset_bounds-marks-d : goal.offset_bounds-marks-d
 offset_bounds-marks-d c = let h = fits (goal.at.offset_bounds-marks-d c).In-loop-j in omega arith
 
 pub bounds-marks-d : goal.bounds-marks-d
-bounds-marks-d c = fits (goal.at.bounds-marks-d c).After-command-1
+bounds-marks-d c = fits (goal.at.bounds-marks-d c).In-loop-j
 
 pub offset_bounds-wanted-j : goal.offset_bounds-wanted-j
-offset_bounds-wanted-j c = let h = below (goal.at.offset_bounds-wanted-j c).After-command-1 in omega arith
+offset_bounds-wanted-j c = let h = below (goal.at.offset_bounds-wanted-j c).In-loop-j in omega arith
 
 pub bounds-wanted-j : goal.bounds-wanted-j
-bounds-wanted-j c = below (goal.at.bounds-wanted-j c).After-command-1
+bounds-wanted-j c = below (goal.at.bounds-wanted-j c).In-loop-j
 
 pub overflow_add-j : goal.overflow_add-j
-overflow_add-j c = let h = below (goal.at.overflow_add-j c).After-command-1 in omega arith
+overflow_add-j c = let h = below (goal.at.overflow_add-j c).In-loop-j in omega arith
 
 pub loop-j-smaller : goal.loop-j-smaller
-loop-j-smaller c = omega (arith, c.loop-test.true)
+loop-j-smaller c = omega (arith, c.loop-j-test.true)
 
 pub loop-j-preserved : goal.loop-j-preserved
-loop-j-preserved c = let v = c.loop.invariant in
-    let h = below (goal.at.loop-j-preserved c).After-command-1 in
-    let room : c.loop.j < length c.loop.wanted = omega (arith, v.0) in
-    let held : c.loop.j < length c.args.routine.commands =
-    omega (arith, long (goal.at.loop-j-preserved c).After-commands-1) in
-    (simp length-set v.0, omega (arith, c.loop-test.true), mark-more _ _ _ _ room held v.2)
+loop-j-preserved c = let v = c.loop-j.invariant in
+    let h = below (goal.at.loop-j-preserved c).In-loop-j in
+    let room : c.loop-j.j < length c.loop-j.wanted = omega (arith, v.0) in
+    let held : c.loop-j.j < length c.args.routine.commands =
+    omega (arith, long (goal.at.loop-j-preserved c).Start) in
+    (simp length-set v.0, omega (arith, c.loop-j-test.true), mark-more _ _ _ _ room held v.2)
 
 pub returns : goal.returns
 returns c = let v = c.loop-j.invariant in

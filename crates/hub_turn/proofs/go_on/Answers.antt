@@ -36,13 +36,13 @@ abbrev outset : tie.After-counts → tie.Start
 outset c = start c.before.before.before.before.before
 
 pub bounds-device-k : goal.bounds-device-k
-bounds-device-k c = within c
+bounds-device-k c = within (goal.at.bounds-device-k c).Start
 
 pub has_begun-begun-requires : goal.has_begun-begun-requires
 has_begun-begun-requires c = let p = c.requires in (p.0, p.1, p.4, p.6)
 
 pub is_skipped-skips-requires : goal.is_skipped-skips-requires
-is_skipped-skips-requires c = within (goal.at.is_skipped-skips-requires c).After-way_told-1
+is_skipped-skips-requires c = within (goal.at.is_skipped-skips-requires c).Start
 
 pub bounds-device-k-then-not-skips : goal.bounds-device-k-then-not-skips
 bounds-device-k-then-not-skips c = within (start (goal.at.bounds-device-k-then-not-skips c).After-is_skipped-skips)
@@ -131,8 +131,8 @@ returns-then-skips c = let l = start (goal.at.returns-then-skips c).Joined-not-s
     let h = l.args.state in
     let k = l.args.k in
     let p = l.pre in
-    subst (Decides _ _ _) (skipped (goal.at.returns-then-skips c).Then-skips c.if4.true)
-    (skip_decides h l.args.at k p.1 p.2 _ _ _ (device-read h k _ p.4) (begun-is (goal.at.returns-then-skips c).Joined-not-skips) p.3 _ _ _ c.plain-then-skips.ensures
+    subst (Decides _ _ _) (skipped (goal.at.returns-then-skips c).Joined-not-skips c.if-skips.true)
+    (skip_decides h l.args.at k p.1 p.2 _ _ _ (device-read h k _ p.4) (begun-is (goal.at.returns-then-skips c).After-is_skipped-skips) p.3 _ _ _ c.plain-then-skips.ensures
     c.staged-change.ensures)
 
 pub go_on_up-requires : goal.go_on_up-requires

@@ -27,26 +27,26 @@ abbrev start : tie.After-if12 → tie.Start
 start c = c.before.before.before.before.before.before
 
 pub bounds-device-k : goal.bounds-device-k
-bounds-device-k c = within c
+bounds-device-k c = within (goal.at.bounds-device-k c).Start
 
 pub offset_bounds-settings-k : goal.offset_bounds-settings-k
-offset_bounds-settings-k c = let i = within (goal.at.offset_bounds-settings-k c).After-way_told-1 in omega arith
+offset_bounds-settings-k c = let i = within (goal.at.offset_bounds-settings-k c).Start in omega arith
 
 pub bounds-settings-k : goal.bounds-settings-k
-bounds-settings-k c = within (goal.at.bounds-settings-k c).After-way_told-1
+bounds-settings-k c = within (goal.at.bounds-settings-k c).Start
 
 pub due_setting-due-requires : goal.due_setting-due-requires
 due_setting-due-requires c = let p = c.requires in (p.0, p.4, p.6, refl)
 
 pub bounds-tag-k : goal.bounds-tag-k
-bounds-tag-k c = within (goal.at.bounds-tag-k c).After-wanted-1
+bounds-tag-k c = within (goal.at.bounds-tag-k c).Start
 
 -- the due setting and the number, as they are read
 due-read : (c : After-t20-1) →
     let a = (start c).args in
-    to_z w16 (of_z w16 c.due-setting.result) ≡ due (state_of a.state) (get_or a.device.now a.k 0)
+    to_z w16 (of_z w16 c.due_setting-due.result) ≡ due (state_of a.state) (get_or a.device.now a.k 0)
 due-read c =
-    let d = c.due-setting in
+    let d = c.due_setting-due in
     let u : to_z w16 (of_z w16 d.result) ≡ d.result = search rules in
     u ∙ d.ensures
 

@@ -13,4 +13,4 @@ pub returns-then-stage-before-eq-HELD : goal.returns-then-stage-before-eq-HELD
 returns-then-stage-before-eq-HELD c = before-held _ _ _ _ c.if-stage-before-eq-HELD.true
 
 pub returns : goal.returns
-returns c = before-condition _ _ _ _ c.if1.false c.if2.false c.if-stage-before-eq-HELD.false
+returns c = before-condition _ _ _ _ c.if-k-from.false c.if-tag-before-ne-CONDITION.false c.if-stage-before-eq-HELD.false

@@ -11,10 +11,10 @@ within : (c : Start) → c.args.k < max_sequence * max_commands
 within c = in_rows _ _ _ c.requires.0 c.requires.1 c.requires.2
 
 pub bounds-tag-k : goal.bounds-tag-k
-bounds-tag-k c = within c
+bounds-tag-k c = within (goal.at.bounds-tag-k c).Start
 
 pub bounds-device-k : goal.bounds-device-k
-bounds-device-k c = within (goal.at.bounds-device-k c).After-condition-1
+bounds-device-k c = within (goal.at.bounds-device-k c).Start
 
 pub first_holder-holder-requires : goal.first_holder-holder-requires
 first_holder-holder-requires c = let p = c.requires in (p.0, p.1, p.4, p.6)

@@ -30,10 +30,10 @@ slice_bounds-run_last-end c = simp length-take (omega arith)
 
 pub overflow_cast-result : goal.overflow_cast-result
 overflow_cast-result c = let e : to_z w64 (of_z w64 c.run_last-written.result.result) ≡ c.run_last-written.result.result = search rules in
-    rw e (length-fits c.run_last-written.ensures (room c) (small (goal.at.overflow_cast-result c).After-shared_slice_known-1))
+    rw e (length-fits c.run_last-written.ensures (room (goal.at.overflow_cast-result c).After-struct_told-1) (small (goal.at.overflow_cast-result c).After-slice_known-1))
 
 pub returns : goal.returns
 returns c = let s = start c in
     let e : to_z w64 (of_z w64 c.run_last-written.result.result) ≡ c.run_last-written.result.result = search rules in
-    rw (e, length-written c.run_last-written.ensures (room c))
-    (takes_end s.args.hub s.args.pending s.args.input.now c.run_last-written.ensures (room c))
+    rw (e, length-written c.run_last-written.ensures (room (goal.at.returns c).After-struct_told-1))
+    (takes_end s.args.hub s.args.pending s.args.input.now c.run_last-written.ensures (room (goal.at.returns c).After-struct_told-1))

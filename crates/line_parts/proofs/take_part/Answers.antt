@@ -37,7 +37,7 @@ whole_ran : (c : After-run_part-written) →
 whole_ran c =
     let a = (start c).args in
     let r = c.run_part-written.result in
-    let w = c.whole_length in
+    let w = c.whole_length-whole in
     let are = ap (λ (n : ℕ). take n a.input.now) w.ensures ∙ whole_taken a.hub a.pending a.got a.input.now in
     subst
     (λ (l : List ℕ). Runs (steps (hub_in a.hub) (lines_of l)) l a.hub r.hub a.out.now c.run_part-written.new.1.1.0 r.result)
@@ -57,17 +57,17 @@ pub slice_bounds-whole_length-end-2 : goal.slice_bounds-whole_length-end-2
 slice_bounds-whole_length-end-2 c = simp length-take (omega arith)
 
 pub slice_bounds-run_part-end : goal.slice_bounds-run_part-end
-slice_bounds-run_part-end c = let h = whole_inside c in search rules
+slice_bounds-run_part-end c = let h = whole_inside (goal.at.slice_bounds-run_part-end c).After-whole_length-whole in search rules
 
 pub slice_bounds-run_part-end-2 : goal.slice_bounds-run_part-end-2
-slice_bounds-run_part-end-2 c = let h = whole_inside (goal.at.slice_bounds-run_part-end-2 c).After-slice_known-2-1 in simp length-take (omega arith)
+slice_bounds-run_part-end-2 c = let h = whole_inside (goal.at.slice_bounds-run_part-end-2 c).After-whole_length-whole in simp length-take (omega arith)
 
 pub overflow_cast-length : goal.overflow_cast-length
 overflow_cast-length c = let e : to_z w64 (of_z w64 c.run_part-written.result.result) ≡ c.run_part-written.result.result = search rules in
     rw e (length-fits (whole_ran (goal.at.overflow_cast-length c).After-run_part-written) (room (goal.at.overflow_cast-length c).After-run_part-written) (small (goal.at.overflow_cast-length c).After-run_part-written))
 
 pub keep-kept-requires : goal.keep-kept-requires
-keep-kept-requires c = (omega (arith, c.whole_length.ensures, whole_near s.args.hub s.args.pending s.args.got s.args.input.now), s.requires.1)
+keep-kept-requires c = (omega (arith, c.whole_length-whole.ensures, whole_near s.args.hub s.args.pending s.args.got s.args.input.now), s.requires.1)
 
 pub returns : goal.returns
 returns c = let k = c.keep-kept.ensures in
@@ -76,4 +76,4 @@ returns c = let k = c.keep-kept.ensures in
     let e : to_z w64 (of_z w64 c.run_part-written.result.result) ≡ c.run_part-written.result.result = search rules in
     rw (e, length-written (whole_ran (goal.at.returns c).After-run_part-written) (room (goal.at.returns c).After-run_part-written))
     (takes_part a.hub a.pending a.got a.input.now (whole_ran (goal.at.returns c).After-run_part-written) (room (goal.at.returns c).After-run_part-written) c.keep-kept.result k.0
-    (k.1 ∙ ap (λ (n : ℕ). cut (drop n bytes)) c.whole_length.ensures))
+    (k.1 ∙ ap (λ (n : ℕ). cut (drop n bytes)) c.whole_length-whole.ensures))

@@ -28,22 +28,22 @@ named : (c : After-put_number-named) →
     PutShort 10 c.args.out.now c.put_number-named.new.0 c.args.at c.put_number-named.result
     (bytes "device " ++ decimal c.args.device)
 named c =
-    within (omega (arith, digits-fit c.before.before.before.before.before.before.before.before)) (short_then (exactly c.put_word-word.ensures) (exactly c.put_number-named.ensures))
+    within (omega (arith, digits-fit c.before.before.before.before.before.before.before.before.before)) (short_then (exactly c.put_word-word.ensures) (exactly c.put_number-named.ensures))
 
 pub put_number-named-requires : goal.put_number-named-requires
-put_number-named-requires c = omega (arith, c.requires, digits-fit (goal.at.put_number-named-requires c).After-slice_known-1, c.put_word-word.ensures.ends)
+put_number-named-requires c = omega (arith, c.requires, digits-fit (goal.at.put_number-named-requires c).Start, c.put_word-word.ensures.ends)
 
 pub put_word-told-requires : goal.put_word-told-requires
-put_word-told-requires c = omega (arith, c.requires, reaches (named (goal.at.put_word-told-requires c).After-out-2-1))
+put_word-told-requires c = omega (arith, c.requires, reaches (named (goal.at.put_word-told-requires c).After-put_number-named))
 
 pub put_setting-end-requires : goal.put_setting-end-requires
-put_setting-end-requires c = omega (arith, c.requires, reaches (named (goal.at.put_setting-end-requires c).After-out-2-1), c.put_word-told.ensures.ends)
+put_setting-end-requires c = omega (arith, c.requires, reaches (named (goal.at.put_setting-end-requires c).After-put_number-named), c.put_word-told.ensures.ends)
 
 pub put_end-requires : goal.put_end-requires
 put_end-requires c = omega (
   arith,
   c.requires,
-  reaches (named (goal.at.put_end-requires c).After-out-2-1),
+  reaches (named (goal.at.put_end-requires c).After-put_number-named),
   c.put_word-told.ensures.ends,
   reaches c.put_setting-end.ensures,
 )
@@ -52,17 +52,17 @@ pub returns-then-up : goal.returns-then-up
 returns-then-up c = let d = bytes "device " ++ decimal c.args.device in
     as_text
     (ap as_line (append_assoc d (bytes " up ") (signed c.args.due))
-    ∙ ap (λ (t : Bool). as_line (d ++ (if t then bytes " up " ++ signed c.args.due else bytes " down"))) (sym c.if1.true))
+    ∙ ap (λ (t : Bool). as_line (d ++ (if t then bytes " up " ++ signed c.args.due else bytes " down"))) (sym c.if-up.true))
     (within (omega arith)
-    (short_then (short_then (short_then (named (goal.at.returns-then-up c).After-out-2-1) (exactly c.put_word-told.ensures)) (rw (held (goal.at.returns-then-up c).After-put_word-arg-1) at c.put_setting-end.ensures))
+    (short_then (short_then (short_then (named (goal.at.returns-then-up c).After-put_number-named) (exactly c.put_word-told.ensures)) (rw (held (goal.at.returns-then-up c).Start) at c.put_setting-end.ensures))
     (exactly c.put_end.ensures)))
 
 pub put_word-requires : goal.put_word-requires
-put_word-requires c = omega (arith, c.requires, reaches (named (goal.at.put_word-requires c).After-out-2-1))
+put_word-requires c = omega (arith, c.requires, reaches (named (goal.at.put_word-requires c).After-put_number-named))
 
 pub returns : goal.returns
 returns c = let d = bytes "device " ++ decimal c.args.device in
     as_text
     (sym (append_assoc d (bytes " down") (line_end ∷ []))
-    ∙ ap (λ (t : Bool). as_line (d ++ (if t then bytes " up " ++ signed c.args.due else bytes " down"))) (sym c.if1.false))
-    (within (omega arith) (short_then (named (goal.at.returns c).After-out-2-1) (exactly c.put_word.ensures)))
+    ∙ ap (λ (t : Bool). as_line (d ++ (if t then bytes " up " ++ signed c.args.due else bytes " down"))) (sym c.if-up.false))
+    (within (omega arith) (short_then (named (goal.at.returns c).After-put_number-named) (exactly c.put_word.ensures)))

@@ -35,7 +35,7 @@ loop-device-init c = (
 )
 
 pub bounds-devices-d : goal.bounds-devices-d
-bounds-devices-d c = few c
+bounds-devices-d c = few (goal.at.bounds-devices-d c).In-loop-device
 
 pub offset_bounds-devices-d : goal.offset_bounds-devices-d
 offset_bounds-devices-d c = let h = few (goal.at.offset_bounds-devices-d c).In-loop-device in search rules

@@ -44,13 +44,13 @@ returns-in_default c = c.in_default.is
 
 pub overflow_add-at-in-loop-i : goal.overflow_add-at-in-loop-i
 overflow_add-at-in-loop-i c = let h = moves (goal.at.overflow_add-at-in-loop-i c).In-Accepted in
-    let e = size c in
+    let e = size (goal.at.overflow_add-at-in-loop-i c).After-four_at-at in
     omega arith
 
 pub loop-i-preserved : goal.loop-i-preserved
 loop-i-preserved c = let a = c.args in
     let h = moves (goal.at.loop-i-preserved c).In-Accepted in
-    let e = size c in (
+    let e = size (goal.at.loop-i-preserved c).After-four_at-at in (
       omega arith,
       omega arith,
       ap (λ (k : ℕ). placed_checks a.book.now (c.loop-i.i + 1) (a.count - (c.loop-i.i + 1)) (c.loop-i.at + k)) e

@@ -54,12 +54,12 @@ there c =
     routine-there a.devices.now a.tags.now a.settings.now c.loop-i.at _ c.loop-i.invariant.0 (accepted c)
 
 pub overflow_add-at : goal.overflow_add-at
-overflow_add-at c = let h = there c in search rules
+overflow_add-at c = let h = there (goal.at.overflow_add-at c).In-Accepted in search rules
 
 pub loop-i-preserved : goal.loop-i-preserved
 loop-i-preserved c = let a = c.args in (
-  there c,
-  sym (check_more _ _ (accepted c))
+  there (goal.at.loop-i-preserved c).In-Accepted,
+  sym (check_more _ _ (accepted (goal.at.loop-i-preserved c).In-Accepted))
       ∙ ap routines_check (sym (next (goal.at.loop-i-preserved c).After-check_one-verdict))
       ∙ c.loop-i.invariant.1,
 )

@@ -40,7 +40,7 @@ same-setting c = search rules
 pub with_restart-requires : goal.with_restart-requires
 with_restart-requires c = let p = c.requires in
     let x = c.change-in-Restart-1.given.0 in
-    let e = ap (λ (z : ℤ). Restart x.0 z x.1.1.0) (sym (same-setting c)) in
+    let e = ap (λ (z : ℤ). Restart x.0 z x.1.1.0) (sym (same-setting (goal.at.with_restart-requires c).In-Restart)) in
     (p.0, (_, decided_as (c.in-Restart.is ∙ e) p.1))
 
 pub returns-in-Nothing : goal.returns-in-Nothing

@@ -20,7 +20,7 @@ fails_ok : (c : In-Fail) →
 fails_ok c = subst (LeavingOk _) c.in-Fail.is c.requires.1
 
 pub put_backs_if-requires : goal.put_backs_if-requires
-put_backs_if-requires c = (c.requires.0, (fails_ok c).1)
+put_backs_if-requires c = (c.requires.0, (fails_ok (goal.at.put_backs_if-requires c).In-Fail).1)
 
 pub put_backs_if-requires-in-Restart : goal.put_backs_if-requires-in-Restart
 put_backs_if-requires-in-Restart c = let p = c.requires in

@@ -64,16 +64,16 @@ place c = let h = slot c in
     omega arith
 
 pub overflow_mul-setting : goal.overflow_mul-setting
-overflow_mul-setting c = let h = slot c in omega arith
+overflow_mul-setting c = let h = slot (goal.at.overflow_mul-setting c).In-At in omega arith
 
 pub overflow_add-setting : goal.overflow_add-setting
-overflow_add-setting c = let h = place c in omega arith
+overflow_add-setting c = let h = place (goal.at.overflow_add-setting c).In-At in omega arith
 
 pub offset_bounds-changed-to : goal.offset_bounds-changed-to
-offset_bounds-changed-to c = let h = place c in omega arith
+offset_bounds-changed-to c = let h = place (goal.at.offset_bounds-changed-to c).In-At in omega arith
 
 pub bounds-changed-to : goal.bounds-changed-to
-bounds-changed-to c = place c
+bounds-changed-to c = place (goal.at.bounds-changed-to c).In-At
 
 pub returns : goal.returns
 returns c = let a = c.args in
@@ -81,7 +81,7 @@ returns c = let a = c.args in
       valid_tables a.state _ _ _ _ c.requires.0,
       rw z
           (attach-at a.state a.id _ _ _
-          (attaches_one a.state.restarts _ a.device a.setting (long (goal.at.returns c).Start).1 (slot c) c.requires.1 c.requires.2) c.if-id-eq0.false
-          c.requires.0 (found c)),
+          (attaches_one a.state.restarts _ a.device a.setting (long (goal.at.returns c).Start).1 (slot (goal.at.returns c).In-At) c.requires.1 c.requires.2) c.if-id-eq0.false
+          c.requires.0 (found (goal.at.returns c).In-At)),
       tables_in_place a.state _ _ _ _,
     )

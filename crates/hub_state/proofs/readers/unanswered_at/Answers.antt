@@ -34,13 +34,13 @@ pub bounds-answered-at-2 : goal.bounds-answered-at-2
 bounds-answered-at-2 c = below (goal.at.bounds-answered-at-2 c).Start
 
 pub overflow_add-k : goal.overflow_add-k
-overflow_add-k c = let i = place c in omega arith
+overflow_add-k c = let i = place (goal.at.overflow_add-k c).Else-counts-at in omega arith
 
 pub bounds-stage-k : goal.bounds-stage-k
-bounds-stage-k c = place c
+bounds-stage-k c = place (goal.at.bounds-stage-k c).Else-counts-at
 
 pub returns-then-stage-k-eq-IN_FLIGHT : goal.returns-then-stage-k-eq-IN_FLIGHT
-returns-then-stage-k-eq-IN_FLIGHT c = sent_in_row _ _ c.requires.0 c.requires.1 _ c.requires.2 c.if1.false c.if-stage-k-eq-IN_FLIGHT.true
+returns-then-stage-k-eq-IN_FLIGHT c = sent_in_row _ _ c.requires.0 c.requires.1 _ c.requires.2 c.if-counts-at.false c.if-stage-k-eq-IN_FLIGHT.true
 
 pub returns : goal.returns
-returns c = to_do_in_row _ _ c.requires.0 c.requires.1 _ c.requires.2 c.if1.false c.if-stage-k-eq-IN_FLIGHT.false
+returns c = to_do_in_row _ _ c.requires.0 c.requires.1 _ c.requires.2 c.if-counts-at.false c.if-stage-k-eq-IN_FLIGHT.false

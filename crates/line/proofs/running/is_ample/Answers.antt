@@ -48,13 +48,13 @@ ends_in-ends-requires c = let p = part-is (goal.at.ends_in-ends-requires c).Join
     omega (arith, part_length c.args.input.now c.loop-i.i c.if-end-i-gt-CHUNK_LENGTH.end (omega arith) p.1)
 
 pub overflow_add-count : goal.overflow_add-count
-overflow_add-count c = let p = part_counted c in search rules
+overflow_add-count c = let p = part_counted (goal.at.overflow_add-count c).After-ends_in-ends in search rules
 
 pub loop-i-smaller : goal.loop-i-smaller
 loop-i-smaller c = let p = part-is (goal.at.loop-i-smaller c).Joined-end-i-gt-CHUNK_LENGTH in omega arith
 
 pub loop-i-preserved : goal.loop-i-preserved
-loop-i-preserved c = part_counted c
+loop-i-preserved c = part_counted (goal.at.loop-i-preserved c).After-ends_in-ends
 
 pub returns : goal.returns
 returns c = let input = c.args.input.now in

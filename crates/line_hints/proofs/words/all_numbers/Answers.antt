@@ -29,10 +29,10 @@ returns-then-not-number_at c = let is = sym c.number_at.ensures ∙ not-true _ c
     sym (numbers_not _ _ (omega (arith, c.loop-at-test.true)) is) ∙ c.loop-at.invariant
 
 pub overflow_add-at : goal.overflow_add-at
-overflow_add-at c = let r = ended c in search rules
+overflow_add-at c = let r = ended (goal.at.overflow_add-at c).After-word_end-at in search rules
 
 pub loop-at-smaller : goal.loop-at-smaller
-loop-at-smaller c = let r = ended c in search rules
+loop-at-smaller c = let r = ended (goal.at.loop-at-smaller c).After-word_end-at in search rules
 
 pub loop-at-preserved : goal.loop-at-preserved
 loop-at-preserved c = let line = c.args.line.now in

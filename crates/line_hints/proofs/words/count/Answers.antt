@@ -23,13 +23,13 @@ pub loop-at-init : goal.loop-at-init
 loop-at-init c = (omega arith, omega arith)
 
 pub overflow_add-at : goal.overflow_add-at
-overflow_add-at c = let r = ended c in search rules
+overflow_add-at c = let r = ended (goal.at.overflow_add-at c).After-word_end-at in search rules
 
 pub loop-at-smaller : goal.loop-at-smaller
-loop-at-smaller c = let r = ended c in search rules
+loop-at-smaller c = let r = ended (goal.at.loop-at-smaller c).After-word_end-at in search rules
 
 pub loop-at-preserved : goal.loop-at-preserved
-loop-at-preserved c = let r = ended c in
+loop-at-preserved c = let r = ended (goal.at.loop-at-preserved c).After-word_end-at in
     let line = c.args.line.now in
     let at = c.loop-at.at in
     let more = one_word line at (omega (arith, c.loop-at-test.true)) in

@@ -29,12 +29,12 @@ pub overflow_add-count : goal.overflow_add-count
 overflow_add-count c = omega (arith, few (goal.at.overflow_add-count c).Start, c.loop-power.invariant.1)
 
 pub loop-power-smaller : goal.loop-power-smaller
-loop-power-smaller c = omega (arith, more c)
+loop-power-smaller c = omega (arith, more (goal.at.loop-power-smaller c).In-loop-power)
 
 pub loop-power-preserved : goal.loop-power-preserved
 loop-power-preserved c = let n : ℕ = c.loop-power.count in
     let e : 10 ^ (n + 1) ≡ 10 ^ n * 10 = ap (λ (k : ℕ). 10 ^ k) (add-one n) ∙ pow-suc 10 n in
-    (omega arith, omega (arith, more c), omega (arith, e, c.loop-power.invariant.2))
+    (omega arith, omega (arith, more (goal.at.loop-power-preserved c).In-loop-power), omega (arith, e, c.loop-power.invariant.2))
 
 pub returns : goal.returns
 returns c = let h : c.args.n < 10 ^ c.loop-power.count = omega (arith, c.loop-power.invariant.2) in

@@ -11,7 +11,7 @@ use Rattle.line_print.proofs.words.put_at_most_one.Goals as goal
 
 pub returns-in-Nothing : goal.returns-in-Nothing
 unfolding back_list back_text decimal digits
-returns-in-Nothing c = as_text (ap (λ (b : MaybePutBack). back_text (one_of b)) (sym c.enum_told.given.1))
+returns-in-Nothing c = as_text (ap (λ (b : MaybePutBack). back_text (one_of b)) (sym c.in-Nothing.is))
     (within (omega arith) (exactly c.put_word.ensures))
 
 pub returns-in-One : goal.returns-in-One

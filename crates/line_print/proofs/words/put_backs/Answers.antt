@@ -38,7 +38,7 @@ pub put_back-to-requires : goal.put_back-to-requires
 put_back-to-requires c = omega (arith, c.requires, reaches (first (goal.at.put_back-to-requires c).After-put_one-to), reaches c.loop-i.invariant.2)
 
 pub loop-i-preserved : goal.loop-i-preserved
-loop-i-preserved c = let h : c.loop-i.i < length c.args.backs.items = omega (arith, long (goal.at.loop-i-preserved c).After-slice_known-1) in (
+loop-i-preserved c = let h : c.loop-i.i < length c.args.backs.items = omega (arith, long (goal.at.loop-i-preserved c).Start) in (
   omega arith,
   c.put_back-to.auto.0 ∙ c.loop-i.invariant.1,
   as_text (sym (backs_next c.args.backs.items c.loop-i.i _ h))
@@ -51,7 +51,7 @@ shape_of-out c = c.loop-i.invariant.1 ∙ c.put_one-to.auto.0
 pub returns : goal.returns
 unfolding back_text
 returns c = let b = c.args.backs in
-    let h : b.count ≤ length b.items = omega (arith, long (goal.at.returns c).After-slice_known-1, c.requires.1) in
+    let h : b.count ≤ length b.items = omega (arith, long (goal.at.returns c).Start, c.requires.1) in
     let e : c.loop-i.i ≡ b.count = omega arith in
     as_text
     (ap₂ (λ (n i : ℕ). (bytes " back " ++ decimal n) ++ back_list (map back_of (take i b.items))) (sym (backs_count b h)) e)

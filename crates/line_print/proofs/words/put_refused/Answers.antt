@@ -8,10 +8,10 @@ use Rattle.line_print.proofs.words.put_refused.Goals as goal
 
 pub returns-in-Number : goal.returns-in-Number
 unfolding refusal_text
-returns-in-Number c = let e = c.refusal.given.1 in
+returns-in-Number c = let e = c.in-Number.is in
     within (omega arith) (as_text (ap refusal_text (sym e)) c.put_one.ensures)
 
 pub returns-in-Indexed : goal.returns-in-Indexed
 unfolding refusal_text
-returns-in-Indexed c = let e = c.refusal2.given.1 in
+returns-in-Indexed c = let e = c.in-Indexed.is in
     within (omega arith) (as_text (ap refusal_text (sym e)) c.put_two.ensures)

@@ -13,18 +13,18 @@ held : (c : Start) → to_z w16 (of_z w16 c.args.sent.command.setting) ≡ c.arg
 held c = search rules
 
 pub put_word-from-requires : goal.put_word-from-requires
-put_word-from-requires c = omega (arith, c.requires, reaches c.put_two.ensures)
+put_word-from-requires c = omega (arith, c.requires, reaches c.put_two-named.ensures)
 
 pub put_setting-requires : goal.put_setting-requires
 put_setting-requires c = omega (
   arith,
   c.requires,
-  reaches c.put_two.ensures,
+  reaches c.put_two-named.ensures,
   c.put_word-from.ensures.ends,
 )
 
 pub returns : goal.returns
 unfolding answer_text
-returns c = let e : to_z w16 (of_z w16 c.args.sent.command.setting) ≡ c.args.sent.command.setting = held (goal.at.returns c).After-put_two-arg-1 in
+returns c = let e : to_z w16 (of_z w16 c.args.sent.command.setting) ≡ c.args.sent.command.setting = held (goal.at.returns c).Start in
     within (omega arith)
-    (short_then (short_then c.put_two.ensures (exactly c.put_word-from.ensures)) (rw e at c.put_setting.ensures))
+    (short_then (short_then c.put_two-named.ensures (exactly c.put_word-from.ensures)) (rw e at c.put_setting.ensures))

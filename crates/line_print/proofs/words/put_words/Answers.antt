@@ -24,12 +24,12 @@ returns-in-Refused c = answered _ _ _ c.in-Refused.is (omega arith) c.Put-refuse
 
 pub returns-in-Placed : goal.returns-in-Placed
 unfolding answer_text
-returns-in-Placed c = answered _ _ _ c.answer2.given.1 (omega arith)
+returns-in-Placed c = answered _ _ _ c.in-Placed.is (omega arith)
     c.put_two.ensures
 
 pub returns-in-Wait : goal.returns-in-Wait
 unfolding answer_text
-returns-in-Wait c = answered _ _ _ c.answer3.given.1 (omega arith)
+returns-in-Wait c = answered _ _ _ c.in-Wait.is (omega arith)
     c.put_two-in-Wait.ensures
 
 pub returns-in-Sent : goal.returns-in-Sent
@@ -38,7 +38,7 @@ returns-in-Sent c = answered _ _ _ c.in-Sent.is (omega arith) c.put_sent.ensures
 
 pub returns-in-Done : goal.returns-in-Done
 unfolding answer_text
-returns-in-Done c = answered _ _ _ c.answer5.given.1 (omega arith)
+returns-in-Done c = answered _ _ _ c.in-Done.is (omega arith)
     c.put_one.ensures
 
 pub returns-in-Skipped : goal.returns-in-Skipped
@@ -47,7 +47,7 @@ returns-in-Skipped c = answered _ _ _ c.in-Skipped.is (omega arith) c.put_skippe
 
 pub returns-in-Committed : goal.returns-in-Committed
 unfolding answer_text
-returns-in-Committed c = answered _ _ _ c.answer7.given.1 (omega arith)
+returns-in-Committed c = answered _ _ _ c.in-Committed.is (omega arith)
     c.put_one-in-Committed.ensures
 
 pub returns-in-Aborted : goal.returns-in-Aborted
@@ -57,25 +57,25 @@ returns-in-Aborted c = answered _ _ _ c.in-Aborted.is (omega arith)
 
 pub returns-in-Down : goal.returns-in-Down
 unfolding answer_text
-returns-in-Down c = answered _ _ _ c.answer9.given.1 (omega arith)
+returns-in-Down c = answered _ _ _ c.in-Down.is (omega arith)
     c.put_two-in-Down.ensures
 
 pub returns-in-Up : goal.returns-in-Up
 unfolding answer_text
-returns-in-Up c = answered _ _ _ c.answer10.given.1 (omega arith)
+returns-in-Up c = answered _ _ _ c.in-Up.is (omega arith)
     c.put_two-in-Up.ensures
 
 pub returns-in-Limited : goal.returns-in-Limited
 unfolding answer_text
-returns-in-Limited c = answered _ _ _ c.answer11.given.1 (omega arith)
+returns-in-Limited c = answered _ _ _ c.in-Limited.is (omega arith)
     c.put_one-in-Limited.ensures
 
 pub returns-in-Held : goal.returns-in-Held
 unfolding answer_text
-returns-in-Held c = answered _ _ _ c.answer12.given.1 (omega arith)
+returns-in-Held c = answered _ _ _ c.in-Held.is (omega arith)
     c.put_one-in-Held.ensures
 
 pub returns-in-NotHeld : goal.returns-in-NotHeld
 unfolding answer_text
-returns-in-NotHeld c = answered _ _ _ c.answer13.given.1 (omega arith)
+returns-in-NotHeld c = answered _ _ _ c.in-NotHeld.is (omega arith)
     c.put_one-in-NotHeld.ensures

@@ -31,14 +31,14 @@ returns-in_default c = none_at _ _ _ c.no_command.ensures
     (λ h. command-none _ _ h (no_number highest8 _ _ (sym c.number_at-device.ensures ∙ c.in_default.is)))
 
 pub overflow_add-d_end : goal.overflow_add-d_end
-overflow_add-d_end c = let d = device c in search rules
+overflow_add-d_end c = let d = device (goal.at.overflow_add-d_end c).In-Found in search rules
 
 pub returns-in_default-tag : goal.returns-in_default-tag
 returns-in_default-tag c = let none = no_number highest8 _ _ (sym c.number_at-tag.ensures ∙ c.in_default-tag.is) in
     none_at _ _ _ c.no_command-in_default-tag.ensures (λ _. command-one _ _ (device (goal.at.returns-in_default-tag c).In-Found) none)
 
 pub overflow_add-t_end : goal.overflow_add-t_end
-overflow_add-t_end c = let t = tag c in search rules
+overflow_add-t_end c = let t = tag (goal.at.overflow_add-t_end c).In-Found-tag in search rules
 
 pub returns-in_default-setting : goal.returns-in_default-setting
 returns-in_default-setting c = let none = no_setting _ _ (sym c.setting_at-setting.ensures ∙ c.in_default-setting.is) in
@@ -54,5 +54,5 @@ pub returns : goal.returns
 returns c = let d = device (goal.at.returns c).In-Found in
     let v = c.in-Found-setting.v in
     let e : to_z w16 (of_z w16 v) ≡ v = search rules in
-    rw e (one_at _ _ _ refl (omega (arith, d.begins, (tag (goal.at.returns c).In-Found-tag).begins, (value c).begins)) (value c).ends
-    (command_all _ _ d (tag (goal.at.returns c).In-Found-tag) (value c)))
+    rw e (one_at _ _ _ refl (omega (arith, d.begins, (tag (goal.at.returns c).In-Found-tag).begins, (value (goal.at.returns c).In-Found-setting).begins)) (value (goal.at.returns c).In-Found-setting).ends
+    (command_all _ _ d (tag (goal.at.returns c).In-Found-tag) (value (goal.at.returns c).In-Found-setting)))

@@ -29,13 +29,13 @@ pub returns-in_default : goal.returns-in_default
 returns-in_default c = sym (ap held_as (open_none _ _ (no_number highest8 _ _ (sym c.number_at-devices.ensures ∙ c.in_default.is))))
 
 pub overflow_add-n_end : goal.overflow_add-n_end
-overflow_add-n_end c = let d = devices c in search rules
+overflow_add-n_end c = let d = devices (goal.at.overflow_add-n_end c).In-Found in search rules
 
 pub returns-in_default-pass_limit : goal.returns-in_default-pass_limit
 returns-in_default-pass_limit c = sym (ap held_as (open_one _ _ (devices (goal.at.returns-in_default-pass_limit c).In-Found) (no_number highest8 _ _ (sym c.number_at-pass_limit.ensures ∙ c.in_default-pass_limit.is))))
 
 pub overflow_add-k_end : goal.overflow_add-k_end
-overflow_add-k_end c = let k = limit c in search rules
+overflow_add-k_end c = let k = limit (goal.at.overflow_add-k_end c).In-Found-pass_limit in search rules
 
 pub returns-in_default-first : goal.returns-in_default-first
 returns-in_default-first c = let none = no_number highest32 _ _ (sym c.number_at-first.ensures ∙ c.in_default-first.is) in

@@ -26,7 +26,7 @@ returns-in_default c = sym
     (ap held_as (restart-none _ _ (no_number highest8 _ _ (sym c.number_at-device.ensures ∙ c.in_default.is))))
 
 pub overflow_add-d_end : goal.overflow_add-d_end
-overflow_add-d_end c = let d = device c in search rules
+overflow_add-d_end c = let d = device (goal.at.overflow_add-d_end c).In-Found in search rules
 
 pub returns-in_default-setting : goal.returns-in_default-setting
 returns-in_default-setting c = sym (ap held_as (restart-one _ _ (device (goal.at.returns-in_default-setting c).In-Found) (no_setting _ _ (sym c.setting_at-setting.ensures ∙ c.in_default-setting.is))))

@@ -22,10 +22,10 @@ wide : (c : Start) → SFits w64 (minus_of c.args.value)
 wide c = sfits_widen {w = w16} tt (minus-fits c.args.value c.requires)
 
 pub overflow_sub-result : goal.overflow_sub-result
-overflow_sub-result c = rw (less c) (wide c)
+overflow_sub-result c = rw (less (goal.at.overflow_sub-result c).Start) (wide (goal.at.overflow_sub-result c).Start)
 
 pub overflow_cast-result : goal.overflow_cast-result
-overflow_cast-result c = rw (less c, to_z-of_z (wide c)) (minus-fits c.args.value c.requires)
+overflow_cast-result c = rw (less (goal.at.overflow_cast-result c).Start, to_z-of_z (wide (goal.at.overflow_cast-result c).Start)) (minus-fits c.args.value c.requires)
 
 pub returns : goal.returns
-returns c = rw (less c, to_z-of_z (wide c)) (to_z-of_z (minus-fits c.args.value c.requires))
+returns c = rw (less (goal.at.returns c).Start, to_z-of_z (wide (goal.at.returns c).Start)) (to_z-of_z (minus-fits c.args.value c.requires))
