@@ -29,11 +29,8 @@ within c = in_rows _ _ _ c.requires.0 c.requires.1 c.requires.2
 fits : (c : Start) → (c.args.at < max_sequence) × (get_or c.args.state.counts c.args.at 0 ≤ max_commands)
 fits c = commands_fit _ c.requires.0 _ c.requires.1
 
-abbrev start : tie.After-is-skipped → tie.Start
-start c = c.before.before.before
-
 abbrev outset : tie.After-counts → tie.Start
-outset c = start c.before.before.before.before.before
+outset c = c.before.before.before.before.before.before.before.before
 
 pub bounds-device-k : goal.bounds-device-k
 bounds-device-k c = within (goal.at.bounds-device-k c).Start
@@ -45,7 +42,7 @@ pub is_skipped-skips-requires : goal.is_skipped-skips-requires
 is_skipped-skips-requires c = within (goal.at.is_skipped-skips-requires c).Start
 
 pub bounds-device-k-then-not-skips : goal.bounds-device-k-then-not-skips
-bounds-device-k-then-not-skips c = within (start (goal.at.bounds-device-k-then-not-skips c).After-is_skipped-skips)
+bounds-device-k-then-not-skips c = within (goal.at.bounds-device-k-then-not-skips c).Start
 
 pub bounds-counts-at : goal.bounds-counts-at
 bounds-counts-at c = (fits (outset c)).0
@@ -61,16 +58,15 @@ counting_tag-requires c = let f = fits (outset c) in let i = within (outset c) i
 
 -- ---- what the code has found out
 begun-is : (c : After-is_skipped-skips) →
-    let a = (start c).args in
+    let a = c.args in
     c.has_begun-begun.result ≡ begun (command_at a.state a.k).device (member_at a.state a.at)
-begun-is c = let l = start c in
-    let h = l.args.state in
-    c.has_begun-begun.ensures ∙ ap (λ d. begun d (member_at h l.args.at)) (device-read h l.args.k _ l.pre.4)
+begun-is c = let h = c.args.state in
+    c.has_begun-begun.ensures ∙ ap (λ d. begun d (member_at h c.args.at)) (device-read h c.args.k _ c.requires.4)
 
 is-skipped-is : (c : After-is_skipped-skips) →
-    let a = (start c).args in
+    let a = c.args in
     c.is_skipped-skips.result ≡ next_is_skipped false (steps_at a.state a.at)
-is-skipped-is c = let p = (start c).requires in skipped-is _ _ _ p.2 _ _ p.5 p.6 c.is_skipped-skips.ensures
+is-skipped-is c = let p = c.requires in skipped-is _ _ _ p.2 _ _ p.5 p.6 c.is_skipped-skips.ensures
 
 un_not : (b : Bool) → not b ≡ true → b ≡ false
 un_not b e = sym (not-not b) ∙ ap not e
@@ -81,16 +77,15 @@ no_not b e = sym (not-not b) ∙ ap not e
 -- ---- the ways to go on
 -- it is skipped: by the condition before it, or its device is down and it does not count as a must
 skipped : (c : Joined-not-skips) → c.if-not-skips.skips ≡ true →
-    let a = (start c.before).args in
+    let a = c.args in
     settling (skip_turn (state_of a.state) (there a.state a.at) (command_at a.state a.k))
     ≡ proceed (state_of a.state) (there a.state a.at) (command_at a.state a.k)
 skipped c t =
-    let l = start c.before in
-    let h = l.args.state in
+    let h = c.args.state in
     let e = is-skipped-is c.before in
     ⊎_elim
-    (λ w. proceed_skip h _ _ _ e (un_not _ w.0.taken) _ (device-read h l.args.k _ l.pre.4) _ w.2.ensures
-    (un_not _ w.3.taken) _ (counts_as _ _ _ l.pre.2 _ l.pre.5 _ w.5.ensures) w.6.left)
+    (λ w. proceed_skip h _ _ _ e (un_not _ w.0.taken) _ (device-read h c.args.k _ c.requires.4) _ w.2.ensures
+    (un_not _ w.3.taken) _ (counts_as _ _ _ c.requires.2 _ c.requires.5 _ w.5.ensures) w.6.left)
     (⊎_elim
     (λ w. absurd (t≠f (sym t ∙ w.4 ∙ un_not _ w.0.taken)))
     (λ w. proceed-skipped h _ _ _ e (sym w.1 ∙ t)))
@@ -98,45 +93,42 @@ skipped c t =
 
 -- its device is up
 goes-up : (c : Joined-not-skips) → c.if-not-skips.skips ≡ false →
-    let a = (start c.before).args in
+    let a = c.args in
     proceed_up (state_of a.state) (there a.state a.at) (command_at a.state a.k)
     ≡ proceed (state_of a.state) (there a.state a.at) (command_at a.state a.k)
 goes-up c f =
-    let l = start c.before in
-    let h = l.args.state in
+    let h = c.args.state in
     let e = is-skipped-is c.before in
     ⊎_elim
     (λ w. absurd (t≠f (sym w.7 ∙ f)))
     (⊎_elim
-    (λ w. proceed-up h _ _ _ e (un_not _ w.0.taken) _ (device-read h l.args.k _ l.pre.4) _ w.2.ensures
+    (λ w. proceed-up h _ _ _ e (un_not _ w.0.taken) _ (device-read h c.args.k _ c.requires.4) _ w.2.ensures
     (no_not _ w.3.left))
     (λ w. absurd (t≠f (sym (no_not _ w.0.left) ∙ sym w.1 ∙ f))))
     c.if-not-skips.branch
 
 pub returns-then-counting_tag-eq-MUST : goal.returns-then-counting_tag-eq-MUST
-returns-then-counting_tag-eq-MUST c = let l = start (goal.at.returns-then-counting_tag-eq-MUST c).After-is_skipped-skips in
-    let h = l.args.state in
-    let k = l.args.k in
-    let p = l.pre in
+returns-then-counting_tag-eq-MUST c = let h = c.args.state in
+    let k = c.args.k in
+    let p = c.requires in
     subst (Decides _ _ _)
     (proceed-must h _ _ _ (is-skipped-is (goal.at.returns-then-counting_tag-eq-MUST c).After-is_skipped-skips) (un_not _ c.if-not-skips.true-raw) _ (device-read h k _ p.4) _ c.is_up.ensures
     (un_not _ c.if-not-is_up.true-raw) _ (counts_as _ _ _ p.2 _ p.5 _ c.counting_tag.ensures) c.if-counting_tag-eq-MUST.true)
     (must-decides h _ k p.1 p.2 _ p.3 _ c.plain.ensures)
 
 pub bounds-device-k-then-skips : goal.bounds-device-k-then-skips
-bounds-device-k-then-skips c = within (start (goal.at.bounds-device-k-then-skips c).Joined-not-skips)
+bounds-device-k-then-skips c = within (goal.at.bounds-device-k-then-skips c).Start
 
 pub returns-then-skips : goal.returns-then-skips
-returns-then-skips c = let l = start (goal.at.returns-then-skips c).Joined-not-skips in
-    let h = l.args.state in
-    let k = l.args.k in
-    let p = l.pre in
+returns-then-skips c = let h = c.args.state in
+    let k = c.args.k in
+    let p = c.requires in
     subst (Decides _ _ _) (skipped (goal.at.returns-then-skips c).Joined-not-skips c.if-skips.true)
-    (skip_decides h l.args.at k p.1 p.2 _ _ _ (device-read h k _ p.4) (begun-is (goal.at.returns-then-skips c).After-is_skipped-skips) p.3 _ _ _ c.plain-then-skips.ensures
+    (skip_decides h c.args.at k p.1 p.2 _ _ _ (device-read h k _ p.4) (begun-is (goal.at.returns-then-skips c).After-is_skipped-skips) p.3 _ _ _ c.plain-then-skips.ensures
     c.staged-change.ensures)
 
 pub go_on_up-requires : goal.go_on_up-requires
-go_on_up-requires c = let p = (start (goal.at.go_on_up-requires c).After-is_skipped-skips).requires in
+go_on_up-requires c = let p = c.requires in
     (p.0, p.1, p.2, p.3, p.4, p.5, p.6, begun-is (goal.at.go_on_up-requires c).After-is_skipped-skips)
 
 pub returns : goal.returns

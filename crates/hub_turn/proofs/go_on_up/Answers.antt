@@ -23,9 +23,6 @@ use Rattle.hub_turn.proofs.go_on_up.Goals as goal
 within : (c : Start) → c.args.k < max_sequence * max_commands
 within c = in_rows _ _ _ c.requires.0 c.requires.1 c.requires.2
 
-abbrev start : tie.After-if12 → tie.Start
-start c = c.before.before.before.before.before.before
-
 pub bounds-device-k : goal.bounds-device-k
 bounds-device-k c = within (goal.at.bounds-device-k c).Start
 
@@ -43,7 +40,7 @@ bounds-tag-k c = within (goal.at.bounds-tag-k c).Start
 
 -- the due setting and the number, as they are read
 due-read : (c : After-t20-1) →
-    let a = (start c).args in
+    let a = c.args in
     to_z w16 (of_z w16 c.due_setting-due.result) ≡ due (state_of a.state) (get_or a.device.now a.k 0)
 due-read c =
     let d = c.due_setting-due in
@@ -51,45 +48,42 @@ due-read c =
     u ∙ d.ensures
 
 number_read : (c : After-t20-1) →
-    let a = (start c).args in
+    let a = c.args in
     to_z w16 (of_z w16 (get_or a.state.setting a.k (pos 0))) ≡ (command_at a.state a.k).setting
 number_read c =
-    let a = (start c).args in
+    let a = c.args in
     let v = get_or a.state.setting a.k (pos 0) in
     let e : to_z w16 (of_z w16 v) ≡ v = search rules in
     e ∙ setting-read a.state a.k
 
 -- it is a condition
-asked : (c : Else-tag-k-ne-CONDITION) → let a = (start c.before).args in (command_at a.state a.k).tag ≡ condition_tag
-asked c = let l = start c.before in sym (tag_read l.args.state l.args.k _ l.pre.5) ∙ c.if-tag-k-ne-CONDITION.false
+asked : (c : Else-tag-k-ne-CONDITION) → let a = c.args in (command_at a.state a.k).tag ≡ condition_tag
+asked c = sym (tag_read c.args.state c.args.k _ c.requires.5) ∙ c.if-tag-k-ne-CONDITION.false
 
 pub bounds-tag-k-then-tag-k-ne-CONDITION : goal.bounds-tag-k-then-tag-k-ne-CONDITION
-bounds-tag-k-then-tag-k-ne-CONDITION c = within (start (goal.at.bounds-tag-k-then-tag-k-ne-CONDITION c).After-t20-1)
+bounds-tag-k-then-tag-k-ne-CONDITION c = within (goal.at.bounds-tag-k-then-tag-k-ne-CONDITION c).Start
 
 pub returns-then-tag-k-ne-CONDITION : goal.returns-then-tag-k-ne-CONDITION
-returns-then-tag-k-ne-CONDITION c = let l = start (goal.at.returns-then-tag-k-ne-CONDITION c).After-t20-1 in
-    let h = l.args.state in
-    let k = l.args.k in
-    let p = l.pre in
+returns-then-tag-k-ne-CONDITION c = let h = c.args.state in
+    let k = c.args.k in
+    let p = c.requires in
     let e = tag_read h k _ p.5 in
     subst (Decides _ _ _) (up-sends _ _ _ (λ q. c.if-tag-k-ne-CONDITION.true (e ∙ q)))
-    (send-decides h l.args.at k p.1 p.2 _ _ _ (device-read h k _ p.4) p.7 p.3 _ _ _ e (number_read (goal.at.returns-then-tag-k-ne-CONDITION c).After-t20-1) (due-read (goal.at.returns-then-tag-k-ne-CONDITION c).After-t20-1) _ _
+    (send-decides h c.args.at k p.1 p.2 _ _ _ (device-read h k _ p.4) p.7 p.3 _ _ _ e (number_read (goal.at.returns-then-tag-k-ne-CONDITION c).After-t20-1) (due-read (goal.at.returns-then-tag-k-ne-CONDITION c).After-t20-1) _ _
     c.plain.ensures c.staged-change.ensures)
 
 pub returns-then-due-setting : goal.returns-then-due-setting
-returns-then-due-setting c = let l = start (goal.at.returns-then-due-setting c).After-t20-1 in
-    let h = l.args.state in
-    let k = l.args.k in
-    let p = l.pre in
+returns-then-due-setting c = let h = c.args.state in
+    let k = c.args.k in
+    let p = c.requires in
     subst (Decides _ _ _) (up-condition _ _ _ (asked (goal.at.returns-then-due-setting c).Else-tag-k-ne-CONDITION))
-    (not-held-decides h l.args.at k p.1 p.2 _ _ _ (device-read h k _ p.4) p.7 p.3 _ _ (due-read (goal.at.returns-then-due-setting c).After-t20-1) (number_read (goal.at.returns-then-due-setting c).After-t20-1)
+    (not-held-decides h c.args.at k p.1 p.2 _ _ _ (device-read h k _ p.4) p.7 p.3 _ _ (due-read (goal.at.returns-then-due-setting c).After-t20-1) (number_read (goal.at.returns-then-due-setting c).After-t20-1)
     c.if-due-setting.true _ _ _ c.plain-then-due-setting.ensures c.staged-change-then-due-setting.ensures)
 
 pub returns : goal.returns
-returns c = let l = start (goal.at.returns c).After-t20-1 in
-    let h = l.args.state in
-    let k = l.args.k in
-    let p = l.pre in
+returns c = let h = c.args.state in
+    let k = c.args.k in
+    let p = c.requires in
     subst (Decides _ _ _) (up-condition _ _ _ (asked (goal.at.returns c).Else-tag-k-ne-CONDITION))
-    (held-decides h l.args.at k p.1 p.2 _ _ _ (device-read h k _ p.4) p.7 p.3 _ _ (due-read (goal.at.returns c).After-t20-1) (number_read (goal.at.returns c).After-t20-1)
+    (held-decides h c.args.at k p.1 p.2 _ _ _ (device-read h k _ p.4) p.7 p.3 _ _ (due-read (goal.at.returns c).After-t20-1) (number_read (goal.at.returns c).After-t20-1)
     c.if-due-setting.false _ _ _ c.plain-2.ensures c.staged-change-2.ensures)
