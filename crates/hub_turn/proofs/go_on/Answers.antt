@@ -29,9 +29,6 @@ within c = in_rows _ _ _ c.requires.0 c.requires.1 c.requires.2
 fits : (c : Start) → (c.args.at < max_sequence) × (get_or c.args.state.counts c.args.at 0 ≤ max_commands)
 fits c = commands_fit _ c.requires.0 _ c.requires.1
 
-abbrev outset : tie.After-counts → tie.Start
-outset c = c.before.before.before.before.before.before.before.before
-
 pub bounds-device-k : goal.bounds-device-k
 bounds-device-k c = within (goal.at.bounds-device-k c).Start
 
@@ -45,16 +42,16 @@ pub bounds-device-k-then-not-skips : goal.bounds-device-k-then-not-skips
 bounds-device-k-then-not-skips c = within (goal.at.bounds-device-k-then-not-skips c).Start
 
 pub bounds-counts-at : goal.bounds-counts-at
-bounds-counts-at c = (fits (outset c)).0
+bounds-counts-at c = (fits (goal.at.bounds-counts-at c).Start).0
 
 pub overflow_cast-end : goal.overflow_cast-end
-overflow_cast-end c = let f = fits (outset c) in omega arith
+overflow_cast-end c = let f = fits (goal.at.overflow_cast-end c).Start in omega arith
 
 pub overflow_add-end : goal.overflow_add-end
-overflow_add-end c = let f = fits (outset c) in omega arith
+overflow_add-end c = let f = fits (goal.at.overflow_add-end c).Start in omega arith
 
 pub counting_tag-requires : goal.counting_tag-requires
-counting_tag-requires c = let f = fits (outset c) in let i = within (outset c) in (omega arith, omega arith)
+counting_tag-requires c = let f = fits (goal.at.counting_tag-requires c).Start in let i = within (goal.at.counting_tag-requires c).Start in (omega arith, omega arith)
 
 -- ---- what the code has found out
 begun-is : (c : After-is_skipped-skips) →
