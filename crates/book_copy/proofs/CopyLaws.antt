@@ -5,8 +5,6 @@ use mathlib.Core.List.{List, [], ◌∷◌, ◌++◌, map, append_assoc, append-
 use native.Mathlib.Numerals.{add-one}
 use native.Mathlib.Omega.{arith}
 use borrow.Author.Tests.{lt-ltb, le-ltb}
-use denote.Enum.Declared.{tag_of}
-use types.Run.{OneOf, miss}
 use lib.Dec.{ltb}
 use lib.IntN.{pos}
 use lib.ListN.{length, take, drop, get_or, set, replicate, length-append, length-map, length-take, length-drop}
@@ -25,7 +23,6 @@ use Rattle.book_layout.specs.Reading.{book_check, next_of}
 use Rattle.book_layout.specs.Writing.{routines_lent, row_of, counts_of, routines_check, write_check, written_with, written_of, buffer_with}
 use Rattle.book_layout.specs.Writing.{buffer_after}
 use Rattle.book_layout.specs.declared.Item.{Item}
-use Rattle.book_layout.specs.contracts.Item.{the_type as item-type}
 use Rattle.book_layout.specs.declared.Item.TheVariants.{Handed, End, Refused as RefusedBook}
 use Rattle.book_layout.specs.declared.Written.TheVariants.{Refused as NotWritten}
 use Rattle.book_layout.proofs.Lending.{first-there, rest-there}
@@ -171,11 +168,6 @@ module _ (b : List ℕ) (at i : ℕ) (rs : List (List Command)) where
 
   pub step_ended : Hands b at (drop i rs) → ((next_of b at).item ≡ Handed → ⊥) → length rs ≤ i
   step_ended = ended (drop i rs) refl
-
-pub not_handed : (t : Item) → OneOf (1 ∷ 2 ∷ []) (tag_of item-type t) → t ≡ Handed → ⊥
-not_handed Handed k e = miss (1 ∷ 2 ∷ []) 0 tt k
-not_handed End k e = let z : ◌≡◌ {A = ℕ} 0 1 = cc in omega arith
-not_handed (RefusedBook r) k e = let z : ◌≡◌ {A = ℕ} 0 1 = cc in omega arith
 
 -- ---- the copy
 

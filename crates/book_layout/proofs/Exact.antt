@@ -75,8 +75,8 @@ module _ (b : List ℕ) (bytes : Bytes b) where
   made : (t : Test) (test : Bool) → Decides test (Breaks b t) → ComesTo (t ∷ []) (refuse cause_of t when test)
   made t test d = one (Breaks b) cause_of t test d
 
-  and_then : {ts us : List Test} {v w : Verdict} → ComesTo ts v → (v ≡ Accepted → ComesTo us w) → ComesTo (ts ++ us) (v and_then w)
-  and_then o p = join (Breaks b) cause_of o p
+  then : {ts us : List Test} {v w : Verdict} → ComesTo ts v → (v ≡ Accepted → ComesTo us w) → ComesTo (ts ++ us) (v and_then w)
+  then o p = join (Breaks b) cause_of o p
 
   -- commands that are not there break no test
   commands-past : (i k j : ℕ) → (i < count-of b → length_at b i ≤ command_size * j) → ComesTo (command_tests i j k) Accepted
@@ -97,7 +97,7 @@ module _ (b : List ℕ) (bytes : Bytes b) where
   routines-past (suc n) i h =
       passed {t = routine_length i} (λ x. let y = x.0 in omega arith)
       (passed {t = routine_place i} (λ x. let y = x.0 in omega arith)
-      (and_then (commands-past i max_commands 0 (λ l. absurd (omega arith))) (λ _. routines-past n (suc i) (omega arith))))
+      (then (commands-past i max_commands 0 (λ l. absurd (omega arith))) (λ _. routines-past n (suc i) (omega arith))))
 
   -- whether the j-th command of routine i is a condition that stands alone, n commands being behind it
   alone : (i n j : ℕ) → i < count-of b → length_at b i ≡ command_size * (j + suc n) →
@@ -131,8 +131,8 @@ module _ (b : List ℕ) (bytes : Bytes b) where
       let setting = made (command_setting i j) _ (agree bits (λ x. (hi, there, x.0, x.1)) (λ y. (y.2, y.3))) in
       let tag = made (command_tag i j) _ (agree (less highest_tag (byte_at b (at + 1))) (λ x. (hi, there, x)) (λ y. y.2)) in
       let others = commands-outcome i k n (suc j) hi (omega arith) (omega arith) in
-      and_then (and_then device (λ _. and_then setting (λ _. tag)))
-      (λ _. and_then (made (command_alone i j) _ (alone i n j hi e))
+      then (then device (λ _. then setting (λ _. tag)))
+      (λ _. then (made (command_alone i j) _ (alone i n j hi e))
       (λ _. subst (λ (p : ℕ). ComesTo (command_tests i (suc j) k) (commands_check book_devices (suc j) (commands_at b p n))) next others))
 
   -- routine i, at its place
@@ -145,7 +145,7 @@ module _ (b : List ℕ) (bytes : Bytes b) where
       let size = made (routine_length i) _ (agree (unfit (length_at b i)) (λ x. (h, x)) (λ y. y.1)) in
       let misplaced = either _ _ (other (offset_at b i) (place b i)) (less (length b) (place b i + length_at b i)) in
       let spot = made (routine_place i) _ (agree misplaced (λ x. (h, x)) (λ y. y.1)) in
-      and_then size (λ fits. and_then spot (λ _.
+      then size (λ fits. then spot (λ _.
       let f = fits_in_fours (length_at b i) (not-false _ (not-refused _ _ fits)) in
       subst (λ (p : ℕ). ComesTo (command_tests i 0 max_commands) (commands_check book_devices 0 (commands_at b p n))) first
       (commands-outcome i max_commands n 0 h (omega arith) (omega arith))))
@@ -157,12 +157,12 @@ module _ (b : List ℕ) (bytes : Bytes b) where
   routines-outcome m zero i e l =
       let ended : count-of b ≡ i = omega arith in
       let over = less (place b (count-of b)) (length b) in
-      and_then (routines-past m i (omega arith))
+      then (routines-past m i (omega arith))
       (λ _. made left_over _ (subst (λ (k : ℕ). Decides (ltb (place b k) (length b)) (Breaks b left_over)) ended over))
   routines-outcome zero (suc n) i e l = absurd (omega arith)
   routines-outcome (suc m) (suc n) i e l =
       rw (append_assoc (command_tests i 0 max_commands) (routine_tests (suc i) m) (left_over ∷ []))
-      (and_then (routine-outcome i (omega arith)) (λ _. routines-outcome m n (suc i) (omega arith) (omega arith)))
+      (then (routine-outcome i (omega arith)) (λ _. routines-outcome m n (suc i) (omega arith) (omega arith)))
 
   -- the head of the book
   head-outcome : ComesTo (head ∷ []) (head_check b)
@@ -177,7 +177,7 @@ module _ (b : List ℕ) (bytes : Bytes b) where
   book-outcome : ComesTo tests (book_check b)
   unfolding tests book_check place
   book-outcome =
-      and_then head-outcome (λ fine.
+      then head-outcome (λ fine.
       let few : ¬ (max_routines < count-of b) = λ h. (accepted_passes (Breaks b) cause_of head-outcome fine).0 (inr (inl h)) in
       routines-outcome max_routines (count-of b) 0 (omega arith) (omega arith))
 

@@ -262,7 +262,7 @@ hands-same : (b : List ℕ) (p : ℕ) (rs rs' : List (List Command)) → Hands b
 hands-same b p [] [] (ends x) (ends x') = refl
 hands-same b p [] (r' ∷ rs') (ends x) (hands x' y' z') = let z : ◌≡◌ {A = ℕ} 0 1 = cc in absurd (omega arith)
 hands-same b p (r ∷ rs) [] (hands x y z) (ends x') = let z : ◌≡◌ {A = ℕ} 0 1 = cc in absurd (omega arith)
-hands-same b p (r ∷ rs) (r' ∷ rs') (hands x y z) (hands x' y' z') = ap₂ ◌∷◌ (sym y ∙ y') (hands-same b _ rs rs' z z')
+hands-same b p (r ∷ rs) (r' ∷ rs') (hands x y z) (hands x' y' z') = ap₂ ◌∷◌ (sym y ∙ y') (hands-same b (next_of b p).position rs rs' z z')
 
 -- Only an accepted book is read.
 not-turned-down : (b : List ℕ) (v : Verdict) → ((r : Refusal) → (next_with v b 0).item ≡ RefusedBook r → ⊥) → v ≡ Accepted

@@ -83,11 +83,11 @@ module _ (p : Member → Bool) (f : ℕ → Member) where
       let k : 1 ≤ count x (y ∷ l) = subst (λ (z : ℕ). 1 ≤ count z (y ∷ l)) (sym q) (last_in passes l y) in
       omega (arith, h x, same_self x) in
       let m : any_of p (map f (y ∷ l)) ≡ true = any_map (y ∷ l) ∙ a in
-      rw (e, m, ne_eqb x (last_slot passes y l) n) (ap (λ (r : List Member). f y ∷ r) i.0, i.1))
+      subst (λ (z : ℕ). Around z x (y ∷ l)) (sym e) (rw (m, ne_eqb x (last_slot passes y l) n) (ap (λ (r : List Member). f y ∷ r) i.0, i.1)))
       (λ _ a.
       let e : last_slot passes x (y ∷ l) ≡ x = last_none passes (y ∷ l) x a in
       let m : any_of p (map f (y ∷ l)) ≡ false = any_map (y ∷ l) ∙ a in
-      rw (e, m, eq-eqb x x refl) (refl, refl)) refl
+      subst (λ (z : ℕ). Around z x (y ∷ l)) (sym e) (rw (m, eq-eqb x x refl) (refl, refl))) refl
 
   -- what is found from the end stands directly before a newcomer
   pub back_around : (l : List ℕ) (after : ℕ) → ((w : ℕ) → count w (none ∷ l) ≤ 1) → first_slot passes (reverse l) ≡ after →

@@ -370,7 +370,7 @@ module _ (h : HubState) (v : StateOk h) where
       once : (w : ℕ) → count w (none ∷ slots_of h.links) ≤ 1
       once w =
           by_eq w none
-          (λ e. rw e (omega (arith, none_apart, same_self none)))
+          (λ e. subst (λ (z : ℕ). count z (none ∷ slots_of h.links) ≤ 1) (sym e) (omega (arith, none_apart, same_self none)))
           (λ o. omega (arith, same_other w none o, once-taken h.links w v.links_ok))
 
       latest_is : (after : ℕ) → first_slot follows (along h.links.ahead h.links.last) ≡ after → Latest h cs after

@@ -9,8 +9,6 @@ use borrow.Author.Tests.{lt-ltb, le-ltb, le-leb, lt-leb, eq-eqb, ne_eqb, ltb-tru
 use lib.Dec.{ltb, eqb}
 use lib.ListN.{length, drop, get_or, drop_of_length-le}
 use lib.Seq.{drop-cons}
-use denote.Enum.Declared.{tag_of}
-use types.Run.{OneOf, miss}
 use Rattle.rules_routine.specs.Choice.{if◌then◌else◌}
 use Rattle.line_rules.specs.Text.{space, minus, digit0}
 use Rattle.line_rules.specs.Pieces.{words_of}
@@ -20,7 +18,6 @@ use Rattle.line_read.specs.Places.{behind_letter, word_at, word_end, words_from}
 use Rattle.line_read.specs.View.{read_as}
 use Rattle.line_read.specs.declared.Call.{Call}
 use Rattle.line_read.specs.declared.Line.{Line}
-use Rattle.line_read.specs.contracts.Line.{the_type as line-type}
 use Rattle.line_read.specs.declared.Line.TheVariants.{Calling, Unread}
 use Rattle.line_read.specs.declared.LineRead.{LineRead}
 use Rattle.line_read.proofs.WordLaws.{word_past, word_none, word_more, words_first, words_all}
@@ -393,15 +390,13 @@ module _ (opened : Bool) (said : Said) (line : List ℕ) where
       go false (calling x) e = refl
       go o unread e = let z : ◌≡◌ {A = ℕ} 0 1 = cc in absurd (omega arith)
 
-  says_opening : OneOf (0 ∷ 1 ∷ []) (tag_of line-type (read_as said).line) → OneOf (0 ∷ 2 ∷ []) (tag_of line-type (read_as said).line) →
-      hint_by opened said line ≡ Nothing
+  says_opening : ((read_as said).line ≡ Unread → ⊥) → ((c : Call) → (read_as said).line ≡ Calling c → ⊥) → hint_by opened said line ≡ Nothing
   says_opening h k = go said h k
     where
-      go : (q : Said) → OneOf (0 ∷ 1 ∷ []) (tag_of line-type (read_as q).line) → OneOf (0 ∷ 2 ∷ []) (tag_of line-type (read_as q).line) →
-          hint_by opened q line ≡ Nothing
+      go : (q : Said) → ((read_as q).line ≡ Unread → ⊥) → ((c : Call) → (read_as q).line ≡ Calling c → ⊥) → hint_by opened q line ≡ Nothing
       go (opening n k first) h l = refl
-      go (calling c) h l = absurd (miss (0 ∷ 2 ∷ []) 1 tt l)
-      go unread h l = absurd (miss (0 ∷ 1 ∷ []) 2 tt h)
+      go (calling c) h l = absurd (l _ refl)
+      go unread h l = absurd (h refl)
 
 module _ (opened : Bool) (line : List ℕ) (read : LineRead) (is : read ≡ read_as (read_line line)) where
   same_line : read.line ≡ (read_as (read_line line)).line
@@ -415,9 +410,6 @@ module _ (opened : Bool) (line : List ℕ) (read : LineRead) (is : read ≡ read
   unfolding hint_of
   told-call c e = says_call opened (read_line line) line c (sym same_line ∙ e)
 
-  pub told-opening : OneOf (0 ∷ 1 ∷ []) (tag_of line-type read.line) → OneOf (0 ∷ 2 ∷ []) (tag_of line-type read.line) →
-      hint_of opened line ≡ Nothing
+  pub told-opening : (read.line ≡ Unread → ⊥) → ((c : Call) → read.line ≡ Calling c → ⊥) → hint_of opened line ≡ Nothing
   unfolding hint_of
-  told-opening h k =
-      says_opening opened (read_line line) line (subst (λ (l : Line). OneOf (0 ∷ 1 ∷ []) (tag_of line-type l)) same_line h)
-      (subst (λ (l : Line). OneOf (0 ∷ 2 ∷ []) (tag_of line-type l)) same_line k)
+  told-opening h k = says_opening opened (read_line line) line (λ e. h (same_line ∙ e)) (λ c e. k c (same_line ∙ e))

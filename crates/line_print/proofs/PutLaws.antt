@@ -7,7 +7,6 @@ use native.Mathlib.Nat.{add-zero, zero-add}
 use native.Mathlib.Numerals.{add-one}
 use native.Mathlib.Omega.{arith}
 use borrow.Author.Tests.{ltb-true}
-use types.Run.{OneOf, miss}
 use denote.Enum.Declared.{tag_of}
 use lib.Dec.{T}
 use lib.IntN.{ℤ, pos, negsuc, nat_abs, ◌-ℤ◌}
@@ -27,7 +26,6 @@ use Rattle.hub_answers.specs.declared.EventAbort.TheVariants.{NoAbort, Abort}
 use Rattle.hub_answers.specs.declared.PutBack.{PutBack}
 use Rattle.hub_answers.specs.declared.PutBacks.{PutBacks}
 use Rattle.hub_answers.specs.contracts.Answer.{the_type}
-use Rattle.hub_answers.proofs.Cases.{not_aborted}
 use Rattle.line_rules.specs.Text.{minus, bytes, decimal, signed}
 use Rattle.line_rules.specs.Reading.{lowest16}
 use Rattle.line_rules.specs.Printing.{as_line, back_list, answer_text, answers_text}
@@ -137,10 +135,10 @@ answers-append (a ∷ k) l =
 -- there is one
 pub put_neither : {first : EventAbort} (answer : Answer) (backs : PutBacks) {P : Type 0} → first ≡ NoAbort →
     PutBacksOnce first answer (put_backs_of backs) →
-    OneOf not_aborted (tag_of the_type answer) → P
+    ((i : ℕ) → answer ≡ Aborted i → ⊥) → P
 put_neither answer backs e k h =
     let own = subst (λ (f : EventAbort). PutBacksOnce f answer (put_backs_of backs)) e k in
-    absurd (miss not_aborted 7 tt (subst (λ (a : Answer). OneOf not_aborted (tag_of the_type a)) own.1 h))
+    absurd (h own.0 own.1)
 
 module _ {first : EventAbort} (answer : Answer) (backs : PutBacks) {a b : List ℕ} {at m : ℕ} where
   -- the call's own

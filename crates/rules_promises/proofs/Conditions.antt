@@ -107,12 +107,12 @@ tagged_first o b (one_more c agree_to_do a) t h p =
     (p, (λ _. h.1 refl), tagged_behind (is_condition c && false) _ a t (h.1 refl) h.2)
 tagged_first o b (one_more c agree_in_flight a) t h p =
     (p, (λ _. h.1 refl), tagged_behind (is_condition c && false) _ a t (h.1 refl) h.2)
-tagged_first o b (one_more c agree_done a) t h p = (h.0, (λ e. t≠f (sym e)), tagged_first o _ a t h.2 p)
-tagged_first o b (one_more c agree_failed a) t h p = (h.0, (λ e. t≠f (sym e)), tagged_first o _ a t h.2 p)
-tagged_first o b (one_more c agree_not_sent a) t h p = (h.0, (λ e. t≠f (sym e)), tagged_first o _ a t h.2 p)
-tagged_first o b (one_more c agree_by_event a) t h p = (h.0, (λ e. t≠f (sym e)), tagged_first o _ a t h.2 p)
-tagged_first o b (one_more c agree_held a) t h p = (h.0, (λ e. t≠f (sym e)), tagged_first o _ a t h.2 p)
-tagged_first o b (one_more c agree_not_held a) t h p = (h.0, (λ e. t≠f (sym e)), tagged_first o _ a t h.2 p)
+tagged_first o b (one_more c agree_done a) t h p = (h.0, (λ e. t≠f (sym e)), tagged_first o (is_condition c && false) a t h.2 p)
+tagged_first o b (one_more c agree_failed a) t h p = (h.0, (λ e. t≠f (sym e)), tagged_first o (is_condition c && true) a t h.2 p)
+tagged_first o b (one_more c agree_not_sent a) t h p = (h.0, (λ e. t≠f (sym e)), tagged_first o (is_condition c && true) a t h.2 p)
+tagged_first o b (one_more c agree_by_event a) t h p = (h.0, (λ e. t≠f (sym e)), tagged_first o (is_condition c && true) a t h.2 p)
+tagged_first o b (one_more c agree_held a) t h p = (h.0, (λ e. t≠f (sym e)), tagged_first o (is_condition c && false) a t h.2 p)
+tagged_first o b (one_more c agree_not_held a) t h p = (h.0, (λ e. t≠f (sym e)), tagged_first o (is_condition c && true) a t h.2 p)
 
 -- an event of d skips what is left on it
 module _ (d : ℕ) where
@@ -129,18 +129,18 @@ module _ (d : ℕ) where
   tagged_left b no_command t h = tt
   tagged_left b (one_more c {l = l} {k = k} agree_to_do a) t h =
       skip_or_stay (is_for d c && true) b c (note_left d l) (none_failed l (h.1 refl))
-      (tagged_left _ a (behind-turn k t) (tagged_behind (is_condition c && false) _ a t (h.1 refl) h.2))
-      (tagged_left _ a (behind-turn k t) h.2)
+      (tagged_left (is_condition c && true) a (behind-turn k t) (tagged_behind (is_condition c && false) _ a t (h.1 refl) h.2))
+      (tagged_left (is_condition c && false) a (behind-turn k t) h.2)
   tagged_left b (one_more c {l = l} {k = k} agree_in_flight a) t h =
       skip_or_stay (is_for d c && true) b c (note_left d l) (none_failed l (h.1 refl))
-      (tagged_left _ a (behind-turn k t) (tagged_behind (is_condition c && false) _ a t (h.1 refl) h.2))
-      (tagged_left _ a (behind-turn k t) h.2)
-  tagged_left b (one_more c agree_done a) t h = rw (and-false (is_for d c)) (h.0, (λ e. t≠f (sym e)), tagged_left _ a t h.2)
-  tagged_left b (one_more c agree_failed a) t h = rw (and-false (is_for d c)) (h.0, (λ e. t≠f (sym e)), tagged_left _ a t h.2)
-  tagged_left b (one_more c agree_not_sent a) t h = rw (and-false (is_for d c)) (h.0, (λ e. t≠f (sym e)), tagged_left _ a t h.2)
-  tagged_left b (one_more c agree_by_event a) t h = rw (and-false (is_for d c)) (h.0, (λ e. t≠f (sym e)), tagged_left _ a t h.2)
-  tagged_left b (one_more c agree_held a) t h = rw (and-false (is_for d c)) (h.0, (λ e. t≠f (sym e)), tagged_left _ a t h.2)
-  tagged_left b (one_more c agree_not_held a) t h = rw (and-false (is_for d c)) (h.0, (λ e. t≠f (sym e)), tagged_left _ a t h.2)
+      (tagged_left (is_condition c && true) a (behind-turn k t) (tagged_behind (is_condition c && false) _ a t (h.1 refl) h.2))
+      (tagged_left (is_condition c && false) a (behind-turn k t) h.2)
+  tagged_left b (one_more c agree_done a) t h = rw (and-false (is_for d c)) (h.0, (λ e. t≠f (sym e)), tagged_left (is_condition c && false) a t h.2)
+  tagged_left b (one_more c agree_failed a) t h = rw (and-false (is_for d c)) (h.0, (λ e. t≠f (sym e)), tagged_left (is_condition c && true) a t h.2)
+  tagged_left b (one_more c agree_not_sent a) t h = rw (and-false (is_for d c)) (h.0, (λ e. t≠f (sym e)), tagged_left (is_condition c && true) a t h.2)
+  tagged_left b (one_more c agree_by_event a) t h = rw (and-false (is_for d c)) (h.0, (λ e. t≠f (sym e)), tagged_left (is_condition c && true) a t h.2)
+  tagged_left b (one_more c agree_held a) t h = rw (and-false (is_for d c)) (h.0, (λ e. t≠f (sym e)), tagged_left (is_condition c && false) a t h.2)
+  tagged_left b (one_more c agree_not_held a) t h = rw (and-false (is_for d c)) (h.0, (λ e. t≠f (sym e)), tagged_left (is_condition c && true) a t h.2)
 
 new_failed : (cs : List Command) → Each NotFailed (map (noted_as not_yet) cs)
 new_failed [] = tt
@@ -148,7 +148,7 @@ new_failed (c ∷ cs) = (refl, new_failed cs)
 
 tagged_new : (b : Bool) (cs : List Command) → AllTagged b (map (noted_as not_yet) cs)
 tagged_new b [] = tt
-tagged_new b (c ∷ cs) = (tt, (λ _. new_failed cs), tagged_new _ cs)
+tagged_new b (c ∷ cs) = (tt, (λ _. new_failed cs), tagged_new (is_condition c && false) cs)
 
 -- of every id
 abbrev pub TaggedAll : (ℕ → Account) → Type 0
@@ -311,12 +311,12 @@ runs-first : (d : ℕ) (o : Outcome) (b : Bool) (v : ℤ) {l : List Noted} {k : 
 runs-first d o b v no_command t p h = tt
 runs-first d o b v (one_more c {l = l} {k = k} agree_to_do a) t p h = (p, runs_quiet d l b _ (agree_found d a ∙ behind_unasked d k t))
 runs-first d o b v (one_more c {l = l} {k = k} agree_in_flight a) t p h = (p, runs_quiet d l b _ (agree_found d a ∙ behind_unasked d k t))
-runs-first d o b v (one_more c agree_done a) t p h = (h.0, runs-first d o b _ a t p h.1)
-runs-first d o b v (one_more c agree_failed a) t p h = (h.0, runs-first d o b _ a t p h.1)
-runs-first d o b v (one_more c agree_not_sent a) t p h = (h.0, runs-first d o b _ a t p h.1)
-runs-first d o b v (one_more c agree_by_event a) t p h = (h.0, runs-first d o b _ a t p h.1)
-runs-first d o b v (one_more c agree_held a) t p h = (h.0, runs-first d o b _ a t p h.1)
-runs-first d o b v (one_more c agree_not_held a) t p h = (h.0, runs-first d o b _ a t p h.1)
+runs-first d o b v (one_more c agree_done a) t p h = (h.0, runs-first d o b (if is_for d c then c.setting else v) a t p h.1)
+runs-first d o b v (one_more c agree_failed a) t p h = (h.0, runs-first d o b v a t p h.1)
+runs-first d o b v (one_more c agree_not_sent a) t p h = (h.0, runs-first d o b v a t p h.1)
+runs-first d o b v (one_more c agree_by_event a) t p h = (h.0, runs-first d o b v a t p h.1)
+runs-first d o b v (one_more c agree_held a) t p h = (h.0, runs-first d o b v a t p h.1)
+runs-first d o b v (one_more c agree_not_held a) t p h = (h.0, runs-first d o b v a t p h.1)
 
 -- of an outcome that is none of a condition nothing is asked
 first_any : (d : ℕ) (P : Command → ℤ → Type 0) → ((c : Command) (v : ℤ) → P c v) → (l : List Noted) (v : ℤ) → FirstOn d P l v
@@ -339,7 +339,7 @@ first_next d P c v (one_more b {k = k} agree_to_do a) t f e p =
     some_same : (b c : Command) → some b ≡ some c → b ≡ c
     some_same b c e = cc
 first_next d P c v (one_more b agree_in_flight a) t f e p = let z : ◌≡◌ {A = ℕ} 0 1 = cc in absurd (omega arith)
-first_next d P c v (one_more b agree_done a) t f e p = first_next d P c _ a t f e p
+first_next d P c v (one_more b agree_done a) t f e p = first_next d P c (if is_for d b then b.setting else v) a t f e p
 first_next d P c v (one_more b agree_failed a) t f e p = first_next d P c v a t f e p
 first_next d P c v (one_more b agree_not_sent a) t f e p = first_next d P c v a t f e p
 first_next d P c v (one_more b agree_by_event a) t f e p = first_next d P c v a t f e p

@@ -64,6 +64,7 @@ see_mark d i a g b (unmarked z q) = let r = each_right (NotBegun d) a (g ∷ b) 
 see_mark d i a g b (marked u) = near (see_upto d i a g b u)
 
 pub upto_right : (d i : ℕ) (a b : List Group) → MarkedAt d i a → Each (NotBegun d) b → MarkedAt d i (a ++ b)
+upto_right d i [] b u q = elim u [ ]
 upto_right d i (x ∷ a) b (here e h s) q = here e h (each_++ (NotBegun d) a b s q)
 upto_right d i (x ∷ a) b (there f u) q = there f (upto_right d i a b u q)
 
@@ -80,6 +81,7 @@ seen_back d i a g b (near (mark-behind f k u)) = marked (upto_left d i a (g ∷ 
 
 -- the mark's id is one of the sequence
 pub upto_in : (d i : ℕ) (l : List Group) → MarkedAt d i l → In i (ids l)
+upto_in d i [] u = elim u [ ]
 upto_in d i (g ∷ l) (here e h q) = inl e
 upto_in d i (g ∷ l) (there f u) = inr (upto_in d i l u)
 
@@ -214,6 +216,7 @@ pub data MarkPlace (d i : ℕ) (l : List Group) : Type 0 where
 
 upto_place : (d i : ℕ) (l : List Group) → MarkedAt d i l →
     (a : List Group) × (g : Group) × (b : List Group) × (l ≡ a ++ (g ∷ b)) × (g.member.id ≡ i) × Each (NotBegun d) b
+upto_place d i [] u = elim u [ ]
 upto_place d i (g ∷ l) (here e h q) = ([], g, l, refl, e, q)
 upto_place d i (x ∷ l) (there f u) = let r = upto_place d i l u in (x ∷ r.0, r.1, r.2, ap (λ k. x ∷ k) r.3, r.4, r.5)
 

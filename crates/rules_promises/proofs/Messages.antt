@@ -21,7 +21,7 @@ use Rattle.rules.specs.History.{Outcome, Account, answered_account, ended_accoun
 use Rattle.rules.specs.World.{Origin, putting_back, sent_for, same_origin, Message, Device, takes, without, drops, devices_after_all}
 use Rattle.rules.proofs.Lists.{by_if, t≠f, eqb_sym, put_other, each_mid, each_drop, each_insert, each_map, NotIn, In, in_other}
 use Rattle.rules_promises.proofs.Groups.{Group, members, ids, still_held, each_held}
-use Rattle.rules_promises.proofs.Same.{Pairwise, pair, Same, same_each}
+use Rattle.rules_promises.proofs.Same.{Pairwise, no_pair, pair, Same, same_each}
 use Rattle.rules_promises.proofs.Steps.{InTurn, done-step, finished_grounded, unbegun_grounded}
 use Rattle.rules_promises.proofs.Invariant.{NotBegun, HasFinished, CommittedHasNothingLeft, CommandsInTurn, HubOk, CountedSend}
 use Rattle.rules_promises.proofs.Invariant.{CountedMessage, back_to, ReachesSetting, has, goes-back, flight_origin, NotOrigin}
@@ -101,6 +101,7 @@ old_takes a w s t (suc k) (m ∷ l) o = old_takes a w s t k l o.1
 -- the accounts and the device change, and the one that flies still flies so
 one_map : (d : ℕ) (a b : ℕ → Account) (w u : Device) (l : List Group) →
     ((j : ℕ) (x : Flight) → In j (ids l) → OnItsWay a j x w → OnItsWay b j x u) → OneFlightOn d a w l → OneFlightOn d b u l
+one_map d a b w u [] f o = elim o [ ]
 one_map d a b w u (g ∷ l) f (first_has_it x e c h s) = first_has_it x e c (f g.member.id x (inl refl) h) s
 one_map d a b w u (g ∷ l) f (later_has_it s o) = later_has_it s (one_map d a b w u l (λ j x m. f j x (inr m)) o)
 
@@ -140,6 +141,7 @@ device-settles d s a l w h k =
   where
     -- what is committed has nothing in flight
     one : (l : List Group) → Each CommittedHasNothingLeft l → OneFlightOn d a w l → OneFlightOn d a w (still_held l)
+    one [] c o = elim o [ ]
     one (g ∷ l) c (first_has_it x e o f t) =
         by_if (λ m. OneFlightOn d a w m) g.member.committed (λ y. t≠f (sym y ∙ flight-runs g x c.0 e)) (λ _. first_has_it x e o f t)
     one (g ∷ l) c (later_has_it t o) = by_if (λ m. OneFlightOn d a w m) g.member.committed (λ _. one l c.1 o) (λ _. later_has_it t o)
@@ -153,6 +155,7 @@ pub no_flights_on_same : (d : ℕ) {l k : List Group} → Pairwise Same l k → 
 no_flights_on_same d = same_each (NoFlightOn d) (same_no_flight_on d)
 
 pub one_same : (d : ℕ) (a : ℕ → Account) (w : Device) {l k : List Group} → Pairwise Same l k → OneFlightOn d a w l → OneFlightOn d a w k
+one_same d a w no_pair o = elim o [ ]
 one_same d a w (pair e r) (first_has_it x f n y s) =
     first_has_it x (ap flight e.same-steps ∙ f) n (subst (λ j. OnItsWay a j x w) (sym e.same_id) y) (no_flights_on_same d r s)
 one_same d a w (pair e r) (later_has_it s o) = later_has_it (same_no_flight_on d _ _ e s) (one_same d a w r o)
@@ -179,6 +182,7 @@ no_flights_on_any d (g ∷ l) s = rw s.0.no_flight_on (no_flights_on_any d l s.1
 
 module _ (d : ℕ) (a : ℕ → Account) (w : Device) where
   pub one_any : (l : List Group) → Each CommandsInTurn l → OneFlightOn d a w l → any_of (in_flight_on d) (members l) ≡ true
+  one_any [] t o = elim o [ ]
   one_any (g ∷ l) t (first_has_it x e c f s) = rw (flies_there d g t.0.turns x e c) refl
   one_any (g ∷ l) t (later_has_it s o) = rw s.no_flight_on (one_any l t.1 o)
 

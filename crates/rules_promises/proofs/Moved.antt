@@ -80,6 +80,8 @@ same_at_mark d g h e (whole f) = whole (same-finished-it d g h e.same_member f)
 same_at_mark d g h e (part b n) = part (same-begun d g h e.same_member ∙ b) (e.same_events ∙ n)
 
 pairs_upto : (d i : ℕ) (l k : List Group) → Pairwise (SameOn d) l k → MarkedAt d i l → MarkedAt d i k
+pairs_upto d i [] k p u = elim u [ ]
+pairs_upto d i (x ∷ l) [] p u = elim p [ ]
 pairs_upto d i (x ∷ l) (y ∷ k) (pair r p) (here e h q) =
     here (r.same_member.same_id ∙ e) (same_at_mark d x y r h) (pairs_each (SameOn d) (NotBegun d) (same-not-begun d) p q)
 pairs_upto d i (x ∷ l) (y ∷ k) (pair r p) (there f u) = there (same-finished-it d x y r.same_member f) (pairs_upto d i l k p u)
@@ -124,6 +126,7 @@ unblocked_finished-it s cs d m e n =
 
 place-finished-it : (s : State) (cs : List Command) (d : ℕ) (b : List Group) → any_of (blocks s cs) (members b) ≡ false →
     MarkedAt d (s.mark d) b → HasFinished d (alone (newcomer s.next_id cs))
+place-finished-it s cs d [] n u = elim u [ ]
 place-finished-it s cs d (g ∷ b) n (here e h q) =
     unblocked_finished-it s cs d g.member e (or_left (blocks s cs g.member) (any_of (blocks s cs) (members b)) n)
 place-finished-it s cs d (g ∷ b) n (there f u) =
@@ -293,6 +296,7 @@ not_halfway_finished-it d g s c (part b n) =
 
 upto_attach : (d i n : ℕ) (x : Event) (l : List Group) → IdsOk n (ids l) → Each CommittedHasNothingLeft l → Each (NotHalfway d) l →
     MarkedAt d i l → MarkedAt d i (attach_event i x l)
+upto_attach d i n x [] k s c u = elim u [ ]
 upto_attach d i n x (g ∷ l) k s c (here e h q) =
     let m = same_added x g in
     rw (eq-eqb g.member.id i e)

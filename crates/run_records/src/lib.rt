@@ -4,7 +4,7 @@
 ghost use Rattle.std.specs.Prelude.{◌≡◌, ◌≤◌, ◌<◌, length};
 ghost use Rattle.run_records.specs.Within.{Within};
 
-use libc::{STDIN_FILENO, STDOUT_FILENO};
+use std::io::Read;
 
 // A part of a slice: from a place up to, not including, another.
 #[derive(Clone, Copy)]
@@ -60,14 +60,32 @@ pub fn room() -> [u8; 2097152]
     [0; 2097152]
 }
 
-// Reads standard input whole, and says so where it does not fit; how much was read.
-pub fn load(buffer: &mut [u8]) -> usize
+// Reads until the buffer is full, the input ends or a read fails; how much was read.
+fn read_full<R: Read>(reader: &mut R, buffer: &mut [u8]) -> usize
     ensures { result ≤ length buffer.new }
 {
-    let n = io::read_full(STDIN_FILENO, buffer);
+    let mut filled = 0;
+    while filled < buffer.len() {
+        let Ok(count) = reader.read(&mut buffer[filled..]) else {
+            return filled;
+        };
+        if count == 0 {
+            return filled;
+        }
+        filled += count;
+    }
+    filled
+}
+
+// Reads standard input whole, and says so where it does not fit; how much was read.
+pub fn load(rt: &(impl Input + Print), buffer: &mut [u8]) -> usize
+    ensures { result ≤ length buffer.new }
+{
+    let mut reader = rt.reader();
+    let n = read_full(&mut reader, buffer);
     let mut more = [0u8; 1];
-    if libc::read(STDIN_FILENO, &mut more) > 0 {
-        io::write_all(STDOUT_FILENO, b"input too long\n");
+    if let Ok(1) = reader.read(&mut more) {
+        let _ = rt.write_all(b"input too long\n");
     }
     n
 }

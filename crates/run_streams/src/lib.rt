@@ -4,17 +4,15 @@
 
 ghost use Rattle.std.specs.Prelude.{◌+◌, ◌≤◌, ◌≡◌, length, take};
 
-use libc::{STDERR_FILENO, STDIN_FILENO, STDOUT_FILENO};
+use std::io::Read;
 
-fn say(program: &[u8], message: &[u8]) {
-    io::write_all(STDERR_FILENO, program);
-    io::write_all(STDERR_FILENO, b": ");
-    io::write_all(STDERR_FILENO, message);
-    io::write_all(STDERR_FILENO, b"\n");
+// What cannot be said on standard error is not said.
+fn say(rt: &impl Eprint, program: &str, message: &str) {
+    let _ = eprintln!(rt; "{program}: {message}");
 }
 
-pub fn say_not_written(program: &[u8]) {
-    say(program, b"standard output cannot be written");
+pub fn say_not_written(rt: &impl Eprint, program: &str) {
+    say(rt, program, "standard output cannot be written");
 }
 
 // How many bytes were read, 0 at the end of the input, and whether they could be read.
@@ -25,29 +23,35 @@ pub struct Got {
 }
 
 // Reads into the input behind the pending bytes, which stay.
-pub fn read_behind(program: &[u8], input: &mut [u8], pending: usize) -> Got
+pub fn read_behind(
+    rt: &(impl Input + Eprint),
+    program: &str,
+    input: &mut [u8],
+    pending: usize,
+) -> Got
     requires { pending ≤ length input.old }
     ensures { (pending + result.count ≤ length input.old)
         × (take pending input.new ≡ take pending input.old) }
 {
-    let answer = libc::read(STDIN_FILENO, &mut input[pending..]);
-    let count = io::count(answer, &input[pending..]);
-    if answer < 0 {
-        say(program, b"standard input cannot be read");
-    }
-    Got {
-        count,
-        good: 0 <= answer,
+    match rt.reader().read(&mut input[pending..]) {
+        Ok(count) => Got { count, good: true },
+        Err(_) => {
+            say(rt, program, "standard input cannot be read");
+            Got {
+                count: 0,
+                good: false,
+            }
+        }
     }
 }
 
 // Reads until the buffer is full or the input ends: how many bytes, and whether they could be read.
-pub fn read_full(program: &[u8], input: &mut [u8]) -> Got
+pub fn read_full(rt: &(impl Input + Eprint), program: &str, input: &mut [u8]) -> Got
     ensures { result.count ≤ length input.old }
 {
     let mut filled = 0;
     while filled < input.len() {
-        let got = read_behind(program, input, filled);
+        let got = read_behind(rt, program, input, filled);
         filled += got.count;
         if got.count == 0 {
             return Got {
@@ -63,10 +67,10 @@ pub fn read_full(program: &[u8], input: &mut [u8]) -> Got
 }
 
 // Whether all of a text could be written.
-pub fn write_out(program: &[u8], text: &[u8]) -> bool {
-    let good = io::write_all(STDOUT_FILENO, text);
+pub fn write_out(rt: &(impl Print + Eprint), program: &str, text: &[u8]) -> bool {
+    let good = rt.write_all(text).is_ok();
     if !good {
-        say_not_written(program);
+        say_not_written(rt, program);
     }
     good
 }

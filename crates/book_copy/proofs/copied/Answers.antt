@@ -17,25 +17,25 @@ bytes : (c : After-rows_of-read) → Bytes c.args.book.now
 bytes c = λ i. (c.shared_slice_known-1.given i).fits
 
 -- the book is accepted
-read : (c : In_default) → Read c.args.book.now c.rows_of_lem.result
-read c = read-accepted _ (bytes c.before.before) _ c.rows_of_lem.ensures c.in_default.is
+read : (c : In_default) → Bytes c.args.book.now → Read c.args.book.now c.rows_of-read.result
+read c b = read-accepted _ b _ c.rows_of-read.ensures c.in_default.is
 
 pub returns-in-Refused : goal.returns-in-Refused
 returns-in-Refused c = let a = c.args in
-    let e = read-refused a.book.now (bytes (goal.at.returns-in-Refused c).After-rows_of-read) c.rows_of_lem.result c.rows_of_lem.ensures _ c.in-Refused.is in
-    refused_copied a.book.now a.out.now _ e
+    let e = read-refused a.book.now (bytes (goal.at.returns-in-Refused c).After-rows_of-read) c.rows_of-read.result c.rows_of-read.ensures _ c.in-Refused.is in
+    let t = refused_copied a.book.now a.out.now _ e in record { answers = t.0; leaves = t.1 }
 
 pub write_rows-requires : goal.write_rows-requires
-write_rows-requires c = let d = read (goal.at.write_rows-requires c).In_default in
+write_rows-requires c = let d = read (goal.at.write_rows-requires c).In_default (bytes (goal.at.write_rows-requires c).After-rows_of-read) in
     omega (arith, ap (λ (x : Rows). x.routines) d.rows, rows_count d.routines, d.makes.few)
 
 pub returns : goal.returns
-returns c = let d = read (goal.at.returns c).In_default in
+returns c = let d = read (goal.at.returns c).In_default (bytes (goal.at.returns c).After-rows_of-read) in
     let w = c.write_rows.ensures in
     let a = c.args in
-    let r = rows_lent d.routines c.rows_of_lem.result.rows d.rows in
-    let b = a.book.now in (
-      w.0 ∙ ap (λ (rs : List (List Command)). written_of rs (length a.out.now)) r
-          ∙ written_copied b d.routines d.accepted d.makes _,
-      w.1 ∙ ap (λ (rs : List (List Command)). buffer_after rs a.out.now) r ∙ after_copied b d.routines d.accepted d.makes _,
-    )
+    let r = rows_lent d.routines c.rows_of-read.result.rows d.rows in
+    let b = a.book.now in record {
+      answers = w.answers ∙ ap (λ (rs : List (List Command)). written_of rs (length a.out.now)) r
+          ∙ written_copied b d.routines d.accepted d.makes _;
+      leaves = w.leaves ∙ ap (λ (rs : List (List Command)). buffer_after rs a.out.now) r ∙ after_copied b d.routines d.accepted d.makes _;
+    }

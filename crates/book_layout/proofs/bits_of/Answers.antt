@@ -17,7 +17,7 @@ narrow : (c : Start) → to_z w16 (of_z w16 c.args.setting) ≡ c.args.setting
 narrow c = to_z-of_z c.ranges.setting
 
 wide : (c : Start) → to_z w32 (of_z w32 c.args.setting) ≡ c.args.setting
-wide c = to_z-of_z (sfits_widen {w = w16} tt c.ranges.setting)
+wide c = to_z-of_z {w = w32} (sfits_widen {w = w16} tt c.ranges.setting)
 
 -- what the test says of it
 above : (c : Then-setting-ge0) → le_z (pos 0) c.args.setting ≡ true
@@ -32,7 +32,7 @@ more c = let h : mag c.args.setting < 2 ^ 15 = c.ranges.setting.sfits in
     and_65536 c.args.setting (below c) (omega arith)
 
 pub overflow_cast-result : goal.overflow_cast-result
-overflow_cast-result c = rw (narrow (goal.at.overflow_cast-result c).Start, not_below_0 c.args.setting (above (goal.at.overflow_cast-result c).Then-setting-ge0)) (
+overflow_cast-result c = rw (narrow (goal.at.overflow_cast-result c).Start, not_below_0 c.args.setting (above c)) (
   tt,
   record { fits = omega (arith, c.ranges.setting.sfits) },
 )
@@ -41,18 +41,18 @@ pub overflow_cast-result-else-setting-ge0 : goal.overflow_cast-result-else-setti
 overflow_cast-result-else-setting-ge0 c = rw (narrow (goal.at.overflow_cast-result-else-setting-ge0 c).Start) (sfits_widen {w = w16} tt c.ranges.setting)
 
 pub overflow_add-result : goal.overflow_add-result
-overflow_add-result c = rw (narrow (goal.at.overflow_add-result c).Start, wide (goal.at.overflow_add-result c).Start, more (goal.at.overflow_add-result c).Else-setting-ge0) (record { sfits = omega arith })
+overflow_add-result c = rw (narrow (goal.at.overflow_add-result c).Start, wide (goal.at.overflow_add-result c).Start, more c) (record { sfits = omega arith })
 
 -- what the machine reads of it
 sum : (c : Else-setting-ge0) → to_z w32 (65535 - mag c.args.setting) ≡ pos (65535 - mag c.args.setting)
 sum c = let h : 65535 - mag c.args.setting < 2 ^ 31 = omega arith in to_z_pos w32 h
 
 pub overflow_cast-result-else-setting-ge0-2 : goal.overflow_cast-result-else-setting-ge0-2
-overflow_cast-result-else-setting-ge0-2 c = rw (narrow (goal.at.overflow_cast-result-else-setting-ge0-2 c).Start, wide (goal.at.overflow_cast-result-else-setting-ge0-2 c).Start, more (goal.at.overflow_cast-result-else-setting-ge0-2 c).Else-setting-ge0, sum (goal.at.overflow_cast-result-else-setting-ge0-2 c).Else-setting-ge0) (tt, record { fits = omega arith })
+overflow_cast-result-else-setting-ge0-2 c = rw (narrow (goal.at.overflow_cast-result-else-setting-ge0-2 c).Start, wide (goal.at.overflow_cast-result-else-setting-ge0-2 c).Start, more c, sum c) (tt, record { fits = omega arith })
 
 pub returns-then-setting-ge0 : goal.returns-then-setting-ge0
-returns-then-setting-ge0 c = ap nat_abs (narrow (goal.at.returns-then-setting-ge0 c).Start) ∙ sym (bits_from_0 c.args.setting (above (goal.at.returns-then-setting-ge0 c).Then-setting-ge0))
+returns-then-setting-ge0 c = ap nat_abs (narrow (goal.at.returns-then-setting-ge0 c).Start) ∙ sym (bits_from_0 c.args.setting (above c))
 
 pub returns-else-setting-ge0 : goal.returns-else-setting-ge0
-returns-else-setting-ge0 c = rw (narrow (goal.at.returns-else-setting-ge0 c).Start, wide (goal.at.returns-else-setting-ge0 c).Start, more (goal.at.returns-else-setting-ge0 c).Else-setting-ge0, sum (goal.at.returns-else-setting-ge0 c).Else-setting-ge0)
-    (ap nat_abs (sym (more (goal.at.returns-else-setting-ge0 c).Else-setting-ge0)) ∙ sym (bits_below_0 c.args.setting (below (goal.at.returns-else-setting-ge0 c).Else-setting-ge0)))
+returns-else-setting-ge0 c = rw (narrow (goal.at.returns-else-setting-ge0 c).Start, wide (goal.at.returns-else-setting-ge0 c).Start, more c, sum c)
+    (ap nat_abs (sym (more c)) ∙ sym (bits_below_0 c.args.setting (below c)))

@@ -27,6 +27,6 @@ pub returns-else-position-eq0 : goal.returns-else-position-eq0
 returns-else-position-eq0 c = c.next_pair-in-Accepted.ensures ∙ sym (next-later _ (accepted (goal.at.returns-else-position-eq0 c).In-Accepted) _ c.if-position-eq0.false)
 
 pub returns-in-Refused : goal.returns-in-Refused
-returns-in-Refused c = let v = c.verdict-1 in
-    ap (λ (q : Routine). record { item = RefusedBook v.given.0.0; routine = q; position = 0 }) c.empty-none.ensures
-    ∙ sym (next-refused _ _ (sym c.check-verdict.ensures ∙ v.given.1) _)
+returns-in-Refused c =
+    ap (λ (q : Routine). record { item = RefusedBook c.in-Refused.refusal; routine = q; position = 0 }) c.empty-none.ensures
+    ∙ sym (next-refused _ _ (sym c.check-verdict.ensures ∙ c.in-Refused.is) _)

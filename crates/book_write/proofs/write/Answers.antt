@@ -28,14 +28,14 @@ few c =
 pub returns-in-Refused : goal.returns-in-Refused
 returns-in-Refused c = let a = c.args in
     let rs = routines_lent a.counts.now a.devices.now a.tags.now a.settings.now in
-    turned-down rs a.out.now _ (write_refused rs _ _ (sym c.check_routines-verdict.ensures ∙ c.in-Refused.is))
+    let t = turned-down rs a.out.now _ (write_refused rs _ _ (sym c.check_routines-verdict.ensures ∙ c.in-Refused.is)) in record { answers = t.0; leaves = t.1 }
 
 pub returns-then-counts-gt-MAX_ROUTINES : goal.returns-then-counts-gt-MAX_ROUTINES
 unfolding refusal_of
 returns-then-counts-gt-MAX_ROUTINES c = let a = c.args in
     let rs = routines_lent a.counts.now a.devices.now a.tags.now a.settings.now in
     let n = length-routines a.devices.now a.tags.now a.settings.now 0 a.counts.now in
-    turned-down rs a.out.now _ (write_many rs _ (accepted (goal.at.returns-then-counts-gt-MAX_ROUTINES c).In_default) (omega arith))
+    let t = turned-down rs a.out.now _ (write_many rs _ (accepted (goal.at.returns-then-counts-gt-MAX_ROUTINES c).In_default) (omega arith)) in record { answers = t.0; leaves = t.1 }
 
 pub overflow_mul-size-2 : goal.overflow_mul-size-2
 overflow_mul-size-2 c = let f = few (goal.at.overflow_mul-size-2 c).After-count_commands-commands in search rules
@@ -50,7 +50,7 @@ returns-then-out-size c = let a = c.args in
     let n = length-routines a.devices.now a.tags.now a.settings.now 0 a.counts.now in
     let l = length-book a.devices.now a.tags.now a.settings.now a.counts.now in
     let e = c.count_commands-commands.ensures in
-    turned-down rs a.out.now _ (write_short rs _ (accepted (goal.at.returns-then-out-size c).In_default) (omega arith) (omega (arith, c.if-out-size.true, e, l)))
+    let t = turned-down rs a.out.now _ (write_short rs _ (accepted (goal.at.returns-then-out-size c).In_default) (omega arith) (omega (arith, c.if-out-size.true, e, l))) in record { answers = t.0; leaves = t.1 }
 
 pub put_book-requires : goal.put_book-requires
 put_book-requires c = let a = c.args in
@@ -58,7 +58,7 @@ put_book-requires c = let a = c.args in
     (c.if-counts-gt-MAX_ROUTINES.false, c.count_commands-commands.ensures, omega (arith, c.if-out-size.false, c.count_commands-commands.ensures, l))
 
 pub shape_of-out : goal.shape_of-out
-shape_of-out c = c.put_book.auto.1.1.1.1.1.0
+shape_of-out c = c.put_book.auto.out
 
 pub returns : goal.returns
 returns c = let a = c.args in
@@ -68,4 +68,4 @@ returns c = let a = c.args in
     let e = c.count_commands-commands.ensures in
     let room : length (book_bytes rs) ≤ length a.out.now = omega (arith, c.if-out-size.false, e, l) in
     let fits = write_fits rs (length a.out.now) (accepted (goal.at.returns c).In_default) (omega (arith, c.if-counts-gt-MAX_ROUTINES.false, n)) room in
-    written rs a.out.now fits room _ _ (omega (arith, e, l)) c.put_book.ensures
+    let t = written rs a.out.now fits room _ _ (omega (arith, e, l)) c.put_book.ensures in record { answers = t.0; leaves = t.1 }

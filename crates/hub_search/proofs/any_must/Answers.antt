@@ -7,6 +7,7 @@ use mathlib.Core.Logic.{⊎_elim}
 use Rattle.hub_search.specs.Contract.{any_must}
 use Rattle.hub_search.proofs.Commands.{any_at, must_at, at_hit, at_on, at_end, must-at, must-here, must_other, must-answered}
 use Rattle.hub_search.proofs.Commands.{must-not}
+use Rattle.hub_search.proofs.any_must.Goals.{else-device-k, then-device-k+else-stage-k-le-IN_FLIGHT, then-device-k+then-stage-k-le-IN_FLIGHT+else-counting_tag-eq-MUST}
 use Rattle.hub_search.proofs.any_must.Goals as goal
 
 pub loop-k-init : goal.loop-k-init
@@ -33,9 +34,7 @@ loop-k-smaller c = omega (arith, c.loop-k-test.true)
 
 pub loop-k-preserved : goal.loop-k-preserved
 loop-k-preserved c = at_on _ _ _ c.loop-k-test.true
-    (⊎_elim (λ w. must-not _ _ _ _ _ _ w.3.ensures w.4.left)
-    (⊎_elim (λ w. must-answered _ _ _ _ _ _ w.2.left) (λ w. must_other _ _ _ _ _ _ w.left))
-    c.if-device-k.branch)
+    (elim c.if-device-k.branch [ then-device-k+then-stage-k-le-IN_FLIGHT+else-counting_tag-eq-MUST w ↦ must-not _ _ _ _ _ _ w.counting_tag.ensures w.if-counting_tag-eq-MUST.false | then-device-k+else-stage-k-le-IN_FLIGHT w ↦ must-answered _ _ _ _ _ _ w.if-stage-k-le-IN_FLIGHT.false | else-device-k w ↦ must_other _ _ _ _ _ _ w.if-device-k.false ])
     ∙ c.loop-k.invariant
 
 pub returns : goal.returns

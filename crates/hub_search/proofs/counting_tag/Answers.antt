@@ -2,6 +2,7 @@
 use borrow.Author.Rules.{rules}
 use mathlib.Core.Logic.{⊎_elim}
 use Rattle.hub_search.proofs.Commands.{counting_next, counting_last, counting_own}
+use Rattle.hub_search.proofs.counting_tag.Goals.{else-tag-k-eq-CONDITION, then-tag-k-eq-CONDITION+else-k-end}
 use Rattle.hub_search.proofs.counting_tag.Goals as goal
 
 pub returns-then-k-end : goal.returns-then-k-end
@@ -9,4 +10,4 @@ returns-then-k-end c = counting_next c.args.tag.now _ _ c.if-tag-k-eq-CONDITION.
 
 pub returns : goal.returns
 returns c = let t = c.args.tag.now in
-    ⊎_elim (λ w. counting_last t _ _ w.1.left) (λ w. counting_own t _ _ w.left) c.if-tag-k-eq-CONDITION.branch
+    (elim c.if-tag-k-eq-CONDITION.branch [ then-tag-k-eq-CONDITION+else-k-end w ↦ counting_last t _ _ w.if-k-end.false | else-tag-k-eq-CONDITION w ↦ counting_own t _ _ w.if-tag-k-eq-CONDITION.false ])

@@ -3,6 +3,7 @@
 use borrow.Author.Rules.{rules}
 use Prim.Native.Nat.{◌-◌, ◌*◌, ◌≤◌, ◌<◌}
 use native.Mathlib.Omega.{arith}
+use mathlib.Core.Bool.{false}
 use mathlib.Core.Path.{◌≡◌, refl, sym, ap, ◌∙◌}
 use mathlib.Core.Logic.{⊎_elim}
 use lib.ListN.{length, get_or}
@@ -17,18 +18,15 @@ use Rattle.hub_search.proofs.Commands.{any_at, bound_of, below_at, at_hit, at_on
 use Rattle.hub_search.proofs.SearchLaws.{below_in, below_start, below_left, holds_in, holds-committed, holds_off, commands_fit}
 use Rattle.hub_search.proofs.SearchLaws.{holder_slot}
 use Rattle.hub_search.proofs.SearchLaws.{holder_nobody, holder_found}
-use Rattle.hub_search.proofs.first_holder.Goals.{In-ahead, Joined-condition, Joined-condition-2}
+use Rattle.hub_search.proofs.first_holder.Goals.{In-ahead, Joined-condition, Joined-condition-2, else-condition, else-condition-2, else-device-k, else-not-committed-i, then-condition, then-condition-2, then-device-k+else-stage-k, then-not-committed-i+else-loop-k-test}
 use Rattle.hub_search.proofs.first_holder.Goals as goal
 
 -- whom a command waits for, and whom a condition
 bound-is : (c : Joined-condition) → c.if-condition.bound ≡ bound_of c.args.condition
-bound-is c = ⊎_elim (λ w. w.1 ∙ sym (ap bound_of w.0.taken)) (λ w. w.1 ∙ sym (ap bound_of w.0.left)) c.if-condition.branch
-
-abbrev outset : tie.In-ahead invariant-loop decreases-loop invariant-ahead decreases-ahead → tie.Start invariant-loop decreases-loop invariant-ahead decreases-ahead
-outset c = c.before.before.before.before.before.before.before.before.before.before
+bound-is c = (elim c.if-condition.branch [ then-condition w ↦ w.bound-is ∙ sym (ap bound_of w.if-condition.true) | else-condition w ↦ w.bound-is ∙ sym (ap bound_of w.if-condition.false) ])
 
 -- the walk is at a slot that stands
-at_slot : (c : In-ahead) → Stands (outset c).args.state.links c.ahead.i
+at_slot : (c : In-ahead) → Stands c.args.state.links c.ahead.i
 at_slot c =
     let s = c.ahead.invariant.1 in
     let p = c.requires in
@@ -36,11 +34,11 @@ at_slot c =
 
 -- the slot, how many commands it has, and how many of them are answered
 fits : (c : In-ahead) →
-    let h = (outset c).args.state in
+    let h = c.args.state in
     let x = c.ahead.i in
     (x < max_sequence) × (get_or h.counts x 0 ≤ max_commands) × (get_or h.answered x 0 ≤ get_or h.counts x 0)
 fits c =
-    let v = (outset c).requires.0 in
+    let v = c.requires.0 in
     let s = at_slot c in
     let f = commands_fit _ v _ s in
     (f.0, f.1, answered_most _ _ v s)
@@ -75,7 +73,7 @@ overflow_mul-k c = let f = fits (goal.at.overflow_mul-k c).In-ahead in omega (ar
 -- where the commands of a slot are searched from
 from-fits : (c : Joined-condition-2) → c.if-condition-2.from ≤ max_commands
 from-fits c = let f = fits c.before.before in
-    ⊎_elim (λ w. let e = w.1 in omega (arith, e)) (λ w. let e = w.1 in omega (arith, e)) c.if-condition-2.branch
+    (elim c.if-condition-2.branch [ then-condition-2 w ↦ let e = w.from-is in omega (arith, e) | else-condition-2 w ↦ let e = w.from-is in omega (arith, e) ])
 
 pub overflow_add-k : goal.overflow_add-k
 overflow_add-k c = let f = fits (goal.at.overflow_add-k c).In-ahead in let g = from-fits (goal.at.overflow_add-k c).Joined-condition-2 in omega (arith, f.0, g)
@@ -85,10 +83,7 @@ loop-k-init c = let f = fits (goal.at.loop-k-init c).In-ahead in
     let p = c.requires in (
       c.ahead.invariant.0,
       omega arith,
-      ⊎_elim
-          (λ w. below_start _ _ _ _ _ _ w.1)
-          (λ w. below_left _ p.0 _ (at_slot (goal.at.loop-k-init c).In-ahead) _ _ _ p.3 (bound-is (goal.at.loop-k-init c).Joined-condition ∙ ap bound_of w.0.left) w.1)
-          c.if-condition-2.branch,
+      (elim c.if-condition-2.branch [ then-condition-2 w ↦ below_start _ _ _ _ _ _ w.from-is | else-condition-2 w ↦ below_left _ p.0 _ (at_slot (goal.at.loop-k-init c).In-ahead) _ _ _ p.3 (bound-is (goal.at.loop-k-init c).Joined-condition ∙ ap bound_of w.if-condition-2.false) w.from-is ]),
     )
 
 pub bounds-device-k : goal.bounds-device-k
@@ -111,7 +106,7 @@ loop-k-smaller c = omega (arith, c.loop-k-test.true)
 
 pub loop-k-preserved : goal.loop-k-preserved
 loop-k-preserved c = let v = c.loop-k.invariant in
-    let o = ⊎_elim (λ w. below_bound _ _ _ _ _ w.2.left) (λ w. below_other _ _ _ _ _ w.left) c.if-device-k.branch in
+    let o : below_at c.args.device.now c.args.stage.now c.if-condition.bound c.args.wanted c.loop-k.k ≡ false = (elim c.if-device-k.branch [ then-device-k+else-stage-k w ↦ below_bound _ _ _ _ _ w.if-stage-k.false | else-device-k w ↦ below_other _ _ _ _ _ w.if-device-k.false ]) in
     (v.0, v.1, at_on _ _ _ c.loop-k-test.true o ∙ v.2)
 
 pub bounds-behind-i : goal.bounds-behind-i
@@ -126,11 +121,9 @@ ahead-smaller c = seeks_less c.ahead.invariant.1 (fits (goal.at.ahead-smaller c)
 pub ahead-preserved : goal.ahead-preserved
 ahead-preserved c = let w = c.ahead.invariant in
     let n = c.ahead-test.true in (
-      ⊎_elim (λ p. p.5 ∙ p.3.inv.0) (λ p. p.1 ∙ w.0) c.if-not-committed-i.branch,
+      (elim c.if-not-committed-i.branch [ then-not-committed-i+else-loop-k-test p ↦ p.holder-is ∙ p.loop-k.invariant.0 | else-not-committed-i p ↦ p.holder-is ∙ w.0 ]),
       seeks_on w.1 (fits (goal.at.ahead-preserved c).In-ahead).0
-          (⊎_elim (λ p. holds_off _ _ _ _ _ _ _ _ n (sym p.3.inv.2 ∙ at_end _ _ _ p.4.left))
-          (λ p. holds-committed _ _ _ _ _ _ _ _ n p.0.left)
-          c.if-not-committed-i.branch),
+          (elim c.if-not-committed-i.branch [ then-not-committed-i+else-loop-k-test p ↦ holds_off _ _ _ _ _ _ _ _ n (sym p.loop-k.invariant.2 ∙ at_end _ _ _ p.loop-k-test.false) | else-not-committed-i p ↦ holds-committed _ _ _ _ _ _ _ _ n p.if-not-committed-i.false-raw ]),
     )
 
 pub returns-after-ahead : goal.returns-after-ahead

@@ -13,7 +13,7 @@ use Rattle.hub_search.specs.Contract.{highest_stage}
 use Rattle.hub_search.proofs.Slots.{Seeks, seeks_start, seeks_there, seeks_on, seeks_less, seeks_spot}
 use Rattle.hub_search.proofs.SearchLaws.{halfway_in, halfway_committed, halfway_unbegun, halfway_finished, commands_fit, halfway_at}
 use Rattle.hub_search.proofs.SearchLaws.{halfway_nowhere}
-use Rattle.hub_search.proofs.halfway.Goals.{In-loop-i, Start}
+use Rattle.hub_search.proofs.halfway.Goals.{In-loop-i, Start, else-not-committed-i, then-not-committed-i+else-is_staged, then-not-committed-i+then-is_staged+else-is_staged-2}
 use Rattle.hub_search.proofs.halfway.Goals as goal
 
 -- the slot, and how many commands it has
@@ -67,9 +67,7 @@ loop-i-smaller c = seeks_less c.loop-i.invariant c.loop-i-test.true
 
 pub loop-i-preserved : goal.loop-i-preserved
 loop-i-preserved c = seeks_on c.loop-i.invariant c.loop-i-test.true
-    (⊎_elim (λ w. halfway_unbegun _ _ _ _ _ _ w.7.ensures w.8.left)
-    (⊎_elim (λ w. halfway_finished _ _ _ _ _ _ w.3.ensures w.4.left) (λ w. halfway_committed _ _ _ _ _ _ w.left))
-    c.if-not-committed-i.branch)
+    (elim c.if-not-committed-i.branch [ then-not-committed-i+then-is_staged+else-is_staged-2 w ↦ halfway_unbegun _ _ _ _ _ _ w.is_staged-then-is_staged.ensures w.if-is_staged-2.false | then-not-committed-i+else-is_staged w ↦ halfway_finished _ _ _ _ _ _ w.is_staged.ensures w.if-is_staged.false | else-not-committed-i w ↦ halfway_committed _ _ _ _ _ _ w.if-not-committed-i.false-raw ])
 
 pub returns : goal.returns
 returns c = halfway_nowhere _ c.requires _ (stages-fit (goal.at.returns c).Start) c.loop-i.invariant c.loop-i-test.false

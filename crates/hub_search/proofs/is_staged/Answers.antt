@@ -7,6 +7,7 @@ use mathlib.Core.Logic.{⊎_elim}
 use Rattle.hub_search.specs.Contract.{any_staged}
 use Rattle.hub_search.proofs.Commands.{any_at, staged_at, at_hit, at_on, at_end, staged-at, staged-here, staged_other, staged_below}
 use Rattle.hub_search.proofs.Commands.{staged_above}
+use Rattle.hub_search.proofs.is_staged.Goals.{else-device-k, then-device-k+else-low-stage, then-device-k+then-low-stage+else-stage-k}
 use Rattle.hub_search.proofs.is_staged.Goals as goal
 
 pub loop-k-init : goal.loop-k-init
@@ -31,9 +32,7 @@ loop-k-smaller c = omega (arith, c.loop-k-test.true)
 
 pub loop-k-preserved : goal.loop-k-preserved
 loop-k-preserved c = at_on _ _ _ c.loop-k-test.true
-    (⊎_elim (λ w. staged_above _ _ _ _ _ _ w.4.left)
-    (⊎_elim (λ w. staged_below _ _ _ _ _ _ w.2.left) (λ w. staged_other _ _ _ _ _ _ w.left))
-    c.if-device-k.branch)
+    (elim c.if-device-k.branch [ then-device-k+then-low-stage+else-stage-k w ↦ staged_above _ _ _ _ _ _ w.if-stage-k.false | then-device-k+else-low-stage w ↦ staged_below _ _ _ _ _ _ w.if-low-stage.false | else-device-k w ↦ staged_other _ _ _ _ _ _ w.if-device-k.false ])
     ∙ c.loop-k.invariant
 
 pub returns : goal.returns

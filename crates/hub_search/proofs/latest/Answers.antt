@@ -9,6 +9,7 @@ use Rattle.hub_sequence.proofs.ReadLaws.{walks-ahead}
 use Rattle.hub_sequence.proofs.WalkLaws.{walks_spot}
 use Rattle.hub_search.proofs.Slots.{Seeks, seeks_start, seeks_on, seeks_less}
 use Rattle.hub_search.proofs.SearchLaws.{blocks_in, blocks-committed, blocks-few, latest_marked, latest_passed, latest_none}
+use Rattle.hub_search.proofs.latest.Goals.{else-not-committed-x, then-not-committed-x+else-limit-passed}
 use Rattle.hub_search.proofs.latest.Goals as goal
 
 pub marks_of-wanted-requires : goal.marks_of-wanted-requires
@@ -58,7 +59,7 @@ loop-i-smaller c = seeks_less c.loop-i.invariant c.loop-i-test.true
 pub loop-i-preserved : goal.loop-i-preserved
 loop-i-preserved c = let o = sym c.has_id.ensures ∙ c.if-has_id.false in
     seeks_on c.loop-i.invariant c.loop-i-test.true
-    (⊎_elim (λ w. blocks-few _ _ _ _ _ _ _ o w.1.left) (λ w. blocks-committed _ _ _ _ _ _ _ o w.left) c.if-not-committed-x.branch)
+    (elim c.if-not-committed-x.branch [ then-not-committed-x+else-limit-passed w ↦ blocks-few _ _ _ _ _ _ _ o w.if-limit-passed.false | else-not-committed-x w ↦ blocks-committed _ _ _ _ _ _ _ o w.if-not-committed-x.false-raw ])
 
 pub returns : goal.returns
 returns c = let p = c.requires in

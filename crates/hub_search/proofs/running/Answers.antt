@@ -7,6 +7,7 @@ use Rattle.hub_sequence.proofs.ReadLaws.{walks-behind}
 use Rattle.hub_search.proofs.Slots.{Seeks, seeks_start, seeks_on, seeks_less, seeks_spot}
 use mathlib.Core.Logic.{⊎_elim}
 use Rattle.hub_search.proofs.SearchLaws.{runs_in, runs_other, runs-committed, running_at, running_nowhere}
+use Rattle.hub_search.proofs.running.Goals.{else-ids-i, then-ids-i+else-not-committed-i}
 use Rattle.hub_search.proofs.running.Goals as goal
 
 pub loop-i-init : goal.loop-i-init
@@ -25,7 +26,7 @@ loop-i-smaller c = seeks_less c.loop-i.invariant c.loop-i-test.true
 
 pub loop-i-preserved : goal.loop-i-preserved
 loop-i-preserved c = seeks_on c.loop-i.invariant c.loop-i-test.true
-    (let h = c.if-ids-i.branch in ?)
+    (elim c.if-ids-i.branch [ then-ids-i+else-not-committed-i w ↦ runs-committed _ _ _ _ w.if-not-committed-i.false-raw | else-ids-i w ↦ runs_other _ _ _ _ w.if-ids-i.false ])
 
 pub returns : goal.returns
 returns c = running_nowhere _ c.requires _ c.loop-i.invariant c.loop-i-test.false

@@ -8,7 +8,7 @@ use Rattle.line_read.specs.Places.{behind_letter, words_from}
 use Rattle.line_hints.specs.Why.{by_letter, by_words}
 use Rattle.line_hints.proofs.ReasonLaws.{no_bytes, a_space, longer_word, one_byte, letter_alone}
 use borrow.Author.Rules.{rules}
-use Rattle.line_hints.proofs.by_words.Goals.{Joined-line-gt1}
+use Rattle.line_hints.proofs.by_words.Goals.{Joined-line-gt1, then-line-gt1+else-line-ne-SPACE, else-line-gt1}
 use Rattle.line_hints.proofs.by_words.Goals as goal
 
 -- the letter is a word alone
@@ -17,8 +17,10 @@ alone : (c : Joined-line-gt1) → let line = c.args.line.now in
 alone c =
     let line = c.args.line.now in
     let h = c.if-line-eq0.false in
-    ⊎_elim (λ w. letter_alone line (omega (arith, h)) c.if-letter-eq-SPACE.false w.0.taken w.2.left)
-    (λ w. one_byte line (omega (arith, h)) c.if-letter-eq-SPACE.false (omega (arith, w.left))) c.if-line-gt1.branch
+    elim c.if-line-gt1.branch
+    [ then-line-gt1+else-line-ne-SPACE w ↦ letter_alone line (omega (arith, h)) c.if-letter-eq-SPACE.false w.if-line-gt1.true w.if-line-ne-SPACE.false
+    | else-line-gt1 w ↦ one_byte line (omega (arith, h)) c.if-letter-eq-SPACE.false (omega (arith, w.if-line-gt1.false))
+    ]
 
 pub returns-then-line-eq0 : goal.returns-then-line-eq0
 returns-then-line-eq0 c = sym (no_bytes _ c.if-line-eq0.true)

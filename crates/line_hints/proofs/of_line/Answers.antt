@@ -5,7 +5,7 @@ use borrow.Author.Rules.{rules}
 use Rattle.line_hints.proofs.of_line.Goals as goal
 
 pub returns-in_default-said : goal.returns-in_default-said
-returns-in_default-said c = sym (told-opening _ _ _ c.read_line-read.ensures c.in_default.keys2 c.in_default-said.keys2)
+returns-in_default-said c = sym (told-opening _ _ _ c.read_line-read.ensures c.in_default.not-Unread c.in_default-said.not-Calling)
 
 pub returns-then-opened : goal.returns-then-opened
 returns-then-opened c = sym (told-call _ _ _ c.read_line-read.ensures _ c.in-Calling.is ∙ rw c.if-opened.true refl)

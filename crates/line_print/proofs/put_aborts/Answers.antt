@@ -4,7 +4,7 @@ use borrow.Author.Rules.{rules}
 use Rattle.line_print.proofs.put_aborts.Goals as goal
 
 pub returns-in_default-answer : goal.returns-in_default-answer
-returns-in_default-answer c = put_neither c.args.answer c.args.backs c.in_default.is c.requires.2 c.in_default-answer.keys2
+returns-in_default-answer c = put_neither c.args.answer c.args.backs c.in_default.is c.requires.2 c.in_default-answer.not-Aborted
 
 pub returns-in_default : goal.returns-in_default
 returns-in_default c = let a = c.args in

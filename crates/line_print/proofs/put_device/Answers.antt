@@ -25,7 +25,7 @@ digits-fit : (c : Start) → length (decimal c.args.device) ≤ 3
 digits-fit c = let h : c.args.device < 1000 = omega (arith, c.ranges.device) in decimal-short 3 c.args.device (omega arith) h
 
 named : (c : After-put_number-named) →
-    PutShort 10 c.args.out.now c.put_number-named.new.0 c.args.at c.put_number-named.result
+    PutShort 10 c.args.out.now c.put_number-named.new.out c.args.at c.put_number-named.result
     (bytes "device " ++ decimal c.args.device)
 named c =
     within (omega (arith, digits-fit c.before.before.before.before.before.before.before.before.before)) (short_then (exactly c.put_word-word.ensures) (exactly c.put_number-named.ensures))

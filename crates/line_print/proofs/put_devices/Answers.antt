@@ -53,11 +53,11 @@ pub slice_bounds-text-end : goal.slice_bounds-text-end
 slice_bounds-text-end c = end_fits c.put_device-end.ensures (room (goal.at.slice_bounds-text-end c).After-put_device-end)
 
 pub slice_bounds-put_text-end : goal.slice_bounds-put_text-end
-slice_bounds-put_text-end c = sym (length-take-le c.put_device-end.result c.put_device-end.new.0 (end_fits c.put_device-end.ensures (room (goal.at.slice_bounds-put_text-end c).After-put_device-end)))
+slice_bounds-put_text-end c = sym (length-take-le c.put_device-end.result c.put_device-end.new.out (end_fits c.put_device-end.ensures (room (goal.at.slice_bounds-put_text-end c).After-put_device-end)))
 
 pub put_text-to-requires : goal.put_text-to-requires
-put_text-to-requires c = let e : length (take c.put_device-end.result c.put_device-end.new.0) ≤ c.put_device-end.result =
-    omega (arith, length-take-le c.put_device-end.result c.put_device-end.new.0 (end_fits c.put_device-end.ensures (room (goal.at.put_text-to-requires c).After-put_device-end))) in
+put_text-to-requires c = let e : length (take c.put_device-end.result c.put_device-end.new.out) ≤ c.put_device-end.result =
+    omega (arith, length-take-le c.put_device-end.result c.put_device-end.new.out (end_fits c.put_device-end.ensures (room (goal.at.put_text-to-requires c).After-put_device-end))) in
     omega (arith, c.requires, few (goal.at.put_text-to-requires c).In-loop-device, reaches c.put_device-end.ensures, reaches c.loop-device.invariant.3)
 
 pub loop-device-preserved : goal.loop-device-preserved
@@ -65,7 +65,7 @@ loop-device-preserved c = let table = c.args.devices in
     let d = c.loop-device.device in
     let held : to_z w16 (of_z w16 (get_or table.due d (pos 0))) ≡ get_or table.due d (pos 0) = search rules in (
       omega arith,
-      c.put_text-to.auto.0 ∙ c.loop-device.invariant.1,
+      c.put_text-to.auto.out ∙ c.loop-device.invariant.1,
       same-room c.put_device-end.ensures ∙ c.loop-device.invariant.2,
       as_text (sym (lines_next table d))
           (within (omega arith)

@@ -6,5 +6,5 @@ use Rattle.line_print.proofs.put_refusal.Goals as goal
 
 pub returns : goal.returns
 returns c = within (omega arith)
-    (short_then c.Put-refused.ensures
+    (short_then c.put_refused-end.ensures
     (exactly c.put_end.ensures))

@@ -18,7 +18,7 @@ use Rattle.book_layout.specs.declared.Next.{Next}
 use Rattle.book_layout.proofs.RoundTrip.{hands_make}
 use Rattle.book_layout.proofs.Theorems.{read_then_write}
 use Rattle.book_copy.specs.Rows.{rows_of, with_routine}
-use Rattle.book_copy.proofs.CopyLaws.{rows_more, routines-short, CopyStep, step_handed, step_ended, not_handed}
+use Rattle.book_copy.proofs.CopyLaws.{rows_more, routines-short, CopyStep, step_handed, step_ended}
 use Rattle.book_copy.proofs.reading.read_all.Goals.{After-shared_slice_known-1, In-Handed}
 use Rattle.book_copy.proofs.reading.read_all.Goals as goal
 
@@ -41,7 +41,7 @@ returns-in_default c = let b = c.args.book.now in
     λ rs h.
     let k = c.loop-i.invariant.1 rs h in
     let over = step_ended b c.loop-i.position c.loop-i.i rs k.0
-    (λ e. not_handed _ c.in_default.keys2 (ap (λ (s : Next). s.item) c.next-next.ensures ∙ e)) in
+    (λ e. c.in_default.not-Handed (ap (λ (s : Next). s.item) c.next-next.ensures ∙ e)) in
     k.1 ∙ ap rows_of (take_all c.loop-i.i rs over)
 
 pub with_routine-rows-requires : goal.with_routine-rows-requires

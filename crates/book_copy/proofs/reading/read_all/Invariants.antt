@@ -18,7 +18,7 @@ use Rattle.book_layout.specs.declared.Next.{Next}
 use Rattle.book_layout.proofs.RoundTrip.{hands_make}
 use Rattle.book_layout.proofs.Theorems.{read_then_write}
 use Rattle.book_copy.specs.Rows.{rows_of, with_routine}
-use Rattle.book_copy.proofs.CopyLaws.{rows_more, routines-short, CopyStep, step_handed, step_ended, not_handed}
+use Rattle.book_copy.proofs.CopyLaws.{rows_more, routines-short, CopyStep, step_handed, step_ended}
 use Rattle.book_copy.proofs.reading.read_all.Given as goal
 
 abbrev pub invariant-loop-i : goal.invariant-loop-i

@@ -27,8 +27,8 @@ loop-i-preserved c = let a = c.args in
     let n = long (goal.at.loop-i-preserved c).Start in
     let few = c.requires in (
       omega arith,
-      ap (λ (r : Rows). with_commands r (slice (c.loop-i.i + 1) a.t2.count a.t2.commands)) c.with_command-longer.ensures
-          ∙ sym (commands-step c.loop-i.longer a.t2.commands c.loop-i.i _ c.loop-i-test.true (omega arith))
+      ap (λ (r : Rows). with_commands r (slice (c.loop-i.i + 1) a.routine.count a.routine.commands)) c.with_command-longer.ensures
+          ∙ sym (commands-step c.loop-i.longer a.routine.commands c.loop-i.i _ c.loop-i-test.true (omega arith))
           ∙ c.loop-i.invariant.1,
     )
 
@@ -36,6 +36,6 @@ pub returns : goal.returns
 returns c = let a = c.args in
     let n = long (goal.at.returns c).Start in
     let few = c.requires in
-    sym (commands_over _ a.t2.commands c.loop-i.i a.t2.count c.loop-i.invariant.0 c.loop-i-test.false)
+    sym (commands_over _ a.routine.commands c.loop-i.i a.routine.count c.loop-i.invariant.0 c.loop-i-test.false)
     ∙ c.loop-i.invariant.1
-    ∙ ap (with_commands a.rows) (sym (commands_of-held a.t2 (omega arith)))
+    ∙ ap (with_commands a.rows) (sym (commands_of-held a.routine (omega arith)))

@@ -1,5 +1,5 @@
 -- `book_read::reading::next_pair` meets its contract: each way out is one of the laws of `pair_next`. Assumes nothing.
-use Prim.Native.Nat.{ℕ, ◌+◌, ◌-◌, ◌/◌, ◌<◌}
+use Prim.Native.Nat.{ℕ, ◌+◌, ◌*◌, ◌-◌, ◌/◌, ◌<◌}
 use mathlib.Core.Bool.{true}
 use mathlib.Core.Path.{◌≡◌, sym, ap, ap₂, ◌∙◌}
 use native.Mathlib.Omega.{arith}
@@ -11,7 +11,7 @@ use Rattle.book_layout.specs.Reading.{length_fits}
 use Rattle.book_layout.specs.declared.Item.TheVariants.{Handed}
 use Rattle.book_layout.proofs.LayoutLaws.{fits_in_fours, book-fits, pair_handed, pair-past, pair-between}
 use borrow.Author.Rules.{rules}
-use Rattle.book_read.proofs.reading.next_pair.Goals.{After-four_at-size, After-two_at, Else-pairs_end-position}
+use Rattle.book_read.proofs.reading.next_pair.Goals.{After-four_at-size, After-two_at}
 use Rattle.book_read.proofs.reading.next_pair.Goals as goal
 
 -- the count that the head gives
@@ -20,32 +20,31 @@ unfolding count-of
 count c = c.two_at.ensures.0
 
 -- what the tests say
-before : (c : Else-pairs_end-position) → c.args.position < pairs_end (count-of c.args.book.now)
-before c = let e = count c.before in omega arith
+before : (c : After-two_at) → c.args.position < count_size + pair_size * c.two_at.result → c.args.position < pairs_end (count-of c.args.book.now)
+before c h = let e = count c in omega arith
 
 pub returns-then-pairs_end-position : goal.returns-then-pairs_end-position
 returns-then-pairs_end-position c = let e = count (goal.at.returns-then-pairs_end-position c).After-two_at in
     c.ended.ensures ∙ sym (pair-past _ _ (omega arith))
 
 pub returns-then-position-ne-COUNT_SIZE : goal.returns-then-position-ne-COUNT_SIZE
-returns-then-position-ne-COUNT_SIZE c = c.ended-then-position-ne-COUNT_SIZE.ensures ∙ sym (pair-between _ _ (before (goal.at.returns-then-position-ne-COUNT_SIZE c).Else-pairs_end-position) c.if-position-ne-COUNT_SIZE.true)
+returns-then-position-ne-COUNT_SIZE c = c.ended-then-position-ne-COUNT_SIZE.ensures ∙ sym (pair-between _ _ (before (goal.at.returns-then-position-ne-COUNT_SIZE c).After-two_at (omega arith)) c.if-position-ne-COUNT_SIZE.true)
 
 -- the length that the pair gives fits, since the whole book is accepted
-fits : (c : After-four_at-size) →
+fits : (c : After-four_at-size) → c.args.position < pairs_end (count-of c.args.book.now) →
     let a = c.args in
     length_fits (four_at a.book.now (a.position + offset_size)) ≡ true
 unfolding length_at
-fits c =
+fits c h =
     let a = c.args in
     let w = c.if-position-ne-COUNT_SIZE.false in
-    let h = before c.before.before.before in
     let i = (a.position - count_size) / pair_size in
     let p : pair_place i + offset_size ≡ a.position + offset_size = omega arith in
     ap (λ (q : ℕ). length_fits (four_at a.book.now q)) (sym p) ∙ book-fits a.book.now i c.requires (omega arith)
 
 pub routine_at-routine-requires : goal.routine_at-routine-requires
 routine_at-routine-requires c = let s = c.four_at-size.ensures.0 in
-    let i = fits_in_fours _ (fits (goal.at.routine_at-routine-requires c).After-four_at-size) in
+    let i = fits_in_fours _ (fits (goal.at.routine_at-routine-requires c).After-four_at-size (before (goal.at.routine_at-routine-requires c).After-two_at (omega arith))) in
     (omega arith, omega arith)
 
 pub returns : goal.returns
@@ -54,4 +53,4 @@ returns c = let a = c.args in
     let s = c.four_at-size.ensures.0 in
     let r = c.routine_at-routine.ensures ∙ ap₂ (λ (n m : ℕ). routine_of (commands_at a.book.now n (m / command_size))) f s in
     ap (λ (q : Routine). record { item = Handed; routine = q; position = a.position + pair_size }) r
-    ∙ sym (pair_handed _ _ (before (goal.at.returns c).Else-pairs_end-position) c.if-position-ne-COUNT_SIZE.false)
+    ∙ sym (pair_handed _ _ (before (goal.at.returns c).After-two_at (omega arith)) c.if-position-ne-COUNT_SIZE.false)

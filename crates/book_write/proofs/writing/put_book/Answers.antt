@@ -19,16 +19,16 @@ put_two-requires c = let a = c.args in
 
 pub put_pairs-requires : goal.put_pairs-requires
 put_pairs-requires c = let a = c.args in
-    let k = c.put_two.auto.0 in
+    let k = c.put_two.auto.out in
     (c.requires.0, omega (arith, c.requires, length-book a.devices.now a.tags.now a.settings.now a.counts.now, k))
 
 pub put_commands-requires : goal.put_commands-requires
 put_commands-requires c = let a = c.args in
-    let k = c.put_pairs.auto.1.0 ∙ c.put_two.auto.0 in
+    let k = c.put_pairs.auto.out ∙ c.put_two.auto.out in
     omega (arith, c.requires, length-book a.devices.now a.tags.now a.settings.now a.counts.now, k)
 
 pub shape_of-out : goal.shape_of-out
-shape_of-out c = c.put_commands.auto.1.1.1.1.1.0 ∙ c.put_pairs.auto.1.0 ∙ c.put_two.auto.0
+shape_of-out c = c.put_commands.auto.out ∙ c.put_pairs.auto.out ∙ c.put_two.auto.out
 
 pub returns : goal.returns
 returns c = let a = c.args in

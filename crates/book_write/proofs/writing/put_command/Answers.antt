@@ -17,7 +17,7 @@ pub put_two-requires : goal.put_two-requires
 put_two-requires c = simp length-set (omega arith)
 
 pub shape_of-out : goal.shape_of-out
-shape_of-out c = c.put_two.auto.0 ∙ simp length-set
+shape_of-out c = c.put_two.auto.out ∙ simp length-set
 
 pub returns : goal.returns
 unfolding command_bytes

@@ -27,11 +27,11 @@ loop-i-preserved c = let a = c.args in
     let rest = commands_bytes (commands_lent a.devices.now a.tags.now a.settings.now (i + 1) (a.count - (i + 1))) in
     let p = a.from + command_size * i in
     let q : a.from + command_size * (i + 1) ≡ p + command_size = omega arith in
-    let w : c.put_command.new.0
+    let w : c.put_command.new.out
     ≡ sets c.loop-i.out p (command_bytes (command_lent a.devices.now a.tags.now a.settings.now i)) =
     c.put_command.ensures ∙ ap (λ (y : Command). sets c.loop-i.out p (command_bytes y)) c.command_in-command.ensures in (
       omega arith,
-      c.put_command.auto.0 ∙ c.loop-i.invariant.1,
+      c.put_command.auto.out ∙ c.loop-i.invariant.1,
       ap₂ (λ (o : List ℕ) (k : ℕ). sets o k rest) w q
           ∙ sym (commands-put a.devices.now a.tags.now a.settings.now c.loop-i.out p i _ c.loop-i-test.true)
           ∙ c.loop-i.invariant.2,

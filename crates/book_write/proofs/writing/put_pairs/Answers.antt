@@ -36,13 +36,13 @@ loop-i-preserved c = let a = c.args in
     let at = c.loop-i.at in
     let size = command_size * get_or a.counts.now i 0 in
     let few = (c.shared_slice_known-in-loop-i-1.given i).fits in
-    let w : c.put_four-in-loop-i.new.0
+    let w : c.put_four-in-loop-i.new.out
     ≡ sets (sets c.loop-i.out (pair_place i) (four_bytes at)) (pair_place i + offset_size) (four_bytes size) =
     c.put_four-in-loop-i.ensures
     ∙ ap (λ (o : List ℕ). sets o (pair_place i + offset_size) (four_bytes size)) c.put_four.ensures in
     let q : pair_place (i + 1) ≡ pair_place i + pair_size = omega arith in (
       omega arith,
-      c.put_four-in-loop-i.auto.0 ∙ c.put_four.auto.0 ∙ c.loop-i.invariant.1,
+      c.put_four-in-loop-i.auto.out ∙ c.put_four.auto.out ∙ c.loop-i.invariant.1,
       ap₂ (λ (o : List ℕ) (p : ℕ). sets o p (pairs_counted (at + size) (drop (i + 1) a.counts.now))) w q
           ∙ sym (pairs_more c.loop-i.out a.counts.now (pair_place i) at i c.loop-i-test.true)
           ∙ c.loop-i.invariant.2,

@@ -7,6 +7,7 @@ use lib.ListN.{length, drop}
 use Rattle.line_hints.specs.Why.{spaces_together}
 use Rattle.line_hints.proofs.ReasonLaws.{together-here, together_on_first, together_on_second, together-last}
 use borrow.Author.Rules.{rules}
+use Rattle.line_hints.proofs.scans.spaces_together.Goals.{then-line-at-eq-SPACE+else-line-at-eq-SPACE-2, else-line-at-eq-SPACE}
 use Rattle.line_hints.proofs.scans.spaces_together.Goals as goal
 
 pub loop-at-init : goal.loop-at-init
@@ -22,8 +23,10 @@ loop-at-preserved c = let l = c.loop-at in
     let line = c.args.line.now in
     let next : l.at ≡ suc (l.at - 1) = omega (arith, l.invariant.1) in
     let on : spaces_together (drop (l.at - 1) line) ≡ spaces_together (drop l.at line) =
-    ⊎_elim (λ w. together_on_second line (l.at - 1) l.at next c.loop-at-test.true w.2.left)
-    (λ w. together_on_first line (l.at - 1) l.at next c.loop-at-test.true w.left) c.if-line-at-eq-SPACE.branch in
+    elim c.if-line-at-eq-SPACE.branch
+    [ then-line-at-eq-SPACE+else-line-at-eq-SPACE-2 w ↦ together_on_second line (l.at - 1) l.at next c.loop-at-test.true w.if-line-at-eq-SPACE-2.false
+    | else-line-at-eq-SPACE w ↦ together_on_first line (l.at - 1) l.at next c.loop-at-test.true w.if-line-at-eq-SPACE.false
+    ] in
     let back : l.at + 1 - 1 ≡ l.at = omega arith in
     (rw back (sym on ∙ l.invariant.0), omega arith)
 

@@ -25,7 +25,7 @@ pub loop-at-init : goal.loop-at-init
 loop-at-init c = refl
 
 pub returns-then-not-number_at : goal.returns-then-not-number_at
-returns-then-not-number_at c = let is = sym c.number_at.ensures ∙ not-true _ c.if-not-number_at.true-raw in
+returns-then-not-number_at c = let is = sym c.number_at.ensures ∙ c.if-not-number_at.true in
     sym (numbers_not _ _ (omega (arith, c.loop-at-test.true)) is) ∙ c.loop-at.invariant
 
 pub overflow_add-at : goal.overflow_add-at
@@ -37,9 +37,9 @@ loop-at-smaller c = let r = ended (goal.at.loop-at-smaller c).After-word_end-at 
 pub loop-at-preserved : goal.loop-at-preserved
 loop-at-preserved c = let line = c.args.line.now in
     let at = c.loop-at.at in
-    let is = sym c.number_at.ensures ∙ not-false _ c.if-not-number_at.false-raw in
+    let is = sym c.number_at.ensures ∙ c.if-not-number_at.false in
     let behind : c.word_end-at.result + 1 ≡ suc (word_end line at) = omega (arith, c.word_end-at.ensures) in
-    ap (λ k. all_numbers (words_from line (goal.at.loop-at-preserved c).After-number_at)) behind
+    ap (λ k. all_numbers (words_from line k)) behind
     ∙ sym (numbers_on line at (omega (arith, c.loop-at-test.true)) is) ∙ c.loop-at.invariant
 
 pub returns : goal.returns

@@ -7,12 +7,12 @@ use native.Mathlib.Omega.{arith}
 use lib.ListN.{length, get_or}
 use Rattle.line_hints.proofs.ReasonLaws.{number-minus, number_plain}
 use borrow.Author.Rules.{rules}
-use Rattle.line_hints.proofs.words.number_at.Goals.{Joined-from-line}
+use Rattle.line_hints.proofs.words.number_at.Goals.{Joined-from-line, then-from-line+else-line-from-eq-MINUS, else-from-line}
 use Rattle.line_hints.proofs.words.number_at.Goals as goal
 
 -- no minus stands there
 none : (c : Joined-from-line) → let a = c.args in a.from < length a.line.now → get_or a.line.now a.from 0 ≢ 45
-none c h = ⊎_elim (λ w. w.2.left) (λ w. absurd (omega (arith, w.left))) c.if-from-line.branch
+none c h = elim c.if-from-line.branch [ then-from-line+else-line-from-eq-MINUS w ↦ w.if-line-from-eq-MINUS.false | else-from-line w ↦ absurd (omega (arith, w.if-from-line.false)) ]
 
 pub returns-then-line-from-eq-MINUS : goal.returns-then-line-from-eq-MINUS
 returns-then-line-from-eq-MINUS c = let a = c.args in

@@ -23,33 +23,33 @@ few : (c : Start) → length (decimal (nat_abs c.args.setting)) ≤ 5
 few c = decimal-short 5 (nat_abs c.args.setting) (omega arith) (omega (arith, size_fits c.args.setting (fits c)))
 
 -- the test, of the setting itself
-below : (c : Then-setting-lt0) → lt_z c.args.setting (pos 0) ≡ true
-below c = rw (kept c.args.setting (fits c.before.before)) at c.if-setting-lt0.true
+below : (c : Then-setting-lt0) → SFits w16 c.args.setting → lt_z c.args.setting (pos 0) ≡ true
+below c h = rw (kept c.args.setting h) at c.if-setting-lt0.true
 
-above : (c : Else-setting-lt0) → lt_z c.args.setting (pos 0) ≡ false
-above c = rw (kept c.args.setting (fits c.before.before)) at c.if-setting-lt0.false
+above : (c : Else-setting-lt0) → SFits w16 c.args.setting → lt_z c.args.setting (pos 0) ≡ false
+above c h = rw (kept c.args.setting h) at c.if-setting-lt0.false
 
 pub overflow_cast-size : goal.overflow_cast-size
 overflow_cast-size c = rw (kept c.args.setting (fits (goal.at.overflow_cast-size c).Start)) (wider c.args.setting (fits (goal.at.overflow_cast-size c).Start))
 
 pub overflow_sub-size : goal.overflow_sub-size
-overflow_sub-size c = rw (less c.args.setting (fits (goal.at.overflow_sub-size c).Start) (below (goal.at.overflow_sub-size c).Then-setting-lt0)) (record { sfits = omega (arith, size_fits c.args.setting (fits (goal.at.overflow_sub-size c).Start)) })
+overflow_sub-size c = rw (less c.args.setting (fits (goal.at.overflow_sub-size c).Start) (below (goal.at.overflow_sub-size c).Then-setting-lt0 (fits (goal.at.overflow_sub-size c).Start))) (record { sfits = omega (arith, size_fits c.args.setting (fits (goal.at.overflow_sub-size c).Start)) })
 
 pub overflow_cast-size-then-setting-lt0 : goal.overflow_cast-size-then-setting-lt0
-overflow_cast-size-then-setting-lt0 c = rw (size_below c.args.setting (fits (goal.at.overflow_cast-size-then-setting-lt0 c).Start) (below (goal.at.overflow_cast-size-then-setting-lt0 c).Then-setting-lt0)) (tt, record { fits = omega (arith, size_fits c.args.setting (fits (goal.at.overflow_cast-size-then-setting-lt0 c).Start)) })
+overflow_cast-size-then-setting-lt0 c = rw (size_below c.args.setting (fits (goal.at.overflow_cast-size-then-setting-lt0 c).Start) (below (goal.at.overflow_cast-size-then-setting-lt0 c).Then-setting-lt0 (fits (goal.at.overflow_cast-size-then-setting-lt0 c).Start))) (tt, record { fits = omega (arith, size_fits c.args.setting (fits (goal.at.overflow_cast-size-then-setting-lt0 c).Start)) })
 
 pub put_number-requires : goal.put_number-requires
-put_number-requires c = rw (size_below c.args.setting (fits (goal.at.put_number-requires c).Start) (below (goal.at.put_number-requires c).Then-setting-lt0))
+put_number-requires c = rw (size_below c.args.setting (fits (goal.at.put_number-requires c).Start) (below (goal.at.put_number-requires c).Then-setting-lt0 (fits (goal.at.put_number-requires c).Start)))
     (omega (arith, c.put_byte-from.ensures.ends, few (goal.at.put_number-requires c).Start))
 
 pub returns-then-setting-lt0 : goal.returns-then-setting-lt0
-returns-then-setting-lt0 c = let z = size_below c.args.setting (fits (goal.at.returns-then-setting-lt0 c).Start) (below (goal.at.returns-then-setting-lt0 c).Then-setting-lt0) in
+returns-then-setting-lt0 c = let z = size_below c.args.setting (fits (goal.at.returns-then-setting-lt0 c).Start) (below (goal.at.returns-then-setting-lt0 c).Then-setting-lt0 (fits (goal.at.returns-then-setting-lt0 c).Start)) in
     let p = put_then c.put_byte-from.ensures (rw z at c.put_number.ensures) in
-    record { put = rw (signed_below c.args.setting (below (goal.at.returns-then-setting-lt0 c).Then-setting-lt0)) p; short = signed-short c.args.setting (fits (goal.at.returns-then-setting-lt0 c).Start).sfits }
+    record { put = rw (signed_below c.args.setting (below (goal.at.returns-then-setting-lt0 c).Then-setting-lt0 (fits (goal.at.returns-then-setting-lt0 c).Start))) p; short = signed-short c.args.setting (fits (goal.at.returns-then-setting-lt0 c).Start).sfits }
 
 pub overflow_cast-setting : goal.overflow_cast-setting
 overflow_cast-setting c = rw (kept c.args.setting (fits (goal.at.overflow_cast-setting c).Start)) (
-  not_below c.args.setting (above (goal.at.overflow_cast-setting c).Else-setting-lt0),
+  not_below c.args.setting (above (goal.at.overflow_cast-setting c).Else-setting-lt0 (fits (goal.at.overflow_cast-setting c).Start)),
   record { fits = omega (arith, size_fits c.args.setting (fits (goal.at.overflow_cast-setting c).Start)) },
 )
 
@@ -59,4 +59,4 @@ put_number-requires-2 c = rw (kept c.args.setting (fits (goal.at.put_number-requ
 
 pub returns : goal.returns
 returns c = let p = rw (kept c.args.setting (fits (goal.at.returns c).Start)) at c.put_number-2.ensures in
-    record { put = rw (signed_above c.args.setting (above (goal.at.returns c).Else-setting-lt0)) p; short = signed-short c.args.setting (fits (goal.at.returns c).Start).sfits }
+    record { put = rw (signed_above c.args.setting (above (goal.at.returns c).Else-setting-lt0 (fits (goal.at.returns c).Start))) p; short = signed-short c.args.setting (fits (goal.at.returns c).Start).sfits }

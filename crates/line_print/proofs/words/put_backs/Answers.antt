@@ -21,7 +21,7 @@ long c = search (rules, length_mapped)
 
 -- the word and the count, of two digits at most
 first : (c : After-put_one-to) →
-    PutShort 8 c.args.out.now c.put_one-to.new.0 c.args.at c.put_one-to.result (bytes " back " ++ decimal c.args.backs.count)
+    PutShort 8 c.args.out.now c.put_one-to.new.out c.args.at c.put_one-to.result (bytes " back " ++ decimal c.args.backs.count)
 first c =
     shorter (bytes " back ") (decimal c.args.backs.count) c.put_one-to.ensures.put
     (decimal-short 2 c.args.backs.count (omega arith) (omega (arith, c.requires.1)))
@@ -31,7 +31,7 @@ unfolding back_list
 loop-i-init c = (
   omega arith,
   refl,
-  record { put = put-none c.put_one-to.new.0 c.put_one-to.result; short = omega arith },
+  record { put = put-none c.put_one-to.new.out c.put_one-to.result; short = omega arith },
 )
 
 pub put_back-to-requires : goal.put_back-to-requires
@@ -40,13 +40,13 @@ put_back-to-requires c = omega (arith, c.requires, reaches (first (goal.at.put_b
 pub loop-i-preserved : goal.loop-i-preserved
 loop-i-preserved c = let h : c.loop-i.i < length c.args.backs.items = omega (arith, long (goal.at.loop-i-preserved c).Start) in (
   omega arith,
-  c.put_back-to.auto.0 ∙ c.loop-i.invariant.1,
+  c.put_back-to.auto.out ∙ c.loop-i.invariant.1,
   as_text (sym (backs_next c.args.backs.items c.loop-i.i _ h))
       (within (omega arith) (short_then c.loop-i.invariant.2 c.put_back-to.ensures)),
 )
 
 pub shape_of-out : goal.shape_of-out
-shape_of-out c = c.loop-i.invariant.1 ∙ c.put_one-to.auto.0
+shape_of-out c = c.loop-i.invariant.1 ∙ c.put_one-to.auto.out
 
 pub returns : goal.returns
 unfolding back_text

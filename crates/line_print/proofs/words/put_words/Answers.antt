@@ -20,7 +20,7 @@ answered x y l h n p = as_text (ap (λ (z : Answer). answer_text (answer_of z l)
 
 pub returns-in-Refused : goal.returns-in-Refused
 unfolding answer_text
-returns-in-Refused c = answered _ _ _ c.in-Refused.is (omega arith) c.Put-refused.ensures
+returns-in-Refused c = answered _ _ _ c.in-Refused.is (omega arith) c.put_refused.ensures
 
 pub returns-in-Placed : goal.returns-in-Placed
 unfolding answer_text

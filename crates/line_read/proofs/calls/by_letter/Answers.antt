@@ -10,7 +10,7 @@ use Rattle.line_read.specs.View.{read_as}
 use Rattle.line_read.specs.Places.{behind_letter, words_from}
 use Rattle.line_read.proofs.Forms.{no_words, letter_and_more, one_byte, letter_alone, letter_submit, plain_routine}
 use borrow.Author.Rules.{rules}
-use Rattle.line_read.proofs.calls.by_letter.Goals.{Joined-line-gt1}
+use Rattle.line_read.proofs.calls.by_letter.Goals.{Joined-line-gt1, then-line-gt1+else-line-ne-SPACE, else-line-gt1}
 use Rattle.line_read.proofs.calls.by_letter.Goals as goal
 
 pub returns-then-line-eq0 : goal.returns-then-line-eq0
@@ -23,7 +23,7 @@ returns-then-line-ne-SPACE c = c.unread-then-line-ne-SPACE.ensures ∙ sym (ap r
 alone : (c : Joined-line-gt1) → let line = c.args.line.now in
     line_by (words_of line) ≡ line_with (get_or line 0 0 ∷ []) (words_from line behind_letter)
 alone c = let line = c.args.line.now in
-    ⊎_elim (λ w. letter_alone line w.0.taken w.2.left) (λ w. one_byte line (omega (arith, w.left))) c.if-line-gt1.branch
+    elim c.if-line-gt1.branch [ then-line-gt1+else-line-ne-SPACE w ↦ letter_alone line w.if-line-gt1.true w.if-line-ne-SPACE.false | else-line-gt1 w ↦ one_byte line (omega (arith, w.if-line-gt1.false)) ]
 
 pub returns-then-letter-eq-SUBMIT : goal.returns-then-letter-eq-SUBMIT
 returns-then-letter-eq-SUBMIT c = c.submit_line.ensures ∙ sym (ap read_as (alone (goal.at.returns-then-letter-eq-SUBMIT c).Joined-line-gt1 ∙ letter_submit _ _ c.if-letter-eq-SUBMIT.true))

@@ -12,18 +12,18 @@ use Rattle.line_read.proofs.calls.command_at.Goals.{In-Found, In-Found-setting, 
 use Rattle.line_read.proofs.calls.command_at.Goals as goal
 
 -- the words, as they are found
-device : (c : In-Found) → let g = c.device-1.given.0 in
+device : (c : In-Found) →
     let a = c.args in
-    WordSays (number_up_to highest8) a.line.now a.from g.0 g.1.0
+    WordSays (number_up_to highest8) a.line.now a.from c.in-Found.d c.in-Found.d_end
 device c = number_says highest8 _ _ _ _ (sym c.number_at-device.ensures ∙ c.in-Found.is)
 
-tag : (c : In-Found-tag) → let g = c.tag-1.given.0 in
+tag : (c : In-Found-tag) →
     WordSays (number_up_to highest8) c.args.line.now (c.in-Found.d_end + 1)
-    g.0 g.1.0
+    c.in-Found-tag.t c.in-Found-tag.t_end
 tag c = number_says highest8 _ _ _ _ (sym c.number_at-tag.ensures ∙ c.in-Found-tag.is)
 
-value : (c : In-Found-setting) → let g = c.setting-1.given.0 in
-    WordSays setting c.args.line.now (c.in-Found-tag.t_end + 1) g.0 g.1.0
+value : (c : In-Found-setting) →
+    WordSays setting c.args.line.now (c.in-Found-tag.t_end + 1) c.in-Found-setting.v c.in-Found-setting.end
 value c = setting_says _ _ _ _ (sym c.setting_at-setting.ensures ∙ c.in-Found-setting.is)
 
 pub returns-in_default : goal.returns-in_default

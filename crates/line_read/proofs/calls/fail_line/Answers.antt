@@ -11,8 +11,8 @@ use Rattle.line_read.proofs.calls.fail_line.Goals.{In-Found}
 use Rattle.line_read.proofs.calls.fail_line.Goals as goal
 
 -- the device's word
-device : (c : In-Found) → let g = c.device-1.given.0 in
-    WordSays (number_up_to highest8) c.args.line.now behind_letter g.0 g.1.0
+device : (c : In-Found) →
+    WordSays (number_up_to highest8) c.args.line.now behind_letter c.in-Found.d c.in-Found.end
 device c = number_says highest8 _ _ _ _ (sym c.number_at-device.ensures ∙ c.in-Found.is)
 
 pub returns-in_default : goal.returns-in_default

@@ -11,8 +11,8 @@ use Rattle.line_read.proofs.calls.id_line.Goals.{In-Found}
 use Rattle.line_read.proofs.calls.id_line.Goals as goal
 
 -- the id's word
-id : (c : In-Found) → let g = c.number-1.given.0 in
-    WordSays (number_up_to highest32) c.args.line.now behind_letter g.0 g.1.0
+id : (c : In-Found) →
+    WordSays (number_up_to highest32) c.args.line.now behind_letter c.in-Found.id c.in-Found.end
 id c = number_says highest32 _ _ _ _ (sym c.number_at-number.ensures ∙ c.in-Found.is)
 
 pub returns-in_default : goal.returns-in_default

@@ -11,18 +11,18 @@ use Rattle.line_read.proofs.calls.open_line.Goals.{In-Found, In-Found-first, In-
 use Rattle.line_read.proofs.calls.open_line.Goals as goal
 
 -- the words, as they are found
-devices : (c : In-Found) → let g = c.devices-1.given.0 in
-    WordSays (number_up_to highest8) c.args.line.now behind_letter g.0 g.1.0
+devices : (c : In-Found) →
+    WordSays (number_up_to highest8) c.args.line.now behind_letter c.in-Found.n c.in-Found.n_end
 devices c = number_says highest8 _ _ _ _ (sym c.number_at-devices.ensures ∙ c.in-Found.is)
 
-limit : (c : In-Found-pass_limit) → let g = c.pass_limit-1.given.0 in
+limit : (c : In-Found-pass_limit) →
     WordSays (number_up_to highest8) c.args.line.now (c.in-Found.n_end + 1)
-    g.0 g.1.0
+    c.in-Found-pass_limit.k c.in-Found-pass_limit.k_end
 limit c = number_says highest8 _ _ _ _ (sym c.number_at-pass_limit.ensures ∙ c.in-Found-pass_limit.is)
 
-first : (c : In-Found-first) → let g = c.first-1.given.0 in
+first : (c : In-Found-first) →
     WordSays (number_up_to highest32) c.args.line.now (c.in-Found-pass_limit.k_end + 1)
-    g.0 g.1.0
+    c.in-Found-first.id c.in-Found-first.end
 first c = number_says highest32 _ _ _ _ (sym c.number_at-first.ensures ∙ c.in-Found-first.is)
 
 pub returns-in_default : goal.returns-in_default

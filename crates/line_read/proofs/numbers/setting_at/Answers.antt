@@ -12,7 +12,7 @@ use Rattle.line_rules.specs.Reading.{lowest16, highest16}
 use Rattle.line_read.specs.Places.{setting_at}
 use Rattle.line_read.proofs.WordLaws.{minus_held, plain_held, setting-minus, setting_plain, number_bound}
 use borrow.Author.Rules.{rules}
-use Rattle.line_read.proofs.numbers.setting_at.Goals.{After-number_at-number, After-number_at-number-2}
+use Rattle.line_read.proofs.numbers.setting_at.Goals.{After-number_at-number, After-number_at-number-2, then-from-line+else-line-from-eq-MINUS, else-from-line}
 use Rattle.line_read.proofs.numbers.setting_at.Goals as goal
 
 -- the setting by the number behind its minus
@@ -37,7 +37,7 @@ plain : (c : After-number_at-number-2) → let a = c.args in
     setting_at a.line.now a.from ≡ plain_held c.number_at-number-2.result
 plain c = let a = c.args in
     let n : a.from < length a.line.now → get_or a.line.now a.from 0 ≢ minus =
-    ⊎_elim (λ w _. w.2.left) (λ w h. absurd (omega (arith, w.left))) c.if-from-line.branch in
+    elim c.if-from-line.branch [ then-from-line+else-line-from-eq-MINUS w ↦ λ _. w.if-line-from-eq-MINUS.false | else-from-line w ↦ λ h. absurd (omega (arith, w.if-from-line.false)) ] in
     setting_plain a.line.now a.from n ∙ ap plain_held (sym c.number_at-number-2.ensures)
 
 pub returns-in_default-number : goal.returns-in_default-number
@@ -50,4 +50,4 @@ overflow_cast-result c = let h = number_bound highest16 _ _ _ _ (sym c.number_at
 
 pub returns : goal.returns
 returns c = let h = number_bound highest16 _ _ _ _ (sym c.number_at-number-2.ensures ∙ c.in-Found-number.is) in
-    rw (to_z_pos w16 {(goal.at.returns c).After-number_at-number-2 = c.in-Found-number.value} (omega arith)) (sym (plain (goal.at.returns c).After-number_at-number-2 ∙ ap plain_held c.in-Found-number.is))
+    rw (to_z_pos w16 {n = c.in-Found-number.value} (omega arith)) (sym (plain (goal.at.returns c).After-number_at-number-2 ∙ ap plain_held c.in-Found-number.is))
