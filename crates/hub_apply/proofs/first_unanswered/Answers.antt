@@ -1,8 +1,6 @@
 -- `hub_apply::first_unanswered` meets its contract. The loop: those passed are answered. Assumes nothing.
-use borrow.Author.Rules.{rules}
-use Prim.Native.Nat.{◌-◌}
 use native.Mathlib.Omega.{arith}
-use Rattle.hub_apply.proofs.CodeLaws.{AllAnswered, answered-more, open_found, none_found}
+use Rattle.hub_apply.proofs.CodeLaws.{answered-more, open_found, none_found}
 use Rattle.hub_apply.proofs.first_unanswered.Goals as goal
 
 pub loop-k-init : goal.loop-k-init

@@ -1,8 +1,6 @@
 -- `hub_apply::first_unanswered` meets its contract. The loop: those passed are answered. Assumes nothing.
-use borrow.Author.Rules.{rules}
 use Prim.Native.Nat.{◌-◌}
-use native.Mathlib.Omega.{arith}
-use Rattle.hub_apply.proofs.CodeLaws.{AllAnswered, answered-more, open_found, none_found}
+use Rattle.hub_apply.proofs.CodeLaws.{AllAnswered}
 use Rattle.hub_apply.proofs.first_unanswered.Given as goal
 
 abbrev pub invariant-loop-k : goal.invariant-loop-k

@@ -1,14 +1,13 @@
 -- `hub_apply::skip_left` meets its contract. The loop: of those passed the ones left on the device are skipped. Assumes nothing.
 use borrow.Author.Rules.{rules}
-use Prim.Native.Nat.{◌-◌, ◌*◌, ◌≤◌}
+use Prim.Native.Nat.{◌*◌}
 use native.Mathlib.Omega.{arith}
 use mathlib.Core.Path.{◌≡◌}
-use mathlib.Core.Logic.{⊎_elim}
 use lib.ListN.{length, length-set}
 use Rattle.rules_routine.specs.Limits.{max_commands, max_sequence}
 use Rattle.rules_routine.proofs.RoutineLaws.{length_mapped}
-use Rattle.hub_apply.specs.Stages.{SkipsLeft}
 use Rattle.hub_apply.proofs.CodeLaws.{skip_none, skip_here, skip_other, skip_answered, skip_all}
+use Rattle.hub_apply.proofs.skip_left.Goals.{then-device-k+then-skipped-k-lt-DONE, then-device-k+else-skipped-k-lt-DONE, else-device-k}
 use Rattle.hub_apply.proofs.skip_left.Goals.{Start}
 use Rattle.hub_apply.proofs.skip_left.Goals as goal
 
@@ -36,11 +35,17 @@ loop-k-preserved c = let v = c.loop-k.invariant in
     let e = c.requires.1 in (
       omega (arith, v.0),
       omega (arith, i),
-      ⊎_elim (λ w. rw w.2 (simp length-set v.2)) (⊎_elim (λ w. rw w.2 v.2) (λ w. rw w.1 v.2)) c.if-device-k.branch,
-      ⊎_elim (λ w. rw w.2 (skip_here _ _ _ _ _ _ v.3 v.0 (omega (arith, v.2)) w.0.taken w.1.taken))
-          (⊎_elim (λ w. rw w.2 (skip_answered _ _ _ _ _ _ v.3 v.0 w.1.left))
-          (λ w. rw w.1 (skip_other _ _ _ _ _ _ v.3 v.0 w.0.left)))
-          c.if-device-k.branch,
+      elim c.if-device-k.branch [
+        | then-device-k+then-skipped-k-lt-DONE w ↦ rw w.skipped-is (simp length-set v.2)
+        | then-device-k+else-skipped-k-lt-DONE w ↦ rw w.skipped-is v.2
+        | else-device-k w ↦ rw w.skipped-is v.2
+      ],
+      elim c.if-device-k.branch [
+        | then-device-k+then-skipped-k-lt-DONE w ↦
+            rw w.skipped-is (skip_here _ _ _ _ _ _ v.3 v.0 (omega (arith, v.2)) w.if-device-k.true w.if-skipped-k-lt-DONE.true)
+        | then-device-k+else-skipped-k-lt-DONE w ↦ rw w.skipped-is (skip_answered _ _ _ _ _ _ v.3 v.0 w.if-skipped-k-lt-DONE.false)
+        | else-device-k w ↦ rw w.skipped-is (skip_other _ _ _ _ _ _ v.3 v.0 w.if-device-k.false)
+      ],
     )
 
 pub returns : goal.returns

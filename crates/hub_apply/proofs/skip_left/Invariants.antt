@@ -1,14 +1,9 @@
 -- `hub_apply::skip_left` meets its contract. The loop: of those passed the ones left on the device are skipped. Assumes nothing.
-use borrow.Author.Rules.{rules}
 use Prim.Native.Nat.{◌-◌, ◌*◌, ◌≤◌}
-use native.Mathlib.Omega.{arith}
 use mathlib.Core.Path.{◌≡◌}
-use mathlib.Core.Logic.{⊎_elim}
-use lib.ListN.{length, length-set}
+use lib.ListN.{length}
 use Rattle.rules_routine.specs.Limits.{max_commands, max_sequence}
-use Rattle.rules_routine.proofs.RoutineLaws.{length_mapped}
 use Rattle.hub_apply.specs.Stages.{SkipsLeft}
-use Rattle.hub_apply.proofs.CodeLaws.{skip_none, skip_here, skip_other, skip_answered, skip_all}
 use Rattle.hub_apply.proofs.skip_left.Given as goal
 
 abbrev pub invariant-loop-k : goal.invariant-loop-k

@@ -29,7 +29,7 @@ pub passed_behind-passed-requires : goal.passed_behind-passed-requires
 passed_behind-passed-requires c = can_pass _ _ _ c.requires.0 c.requires.1 c.join-joined.result c.join-joined.ensures
 
 pub overflow_cast-ids : goal.overflow_cast-ids
-overflow_cast-ids c = let s = start (goal.at.overflow_cast-ids c).After-join-joined in let h = s.pre.1.id_left in omega arith
+overflow_cast-ids c = let h = c.requires.1.id_left in omega arith
 
 pub offset_bounds-ids-slot : goal.offset_bounds-ids-slot
 offset_bounds-ids-slot c = let h = slot (goal.at.offset_bounds-ids-slot c).After-join-joined in omega arith
@@ -41,7 +41,7 @@ pub bounds-committed-slot : goal.bounds-committed-slot
 bounds-committed-slot c = slot (goal.at.bounds-committed-slot c).After-join-joined
 
 pub overflow_cast-counts : goal.overflow_cast-counts
-overflow_cast-counts c = let s = start (goal.at.overflow_cast-counts c).After-join-joined in let h = count_fits _ _ _ s.pre.0 s.pre.1 in omega arith
+overflow_cast-counts c = let h = count_fits _ _ _ c.requires.0 c.requires.1 in omega arith
 
 pub bounds-counts-slot : goal.bounds-counts-slot
 bounds-counts-slot c = slot (goal.at.bounds-counts-slot c).After-join-joined
@@ -63,7 +63,7 @@ pub without_restarts-restarts-requires : goal.without_restarts-restarts-requires
 without_restarts-restarts-requires c = slot (goal.at.without_restarts-restarts-requires c).After-join-joined
 
 pub overflow_add-result : goal.overflow_add-result
-overflow_add-result c = let s = start (goal.at.overflow_add-result c).After-join-joined in let h = s.pre.1.id_left in
+overflow_add-result c = let h = c.requires.1.id_left in
     omega arith
 
 pub returns : goal.returns

@@ -48,17 +48,18 @@ pub first_unanswered-next-requires : goal.first_unanswered-next-requires
 first_unanswered-next-requires c = let f = fits (goal.at.first_unanswered-next-requires c).Start in (omega arith, omega arith)
 
 -- where the next command stands
-next-within : (c : After-first_unanswered-next) → let from = c.args.at * max_commands in (from ≤ c.first_unanswered-next.result) × (c.first_unanswered-next.result ≤ from + max_commands)
-next-within c =
-    let f = fits c.before.before.before.before.before.before.before.before.before.before.before.before.before.before.before.before.before.before.before in
+next-within : (c : After-first_unanswered-next) → (c.args.at < max_sequence)
+    × (get_or c.args.state.answered c.args.at 0 ≤ get_or c.args.state.counts c.args.at 0)
+    × (get_or c.args.state.counts c.args.at 0 ≤ max_commands) → let from = c.args.at * max_commands in (from ≤ c.first_unanswered-next.result) × (c.first_unanswered-next.result ≤ from + max_commands)
+next-within c f =
     let w = c.first_unanswered-next.ensures.within in
     (omega (arith, w.0), omega (arith, w.1))
 
 pub overflow_sub-answered : goal.overflow_sub-answered
-overflow_sub-answered c = (next-within (goal.at.overflow_sub-answered c).After-first_unanswered-next).0
+overflow_sub-answered c = (next-within (goal.at.overflow_sub-answered c).After-first_unanswered-next (fits (goal.at.overflow_sub-answered c).Start)).0
 
 pub overflow_cast-answered : goal.overflow_cast-answered
-overflow_cast-answered c = let w = next-within (goal.at.overflow_cast-answered c).After-first_unanswered-next in omega arith
+overflow_cast-answered c = let w = next-within (goal.at.overflow_cast-answered c).After-first_unanswered-next (fits (goal.at.overflow_cast-answered c).Start) in omega arith
 
 pub bounds-answered-at-2 : goal.bounds-answered-at-2
 bounds-answered-at-2 c = (fits (goal.at.bounds-answered-at-2 c).Start).0

@@ -1,9 +1,8 @@
 -- `hub_apply::with_stage` meets its contract. Assumes nothing.
 use borrow.Author.Rules.{rules}
-use Prim.Native.Nat.{ℕ, ◌+◌, ◌*◌, ◌≤◌, ◌<◌}
+use Prim.Native.Nat.{◌+◌, ◌*◌, ◌≤◌, ◌<◌}
 use native.Mathlib.Omega.{arith}
 use mathlib.Core.Path.{◌≡◌}
-use mathlib.Core.Logic.{⊎_elim}
 use lib.ListN.{length, get_or}
 use mir.Syntax.{w16}
 use mir.Val.{to_z, of_z}
@@ -11,6 +10,7 @@ use Rattle.rules_routine.specs.Limits.{max_devices, max_commands, max_sequence}
 use Rattle.rules_routine.proofs.RoutineLaws.{length_mapped}
 use Rattle.hub_state.proofs.Members.{counts_most}
 use Rattle.hub_apply.proofs.StageLaws.{at_slot, at_place, next_open, no_more, AnsweredNow, stage_applied, begins_marks, same_marks}
+use Rattle.hub_apply.proofs.with_stage.Goals.{then-change-ne-IN_FLIGHT, else-change-ne-IN_FLIGHT}
 use Rattle.hub_apply.proofs.with_stage.Goals.{After-first_unanswered-next, Joined-change-ne-IN_FLIGHT, Start}
 use Rattle.hub_apply.proofs.with_stage.Goals as goal
 
@@ -22,7 +22,6 @@ long c = (search (rules, length_mapped), search (rules, length_mapped), search (
 -- the last row's stands too deep for the search
 long-mark : (c : Start) → length c.args.state.mark ≡ max_devices
 long-mark c =
-    length_mapped ℕ ℕ (λ x. x) c.args.state.mark max_devices
     c.well_formed.0.1.1.1.1.1.1.1.1.1.1.1.1.1.1.1.1.1.1.1.0.1.0.1
 
 -- the slot, and how many commands it has
@@ -68,28 +67,32 @@ pub first_unanswered-next-requires : goal.first_unanswered-next-requires
 first_unanswered-next-requires c = let f = fits (goal.at.first_unanswered-next-requires c).Start in (omega arith, omega arith)
 
 -- where the next command stands
-next-within : (c : After-first_unanswered-next) → let from = c.args.change.at * max_commands in (from ≤ c.first_unanswered-next.result)
+next-within : (c : After-first_unanswered-next) → (c.args.change.at < max_sequence)
+    × (get_or c.args.state.answered c.args.change.at 0 < get_or c.args.state.counts c.args.change.at 0)
+    × (get_or c.args.state.counts c.args.change.at 0 ≤ max_commands) → let from = c.args.change.at * max_commands in (from ≤ c.first_unanswered-next.result)
     × (c.first_unanswered-next.result ≤ from + max_commands)
-next-within c =
-    let f = fits c.before.before.before.before.before.before.before.before.before.before.before.before.before.before.before.before.before.before.before.before in
+next-within c f =
     let w = c.first_unanswered-next.ensures.within in
     (omega (arith, w.0), omega (arith, w.1))
 
 pub overflow_sub-answered : goal.overflow_sub-answered
-overflow_sub-answered c = (next-within (goal.at.overflow_sub-answered c).After-first_unanswered-next).0
+overflow_sub-answered c = (next-within (goal.at.overflow_sub-answered c).After-first_unanswered-next (fits (goal.at.overflow_sub-answered c).Start)).0
 
 pub overflow_cast-answered : goal.overflow_cast-answered
-overflow_cast-answered c = let w = next-within (goal.at.overflow_cast-answered c).After-first_unanswered-next in omega arith
+overflow_cast-answered c = let w = next-within (goal.at.overflow_cast-answered c).After-first_unanswered-next (fits (goal.at.overflow_cast-answered c).Start) in omega arith
 
 pub bounds-answered-at-then-change-ne-IN_FLIGHT : goal.bounds-answered-at-then-change-ne-IN_FLIGHT
 bounds-answered-at-then-change-ne-IN_FLIGHT c = (fits (goal.at.bounds-answered-at-then-change-ne-IN_FLIGHT c).Start).0
 
 -- how many are answered, where the two branches meet
-come : (c : Joined-change-ne-IN_FLIGHT) → AnsweredNow _ _ c.requires.0 c.requires.1 c.if-change-ne-IN_FLIGHT.answered
-come c = ⊎_elim
-    (λ w. rw w.3 (next_open _ _ c.requires.0 c.requires.1 w.0.taken (long c.before.before.before.before.before.before.before.before.before.before.before.before.before.before.before.before.before.before).0 (long c.before.before.before.before.before.before.before.before.before.before.before.before.before.before.before.before.before.before).1 _ w.2.ensures))
-    (λ w. rw w.1 (no_more _ _ c.requires.0 c.requires.1 w.0.left))
-    c.if-change-ne-IN_FLIGHT.branch
+come : (c : Joined-change-ne-IN_FLIGHT) → length c.args.state.answered ≡ max_sequence →
+    length c.args.state.stage ≡ max_sequence * max_commands →
+    AnsweredNow _ _ c.requires.0 c.requires.1 c.if-change-ne-IN_FLIGHT.answered
+come c n m = elim c.if-change-ne-IN_FLIGHT.branch [
+  | then-change-ne-IN_FLIGHT w ↦
+      rw w.answered-is (next_open _ _ c.requires.0 c.requires.1 w.if-change-ne-IN_FLIGHT.true n m _ w.first_unanswered-next.ensures)
+  | else-change-ne-IN_FLIGHT w ↦ rw w.answered-is (no_more _ _ c.requires.0 c.requires.1 w.if-change-ne-IN_FLIGHT.false)
+]
 
 pub returns-then-change : goal.returns-then-change
 returns-then-change c = let h = c.args.state in
@@ -98,7 +101,7 @@ returns-then-change c = let h = c.args.state in
     let e : to_z w16 (of_z w16 g.due_then) ≡ g.due_then = search rules in
     let i : g.device < length h.mark = omega (arith, long-mark (goal.at.returns-then-change c).Start, c.requires.1.device_fits) in
     rw e
-    (stage_applied h g c.requires.0 c.requires.1 _ _ (come (goal.at.returns-then-change c).Joined-change-ne-IN_FLIGHT) l.1 l.2
+    (stage_applied h g c.requires.0 c.requires.1 _ _ (come (goal.at.returns-then-change c).Joined-change-ne-IN_FLIGHT l.0 l.1) l.1 l.2
     (begins_marks h.mark g.device g.id g.begins c.if-change.true i))
 
 pub returns-else-change : goal.returns-else-change
@@ -107,5 +110,5 @@ returns-else-change c = let h = c.args.state in
     let l = long (goal.at.returns-else-change c).Start in
     let e : to_z w16 (of_z w16 g.due_then) ≡ g.due_then = search rules in
     rw e
-    (stage_applied h g c.requires.0 c.requires.1 _ _ (come (goal.at.returns-else-change c).Joined-change-ne-IN_FLIGHT) l.1 l.2
+    (stage_applied h g c.requires.0 c.requires.1 _ _ (come (goal.at.returns-else-change c).Joined-change-ne-IN_FLIGHT l.0 l.1) l.1 l.2
     (same_marks h.mark g.device g.id g.begins c.if-change.false))

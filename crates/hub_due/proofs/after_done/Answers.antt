@@ -3,14 +3,14 @@
 use borrow.Author.Rules.{rules}
 use native.Mathlib.Omega.{arith}
 use mathlib.Core.Path.{◌≡◌, ap, ◌∙◌}
-use mathlib.Core.Logic.{⊎_elim}
-use Prim.Native.Nat.{◌-◌, ◌≤◌, ◌<◌}
+use Prim.Native.Nat.{◌<◌}
 use lib.IntN.{pos}
 use lib.ListN.{get_or, set}
 use mir.Val.{to_z, of_z}
 use mir.Syntax.{w16}
 use Rattle.rules_routine.specs.Limits.{max_devices}
-use Rattle.hub_due.proofs.Places.{DoneTo, done_yet, done_all, done_store, done_keep}
+use Rattle.hub_due.proofs.Places.{done_yet, done_all, done_store, done_keep}
+use Rattle.hub_due.proofs.after_done.Goals.{then-stage-k-eq-DONE, else-stage-k-eq-DONE}
 use Rattle.hub_due.proofs.after_done.Goals.{In-loop-k}
 use Rattle.hub_due.proofs.after_done.Goals as goal
 
@@ -32,23 +32,20 @@ bounds-after-d c = below (goal.at.bounds-after-d c).In-loop-k
 
 pub loop-k-preserved : goal.loop-k-preserved
 loop-k-preserved c = let v = c.loop-k.invariant in
-    ⊎_elim
-    (λ w. let a = c.args in
-    let after = c.loop-k.after in
-    let at = get_or a.device.now c.loop-k.k 0 in
-    let to = get_or a.setting.now c.loop-k.k (pos 0) in
-    let b : to_z w16 (of_z w16 to) ≡ to = search rules in
-    let e : c.if-stage-k-eq-DONE.after ≡ set after at to = w.3 ∙ ap (set after at) b in (
-      omega (arith, v.0),
-      omega (arith, c.loop-k-test.true),
-      done_store v.2 c.loop-k-test.true e w.0.taken (below (goal.at.loop-k-preserved c).In-loop-k),
-    ))
-    (λ w. (
-      omega (arith, v.0),
-      omega (arith, c.loop-k-test.true),
-      done_keep v.2 c.loop-k-test.true w.1 w.0.left,
-    ))
-    c.if-stage-k-eq-DONE.branch
+    let at = get_or c.args.device.now c.loop-k.k 0 in
+    let to = get_or c.args.setting.now c.loop-k.k (pos 0) in
+    elim c.if-stage-k-eq-DONE.branch [
+      | then-stage-k-eq-DONE w ↦ let b : to_z w16 (of_z w16 to) ≡ to = search rules in (
+        omega (arith, v.0),
+        omega (arith, c.loop-k-test.true),
+        done_store v.2 c.loop-k-test.true (w.after-is ∙ ap (set c.loop-k.after at) b) w.if-stage-k-eq-DONE.true (below (goal.at.loop-k-preserved c).In-loop-k),
+      )
+      | else-stage-k-eq-DONE w ↦ (
+        omega (arith, v.0),
+        omega (arith, c.loop-k-test.true),
+        done_keep v.2 c.loop-k-test.true w.after-is w.if-stage-k-eq-DONE.false,
+      )
+    ]
 
 pub returns : goal.returns
 returns c = done_all c.loop-k.invariant.2 c.loop-k-test.false

@@ -2,15 +2,15 @@
 use borrow.Author.Rules.{rules}
 use native.Mathlib.Omega.{arith}
 use mathlib.Core.Path.{◌≡◌, ap, ◌∙◌}
-use mathlib.Core.Logic.{⊎_elim}
-use Prim.Native.Nat.{◌+◌, ◌*◌, ◌-◌, ◌≤◌}
+use Prim.Native.Nat.{◌+◌, ◌*◌}
 use lib.IntN.{pos}
 use lib.ListN.{get_or, set}
 use mir.Val.{to_z, of_z}
 use mir.Syntax.{w16}
 use Rattle.rules_routine.specs.Limits.{max_devices}
-use Rattle.hub_due.proofs.Restarts.{restart-there, restart_absent, RestartsTo, restarts_yet, restart_store, restart_keep}
+use Rattle.hub_due.proofs.Restarts.{restart-there, restart_absent, restarts_yet, restart_store, restart_keep}
 use Rattle.hub_due.proofs.Restarts.{restarts_all}
+use Rattle.hub_due.proofs.after_restarts.Goals.{then-last-ne-NO_RESTART, else-last-ne-NO_RESTART}
 use Rattle.hub_due.proofs.after_restarts.Goals as goal
 
 pub loop-d-init : goal.loop-d-init
@@ -19,20 +19,19 @@ loop-d-init c = (omega arith, restarts_yet _ _ _ (search rules))
 pub loop-d-preserved : goal.loop-d-preserved
 loop-d-preserved c = let row = c.args.restarts.now in
     let d = c.loop-d.d in
-    let now = c.loop-d.after in
     let v = c.loop-d.invariant in
     let r = get_or row (c.args.at * max_devices + d) (pos 0) in
     let b : to_z w16 (of_z w16 r) ≡ r = search rules in
-    ⊎_elim
-    (λ w. let e : c.if-last-ne-NO_RESTART.after ≡ set now d r = w.1 ∙ ap (set now d) b in (
-      omega (arith, c.loop-d-test.true),
-      restart_store v.1 r e c.loop-d-test.true (restart-there row _ d c.requires.1 c.requires.0 c.loop-d-test.true w.0.taken),
-    ))
-    (λ w. (
-      omega (arith, c.loop-d-test.true),
-      restart_keep v.1 w.1 (restart_absent row _ d c.requires.1 c.requires.0 c.loop-d-test.true b w.0.left),
-    ))
-    c.if-last-ne-NO_RESTART.branch
+    elim c.if-last-ne-NO_RESTART.branch [
+      | then-last-ne-NO_RESTART w ↦ (
+        omega (arith, c.loop-d-test.true),
+        restart_store v.1 r (w.after-is ∙ ap (set c.loop-d.after d) b) c.loop-d-test.true (restart-there row _ d c.requires.1 c.requires.0 c.loop-d-test.true w.if-last-ne-NO_RESTART.true),
+      )
+      | else-last-ne-NO_RESTART w ↦ (
+        omega (arith, c.loop-d-test.true),
+        restart_keep v.1 w.after-is (restart_absent row _ d c.requires.1 c.requires.0 c.loop-d-test.true b w.if-last-ne-NO_RESTART.false),
+      )
+    ]
 
 pub returns : goal.returns
 returns c = restarts_all c.loop-d.invariant.1 c.loop-d-test.false

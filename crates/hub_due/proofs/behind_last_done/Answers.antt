@@ -1,10 +1,8 @@
 -- `hub_due::behind_last_done` meets its contract. The loop's invariant: the commands from the k-th on leave the device as it was. Assumes
 -- nothing.
-use borrow.Author.Rules.{rules}
 use native.Mathlib.Omega.{arith}
-use Prim.Native.Nat.{◌≤◌}
-use Rattle.hub_due.proofs.Places.{NoneFrom, none_yet, other_more, not-done-more, last_found, last_none}
-use mathlib.Core.Logic.{⊎_elim}
+use Rattle.hub_due.proofs.Places.{none_yet, other_more, not-done-more, last_found, last_none}
+use Rattle.hub_due.proofs.behind_last_done.Goals.{then-device-k+else-stage-k-eq-DONE, else-device-k}
 use Rattle.hub_due.proofs.behind_last_done.Goals as goal
 
 pub loop-k-init : goal.loop-k-init
@@ -18,8 +16,10 @@ pub loop-k-preserved : goal.loop-k-preserved
 loop-k-preserved c = let v = c.loop-k.invariant in (
   omega (arith, c.loop-k-test.true),
   omega (arith, v.1),
-  ⊎_elim (λ w. not-done-more v.2 c.loop-k-test.true w.2.left) (λ w. other_more v.2 c.loop-k-test.true w.left)
-      c.if-device-k.branch,
+  elim c.if-device-k.branch [
+    | then-device-k+else-stage-k-eq-DONE w ↦ not-done-more v.2 c.loop-k-test.true w.if-stage-k-eq-DONE.false
+    | else-device-k w ↦ other_more v.2 c.loop-k-test.true w.if-device-k.false
+  ],
 )
 
 pub returns : goal.returns

@@ -1,10 +1,7 @@
 -- `hub_due::behind_last_done` meets its contract. The loop's invariant: the commands from the k-th on leave the device as it was. Assumes
 -- nothing.
-use borrow.Author.Rules.{rules}
-use native.Mathlib.Omega.{arith}
 use Prim.Native.Nat.{◌≤◌}
-use Rattle.hub_due.proofs.Places.{NoneFrom, none_yet, other_more, not-done-more, last_found, last_none}
-use mathlib.Core.Logic.{⊎_elim}
+use Rattle.hub_due.proofs.Places.{NoneFrom}
 use Rattle.hub_due.proofs.behind_last_done.Given as goal
 
 abbrev pub invariant-loop-k : goal.invariant-loop-k

@@ -3,7 +3,6 @@
 use borrow.Author.Rules.{rules}
 use native.Mathlib.Omega.{arith}
 use mathlib.Core.Path.{◌≡◌, ◌∙◌}
-use mathlib.Core.Logic.{⊎_elim}
 use mathlib.Core.Option.{none}
 use Prim.Native.Nat.{◌+◌, ◌*◌, ◌-◌, ◌≤◌}
 use lib.IntN.{pos}
@@ -13,14 +12,15 @@ use mir.Syntax.{w16}
 use Rattle.rules_routine.specs.Limits.{max_devices, max_commands, max_sequence}
 use Rattle.rules_routine.proofs.RoutineLaws.{length_mapped}
 use Rattle.rules.specs.Due.{after_members}
-use Rattle.hub_sequence.specs.Links.{along, back_of, Walks, Stands}
+use Rattle.hub_sequence.specs.Links.{back_of, Stands}
 use Rattle.hub_sequence.proofs.ReadLaws.{walks-ahead}
 use Rattle.hub_sequence.proofs.WalkLaws.{walks_spot, walks_next, walks_less}
 use Rattle.hub_state.specs.View.{restarts_at, members_of}
 use Rattle.hub_state.proofs.Rows.{restarts-past}
 use Rattle.hub_due.proofs.Restarts.{restart-there, restart_absent}
-use Rattle.hub_due.proofs.Slots.{Within, within_self, walk-within, walk_here, back-stands, answered_end, back_slots, BackTo, back_yet}
+use Rattle.hub_due.proofs.Slots.{within_self, walk-within, walk_here, back-stands, answered_end, back_slots, back_yet}
 use Rattle.hub_due.proofs.Slots.{back-restart, back_found, back-past, back_done, due-lent}
+use Rattle.hub_due.proofs.due_on.Goals.{then-d-lt-MAX_DEVICES+else-restart-ne-NO_RESTART, else-d-lt-MAX_DEVICES}
 use Rattle.hub_due.proofs.due_on.Goals.{In-loop-i, Joined-d-lt-MAX_DEVICES, Start}
 use Rattle.hub_due.proofs.due_on.Goals as goal
 
@@ -49,16 +49,16 @@ whole : (c : Start) →
 whole c = due-lent c.args.state c.requires.0 _ _ _ _ c.requires.1 c.requires.2 c.requires.3 _ _ (search rules)
 
 -- the slot has no restart of the device
-absent : (c : Joined-d-lt-MAX_DEVICES) →
+absent : (c : Joined-d-lt-MAX_DEVICES) → length c.args.state.restarts ≡ max_sequence * max_devices →
     restarts_at c.args.state.restarts
     c.loop-i.i c.args.wanted ≡ none
-absent c = let r = get_or c.args.state.restarts (c.loop-i.i * max_devices + c.args.wanted) (pos 0) in
-    ⊎_elim
-    (λ w. let g = w.1.given in
-    let b : to_z w16 (of_z w16 r) ≡ r = search rules in
-    restart_absent _ _ _ (long c.before.before.before.before.before.before.before.before) c.loop-i-test.true w.0.taken b w.2.left)
-    (λ w. restarts-past _ _ _ w.left)
-    c.if-d-lt-MAX_DEVICES.branch
+absent c fits = let r = get_or c.args.state.restarts (c.loop-i.i * max_devices + c.args.wanted) (pos 0) in
+    elim c.if-d-lt-MAX_DEVICES.branch [
+      | then-d-lt-MAX_DEVICES+else-restart-ne-NO_RESTART w ↦
+          let b : to_z w16 (of_z w16 r) ≡ r = search rules in
+          restart_absent _ _ _ fits c.loop-i-test.true w.if-d-lt-MAX_DEVICES.true b w.if-restart-ne-NO_RESTART.false
+      | else-d-lt-MAX_DEVICES w ↦ restarts-past _ _ _ w.if-d-lt-MAX_DEVICES.false
+    ]
 
 pub loop-i-init : goal.loop-i-init
 loop-i-init c = (walks-ahead _ c.requires.0.links_ok, within_self _, back_yet _ _ _ _ _ _ _ _ _)
@@ -89,7 +89,7 @@ pub returns-then-from-k : goal.returns-then-from-k
 returns-then-from-k c = let v = c.loop-i.invariant in
     let r = get_or c.args.setting.now (c.behind_last_done-k.result - 1) (pos 0) in
     let b : to_z w16 (of_z w16 r) ≡ r = search rules in
-    b ∙ back_found v.0 v.2 c.loop-i-test.true (absent (goal.at.returns-then-from-k c).Joined-d-lt-MAX_DEVICES) c.behind_last_done-k.ensures c.if-from-k.true ∙ whole (goal.at.returns-then-from-k c).Start
+    b ∙ back_found v.0 v.2 c.loop-i-test.true (absent (goal.at.returns-then-from-k c).Joined-d-lt-MAX_DEVICES (long (goal.at.returns-then-from-k c).Start)) c.behind_last_done-k.ensures c.if-from-k.true ∙ whole (goal.at.returns-then-from-k c).Start
 
 pub overflow_cast-i-in-loop-i : goal.overflow_cast-i-in-loop-i
 overflow_cast-i-in-loop-i c = let s = walks_spot (walks_next c.loop-i.invariant.0 c.loop-i-test.true).1 in
@@ -103,7 +103,7 @@ loop-i-preserved c = let h = c.loop-i-test.true in
     let v = c.loop-i.invariant in (
       (walks_next v.0 h).1,
       walk-within v.0 v.1 h,
-      back-past v.0 v.2 h (absent (goal.at.loop-i-preserved c).Joined-d-lt-MAX_DEVICES) c.behind_last_done-k.ensures
+      back-past v.0 v.2 h (absent (goal.at.loop-i-preserved c).Joined-d-lt-MAX_DEVICES (long (goal.at.loop-i-preserved c).Start)) c.behind_last_done-k.ensures
           c.if-from-k.false,
     )
 

@@ -3,17 +3,17 @@
 use borrow.Author.Rules.{rules}
 use native.Mathlib.Omega.{arith}
 use mathlib.Core.Path.{◌≡◌, ◌∙◌, fun_ext}
-use mathlib.Core.Logic.{⊎_elim}
 use Prim.Native.Nat.{◌+◌, ◌*◌, ◌≤◌}
 use lib.ListN.{length, get_or}
 use Rattle.rules_routine.specs.Limits.{max_devices, max_commands, max_sequence}
 use Rattle.rules_routine.proofs.RoutineLaws.{length_mapped}
-use Rattle.hub_sequence.specs.Links.{along, Walks, Stands}
+use Rattle.hub_sequence.specs.Links.{Stands}
 use Rattle.hub_sequence.proofs.ReadLaws.{walks-behind}
 use Rattle.hub_sequence.proofs.WalkLaws.{walks_spot, walks_next, walks_less}
-use Rattle.hub_due.proofs.Slots.{Within, within_self, walk-within, walk_here, answered_end, answered-devices, DueTo, due_yet}
+use Rattle.hub_due.proofs.Slots.{within_self, walk-within, walk_here, answered_end, answered-devices, due_yet}
 use Rattle.hub_due.proofs.Slots.{due-more}
 use Rattle.hub_due.proofs.Slots.{due_left_out, due_end, due_but}
+use Rattle.hub_due.proofs.due_settings_without.Goals.{then-i-but, else-i-but}
 use Rattle.hub_due.proofs.due_settings_without.Goals.{In-loop-i, Start}
 use Rattle.hub_due.proofs.due_settings_without.Goals as goal
 
@@ -63,8 +63,10 @@ loop-i-preserved c = let h = c.loop-i-test.true in
     let e = c.after_restarts-after.ensures in (
       (walks_next v.0 h).1,
       walk-within v.0 v.1 h,
-      ⊎_elim (λ w. due-more v.0 v.2 h w.0.taken w.5 w.4.ensures e)
-          (λ w. due_left_out v.0 v.2 h w.0.left w.1 e) c.if-i-but.branch,
+      elim c.if-i-but.branch [
+        | then-i-but w ↦ due-more v.0 v.2 h w.if-i-but.true w.table-is w.after_done-done.ensures e
+        | else-i-but w ↦ due_left_out v.0 v.2 h w.if-i-but.false w.table-is e
+      ],
     )
 
 pub returns : goal.returns

@@ -1,19 +1,18 @@
 -- `hub_due::in_flight_without` meets its contract. The loop's invariant: with the slots that are left, the row has the devices that all
 -- slots give. Assumes nothing.
-use borrow.Author.Rules.{rules}
 use native.Mathlib.Omega.{arith}
 use mathlib.Core.Path.{◌∙◌, fun_ext}
-use mathlib.Core.Logic.{⊎_elim}
-use Prim.Native.Nat.{◌+◌, ◌*◌, ◌-◌, ◌<◌}
-use lib.ListN.{length, get_or}
+use Prim.Native.Nat.{◌+◌, ◌*◌, ◌<◌}
+use lib.ListN.{get_or}
 use Rattle.rules_routine.specs.Limits.{max_devices, max_commands, max_sequence}
-use Rattle.hub_sequence.specs.Links.{along, Walks, Stands}
+use Rattle.hub_sequence.specs.Links.{Stands}
 use Rattle.hub_sequence.proofs.ReadLaws.{walks-behind}
 use Rattle.hub_sequence.proofs.WalkLaws.{walks_spot, walks_next, walks_less}
 use Rattle.hub_state.proofs.Members.{place-within, device-within}
-use Rattle.hub_due.proofs.Slots.{Within, within_self, walk-within, walk_here, flights_along, FlightsTo, flights_yet, flights_end}
+use Rattle.hub_due.proofs.Slots.{within_self, walk-within, walk_here, flights_along, flights_yet, flights_end}
 use Rattle.hub_due.proofs.Slots.{flights_left_out, flights_past, flights_to_do, flights_put}
-use Rattle.hub_due.proofs.in_flight_without.Goals.{In-loop-i, Then-answered-i}
+use Rattle.hub_due.proofs.in_flight_without.Goals.{then-i-but+then-answered-i+then-stage-k-eq-IN_FLIGHT, then-i-but+then-answered-i+else-stage-k-eq-IN_FLIGHT, then-i-but+else-answered-i, else-i-but}
+use Rattle.hub_due.proofs.in_flight_without.Goals.{In-loop-i}
 use Rattle.hub_due.proofs.in_flight_without.Goals as goal
 
 -- the slot that the walk has come to is taken
@@ -22,41 +21,41 @@ stands : (c : In-loop-i) →
 stands c = let v = c.loop-i.invariant in walk_here v.0 v.1 c.loop-i-test.true
 
 -- the place of its first command that is not answered, and that command's device
-place : (c : Then-answered-i) →
+place : (c : In-loop-i) → get_or c.args.state.answered c.loop-i.i 0 < get_or c.args.state.counts c.loop-i.i 0 →
     c.loop-i.i * max_commands
     + get_or c.args.state.answered
     c.loop-i.i 0
     < max_sequence * max_commands
-place c = place-within c.args.state _ c.requires (stands c.before.before) _ c.if-answered-i.true
+place c t = place-within c.args.state _ c.requires (stands c) _ t
 
-device : (c : Then-answered-i) →
+device : (c : In-loop-i) → get_or c.args.state.answered c.loop-i.i 0 < get_or c.args.state.counts c.loop-i.i 0 →
     get_or c.args.state.device
     (c.loop-i.i * max_commands
     + get_or c.args.state.answered
     c.loop-i.i 0) 0
     < max_devices
-device c = device-within c.args.state _ c.requires (stands c.before.before) _ c.if-answered-i.true
+device c t = device-within c.args.state _ c.requires (stands c) _ t
 
 pub loop-i-init : goal.loop-i-init
 loop-i-init c = (walks-behind _ c.requires.links_ok, within_self _, flights_yet _ _ _ _ _ _ _)
 
 pub overflow_cast-k : goal.overflow_cast-k
-overflow_cast-k c = let h = place (goal.at.overflow_cast-k c).Then-answered-i in omega arith
+overflow_cast-k c = let h = place (goal.at.overflow_cast-k c).In-loop-i c.if-answered-i.true in omega arith
 
 pub overflow_add-k : goal.overflow_add-k
-overflow_add-k c = let h = place (goal.at.overflow_add-k c).Then-answered-i in omega arith
+overflow_add-k c = let h = place (goal.at.overflow_add-k c).In-loop-i c.if-answered-i.true in omega arith
 
 pub bounds-stage-k : goal.bounds-stage-k
-bounds-stage-k c = place (goal.at.bounds-stage-k c).Then-answered-i
+bounds-stage-k c = place (goal.at.bounds-stage-k c).In-loop-i c.if-answered-i.true
 
 pub bounds-device-k : goal.bounds-device-k
-bounds-device-k c = place (goal.at.bounds-device-k c).Then-answered-i
+bounds-device-k c = place (goal.at.bounds-device-k c).In-loop-i c.if-answered-i.true
 
 pub overflow_cast-d : goal.overflow_cast-d
-overflow_cast-d c = let h = device (goal.at.overflow_cast-d c).Then-answered-i in omega arith
+overflow_cast-d c = let h = device (goal.at.overflow_cast-d c).In-loop-i c.if-answered-i.true in omega arith
 
 pub bounds-busy-d : goal.bounds-busy-d
-bounds-busy-d c = device (goal.at.bounds-busy-d c).Then-answered-i
+bounds-busy-d c = device (goal.at.bounds-busy-d c).In-loop-i c.if-answered-i.true
 
 pub overflow_cast-i-in-loop-i : goal.overflow_cast-i-in-loop-i
 overflow_cast-i-in-loop-i c = let s = walks_spot (walks_next c.loop-i.invariant.0 c.loop-i-test.true).1 in
@@ -70,15 +69,15 @@ loop-i-preserved c = let h = c.loop-i-test.true in
     let v = c.loop-i.invariant in
     let a = (walks_next v.0 h).1 in
     let b = walk-within v.0 v.1 h in
-    ⊎_elim
-    (λ w. let i : tie.Then2 invariant-loop decreases-loop = record { before = record { before = (goal.at.loop-i-preserved c).In-loop-i; if1 = w.0 }; if2 = w.1 } in
-    (a, b, flights_put v.0 v.2 h w.3 w.0.taken w.1.taken w.2.taken (device i)))
-    (⊎_elim
-    (λ w. (a, b, flights_to_do v.0 v.2 h w.3 w.2.left))
-    (⊎_elim
-    (λ w. (a, b, flights_past v.0 v.2 h w.2 w.1.left))
-    (λ w. (a, b, flights_left_out v.0 v.2 h w.1 w.0.left))))
-    c.if-i-but.branch
+    let l = (goal.at.loop-i-preserved c).In-loop-i in
+    elim c.if-i-but.branch [
+      | then-i-but+then-answered-i+then-stage-k-eq-IN_FLIGHT w ↦
+          (a, b, flights_put v.0 v.2 h w.busy-is w.if-i-but.true w.if-answered-i.true w.if-stage-k-eq-IN_FLIGHT.true (device l w.if-answered-i.true))
+      | then-i-but+then-answered-i+else-stage-k-eq-IN_FLIGHT w ↦
+          (a, b, flights_to_do v.0 v.2 h w.busy-is w.if-stage-k-eq-IN_FLIGHT.false)
+      | then-i-but+else-answered-i w ↦ (a, b, flights_past v.0 v.2 h w.busy-is w.if-answered-i.false)
+      | else-i-but w ↦ (a, b, flights_left_out v.0 v.2 h w.busy-is w.if-i-but.false)
+    ]
 
 pub returns : goal.returns
 returns c = let v = c.loop-i.invariant in

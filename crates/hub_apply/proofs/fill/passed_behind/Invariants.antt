@@ -1,14 +1,9 @@
 -- `hub_apply::fill::passed_behind` meets its contract: with each round one slot more of the walk is passed. Assumes nothing.
-use borrow.Author.Rules.{rules}
-use native.Mathlib.Omega.{arith}
-use borrow.Author.Tests.{not-true, not-false}
 use mathlib.Core.Path.{◌≡◌}
-use mathlib.Core.Logic.{⊎_elim}
-use lib.ListN.{length, length-set}
+use lib.ListN.{length}
 use Rattle.rules_routine.specs.Limits.{max_sequence}
 use Rattle.hub_sequence.specs.Links.{along, Walks}
-use Rattle.hub_sequence.proofs.WalkLaws.{walks_next, walks_less}
-use Rattle.hub_apply.proofs.FillLaws.{PassedSoFar, passes_none, room_left, passes_running, passes_committed, passes_all}
+use Rattle.hub_apply.proofs.FillLaws.{PassedSoFar}
 use Rattle.hub_apply.proofs.fill.passed_behind.Given as goal
 
 abbrev pub invariant-loop-i : goal.invariant-loop-i

@@ -1,15 +1,11 @@
 -- `hub_apply::fill::with_commands` meets its contract: with each round one entry more is filled in. Assumes nothing.
 use borrow.Author.Rules.{rules}
-use Prim.Native.Nat.{◌*◌, ◌-◌, ◌≤◌}
 use native.Mathlib.Omega.{arith}
 use mathlib.Core.Path.{◌≡◌, refl}
 use mir.Syntax.{w16}
 use mir.Val.{to_z, of_z}
-use lib.IntN.{pos}
-use lib.ListN.{length, get_or, length-set}
-use Rattle.rules_routine.specs.Limits.{max_commands, max_sequence}
+use lib.ListN.{get_or, length-set}
 use Rattle.rules_routine.specs.Routine.{zero_command}
-use Rattle.hub_apply.specs.Fill.{Fills}
 use Rattle.hub_apply.proofs.FillLaws.{fills_none, fills_more, fills_all}
 use Rattle.hub_apply.proofs.fill.with_commands.Goals as goal
 

@@ -1,13 +1,10 @@
 -- `hub_apply::fill::with_to_do` meets its contract: with each round one entry more is filled in. Assumes nothing.
-use borrow.Author.Rules.{rules}
 use Prim.Native.Nat.{◌*◌, ◌-◌, ◌≤◌}
-use native.Mathlib.Omega.{arith}
-use mathlib.Core.Path.{◌≡◌, refl}
-use lib.ListN.{length, length-set}
+use mathlib.Core.Path.{◌≡◌}
+use lib.ListN.{length}
 use Rattle.rules_routine.specs.Limits.{max_commands, max_sequence}
 use Rattle.hub_state.specs.View.{to_do_code}
 use Rattle.hub_apply.specs.Fill.{Fills}
-use Rattle.hub_apply.proofs.FillLaws.{fills_none, fills_more, fills_all}
 use Rattle.hub_apply.proofs.fill.with_to_do.Given as goal
 
 abbrev pub invariant-loop-j : goal.invariant-loop-j

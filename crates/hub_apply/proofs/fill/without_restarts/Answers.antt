@@ -1,12 +1,8 @@
 -- `hub_apply::fill::without_restarts` meets its contract: with each round one entry more is filled in. Assumes nothing.
 use borrow.Author.Rules.{rules}
-use Prim.Native.Nat.{◌*◌, ◌-◌, ◌≤◌}
 use native.Mathlib.Omega.{arith}
-use mathlib.Core.Path.{◌≡◌, refl}
-use lib.ListN.{length, length-set}
-use Rattle.rules_routine.specs.Limits.{max_devices, max_sequence}
-use Rattle.hub_state.specs.View.{no_restart}
-use Rattle.hub_apply.specs.Fill.{Fills}
+use mathlib.Core.Path.{refl}
+use lib.ListN.{length-set}
 use Rattle.hub_apply.proofs.FillLaws.{fills_none, fills_more, fills_all}
 use Rattle.hub_apply.proofs.fill.without_restarts.Goals as goal
 
