@@ -22,8 +22,7 @@ use Rattle.book_layout.specs.Layout.{book_devices}
 use Rattle.book_layout.specs.Reading.{book_check, next_of}
 use Rattle.book_layout.specs.Writing.{routines_lent, row_of, counts_of, routines_check, write_check, written_with, written_of, buffer_with}
 use Rattle.book_layout.specs.Writing.{buffer_after}
-use Rattle.book_layout.specs.declared.Item.{Item}
-use Rattle.book_layout.specs.declared.Item.TheVariants.{Handed, End, Refused as RefusedBook}
+use Rattle.book_layout.specs.declared.Item.TheVariants.{Handed}
 use Rattle.book_layout.specs.declared.Written.TheVariants.{Refused as NotWritten}
 use Rattle.book_layout.proofs.Lending.{first-there, rest-there}
 use Rattle.book_layout.proofs.RoundTrip.{Makes, hands_make}

@@ -9,7 +9,6 @@ use Rattle.book_layout.specs.Writing.{written_of, buffer_after}
 use Rattle.book_copy.specs.declared.Rows.{Rows}
 use Rattle.book_copy.proofs.CopyLaws.{rows_count, rows_lent, written_copied, after_copied, refused_copied, Read, read-refused}
 use Rattle.book_copy.proofs.CopyLaws.{read-accepted}
-use borrow.Author.Rules.{rules}
 use Rattle.book_copy.proofs.copied.Goals.{After-rows_of-read, In_default}
 use Rattle.book_copy.proofs.copied.Goals as goal
 

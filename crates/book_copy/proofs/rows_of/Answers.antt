@@ -4,7 +4,6 @@ use mathlib.Core.Path.{◌≡◌, sym, ◌∙◌}
 use native.Mathlib.Omega.{arith}
 use Rattle.book_layout.specs.Reading.{book_check}
 use Rattle.book_layout.proofs.RoundTrip.{hands-accepted}
-use borrow.Author.Rules.{rules}
 use Rattle.book_copy.proofs.rows_of.Goals as goal
 
 pub returns-in_default : goal.returns-in_default

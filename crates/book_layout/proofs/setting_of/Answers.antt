@@ -8,7 +8,6 @@ use mir.Syntax.{w16, w32}
 use mir.Val.{SFits, to_z, of_z}
 use mir.Facts.{to_z_pos, to_z-of_z, sfits_widen}
 use Rattle.book_layout.proofs.LayoutLaws.{setting_low, setting_high, less_65536}
-use borrow.Author.Rules.{rules}
 use Rattle.book_layout.proofs.setting_of.Goals.{Else-upper-lt128, Start, Then-upper-lt128}
 use Rattle.book_layout.proofs.setting_of.Goals as goal
 

@@ -6,7 +6,6 @@ use Rattle.rules_routine.specs.Refusals.{refusal_of}
 use Rattle.book_layout.specs.Layout.{pairs_end, count-of}
 use Rattle.book_layout.specs.Reading.{placed_checks}
 use Rattle.book_layout.proofs.LayoutLaws.{head-count, head_many, head_pairs, head_fine, book-refused, book-placed}
-use borrow.Author.Rules.{rules}
 use Rattle.book_read.proofs.check.Goals.{After-two_at-count}
 use Rattle.book_read.proofs.check.Goals as goal
 

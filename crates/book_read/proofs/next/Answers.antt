@@ -5,7 +5,6 @@ use Rattle.book_layout.specs.declared.Item.TheVariants.{Refused as RefusedBook}
 use mathlib.Core.Path.{◌≡◌, sym, ap, ◌∙◌}
 use Rattle.book_layout.specs.Reading.{book_check, next_of}
 use Rattle.book_layout.proofs.LayoutLaws.{next-first, next-later, next-refused}
-use borrow.Author.Rules.{rules}
 use Rattle.book_read.proofs.next.Goals.{In-Accepted}
 use Rattle.book_read.proofs.next.Goals as goal
 

@@ -18,7 +18,7 @@ use Rattle.hub_search.proofs.SearchLaws.{commands_fit}
 use Rattle.hub_turn.proofs.TurnLaws.{in_rows, device-read, skipped-is, counts_as, must-decides, skip_decides, proceed-skipped}
 use Rattle.hub_turn.proofs.TurnLaws.{proceed-up}
 use Rattle.hub_turn.proofs.TurnLaws.{proceed-must, proceed_skip}
-use Rattle.hub_turn.proofs.go_on.Goals.{After-is_skipped-skips, Joined-not-skips, Start}
+use Rattle.hub_turn.proofs.go_on.Goals.{After-is_skipped-skips, Joined-not-skips, Start, else-not-skips, then-not-skips+else-not-is_up, then-not-skips+then-not-is_up+else-counting_tag-eq-MUST}
 use Rattle.hub_turn.proofs.go_on.Goals as goal
 
 -- the place of the command is in the rows
@@ -73,36 +73,24 @@ no_not b e = sym (not-not b) ∙ ap not e
 
 -- ---- the ways to go on
 -- it is skipped: by the condition before it, or its device is down and it does not count as a must
-skipped : (c : Joined-not-skips) → c.if-not-skips.skips ≡ true →
+skipped : (c : Joined-not-skips) → c.is_skipped-skips.result ≡ next_is_skipped false (steps_at c.args.state c.args.at) → c.if-not-skips.skips ≡ true →
     let a = c.args in
     settling (skip_turn (state_of a.state) (there a.state a.at) (command_at a.state a.k))
     ≡ proceed (state_of a.state) (there a.state a.at) (command_at a.state a.k)
-skipped c t =
+skipped c e t =
     let h = c.args.state in
-    let e = is-skipped-is c.before in
-    ⊎_elim
-    (λ w. proceed_skip h _ _ _ e (un_not _ w.0.taken) _ (device-read h c.args.k _ c.requires.4) _ w.2.ensures
-    (un_not _ w.3.taken) _ (counts_as _ _ _ c.requires.2 _ c.requires.5 _ w.5.ensures) w.6.left)
-    (⊎_elim
-    (λ w. absurd (t≠f (sym t ∙ w.4 ∙ un_not _ w.0.taken)))
-    (λ w. proceed-skipped h _ _ _ e (sym w.1 ∙ t)))
-    c.if-not-skips.branch
+    (elim c.if-not-skips.branch [ then-not-skips+then-not-is_up+else-counting_tag-eq-MUST w ↦ proceed_skip h _ _ _ e (un_not _ w.if-not-skips.true-raw) _ (device-read h c.args.k _ c.requires.4) _ w.is_up.ensures
+    (un_not _ w.if-not-is_up.true-raw) _ (counts_as _ _ _ c.requires.2 _ c.requires.5 _ w.counting_tag.ensures) w.if-counting_tag-eq-MUST.false | then-not-skips+else-not-is_up w ↦ absurd (t≠f (sym t ∙ w.skips-is ∙ un_not _ w.if-not-skips.true-raw)) | else-not-skips w ↦ proceed-skipped h _ _ _ e (sym w.skips-is ∙ t) ])
 
 -- its device is up
-goes-up : (c : Joined-not-skips) → c.if-not-skips.skips ≡ false →
+goes-up : (c : Joined-not-skips) → c.is_skipped-skips.result ≡ next_is_skipped false (steps_at c.args.state c.args.at) → c.if-not-skips.skips ≡ false →
     let a = c.args in
     proceed_up (state_of a.state) (there a.state a.at) (command_at a.state a.k)
     ≡ proceed (state_of a.state) (there a.state a.at) (command_at a.state a.k)
-goes-up c f =
+goes-up c e f =
     let h = c.args.state in
-    let e = is-skipped-is c.before in
-    ⊎_elim
-    (λ w. absurd (t≠f (sym w.7 ∙ f)))
-    (⊎_elim
-    (λ w. proceed-up h _ _ _ e (un_not _ w.0.taken) _ (device-read h c.args.k _ c.requires.4) _ w.2.ensures
-    (no_not _ w.3.left))
-    (λ w. absurd (t≠f (sym (no_not _ w.0.left) ∙ sym w.1 ∙ f))))
-    c.if-not-skips.branch
+    (elim c.if-not-skips.branch [ then-not-skips+then-not-is_up+else-counting_tag-eq-MUST w ↦ absurd (t≠f (sym w.skips-is ∙ f)) | then-not-skips+else-not-is_up w ↦ proceed-up h _ _ _ e (un_not _ w.if-not-skips.true-raw) _ (device-read h c.args.k _ c.requires.4) _ w.is_up.ensures
+    (no_not _ w.if-not-is_up.false-raw) | else-not-skips w ↦ absurd (t≠f (sym (no_not _ w.if-not-skips.false-raw) ∙ sym w.skips-is ∙ f)) ])
 
 pub returns-then-counting_tag-eq-MUST : goal.returns-then-counting_tag-eq-MUST
 returns-then-counting_tag-eq-MUST c = let h = c.args.state in
@@ -120,7 +108,7 @@ pub returns-then-skips : goal.returns-then-skips
 returns-then-skips c = let h = c.args.state in
     let k = c.args.k in
     let p = c.requires in
-    subst (Decides _ _ _) (skipped (goal.at.returns-then-skips c).Joined-not-skips c.if-skips.true)
+    subst (Decides _ _ _) (skipped (goal.at.returns-then-skips c).Joined-not-skips (is-skipped-is (goal.at.returns-then-skips c).After-is_skipped-skips) c.if-skips.true)
     (skip_decides h c.args.at k p.1 p.2 _ _ _ (device-read h k _ p.4) (begun-is (goal.at.returns-then-skips c).After-is_skipped-skips) p.3 _ _ _ c.plain-then-skips.ensures
     c.staged-change.ensures)
 
@@ -129,4 +117,4 @@ go_on_up-requires c = let p = c.requires in
     (p.0, p.1, p.2, p.3, p.4, p.5, p.6, begun-is (goal.at.go_on_up-requires c).After-is_skipped-skips)
 
 pub returns : goal.returns
-returns c = subst (Decides _ _ _) (goes-up (goal.at.returns c).Joined-not-skips c.if-skips.false) c.go_on_up.ensures
+returns c = subst (Decides _ _ _) (goes-up (goal.at.returns c).Joined-not-skips (is-skipped-is (goal.at.returns c).After-is_skipped-skips) c.if-skips.false) c.go_on_up.ensures

@@ -2,17 +2,16 @@
 -- still to be handed out. Assumes nothing.
 use borrow.Author.Rules.{rules}
 use borrow.Author.Rules.{rules}
-use Prim.Native.Nat.{ℕ, ◌+◌, ◌-◌, ◌≤◌}
-use mathlib.Core.Path.{◌≡◌, sym, ap, ap₂, subst, ◌∙◌}
+use Prim.Native.Nat.{ℕ, ◌+◌}
+use mathlib.Core.Path.{sym, ap, ap₂, subst, ◌∙◌}
 use mathlib.Core.List.{List}
 use native.Mathlib.Omega.{arith}
-use lib.ListN.{length, take, drop}
+use lib.ListN.{length, drop}
 use lib.Seq.{take_all}
 use Rattle.rules_routine.specs.Routine.{commands_of}
 use Rattle.rules_routine.specs.declared.Command.{Command}
 use Rattle.rules_routine.proofs.RoutineLaws.{length-commands_of}
 use Rattle.book_layout.specs.Claims.{Hands, Bytes}
-use Rattle.rules_routine.specs.Limits.{max_routines}
 use Rattle.book_layout.specs.Reading.{next_of}
 use Rattle.book_layout.specs.declared.Next.{Next}
 use Rattle.book_layout.proofs.RoundTrip.{hands_make}

@@ -1,24 +1,13 @@
 -- `book_copy::reading::read_all` meets its contract. The loop's invariant: the rows are those of the first i routines, and the others are
 -- still to be handed out. Assumes nothing.
-use borrow.Author.Rules.{rules}
-use borrow.Author.Rules.{rules}
-use Prim.Native.Nat.{ℕ, ◌+◌, ◌-◌, ◌≤◌}
-use mathlib.Core.Path.{◌≡◌, sym, ap, ap₂, subst, ◌∙◌}
+use Prim.Native.Nat.{◌-◌, ◌≤◌}
+use mathlib.Core.Path.{◌≡◌}
 use mathlib.Core.List.{List}
-use native.Mathlib.Omega.{arith}
-use lib.ListN.{length, take, drop}
-use lib.Seq.{take_all}
-use Rattle.rules_routine.specs.Routine.{commands_of}
+use lib.ListN.{take, drop}
 use Rattle.rules_routine.specs.declared.Command.{Command}
-use Rattle.rules_routine.proofs.RoutineLaws.{length-commands_of}
-use Rattle.book_layout.specs.Claims.{Hands, Bytes}
+use Rattle.book_layout.specs.Claims.{Hands}
 use Rattle.rules_routine.specs.Limits.{max_routines}
-use Rattle.book_layout.specs.Reading.{next_of}
-use Rattle.book_layout.specs.declared.Next.{Next}
-use Rattle.book_layout.proofs.RoundTrip.{hands_make}
-use Rattle.book_layout.proofs.Theorems.{read_then_write}
-use Rattle.book_copy.specs.Rows.{rows_of, with_routine}
-use Rattle.book_copy.proofs.CopyLaws.{rows_more, routines-short, CopyStep, step_handed, step_ended}
+use Rattle.book_copy.specs.Rows.{rows_of}
 use Rattle.book_copy.proofs.reading.read_all.Given as goal
 
 abbrev pub invariant-loop-i : goal.invariant-loop-i

@@ -2,10 +2,10 @@
 -- all of them. Assumes nothing.
 use borrow.Author.Rules.{rules}
 use borrow.Author.Rules.{rules}
-use Prim.Native.Nat.{◌+◌, ◌-◌, ◌≤◌}
+use Prim.Native.Nat.{◌+◌}
 use mathlib.Core.Path.{◌≡◌, refl, sym, ap, ◌∙◌}
 use native.Mathlib.Omega.{arith}
-use lib.ListN.{length, take}
+use lib.ListN.{length}
 use lib.Seq.{slice}
 use Rattle.rules_routine.specs.Limits.{max_commands}
 use Rattle.rules_routine.proofs.RoutineLaws.{length_mapped, commands_of-held}

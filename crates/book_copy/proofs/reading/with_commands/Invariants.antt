@@ -1,17 +1,10 @@
 -- `book_copy::reading::with_commands` meets its contract. The loop's invariant: with the commands that are left, the rows are those with
 -- all of them. Assumes nothing.
-use borrow.Author.Rules.{rules}
-use borrow.Author.Rules.{rules}
-use Prim.Native.Nat.{◌+◌, ◌-◌, ◌≤◌}
-use mathlib.Core.Path.{◌≡◌, refl, sym, ap, ◌∙◌}
-use native.Mathlib.Omega.{arith}
-use lib.ListN.{length, take}
+use Prim.Native.Nat.{◌-◌, ◌≤◌}
+use mathlib.Core.Path.{◌≡◌}
+use lib.ListN.{take}
 use lib.Seq.{slice}
-use Rattle.rules_routine.specs.Limits.{max_commands}
-use Rattle.rules_routine.proofs.RoutineLaws.{length_mapped, commands_of-held}
 use Rattle.book_copy.specs.Rows.{with_commands}
-use Rattle.book_copy.specs.declared.Rows.{Rows}
-use Rattle.book_copy.proofs.CopyLaws.{commands-step, commands_over}
 use Rattle.book_copy.proofs.reading.with_commands.Given as goal
 
 abbrev pub invariant-loop-i : goal.invariant-loop-i

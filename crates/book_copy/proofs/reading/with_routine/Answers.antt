@@ -2,7 +2,6 @@
 use mathlib.Core.Path.{sym, ap₂, ◌∙◌}
 use Rattle.rules_routine.proofs.RoutineLaws.{length-commands_of}
 use Rattle.book_copy.specs.Rows.{with_count, with_routine}
-use borrow.Author.Rules.{rules}
 use Rattle.book_copy.proofs.reading.with_routine.Goals as goal
 
 pub returns : goal.returns

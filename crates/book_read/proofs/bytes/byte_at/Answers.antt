@@ -1,7 +1,6 @@
 -- `book_read::bytes::byte_at` meets its contract. Assumes nothing.
 use mathlib.Core.Path.{sym}
 use lib.ListN.{get_or-eq_default}
-use borrow.Author.Rules.{rules}
 use Rattle.book_read.proofs.bytes.byte_at.Goals as goal
 
 pub returns-else-at-s : goal.returns-else-at-s

@@ -1,7 +1,6 @@
 -- `book_read::bytes::four_at` meets its contract. Assumes nothing.
 use native.Mathlib.Omega.{arith}
 use Rattle.book_layout.specs.Numbers.{four_at}
-use borrow.Author.Rules.{rules}
 use Rattle.book_read.proofs.bytes.four_at.Goals as goal
 
 pub returns : goal.returns

@@ -2,7 +2,6 @@
 use mathlib.Core.Path.{◌∙◌}
 use native.Mathlib.Omega.{arith}
 use Rattle.book_layout.specs.Numbers.{two_at}
-use borrow.Author.Rules.{rules}
 use Rattle.book_read.proofs.bytes.two_at.Goals as goal
 
 pub returns : goal.returns

@@ -3,7 +3,6 @@ use Prim.Native.Nat.{ℕ, ◌/◌}
 use mathlib.Core.Bool.{true}
 use mathlib.Core.Path.{◌≡◌, sym, ap, ◌∙◌}
 use native.Mathlib.Omega.{arith}
-use borrow.Author.Tests.{not-true, not-false}
 use Rattle.rules_routine.specs.Refusals.{refusal_of}
 use Rattle.rules_routine.specs.Routine.{commands_of, routine_of, routine_check}
 use Rattle.rules_routine.specs.declared.Routine.{Routine}
@@ -11,7 +10,6 @@ use Rattle.rules_routine.proofs.RoutineLaws.{check_counted, routine_of-commands}
 use Rattle.book_layout.specs.Layout.{command_size, book_devices, offset_at, length_at, commands_at}
 use Rattle.book_layout.specs.Reading.{length_fits}
 use Rattle.book_layout.proofs.LayoutLaws.{fits_in_fours, placed-length, placed_offset, placed_end, placed-commands, length-commands_at}
-use borrow.Author.Rules.{rules}
 use Rattle.book_read.proofs.reading.check_placed.Goals.{After-four_at, After-length_fits}
 use Rattle.book_read.proofs.reading.check_placed.Goals as goal
 

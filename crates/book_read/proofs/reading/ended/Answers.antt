@@ -2,7 +2,6 @@
 use mathlib.Core.Path.{ap}
 use Rattle.rules_routine.specs.declared.Routine.{Routine}
 use Rattle.book_layout.specs.declared.Item.TheVariants.{End}
-use borrow.Author.Rules.{rules}
 use Rattle.book_read.proofs.reading.ended.Goals as goal
 
 pub returns : goal.returns

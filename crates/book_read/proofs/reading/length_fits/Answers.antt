@@ -4,7 +4,6 @@ use borrow.Author.Tests.{le-leb, lt-leb}
 use Rattle.rules_routine.specs.Limits.{max_commands}
 use Rattle.book_layout.specs.Layout.{command_size}
 use Rattle.book_layout.specs.Reading.{length_fits}
-use borrow.Author.Rules.{rules}
 use Rattle.book_read.proofs.reading.length_fits.Goals as goal
 
 pub returns-then-length-lt-COMMAND_SIZE : goal.returns-then-length-lt-COMMAND_SIZE

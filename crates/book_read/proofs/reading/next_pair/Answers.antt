@@ -10,7 +10,6 @@ use Rattle.book_layout.specs.Layout.{count_size, pair_size, offset_size, command
 use Rattle.book_layout.specs.Reading.{length_fits}
 use Rattle.book_layout.specs.declared.Item.TheVariants.{Handed}
 use Rattle.book_layout.proofs.LayoutLaws.{fits_in_fours, book-fits, pair_handed, pair-past, pair-between}
-use borrow.Author.Rules.{rules}
 use Rattle.book_read.proofs.reading.next_pair.Goals.{After-four_at-size, After-two_at}
 use Rattle.book_read.proofs.reading.next_pair.Goals as goal
 

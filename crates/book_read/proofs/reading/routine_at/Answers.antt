@@ -8,7 +8,6 @@ use Rattle.book_layout.proofs.LayoutLaws.{length-commands_at}
 use Rattle.rules_routine.proofs.RoutineLaws.{routine_of-count, with_more}
 use Rattle.book_read.proofs.ReadingLaws.{commands_at-more}
 use borrow.Author.Rules.{rules}
-use Prim.Native.Nat.{◌-◌, ◌≤◌}
 use mathlib.Core.Path.{◌≡◌, sym, ap, ◌∙◌}
 use native.Mathlib.Omega.{arith}
 use Rattle.book_layout.specs.Layout.{commands_at}

@@ -2,7 +2,6 @@
 use mathlib.Core.Path.{sym}
 use lib.ListN.{get_or-eq_default}
 use Rattle.rules_routine.proofs.RoutineLaws.{any_default}
-use borrow.Author.Rules.{rules}
 use Rattle.book_write.proofs.writing.byte_in.Goals as goal
 
 pub returns-then-at-row : goal.returns-then-at-row

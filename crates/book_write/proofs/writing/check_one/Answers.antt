@@ -8,7 +8,6 @@ use Rattle.rules_routine.proofs.RoutineLaws.{check_long, routine_of-commands}
 use Rattle.book_layout.specs.Layout.{book_devices}
 use Rattle.book_layout.specs.Writing.{commands_lent}
 use Rattle.book_layout.proofs.Lending.{length-lent}
-use borrow.Author.Rules.{rules}
 use Rattle.book_write.proofs.writing.check_one.Goals as goal
 
 pub returns-then-count-gt-MAX_COMMANDS : goal.returns-then-count-gt-MAX_COMMANDS

@@ -2,7 +2,7 @@
 -- at `at` in the row, is the check of all of them. Assumes nothing.
 use borrow.Author.Rules.{rules}
 use borrow.Author.Rules.{rules}
-use Prim.Native.Nat.{◌+◌, ◌-◌, ◌≤◌}
+use Prim.Native.Nat.{◌+◌, ◌≤◌}
 use mathlib.Core.Path.{◌≡◌, refl, sym, ap, ◌∙◌}
 use mathlib.Core.List.{◌∷◌}
 use native.Mathlib.Omega.{arith}
@@ -10,7 +10,7 @@ use lib.ListN.{length, drop, get_or}
 use Rattle.rules_routine.specs.Routine.{routine_check}
 use Rattle.rules_routine.specs.declared.Verdict.TheVariants.{Accepted}
 use Rattle.book_layout.specs.Layout.{book_devices}
-use Rattle.book_layout.specs.Writing.{commands_lent, routines_from, routines_lent, routines_check}
+use Rattle.book_layout.specs.Writing.{commands_lent, routines_from, routines_check}
 use Rattle.book_write.proofs.Row.{routine-there, routines-more, routines_end, check_none, check_more, check_stops}
 use Rattle.book_write.proofs.writing.check_routines.Goals.{After-check_one-verdict, In-Accepted}
 use Rattle.book_write.proofs.writing.check_routines.Goals as goal

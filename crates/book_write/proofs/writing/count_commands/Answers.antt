@@ -2,11 +2,7 @@
 -- i-th on are all. Assumes nothing.
 use borrow.Author.Rules.{rules}
 use borrow.Author.Rules.{rules}
-use Prim.Native.Nat.{◌+◌, ◌*◌, ◌-◌, ◌≤◌}
-use mathlib.Core.Path.{◌≡◌}
 use native.Mathlib.Omega.{arith}
-use lib.ListN.{length, drop}
-use Rattle.book_write.specs.Count.{commands_counted}
 use Rattle.book_write.proofs.Row.{counted-more, counted-end}
 use Rattle.book_write.proofs.writing.count_commands.Goals as goal
 

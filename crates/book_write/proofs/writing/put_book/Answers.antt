@@ -10,7 +10,6 @@ use Rattle.book_layout.specs.Layout.{count_size, pairs_end, commands_bytes}
 use Rattle.book_layout.specs.Writing.{commands_lent}
 use Rattle.book_write.specs.Count.{pairs_counted}
 use Rattle.book_write.proofs.Row.{length-book, book-put}
-use borrow.Author.Rules.{rules}
 use Rattle.book_write.proofs.writing.put_book.Goals as goal
 
 pub put_two-requires : goal.put_two-requires

@@ -2,11 +2,10 @@
 -- gives what all of it gives. Assumes nothing.
 use borrow.Author.Rules.{rules}
 use borrow.Author.Rules.{rules}
-use Prim.Native.Nat.{ℕ, ◌+◌, ◌*◌, ◌-◌, ◌≤◌}
+use Prim.Native.Nat.{ℕ, ◌+◌, ◌*◌, ◌-◌}
 use mathlib.Core.Path.{◌≡◌, refl, sym, ap, ap₂, ◌∙◌}
 use mathlib.Core.List.{List}
 use native.Mathlib.Omega.{arith}
-use lib.ListN.{length}
 use lib.Seq.{sets}
 use Rattle.rules_routine.specs.declared.Command.{Command}
 use Rattle.book_layout.specs.Layout.{command_size, command_bytes, commands_bytes}

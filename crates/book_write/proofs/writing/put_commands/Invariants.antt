@@ -1,17 +1,11 @@
 -- `book_write::writing::put_commands` meets its contract. The loop's invariant: what is left to write, written into the buffer as it is,
 -- gives what all of it gives. Assumes nothing.
-use borrow.Author.Rules.{rules}
-use borrow.Author.Rules.{rules}
-use Prim.Native.Nat.{ℕ, ◌+◌, ◌*◌, ◌-◌, ◌≤◌}
-use mathlib.Core.Path.{◌≡◌, refl, sym, ap, ap₂, ◌∙◌}
-use mathlib.Core.List.{List}
-use native.Mathlib.Omega.{arith}
+use Prim.Native.Nat.{◌+◌, ◌*◌, ◌-◌, ◌≤◌}
+use mathlib.Core.Path.{◌≡◌}
 use lib.ListN.{length}
 use lib.Seq.{sets}
-use Rattle.rules_routine.specs.declared.Command.{Command}
-use Rattle.book_layout.specs.Layout.{command_size, command_bytes, commands_bytes}
-use Rattle.book_layout.specs.Writing.{command_lent, commands_lent}
-use Rattle.book_write.proofs.Row.{commands-put, commands-put_end}
+use Rattle.book_layout.specs.Layout.{command_size, commands_bytes}
+use Rattle.book_layout.specs.Writing.{commands_lent}
 use Rattle.book_write.proofs.writing.put_commands.Given as goal
 
 abbrev pub invariant-loop-i : goal.invariant-loop-i

@@ -2,14 +2,14 @@
 -- buffer as it is, give what all of them give. Assumes nothing.
 use borrow.Author.Rules.{rules}
 use borrow.Author.Rules.{rules}
-use Prim.Native.Nat.{ℕ, ◌+◌, ◌*◌, ◌-◌, ◌≤◌}
+use Prim.Native.Nat.{ℕ, ◌+◌, ◌*◌}
 use mathlib.Core.Path.{◌≡◌, refl, sym, ap, ap₂, ◌∙◌}
 use mathlib.Core.List.{List}
 use native.Mathlib.Omega.{arith}
-use lib.ListN.{length, drop, get_or}
+use lib.ListN.{drop, get_or}
 use lib.Seq.{sets}
 use Rattle.book_layout.specs.Numbers.{four_bytes}
-use Rattle.book_layout.specs.Layout.{count_size, pair_size, offset_size, command_size, pair_place, pairs_end}
+use Rattle.book_layout.specs.Layout.{pair_size, offset_size, command_size, pair_place}
 use Rattle.book_write.specs.Count.{pairs_counted}
 use Rattle.book_write.proofs.Row.{pairs_more, pairs-end}
 use Rattle.book_write.proofs.writing.put_pairs.Goals as goal

@@ -1,17 +1,11 @@
 -- `book_write::writing::put_pairs` meets its contract. The loop's invariant: the pairs of the routines from the i-th on, written into the
 -- buffer as it is, give what all of them give. Assumes nothing.
-use borrow.Author.Rules.{rules}
-use borrow.Author.Rules.{rules}
-use Prim.Native.Nat.{ℕ, ◌+◌, ◌*◌, ◌-◌, ◌≤◌}
-use mathlib.Core.Path.{◌≡◌, refl, sym, ap, ap₂, ◌∙◌}
-use mathlib.Core.List.{List}
-use native.Mathlib.Omega.{arith}
-use lib.ListN.{length, drop, get_or}
+use Prim.Native.Nat.{◌+◌, ◌*◌, ◌-◌, ◌≤◌}
+use mathlib.Core.Path.{◌≡◌}
+use lib.ListN.{length, drop}
 use lib.Seq.{sets}
-use Rattle.book_layout.specs.Numbers.{four_bytes}
-use Rattle.book_layout.specs.Layout.{count_size, pair_size, offset_size, command_size, pair_place, pairs_end}
+use Rattle.book_layout.specs.Layout.{count_size, command_size, pair_place, pairs_end}
 use Rattle.book_write.specs.Count.{pairs_counted}
-use Rattle.book_write.proofs.Row.{pairs_more, pairs-end}
 use Rattle.book_write.proofs.writing.put_pairs.Given as goal
 
 abbrev pub invariant-loop-i : goal.invariant-loop-i

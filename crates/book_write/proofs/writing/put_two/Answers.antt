@@ -3,7 +3,6 @@ use native.Mathlib.Numerals.{add-one}
 use native.Mathlib.Omega.{arith}
 use lib.ListN.{length-set}
 use Rattle.book_layout.specs.Numbers.{two_bytes}
-use borrow.Author.Rules.{rules}
 use Rattle.book_write.proofs.writing.put_two.Goals as goal
 
 pub bounds-out-at-2 : goal.bounds-out-at-2

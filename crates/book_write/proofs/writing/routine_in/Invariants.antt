@@ -1,18 +1,9 @@
 -- `book_write::writing::routine_in` meets its contract. The loop's invariant: the routine holds the first i of its commands. Assumes
 -- nothing.
-use borrow.Author.Rules.{rules}
-use borrow.Author.Rules.{rules}
-use Prim.Native.Nat.{ℕ, ◌-◌, ◌≤◌}
-use mathlib.Core.Path.{◌≡◌, sym, ap, ◌∙◌}
-use mathlib.Core.List.{[], ◌∷◌, ◌++◌}
-use native.Mathlib.Omega.{arith}
-use Rattle.rules_routine.specs.declared.Command.{Command}
-use Rattle.rules_routine.specs.declared.Routine.{Routine}
-use Rattle.rules_routine.specs.Routine.{routine_of, with_command}
-use Rattle.rules_routine.proofs.RoutineLaws.{with_more}
+use Prim.Native.Nat.{◌-◌, ◌≤◌}
+use mathlib.Core.Path.{◌≡◌}
+use Rattle.rules_routine.specs.Routine.{routine_of}
 use Rattle.book_layout.specs.Writing.{commands_lent}
-use Rattle.book_write.proofs.Row.{lent-more}
-use Rattle.book_layout.proofs.Lending.{length-lent}
 use Rattle.book_write.proofs.writing.routine_in.Given as goal
 
 abbrev pub invariant-loop-i : goal.invariant-loop-i
