@@ -371,7 +371,7 @@ def check_decisions(text):
 
 def check_rooms(crates, text):
     """ARCHITECTURE has a row for each crate, once, and no other; a crate's name begins with a layer's."""
-    crates = re.findall(r"^(\w+):", crates, re.M)
+    crates = re.findall(r"^(\w+)[^:#\n]*:", crates, re.M)
     rows = Counter(name for first in re.findall(r"^\| (`[^|]*) \|", text.partition("## The way of a line")[0], re.M)
                    for name in re.findall(r"`(\w+)`", first))
     layers = re.findall(r"^\*\*(\w+)\*\*: ", text, re.M)

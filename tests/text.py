@@ -87,6 +87,7 @@ def crates(root):
             layers += [layer] if layer else []
         elif line and not section:
             name, _, needs = line.partition(':')
+            name = name.split()[0]
             for need in needs.split():
                 if need == name or need in known and need not in listed:
                     yield f'{place}{name} names {need}, which does not stand above it'
@@ -255,6 +256,7 @@ PLANTED = [  # the check, a file, what is found once in it, what stands there in
     (crates, 'crates.txt', 'rules_one:\n', 'rules_one: run_two\n', 'crates.txt:4: rules_one names run_two, which does not stand above it'),
     (crates, 'crates.txt', 'rules_one:\n', 'rules_one: rules_one\n', 'crates.txt:4: rules_one names rules_one, which does not'),
     (crates, 'crates.txt', 'rules_one:\n', 'rules_one:\nrules_one:\n', 'crates.txt:5: rules_one is there twice'),
+    (crates, 'crates.txt', 'rules_one:\n', 'rules_one staticlib:\n', None),
     (crates, 'crates.txt', '# run: programs', '# walk: programs', 'crates.txt:7: run_two stands in the section walk'),
     (crates, 'crates.txt', 'rules_one:\n', 'rules_one:\nrules_three:\n', 'crates.txt and crates/: only one of them has rules_three'),
     (crates, 'crates.txt', '# run: programs', '# Programs', 'crates.txt:7: run_two stands in the section of no layer'),
