@@ -111,7 +111,7 @@ def main():
     with tempfile.TemporaryDirectory() as folder:
         crates = os.path.join(folder, "crates")
         for name in ("rules_routine", "rules"):
-            shutil.copytree(os.path.join(ROOT, "crates", name), os.path.join(crates, name))
+            shutil.copytree(os.path.join(ROOT, "crates", name), os.path.join(crates, name), ignore=shutil.ignore_patterns("out"))
         rules = os.path.join(crates, "rules")
         shutil.rmtree(os.path.join(rules, "proofs"))
         shutil.rmtree(os.path.join(rules, "must-fail"))
