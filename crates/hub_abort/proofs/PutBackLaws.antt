@@ -184,12 +184,11 @@ module _ (h : HubState) (x : ℕ) (v : StateOk h) (s : Stands h.links x) where
       fun_ext
       (λ d. none-set max_devices d ∙ sym (flies_in d ∙ flights_none (answered_at h x) (steps_at h x) (v.slots_ok x s).come_so_far e d))
 
-  pub own_none : (o : Unanswered) → UnansweredIs h x o → OneOf (0 ∷ 1 ∷ []) (tag_of the_type o) →
+  pub own_none : (o : Unanswered) → UnansweredIs h x o → ((j : ℕ) → o ≡ InFlight j → ⊥) →
       flags_of (replicate max_devices false) ≡ (λ d. in_flight_on d (member_at h x))
   own_none Nothing k t = not-flying k.no_flight
   own_none (ToDo j) k t = not-flying k.no_flight
-  own_none (InFlight j) k (inl e) = absurd (omega (arith, e))
-  own_none (InFlight j) k (inr e) = absurd (omega (arith, e))
+  own_none (InFlight j) k t = absurd (t j refl)
 
   -- it has one, at k
   module _ (k : ℕ) (o : Unanswered) (e : o ≡ InFlight k) (i : UnansweredIs h x o) where
