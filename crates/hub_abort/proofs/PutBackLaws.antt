@@ -1,14 +1,11 @@
 -- Laws that the proofs of this crate, and those above it, cite. Assumes nothing.
 use mathlib.Core.Path.{◌≡◌, refl, sym, ap, ◌∙◌, subst, fun_ext}
-use mathlib.Core.Logic.{inl, inr}
 use mathlib.Core.Bool.{Bool, true, false, not, ◌&&◌, ◌||◌, or-true, or-false}
 use mathlib.Core.List.{List, [], ◌∷◌, ◌++◌, append_assoc, append-nil}
 use mathlib.Core.Option.{none}
 use Prim.Native.Nat.{ℕ, zero, suc, ◌+◌, ◌-◌, ◌*◌, ◌<◌, ◌≤◌}
 use native.Mathlib.Numerals.{add-one}
 use native.Mathlib.Omega.{arith}
-use types.Run.{OneOf}
-use denote.Enum.Declared.{tag_of}
 use borrow.Author.Tests.{not-true, not-false, eq-eqb, ne_eqb, lt-ltb, le-ltb}
 use mir.Val.{to_z, of_z}
 use mir.Syntax.{w16}
@@ -44,7 +41,6 @@ use Rattle.hub_state.specs.declared.Place.{Place}
 use Rattle.hub_state.specs.declared.Place.TheVariants.{At, Nowhere}
 use Rattle.hub_state.specs.declared.Change.TheVariants.{Nothing as NoChange, Abort}
 use Rattle.hub_state.specs.declared.Decision.{Decision}
-use Rattle.hub_state.specs.contracts.Unanswered.{the_type}
 use Rattle.hub_state.proofs.Steps.{flies, flights_none, flights_some}
 use Rattle.hub_state.proofs.Rows.{step-device}
 use Rattle.hub_state.proofs.Members.{there-it, member_steps, place-within}

@@ -1,5 +1,4 @@
 -- `hub_abort::own_flights` meets its contract. Assumes nothing.
-use borrow.Author.Rules.{rules}
 use Rattle.hub_abort.proofs.PutBackLaws.{own_none, own_place, own_device, own_one}
 use Rattle.hub_abort.proofs.own_flights.Goals as goal
 

@@ -3,10 +3,9 @@
 use borrow.Author.Rules.{rules}
 use native.Mathlib.Omega.{arith}
 use mathlib.Core.Path.{◌≡◌, sym, ap, ◌∙◌}
-use mathlib.Core.Logic.{⊎_elim}
 use mathlib.Core.Bool.{true, false}
 use mathlib.Core.List.{List, [], ◌∷◌, ◌++◌}
-use Prim.Native.Nat.{◌+◌, ◌-◌, ◌≤◌, ◌<◌}
+use Prim.Native.Nat.{◌+◌, ◌-◌, ◌<◌}
 use lib.ListN.{length}
 use mir.Val.{to_z, of_z}
 use mir.Syntax.{w16}
@@ -41,21 +40,24 @@ loop-d-preserved c = let t = c.args.tables in
     let u = any_default t.up d false true (omega (arith, n, k, c.requires)) in
     let e = test_read t d c.is_put_back.result _ _ _ c.is_put_back.ensures u x y in
     let rest = put_backs_from (is_back_by t) f (d + 1) (c.args.devices - (d + 1)) in
-    elim c.if-is_put_back.branch [ then-is_put_back w ↦ (
-      search rules,
-      omega (arith, ap (λ (r : PutBacks). r.count) w.backs-is, w.with_put_back-more.ensures.0, v.1),
-      ap (λ (r : PutBacks). put_backs_of r ++ rest) w.backs-is
-          ∙ ap (λ (r : List Back). r ++ rest) w.with_put_back-more.ensures.1
-          ∙ (λ i. (put_backs_of b ++ (record { device = d; setting = y i } ∷ [])) ++ rest)
-          ∙ backs_more (is_back_by t) f (put_backs_of b) d c.args.devices k (sym e ∙ w.if-is_put_back.true)
-          ∙ v.2,
-    ) | else-is_put_back w ↦ (
-      search rules,
-      omega (arith, ap (λ (r : PutBacks). r.count) w.backs-is, v.1),
-      ap (λ (r : PutBacks). put_backs_of r ++ rest) w.backs-is
-          ∙ backs_same (is_back_by t) f (put_backs_of b) d c.args.devices k (sym e ∙ w.if-is_put_back.false)
-          ∙ v.2,
-    ) ]
+    elim c.if-is_put_back.branch [
+      | then-is_put_back w ↦ (
+        search rules,
+        omega (arith, ap (λ (r : PutBacks). r.count) w.backs-is, w.with_put_back-more.ensures.0, v.1),
+        ap (λ (r : PutBacks). put_backs_of r ++ rest) w.backs-is
+            ∙ ap (λ (r : List Back). r ++ rest) w.with_put_back-more.ensures.1
+            ∙ (λ i. (put_backs_of b ++ (record { device = d; setting = y i } ∷ [])) ++ rest)
+            ∙ backs_more (is_back_by t) f (put_backs_of b) d c.args.devices k (sym e ∙ w.if-is_put_back.true)
+            ∙ v.2,
+      )
+      | else-is_put_back w ↦ (
+        search rules,
+        omega (arith, ap (λ (r : PutBacks). r.count) w.backs-is, v.1),
+        ap (λ (r : PutBacks). put_backs_of r ++ rest) w.backs-is
+            ∙ backs_same (is_back_by t) f (put_backs_of b) d c.args.devices k (sym e ∙ w.if-is_put_back.false)
+            ∙ v.2,
+      )
+    ]
 
 pub returns : goal.returns
 returns c = let v = c.loop-d.invariant in
