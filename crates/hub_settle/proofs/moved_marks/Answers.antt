@@ -8,7 +8,7 @@ use mathlib.Core.List.{List}
 use borrow.Author.Tests.{eq-eqb, ne_eqb}
 use lib.ListN.{length, get_or, set, length-set}
 use lib.Seq.{set-get_or}
-use Rattle.rules_routine.specs.Choice.{if◌then◌else◌}
+use Rattle.std.specs.Prelude.{if◌then◌else◌}
 use Rattle.hub_state.specs.View.{marks_of}
 use Rattle.hub_settle.proofs.MarkLaws.{remark, remarked, remark_more, remark_end, marks_moved}
 use Rattle.hub_settle.proofs.moved_marks.Goals.{then-mark-from, else-mark-from}
