@@ -9,7 +9,7 @@ use lib.Dec.{ltb}
 use lib.IntN.{pos}
 use lib.ListN.{length, take, drop, get_or, set, replicate, length-append, length-map, length-take, length-drop}
 use lib.Seq.{set_at, slice, slice-cons, slice_empty, take-append_seam, take-suc}
-use Rattle.rules_routine.specs.Choice.{if◌then◌else◌}
+use Rattle.std.specs.Prelude.{if◌then◌else◌}
 use Rattle.rules_routine.specs.Limits.{max_commands, max_routines}
 use Rattle.rules_routine.specs.Routine.{zero_command, commands_of, routine_check}
 use Rattle.rules_routine.specs.declared.Command.{Command}

@@ -1,8 +1,7 @@
 -- Numbers as bytes, low byte first: document 01, "The routine book". Two bytes as a setting, and back: document 02, item 2. Assumes
 -- nothing.
-use Rattle.std.specs.Prelude.{List, [], ◌∷◌, ℕ, ◌+◌, ◌*◌, ◌/◌, ◌%◌, ltb, ℤ, pos, nat_abs, ◌+ℤ◌, ◌-ℤ◌, get_or}
+use Rattle.std.specs.Prelude.{List, [], ◌∷◌, ℕ, ◌+◌, ◌*◌, ◌/◌, ◌%◌, ltb, ℤ, pos, nat_abs, ◌+ℤ◌, ◌-ℤ◌, get_or, if◌then◌else◌}
 use Rattle.std.specs.Int.Signed.{le_z}
-use Rattle.rules_routine.specs.Choice.{if◌then◌else◌}
 
 -- A number as two bytes, and as four.
 unfoldable pub two_bytes : ℕ → List ℕ

@@ -1,7 +1,6 @@
 -- Reading a book: document 01, "The routine book" and "When a call is turned down" ("Book reading: 18; then by routine 20, 19, then its
 -- commands; bytes left over last"). Assumes nothing.
-use Rattle.std.specs.Prelude.{Bool, not, ◌&&◌, ◌||◌, List, ℕ, zero, suc, ◌+◌, ◌*◌, ◌/◌, ◌%◌, leb, ltb, eqb, length}
-use Rattle.rules_routine.specs.Choice.{if◌then◌else◌}
+use Rattle.std.specs.Prelude.{Bool, not, ◌&&◌, ◌||◌, List, ℕ, zero, suc, ◌+◌, ◌*◌, ◌/◌, ◌%◌, leb, ltb, eqb, length, if◌then◌else◌}
 use Rattle.rules_routine.specs.Refusals.{book_cut_short, book_misplaced, book_length, refuse◌when◌, ◌and_then◌}
 use Rattle.rules_routine.specs.Limits.{max_commands, max_routines}
 use Rattle.rules_routine.specs.Routine.{routine_of, no_routine, commands_check}

@@ -1,21 +1,18 @@
 -- Laws that the proofs of this crate, and those above it, cite. Assumes nothing.
 use mathlib.Core.Path.{◌≡◌, refl, sym, ap, ◌∙◌, subst, fun_ext}
-use mathlib.Core.Logic.{inl, inr}
 use mathlib.Core.Bool.{Bool, true, false, not, ◌&&◌, ◌||◌, or-true, or-false}
 use mathlib.Core.List.{List, [], ◌∷◌, ◌++◌, append_assoc, append-nil}
 use mathlib.Core.Option.{none}
 use Prim.Native.Nat.{ℕ, zero, suc, ◌+◌, ◌-◌, ◌*◌, ◌<◌, ◌≤◌}
 use native.Mathlib.Numerals.{add-one}
 use native.Mathlib.Omega.{arith}
-use types.Run.{OneOf}
-use denote.Enum.Declared.{tag_of}
 use borrow.Author.Tests.{not-true, not-false, eq-eqb, ne_eqb, lt-ltb, le-ltb}
 use mir.Val.{to_z, of_z}
 use mir.Syntax.{w16}
 use lib.Dec.{eqb, ltb}
 use lib.IntN.{ℤ, pos}
 use lib.ListN.{length, get_or, set, replicate, length-replicate}
-use Rattle.rules_routine.specs.Choice.{if◌then◌else◌}
+use Rattle.std.specs.Prelude.{if◌then◌else◌}
 use Rattle.rules_routine.specs.Refusals.{refusal_of}
 use Rattle.rules_routine.specs.Limits.{max_commands, max_devices, max_sequence}
 use Rattle.rules_routine.specs.declared.Command.{Command}
@@ -44,7 +41,6 @@ use Rattle.hub_state.specs.declared.Place.{Place}
 use Rattle.hub_state.specs.declared.Place.TheVariants.{At, Nowhere}
 use Rattle.hub_state.specs.declared.Change.TheVariants.{Nothing as NoChange, Abort}
 use Rattle.hub_state.specs.declared.Decision.{Decision}
-use Rattle.hub_state.specs.contracts.Unanswered.{the_type}
 use Rattle.hub_state.proofs.Steps.{flies, flights_none, flights_some}
 use Rattle.hub_state.proofs.Rows.{step-device}
 use Rattle.hub_state.proofs.Members.{there-it, member_steps, place-within}
@@ -184,12 +180,11 @@ module _ (h : HubState) (x : ℕ) (v : StateOk h) (s : Stands h.links x) where
       fun_ext
       (λ d. none-set max_devices d ∙ sym (flies_in d ∙ flights_none (answered_at h x) (steps_at h x) (v.slots_ok x s).come_so_far e d))
 
-  pub own_none : (o : Unanswered) → UnansweredIs h x o → OneOf (0 ∷ 1 ∷ []) (tag_of the_type o) →
+  pub own_none : (o : Unanswered) → UnansweredIs h x o → ((j : ℕ) → o ≡ InFlight j → ⊥) →
       flags_of (replicate max_devices false) ≡ (λ d. in_flight_on d (member_at h x))
   own_none Nothing k t = not-flying k.no_flight
   own_none (ToDo j) k t = not-flying k.no_flight
-  own_none (InFlight j) k (inl e) = absurd (omega (arith, e))
-  own_none (InFlight j) k (inr e) = absurd (omega (arith, e))
+  own_none (InFlight j) k t = absurd (t j refl)
 
   -- it has one, at k
   module _ (k : ℕ) (o : Unanswered) (e : o ≡ InFlight k) (i : UnansweredIs h x o) where

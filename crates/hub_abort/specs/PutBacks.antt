@@ -1,6 +1,5 @@
 -- The put-backs of an abort, read off tables. Assumes nothing.
-use Rattle.std.specs.Prelude.{◌≡◌, Bool, not, ◌&&◌, ◌||◌, List, [], ◌∷◌, ℕ, zero, suc, ltb, ℤ}
-use Rattle.rules_routine.specs.Choice.{if◌then◌else◌}
+use Rattle.std.specs.Prelude.{◌≡◌, Bool, not, ◌&&◌, ◌||◌, List, [], ◌∷◌, ℕ, zero, suc, ltb, ℤ, if◌then◌else◌}
 use Rattle.rules_routine.specs.Limits.{max_devices}
 use Rattle.rules.specs.Tables.{any_of, same_setting}
 use Rattle.rules.specs.Answers.{Back}

@@ -10,7 +10,7 @@ use lib.Dec.{ltb}
 use lib.IntN.{ℤ, pos}
 use lib.ListN.{length, take, get_or, set}
 use lib.Seq.{get_or-set_same, get_or-set_other}
-use Rattle.rules_routine.specs.Choice.{if◌then◌else◌}
+use Rattle.std.specs.Prelude.{if◌then◌else◌}
 use Rattle.rules_routine.specs.Limits.{max_devices, max_commands, max_sequence}
 use Rattle.rules_routine.specs.Routine.{zero_command, commands_of}
 use Rattle.rules_routine.specs.declared.Command.{Command}

@@ -1,6 +1,5 @@
 -- What the functions over a row of stages promise. Assumes nothing.
-use Rattle.std.specs.Prelude.{◌≡◌, ◌&&◌, List, ℕ, ◌≤◌, ◌<◌, eqb, ltb, get_or}
-use Rattle.rules_routine.specs.Choice.{if◌then◌else◌}
+use Rattle.std.specs.Prelude.{◌≡◌, ◌&&◌, List, ℕ, ◌≤◌, ◌<◌, eqb, ltb, get_or, if◌then◌else◌}
 use Rattle.hub_state.specs.View.{done_code, skipped_code}
 
 -- The first place from one to another whose command is not answered; the end if there is none.

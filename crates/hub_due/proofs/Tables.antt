@@ -1,7 +1,7 @@
 -- Rows over devices as tables, and settings in 16 bits. Assumes nothing.
 use mathlib.Core.Path.{◌≡◌, refl, sym, ap, ◌∙◌}
 use mathlib.Core.Logic.{◌≢◌}
-use mathlib.Core.Bool.{Bool, true, false}
+use mathlib.Core.Bool.{Bool, true, false, cond}
 use mathlib.Core.List.{List}
 use Prim.Native.Nat.{ℕ, ◌+◌, ◌<◌, ◌≤◌}
 use native.Mathlib.Omega.{arith}
@@ -12,7 +12,7 @@ use lib.Dec.{eqb, ltb}
 use lib.IntN.{ℤ, pos, negsuc}
 use lib.ListN.{length, get_or, set}
 use lib.Seq.{get_or-set_same, get_or-set_other}
-use Rattle.rules_routine.specs.Choice.{if◌then◌else◌}
+use Rattle.std.specs.Prelude.{if◌then◌else◌}
 use Rattle.rules.specs.Tables.{put, same_setting}
 use Rattle.rules.proofs.Lists.{by_if, this_or_other, same-setting, put_same, put_other}
 use Rattle.hub_state.specs.View.{no_restart, is_restart}
@@ -21,7 +21,7 @@ use Rattle.hub_state.specs.View.{no_restart, is_restart}
 pub set-put {ℓ} : {A : Type ℓ} (l : List A) (i : ℕ) (v z : A) → i < length l → (d : ℕ) → get_or (set l i v) d z ≡ put (λ e. get_or l e z) i v d
 set-put l i v z h d = go (eqb d i) refl
   where
-    go : (t : Bool) → eqb d i ≡ t → get_or (set l i v) d z ≡ (if t then v else get_or l d z)
+    go : (t : Bool) → eqb d i ≡ t → get_or (set l i v) d z ≡ cond t v (get_or l d z)
     go true e = ap (λ (k : ℕ). get_or (set l i v) k z) (eqb-true d i e) ∙ get_or-set_same l i v z h
     go false e = get_or-set_other l i d v z (eqb-false d i e)
 
@@ -46,16 +46,16 @@ restart-bits u n = go (same_setting u no_restart) refl
 
 -- a table of which the entries below i are new
 abbrev pub new_below {ℓ} : {A : Type ℓ} → ℕ → (ℕ → A) → (ℕ → A) → ℕ → A
-new_below i new old d = if ltb d i then new d else old d
+new_below i new old d = cond (ltb d i) (new d) (old d)
 
 module _ {ℓ} {A : Type ℓ} (new old : ℕ → A) where
   -- at first none is
   pub below_none : (d : ℕ) → new_below 0 new old d ≡ old d
-  below_none d = ap (λ t. if t then new d else old d) (le-ltb d 0 (omega arith))
+  below_none d = ap (λ t. cond t (new d) (old d)) (le-ltb d 0 (omega arith))
 
   -- one more is new: the others are as they were
   below_more : (i d : ℕ) → d ≢ i → new_below i new old d ≡ new_below (i + 1) new old d
-  below_more i d n = ap (λ t. if t then new d else old d) (go (ltb d i) refl)
+  below_more i d n = ap (λ t. cond t (new d) (old d)) (go (ltb d i) refl)
     where
       go : (t : Bool) → ltb d i ≡ t → t ≡ ltb d (i + 1)
       go true e = let h = ltb-true d i e in sym (lt-ltb d (i + 1) (omega arith))
@@ -63,7 +63,7 @@ module _ {ℓ} {A : Type ℓ} (new old : ℕ → A) where
 
   -- and the last one is new
   below_here : (i : ℕ) → new_below (i + 1) new old i ≡ new i
-  below_here i = ap (λ t. if t then new i else old i) (lt-ltb i (i + 1) (omega arith))
+  below_here i = ap (λ t. cond t (new i) (old i)) (lt-ltb i (i + 1) (omega arith))
 
   -- the entry at i becomes new
   pub below_put : (i : ℕ) (f : ℕ → A) (v : A) → ((d : ℕ) → f d ≡ new_below i new old d) → v ≡ new i → (d : ℕ) →
@@ -74,7 +74,7 @@ module _ {ℓ} {A : Type ℓ} (new old : ℕ → A) where
   -- the entry at i is as it was
   pub below_same : (i : ℕ) (f : ℕ → A) → ((d : ℕ) → f d ≡ new_below i new old d) → new i ≡ old i → (d : ℕ) → f d ≡ new_below (i + 1) new old d
   below_same i f h s d = h d ∙ this_or_other (λ d. new_below i new old d ≡ new_below (i + 1) new old d) i d
-      (ap (λ t. if t then new i else old i) (le-ltb i i (omega arith)) ∙ sym s ∙ sym (below_here i))
+      (ap (λ t. cond t (new i) (old i)) (le-ltb i i (omega arith)) ∙ sym s ∙ sym (below_here i))
       (λ n. below_more i d (λ e. n (sym e)))
 
   -- past the end nothing is new

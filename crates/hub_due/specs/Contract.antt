@@ -1,6 +1,5 @@
 -- What the readings of due settings promise. Assumes nothing.
-use Rattle.std.specs.Prelude.{◌≡◌, List, [], map, ℕ, suc, ◌-◌, ◌≤◌, ◌<◌, eqb, ℤ, pos, get_or}
-use Rattle.rules_routine.specs.Choice.{if◌then◌else◌}
+use Rattle.std.specs.Prelude.{◌≡◌, List, [], map, ℕ, suc, ◌-◌, ◌≤◌, ◌<◌, eqb, ℤ, pos, get_or, if◌then◌else◌}
 use Rattle.rules_routine.specs.Limits.{max_devices}
 use Rattle.rules.specs.State.{Member}
 use Rattle.rules.specs.Progress.{with_steps}

@@ -10,7 +10,7 @@ use lib.Dec.{ltb}
 use lib.IntN.{ℤ, pos, negsuc}
 use lib.Signed.{mag}
 use lib.ListN.{get_or}
-use Rattle.rules_routine.specs.Choice.{if◌then◌else◌}
+use Rattle.std.specs.Prelude.{if◌then◌else◌}
 use Rattle.rules_routine.specs.Limits.{highest_setting, max_devices, max_sequence}
 use Rattle.rules_routine.specs.Range.{in_range}
 use Rattle.rules_routine.specs.Refusals.{refusal_of}

@@ -1,7 +1,6 @@
 -- What events promise. Assumes nothing.
-use Rattle.std.specs.Prelude.{◌≡◌, List, [], ◌∷◌, ℕ}
+use Rattle.std.specs.Prelude.{◌≡◌, List, [], ◌∷◌, ℕ, if◌then◌else◌}
 use Rattle.std.proofs.Math.Option.{Option, none, some}
-use Rattle.rules_routine.specs.Choice.{if◌then◌else◌}
 use Rattle.rules.specs.Answers.{Back, Answer as Told, aborted}
 use Rattle.rules.specs.Sequence.{Found, find}
 use Rattle.rules.specs.Events.{is_halfway, must_left}

@@ -1,18 +1,16 @@
 -- Laws that the proofs of this crate cite. Assumes nothing.
 use mathlib.Core.Path.{◌≡◌, refl, sym, ap, ◌∙◌, subst}
-use mathlib.Core.Logic.{◌≢◌, inl, inr}
+use mathlib.Core.Logic.{◌≢◌}
 use mathlib.Core.Bool.{Bool, true, false, ◌&&◌}
 use mathlib.Core.List.{List, [], ◌∷◌, ◌++◌}
 use mathlib.Core.Option.{Option, none}
 use Prim.Native.Nat.{ℕ, ◌*◌, ◌<◌, ◌≤◌}
 use native.Mathlib.Omega.{arith}
-use types.Run.{OneOf}
-use denote.Enum.Declared.{tag_of}
 use borrow.Author.Tests.{lt-ltb, le-ltb, eq-eqb, ne_eqb}
 use lib.Dec.{eqb}
 use lib.IntN.{ℤ, pos}
 use lib.ListN.{length, get_or}
-use Rattle.rules_routine.specs.Choice.{if◌then◌else◌}
+use Rattle.std.specs.Prelude.{if◌then◌else◌}
 use Rattle.rules_routine.specs.Refusals.{refusal_of}
 use Rattle.rules_routine.specs.Limits.{max_commands, max_sequence}
 use Rattle.rules_routine.specs.Routine.{must_tag}
@@ -47,7 +45,6 @@ use Rattle.hub_state.specs.declared.Staged.{Staged}
 use Rattle.hub_state.specs.declared.Change.{Change}
 use Rattle.hub_state.specs.declared.Change.TheVariants.{Nothing as NoChange, Abort}
 use Rattle.hub_state.specs.declared.Decision.{Decision}
-use Rattle.hub_state.specs.contracts.Unanswered.{the_type}
 use Rattle.hub_state.proofs.Rows.{status-done, status-skipped}
 use Rattle.hub_state.proofs.Members.{there-it, there_whole, member_steps, place-within}
 use Rattle.hub_state.proofs.DecisionLaws.{refused-decides, stage_decides, skip_decides, abort-decides}
@@ -193,12 +190,11 @@ module _ (t : ℕ) (a b : Result) where
 -- ---- the tests of a report in turn
 
 -- no command is in flight
-pub idle : (h : HubState) (x : ℕ) (o : Unanswered) → UnansweredIs h x o → OneOf (0 ∷ 1 ∷ []) (tag_of the_type o) →
+pub idle : (h : HubState) (x : ℕ) (o : Unanswered) → UnansweredIs h x o → ((j : ℕ) → o ≡ InFlight j → ⊥) →
     flight (steps_at h x) ≡ none
 idle h x Nothing k t = k.no_flight
 idle h x (ToDo j) k t = k.no_flight
-idle h x (InFlight j) k (inl e) = absurd (omega (arith, e))
-idle h x (InFlight j) k (inr e) = absurd (omega (arith, e))
+idle h x (InFlight j) k t = absurd (t j refl)
 
 module _ (h : HubState) (i code : ℕ) (p : Place) (f : Finds h (runs i) p) (y : Decision) where
   refuses : (n : ℕ) → y ≡ plainly (Refused (Number n)) NoChange → turned_down (Number n) (state_of h) ≡ report_of (state_of h) i code →

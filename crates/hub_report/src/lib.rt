@@ -1,8 +1,7 @@
 // Document 01, "Report on R". Refusals: 10, 12, 13.
 #![tactic(auto)]
 
-ghost use Rattle.std.specs.Prelude.{◌≡◌, []};
-ghost use Rattle.rules_routine.specs.Choice.{if◌then◌else◌};
+ghost use Rattle.std.specs.Prelude.{◌≡◌, [], if◌then◌else◌};
 ghost use Rattle.rules.specs.Progress.{is_must};
 ghost use Rattle.rules.specs.Settle.{settling};
 ghost use Rattle.rules.specs.Abort.{abort};

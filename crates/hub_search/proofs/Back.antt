@@ -6,7 +6,7 @@ use borrow.Author.Tests.{eq-eqb, ne_eqb}
 use mathlib.Core.Path.{◌≡◌, refl, sym, ap, ◌∙◌, subst}
 use mathlib.Core.Bool.{Bool, true, false, ◌||◌}
 use mathlib.Core.List.{List, [], ◌∷◌, map, reverse_aux, reverse}
-use Rattle.rules_routine.specs.Choice.{if◌then◌else◌}
+use Rattle.std.specs.Prelude.{if◌then◌else◌}
 use Rattle.rules_routine.proofs.RoutineLaws.{by_test}
 use Rattle.rules.specs.Tables.{any_of}
 use Rattle.rules.specs.State.{Member}

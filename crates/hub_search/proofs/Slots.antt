@@ -8,7 +8,7 @@ use mathlib.Core.List.{List, [], ◌∷◌, map}
 use mathlib.Core.Option.{none as nothing, some}
 use lib.Dec.{eqb}
 use lib.ListN.{length, get_or}
-use Rattle.rules_routine.specs.Choice.{if◌then◌else◌}
+use Rattle.std.specs.Prelude.{if◌then◌else◌}
 use Rattle.rules_routine.proofs.RoutineLaws.{by_test}
 use Rattle.rules_routine.specs.Limits.{max_sequence}
 use Rattle.rules.specs.State.{Member}

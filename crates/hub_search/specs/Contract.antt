@@ -1,6 +1,5 @@
 -- What the searches promise. Assumes nothing.
-use Rattle.std.specs.Prelude.{◌≡◌, Bool, false, ◌&&◌, ◌||◌, List, map, ℕ, zero, suc, eqb, leb, ltb, get_or}
-use Rattle.rules_routine.specs.Choice.{if◌then◌else◌}
+use Rattle.std.specs.Prelude.{◌≡◌, Bool, false, ◌&&◌, ◌||◌, List, map, ℕ, zero, suc, eqb, leb, ltb, get_or, if◌then◌else◌}
 use Rattle.rules_routine.specs.Routine.{must_tag, condition_tag}
 use Rattle.rules_routine.specs.declared.Command.{Command}
 use Rattle.rules.specs.State.{Member}

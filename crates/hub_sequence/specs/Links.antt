@@ -1,6 +1,5 @@
 -- The links, read as lists of slots. Document 02, item 8: "keep for each routine the one ahead and the one behind". Assumes nothing.
-use Rattle.std.specs.Prelude.{ℕ, zero, suc, ◌+◌, ◌≤◌, ◌<◌, ◌≡◌, List, [], ◌∷◌, eqb, ltb, length, get_or, set}
-use Rattle.rules_routine.specs.Choice.{if◌then◌else◌}
+use Rattle.std.specs.Prelude.{ℕ, zero, suc, ◌+◌, ◌≤◌, ◌<◌, ◌≡◌, List, [], ◌∷◌, eqb, ltb, length, get_or, set, if◌then◌else◌}
 use Rattle.rules_routine.specs.Limits.{max_sequence}
 use Rattle.hub_sequence.specs.Lists.{count}
 use Rattle.hub_sequence.specs.declared.Links.{Links}

@@ -1,6 +1,5 @@
 -- Lists of slots: how often a slot occurs, the two changes of a list, and its parts around a slot. Assumes nothing.
-use Rattle.std.specs.Prelude.{ℕ, ◌+◌, List, [], ◌∷◌, eqb}
-use Rattle.rules_routine.specs.Choice.{if◌then◌else◌}
+use Rattle.std.specs.Prelude.{ℕ, ◌+◌, List, [], ◌∷◌, eqb, if◌then◌else◌}
 
 -- 1 if the two are the same, else 0.
 unfoldable pub same : ℕ → ℕ → ℕ

@@ -9,7 +9,7 @@ use borrow.Author.Tests.{eq-eqb, ne_eqb}
 use lib.Dec.{eqb}
 use lib.IntN.{ℤ}
 use lib.ListN.{get_or}
-use Rattle.rules_routine.specs.Choice.{if◌then◌else◌}
+use Rattle.std.specs.Prelude.{if◌then◌else◌}
 use Rattle.rules_routine.specs.Limits.{max_sequence}
 use Rattle.rules.specs.State.{Member, State}
 use Rattle.rules.specs.Sequence.{last_id_or, with_sequence, with_settled, with_mark, move_marks}

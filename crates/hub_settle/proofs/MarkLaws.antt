@@ -9,7 +9,7 @@ use borrow.Author.Tests.{ne_eqb}
 use lib.Dec.{eqb}
 use lib.ListN.{length, take, drop, get_or, set, drop_of_length-le, get_or-map}
 use lib.Seq.{take_all, drop-cons, append_snoc, take-suc-set, drop-set-lt}
-use Rattle.rules_routine.specs.Choice.{if◌then◌else◌}
+use Rattle.std.specs.Prelude.{if◌then◌else◌}
 use Rattle.rules.specs.Sequence.{move_marks}
 use Rattle.hub_state.specs.View.{marks_of}
 

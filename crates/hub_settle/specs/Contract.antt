@@ -1,7 +1,6 @@
 -- What a leaving and what settling promise. Document 02, item 8: "A single placement or leaving changes no links but its own and its
 -- neighbours', and moves no other routine." Assumes nothing.
-use Rattle.std.specs.Prelude.{◌≡◌, List, ℕ, eqb, ℤ}
-use Rattle.rules_routine.specs.Choice.{if◌then◌else◌}
+use Rattle.std.specs.Prelude.{◌≡◌, List, ℕ, eqb, ℤ, if◌then◌else◌}
 use Rattle.rules.specs.Attach.{later, attach_to}
 use Rattle.rules.specs.Abort.{leave}
 use Rattle.rules.specs.Settle.{settle}

@@ -7,7 +7,7 @@ use native.Mathlib.Omega.{arith}
 use borrow.Author.Tests.{lt-leb, le-leb, lt-ltb, le-ltb, leb-false, ltb-false}
 use lib.Dec.{leb, ltb, eqb}
 use lib.ListN.{length, get_or, length-map}
-use Rattle.rules_routine.specs.Choice.{if◌then◌else◌}
+use Rattle.std.specs.Prelude.{if◌then◌else◌}
 use Rattle.rules_routine.specs.Refusals.{refusal_of, sequence_full, ids_used_up, command_count, refuse◌when◌}
 use Rattle.rules_routine.specs.Limits.{max_devices, max_commands, max_sequence, highest_id}
 use Rattle.rules_routine.specs.Routine.{commands_check, routine_check}

@@ -1,7 +1,7 @@
 -- Laws that the proofs of this crate cite. Assumes nothing.
 use mathlib.Core.Path.{◌≡◌, refl, sym, ap, ◌∙◌, subst}
 use mathlib.Core.Logic.{◌≢◌}
-use mathlib.Core.Bool.{Bool, true, false, not, ◌&&◌, and-false}
+use mathlib.Core.Bool.{Bool, true, false, cond, not, ◌&&◌, and-false}
 use mathlib.Core.List.{List, [], ◌∷◌}
 use mathlib.Core.Option.{Option, none}
 use Prim.Native.Nat.{ℕ, suc, ◌+◌, ◌-◌, ◌*◌, ◌<◌, ◌≤◌}
@@ -11,7 +11,7 @@ use lib.Dec.{eqb, ltb}
 use lib.IntN.{ℤ, pos}
 use lib.ListN.{get_or}
 use lib.Signed.{lt_z}
-use Rattle.rules_routine.specs.Choice.{if◌then◌else◌}
+use Rattle.std.specs.Prelude.{if◌then◌else◌}
 use Rattle.rules_routine.specs.Refusals.{refusal_of}
 use Rattle.rules_routine.specs.Limits.{max_devices, max_commands, max_sequence}
 use Rattle.rules_routine.specs.Routine.{must_tag, condition_tag, is_condition}
@@ -87,7 +87,7 @@ module _ (h : HubState) (x : ℕ) where
 
 -- ---- the next command gets a status
 
-not_if {ℓ} : {A : Type ℓ} (t : Bool) (a b : A) → (if not t then a else b) ≡ (if t then b else a)
+not_if {ℓ} : {A : Type ℓ} (t : Bool) (a b : A) → cond (not t) a b ≡ cond t b a
 not_if true a b = refl
 not_if false a b = refl
 

@@ -11,7 +11,7 @@ use types.Run.{OneOf, miss}
 use denote.Enum.Declared.{tag_of}
 use lib.Dec.{ltb, eqb}
 use lib.ListN.{length, length-append}
-use Rattle.rules_routine.specs.Choice.{if◌then◌else◌}
+use Rattle.std.specs.Prelude.{if◌then◌else◌}
 use Rattle.rules_routine.specs.Refusals.{command_count, devices_out_of_range, pass_limit_out_of_range, first_id_0, refusal_of, refuse◌when◌}
 use Rattle.rules_routine.specs.Refusals.{◌and_then◌}
 use Rattle.rules_routine.specs.Limits.{max_devices, max_commands, highest_pass_limit}

@@ -16,7 +16,7 @@ use mir.Val.{to_z}
 use mir.Facts.{to_z_pos}
 use lib.ListN.{length, take, drop, get_or, set, length-append, length-drop, drop_of_length-le}
 use lib.Seq.{sets, sets-eq, length-sets, drop-cons, drop-drop, length-take-le, get_or-set_same, get_or-set_other}
-use Rattle.rules_routine.specs.Choice.{if◌then◌else◌}
+use Rattle.std.specs.Prelude.{if◌then◌else◌}
 use Rattle.rules_routine.proofs.RoutineLaws.{by_test}
 use Rattle.rules.specs.State.{State}
 use Rattle.rules.specs.Due.{due}

@@ -1,7 +1,6 @@
 -- A hub read as the hub of the last accepted `O`, and a line's call as one of the rules. Assumes nothing.
-use Rattle.std.specs.Prelude.{◌≡◌, [], ℕ, eqb}
+use Rattle.std.specs.Prelude.{◌≡◌, [], ℕ, eqb, if◌then◌else◌}
 use Rattle.std.proofs.Math.Option.{Option, none, some}
-use Rattle.rules_routine.specs.Choice.{if◌then◌else◌}
 use Rattle.rules_routine.specs.Routine.{commands_of}
 use Rattle.rules_routine.specs.declared.Routine.{Routine}
 use Rattle.rules.specs.State.{State}

@@ -7,7 +7,7 @@ use mathlib.Core.Option.{Option, none, some}
 use Prim.Native.Nat.{ℕ, ◌%◌}
 use lib.Dec.{ltb, eqb}
 use lib.ListN.{length}
-use Rattle.rules_routine.specs.Choice.{if◌then◌else◌}
+use Rattle.std.specs.Prelude.{if◌then◌else◌}
 use Rattle.rules.specs.State.{State}
 use Rattle.line_rules.specs.Text.{space}
 use Rattle.line_rules.specs.Pieces.{words_of}

@@ -1,7 +1,6 @@
 -- Why a line prints `unread`: the first of these reasons that is so, in the order in which they are tested. Which lines print it is
 -- document 01's ("The line program") and said in crate `line_rules`; which reason is told of one is said here. Assumes nothing.
-use Rattle.std.specs.Prelude.{Bool, true, false, ◌&&◌, ◌||◌, List, [], ◌∷◌, ℕ, ◌-◌, ◌%◌, leb, ltb, eqb, length, get_or}
-use Rattle.rules_routine.specs.Choice.{if◌then◌else◌}
+use Rattle.std.specs.Prelude.{Bool, true, false, ◌&&◌, ◌||◌, List, [], ◌∷◌, ℕ, ◌-◌, ◌%◌, leb, ltb, eqb, length, get_or, if◌then◌else◌}
 use Rattle.line_rules.specs.Text.{space, minus}
 use Rattle.line_rules.specs.Pieces.{words_of}
 use Rattle.rules_routine.specs.Limits.{max_line}

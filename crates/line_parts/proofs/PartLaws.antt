@@ -10,7 +10,7 @@ use borrow.Author.Tests.{eqb-true, ltb-true, ltb-false}
 use lib.Dec.{eqb, ltb}
 use lib.ListN.{length, take, drop, length-append}
 use lib.Seq.{take_all, append_snoc, take-append_seam, drop-append_seam}
-use Rattle.rules_routine.specs.Choice.{if◌then◌else◌}
+use Rattle.std.specs.Prelude.{if◌then◌else◌}
 use Rattle.rules_routine.proofs.RoutineLaws.{by_test}
 use Rattle.rules.specs.State.{State}
 use Rattle.line_rules.specs.Text.{line_end}

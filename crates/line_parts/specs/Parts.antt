@@ -1,8 +1,7 @@
 -- The line program of an input that is still being read: what all bytes read so far print, and what is pending of the line whose end has
 -- not come. Assumes nothing.
-use Rattle.std.specs.Prelude.{List, [], ◌∷◌, ◌++◌, ℕ, ◌-◌, eqb, length, take}
+use Rattle.std.specs.Prelude.{List, [], ◌∷◌, ◌++◌, ℕ, ◌-◌, eqb, length, take, if◌then◌else◌}
 use Rattle.std.proofs.Math.Option.{Option, none}
-use Rattle.rules_routine.specs.Choice.{if◌then◌else◌}
 use Rattle.rules.specs.State.{State}
 use Rattle.line_rules.specs.Text.{line_end}
 use Rattle.line_rules.specs.Pieces.{lines_of}

@@ -14,7 +14,7 @@ use lib.ListN.{length, take, drop, get_or, length-drop, drop_of_length-le}
 use lib.Seq.{drop-cons, take_all, length-take-le}
 use mir.Syntax.{w16}
 use mir.Val.{SFits}
-use Rattle.rules_routine.specs.Choice.{if◌then◌else◌}
+use Rattle.std.specs.Prelude.{if◌then◌else◌}
 use Rattle.rules_routine.proofs.RoutineLaws.{by_test}
 use Rattle.line_rules.specs.Text.{space, minus, digit0}
 use Rattle.line_rules.specs.Pieces.{pieces, reach, words_of}

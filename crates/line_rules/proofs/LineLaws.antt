@@ -8,7 +8,7 @@ use borrow.Author.Tests.{ltb-true, ltb-false, lt-ltb, le-ltb}
 use lib.Dec.{ltb, eqb, leb-suc-suc}
 use lib.ListN.{length, take, drop, length-drop, drop_of_length-le}
 use lib.Seq.{append_snoc, drop-drop, take_all}
-use Rattle.rules_routine.specs.Choice.{if◌then◌else◌}
+use Rattle.std.specs.Prelude.{if◌then◌else◌}
 use Rattle.rules_routine.proofs.RoutineLaws.{by_test}
 use Rattle.line_rules.specs.Text.{line_end}
 use Rattle.line_rules.specs.Pieces.{pieces_from, pieces, reach, without_empty_last, lines_of}

@@ -1,14 +1,14 @@
 -- Laws of tests, of tables, of predicates over lists, and of lists of ids. Assumes nothing.
 use mathlib.Core.Path.{◌≡◌, refl, sym, ap, ◌∙◌, subst}
 use mathlib.Core.Logic.{◌≢◌, ◌⊎◌, inl, inr}
-use mathlib.Core.Bool.{Bool, true, false, ◌&&◌, ◌||◌, or_assoc}
+use mathlib.Core.Bool.{Bool, true, false, cond, ◌&&◌, ◌||◌, or_assoc}
 use mathlib.Core.List.{List, [], ◌∷◌, ◌++◌}
 use Prim.Native.Nat.{ℕ, suc, ◌<◌}
 use native.Mathlib.Omega.{arith}
 use borrow.Author.Tests.{eqb-true, eqb-false, eq-eqb, ne_eqb}
 use lib.Dec.{eqb}
 use lib.IntN.{ℤ, pos, negsuc}
-use Rattle.rules_routine.specs.Choice.{if◌then◌else◌}
+use Rattle.std.specs.Prelude.{if◌then◌else◌}
 use Rattle.rules_routine.proofs.RoutineLaws.{or-false, and-true}
 use Rattle.rules.specs.State.{Member}
 use Rattle.rules.specs.Due.{after_members}
@@ -17,7 +17,7 @@ use Rattle.rules.specs.Tables.{any_of, Each, put, same_setting}
 -- ---- tests
 
 -- to prove a thing of a choice, prove it of each side
-pub by_if {ℓ κ} : {A : Type ℓ} (P : A → Type κ) (t : Bool) {x y : A} → (t ≡ true → P x) → (t ≡ false → P y) → P (if t then x else y)
+pub by_if {ℓ κ} : {A : Type ℓ} (P : A → Type κ) (t : Bool) {x y : A} → (t ≡ true → P x) → (t ≡ false → P y) → P (cond t x y)
 by_if P true f g = f refl
 by_if P false f g = g refl
 
@@ -60,10 +60,10 @@ same-setting (negsuc m) (negsuc n) e = ap negsuc (eqb-true m n e)
 -- ---- tables
 
 pub put_same {ℓ} : {A : Type ℓ} (f : ℕ → A) (i : ℕ) (v : A) → put f i v i ≡ v
-put_same f i v = ap (λ t. if t then v else f i) (eq-eqb i i refl)
+put_same f i v = ap (λ t. cond t v (f i)) (eq-eqb i i refl)
 
 pub put_other {ℓ} : {A : Type ℓ} (f : ℕ → A) (i : ℕ) (v : A) (j : ℕ) → j ≢ i → put f i v j ≡ f j
-put_other f i v j n = ap (λ t. if t then v else f j) (ne_eqb j i n)
+put_other f i v j n = ap (λ t. cond t v (f j)) (ne_eqb j i n)
 
 -- a part that the new value has from the old one
 pub put_keeps {ℓ κ} : {A : Type ℓ} {B : Type κ} (part : A → B) (f : ℕ → A) (i : ℕ) (v : A) → part v ≡ part (f i) → (j : ℕ) →

@@ -8,7 +8,7 @@ use native.Mathlib.Omega.{arith}
 use lib.Dec.{eqb}
 use lib.IntN.{pos}
 use lib.Signed.{lt_z}
-use Rattle.rules_routine.specs.Choice.{if◌then◌else◌}
+use Rattle.std.specs.Prelude.{if◌then◌else◌}
 use Rattle.rules.specs.Tables.{any_of}
 use Rattle.rules.specs.Answers.{Call, submit, turn, report, failure, restart, cancel, limit, limited}
 use Rattle.rules.specs.Open.{new_hub}

@@ -1,6 +1,5 @@
 -- Document 01, "Abort of R". Assumes nothing.
-use Rattle.std.specs.Prelude.{Bool, not, ◌&&◌, ◌||◌, List, [], ◌∷◌, ◌++◌, ℕ, zero, suc}
-use Rattle.rules_routine.specs.Choice.{if◌then◌else◌}
+use Rattle.std.specs.Prelude.{Bool, not, ◌&&◌, ◌||◌, List, [], ◌∷◌, ◌++◌, ℕ, zero, suc, if◌then◌else◌}
 use Rattle.rules.specs.Tables.{any_of, same_setting}
 use Rattle.rules.specs.State.{Member, State}
 use Rattle.rules.specs.Answers.{Back, Result, aborted}

@@ -1,6 +1,5 @@
 -- Document 02, item 14: all due settings in one reading, into a lent list. It is a reading: the state stays as it is. Assumes nothing.
-use Rattle.std.specs.Prelude.{List, [], ◌∷◌, ◌++◌, ℕ, zero, suc, ltb, ℤ, length, drop}
-use Rattle.rules_routine.specs.Choice.{if◌then◌else◌}
+use Rattle.std.specs.Prelude.{List, [], ◌∷◌, ◌++◌, ℕ, zero, suc, ltb, ℤ, length, drop, if◌then◌else◌}
 use Rattle.rules_routine.specs.Refusals.{no_room, refuse◌when◌}
 use Rattle.rules_routine.specs.declared.Verdict.{Verdict}
 use Rattle.rules.specs.State.{State}

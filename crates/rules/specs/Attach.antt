@@ -1,8 +1,7 @@
 -- Events attached to a routine or to the settled part: document 01, "Failure or restart of D", "Abort of R" and "Settling". A failure
 -- changes no due setting, so that what is kept of events is the last restart of each device. Assumes nothing.
-use Rattle.std.specs.Prelude.{List, [], ◌∷◌, ℕ, eqb, ℤ}
+use Rattle.std.specs.Prelude.{List, [], ◌∷◌, ℕ, eqb, ℤ, if◌then◌else◌}
 use Rattle.std.proofs.Math.Option.{Option, none, some}
-use Rattle.rules_routine.specs.Choice.{if◌then◌else◌}
 use Rattle.rules.specs.Tables.{put}
 use Rattle.rules.specs.State.{Member, State}
 use Rattle.rules.specs.Due.{after_restart}

@@ -1,8 +1,7 @@
 -- Document 01, "Abort of R": "The due setting of D is that of the last, in the hub's order, of the done commands on D and the restarts of
 -- D, running routines included; 0 if there is none." Assumes nothing.
-use Rattle.std.specs.Prelude.{◌&&◌, List, [], ◌∷◌, ℕ, ℤ}
+use Rattle.std.specs.Prelude.{◌&&◌, List, [], ◌∷◌, ℕ, ℤ, if◌then◌else◌}
 use Rattle.std.proofs.Math.Option.{Option, none, some}
-use Rattle.rules_routine.specs.Choice.{if◌then◌else◌}
 use Rattle.rules.specs.State.{Step, Member, State}
 use Rattle.rules.specs.Progress.{is_on, is_done}
 

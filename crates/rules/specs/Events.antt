@@ -1,8 +1,7 @@
 -- Document 01, "Failure or restart of D", with document 02, item 3, "A lamp that dies after its work", and the conditions of item 4.
 -- Refusals: failure 14, 15; restart 14, 16, 17. Assumes nothing.
-use Rattle.std.specs.Prelude.{Bool, true, false, not, ◌&&◌, ◌||◌, List, [], ◌∷◌, ◌++◌, ℕ, leb, ℤ}
+use Rattle.std.specs.Prelude.{Bool, true, false, not, ◌&&◌, ◌||◌, List, [], ◌∷◌, ◌++◌, ℕ, leb, ℤ, if◌then◌else◌}
 use Rattle.std.proofs.Math.Option.{Option, none, some}
-use Rattle.rules_routine.specs.Choice.{if◌then◌else◌}
 use Rattle.rules_routine.specs.Range.{in_range}
 use Rattle.rules_routine.specs.Refusals.{event_device, failure_of_down, restart_of_up, restart_setting, refuse◌when◌, ◌and_then◌}
 use Rattle.rules.specs.Tables.{put}

@@ -1,7 +1,6 @@
 -- What the calls and their answers tell, without a look at the hub. A history is the calls with their answers, the latest first. Assumes
 -- nothing.
-use Rattle.std.specs.Prelude.{Bool, true, false, not, ◌&&◌, ◌||◌, List, [], ◌∷◌, map, ℕ, suc, eqb}
-use Rattle.rules_routine.specs.Choice.{if◌then◌else◌}
+use Rattle.std.specs.Prelude.{Bool, true, false, not, ◌&&◌, ◌||◌, List, [], ◌∷◌, map, ℕ, suc, eqb, if◌then◌else◌}
 use Rattle.rules_routine.specs.Routine.{zero_command}
 use Rattle.rules_routine.specs.declared.Command.{Command}
 use Rattle.rules.specs.Tables.{any_of, put}

@@ -1,8 +1,7 @@
 -- Document 01: "The hub's order is the settled part, then each routine of the sequence followed by its events." The order is built from the
 -- answers; this says that it is the order of the routines that the hub holds, that its serial run gives what the hub has of each device,
 -- and that the accounts have of each command what the hub has. The proof is `hub-order` of crate `rules_promises`. Assumes nothing.
-use Rattle.std.specs.Prelude.{◌≡◌, List, [], ◌∷◌, map, ℕ, ℤ}
-use Rattle.rules_routine.specs.Choice.{if◌then◌else◌}
+use Rattle.std.specs.Prelude.{◌≡◌, List, [], ◌∷◌, map, ℕ, ℤ, if◌then◌else◌}
 use Rattle.rules_routine.specs.declared.Command.{Command}
 use Rattle.rules.specs.Tables.{Each}
 use Rattle.rules.specs.State.{Status, to-do, in_flight, was_done, was_skipped, was_held, was_not_held, Step, Member, State}

@@ -1,7 +1,6 @@
 -- Document 01, "The hub's order": "Built from the accepted calls and their answers alone, it is a list, empty at first, with a bar that
 -- ends the settled part." Assumes nothing.
-use Rattle.std.specs.Prelude.{Bool, true, false, ◌||◌, List, [], ◌∷◌, ◌++◌, ℕ, eqb, ℤ, pos}
-use Rattle.rules_routine.specs.Choice.{if◌then◌else◌}
+use Rattle.std.specs.Prelude.{Bool, true, false, ◌||◌, List, [], ◌∷◌, ◌++◌, ℕ, eqb, ℤ, pos, if◌then◌else◌}
 use Rattle.rules_routine.specs.declared.Command.{Command}
 use Rattle.rules.specs.Answers.{Call, submit, turn, report, failure, restart, cancel, limit, Answer, refused, placed, wait, send}
 use Rattle.rules.specs.Answers.{done}

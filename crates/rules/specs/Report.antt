@@ -1,7 +1,6 @@
 -- Document 01, "Report on R". Refusals: 10, 12, 13. Assumes nothing.
-use Rattle.std.specs.Prelude.{List, [], ◌∷◌, ℕ, ltb, eqb, ℤ}
+use Rattle.std.specs.Prelude.{List, [], ◌∷◌, ℕ, ltb, eqb, ℤ, if◌then◌else◌}
 use Rattle.std.proofs.Math.Option.{Option, none, some}
-use Rattle.rules_routine.specs.Choice.{if◌then◌else◌}
 use Rattle.rules_routine.specs.Refusals.{not_running, none_in_flight, report_code_out_of_range, refuse◌when◌}
 use Rattle.rules.specs.Tables.{same_setting}
 use Rattle.rules.specs.State.{was_done, was_skipped, State}

@@ -1,8 +1,7 @@
 -- Document 02, item 1, "Nobody waits for ever", with the new pass limits of item 13: rounds, schedules and the waiting promise. Which
 -- routines run, what is in flight, what has ended and which K is in force is told by calls and answers, without a look at the hub. The
 -- proof is `ended_in_time` of crate `rules_promises`; `docs/WAITING.md` walks through it. Assumes nothing.
-use Rattle.std.specs.Prelude.{◌≡◌, Bool, false, not, ◌&&◌, List, [], ◌∷◌, ◌++◌, map, ℕ, suc, ◌+◌, ◌*◌, ◌≤◌, eqb}
-use Rattle.rules_routine.specs.Choice.{if◌then◌else◌}
+use Rattle.std.specs.Prelude.{◌≡◌, Bool, false, not, ◌&&◌, List, [], ◌∷◌, ◌++◌, map, ℕ, suc, ◌+◌, ◌*◌, ◌≤◌, eqb, if◌then◌else◌}
 use Rattle.rules_routine.specs.Limits.{max_commands, max_sequence}
 use Rattle.rules_routine.specs.declared.Command.{Command}
 use Rattle.rules.specs.Tables.{any_of, Each}

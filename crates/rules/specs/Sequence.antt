@@ -1,7 +1,6 @@
 -- The sequence: finding a routine in it, and changes of the state. Assumes nothing.
-use Rattle.std.specs.Prelude.{Bool, not, ◌&&◌, List, [], ◌∷◌, ◌++◌, ℕ, eqb, ℤ}
+use Rattle.std.specs.Prelude.{Bool, not, ◌&&◌, List, [], ◌∷◌, ◌++◌, ℕ, eqb, ℤ, if◌then◌else◌}
 use Rattle.std.proofs.Math.Option.{Option, none, some}
-use Rattle.rules_routine.specs.Choice.{if◌then◌else◌}
 use Rattle.rules.specs.State.{Member, State}
 
 -- A routine of the sequence, with those ahead of it and those behind it.

@@ -1,6 +1,5 @@
 -- Lists that are searched, and tables over device numbers or ids. Assumes nothing.
-use Rattle.std.specs.Prelude.{Bool, false, ◌||◌, List, [], ◌∷◌, ℕ, eqb, ℤ, pos, negsuc}
-use Rattle.rules_routine.specs.Choice.{if◌then◌else◌}
+use Rattle.std.specs.Prelude.{Bool, false, ◌||◌, List, [], ◌∷◌, ℕ, eqb, ℤ, pos, negsuc, cond}
 
 -- Does one of the list pass the test?
 abbrev pub any_of {ℓ} : {A : Type ℓ} → (A → Bool) → List A → Bool
@@ -14,7 +13,7 @@ Each P (x ∷ l) = P x × Each P l
 
 -- The table with v at i.
 abbrev pub put {ℓ} : {A : Type ℓ} → (ℕ → A) → ℕ → A → ℕ → A
-put f i v j = if eqb j i then v else f j
+put f i v j = cond (eqb j i) v (f j)
 
 -- Are two settings the same?
 abbrev pub same_setting : ℤ → ℤ → Bool

@@ -9,7 +9,7 @@ use Prim.Native.Nat.{ℕ, ◌<◌, ◌≤◌}
 use native.Mathlib.Omega.{arith}
 use borrow.Author.Tests.{eqb-true, eqb-false, not-true, not-false}
 use lib.Dec.{eqb}
-use Rattle.rules_routine.specs.Choice.{if◌then◌else◌}
+use Rattle.std.specs.Prelude.{if◌then◌else◌}
 use Rattle.rules_routine.specs.Routine.{zero_command}
 use Rattle.rules_routine.specs.declared.Command.{Command}
 use Rattle.rules.specs.Tables.{any_of, put, Each}

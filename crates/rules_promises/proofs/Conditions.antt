@@ -1,7 +1,7 @@
 -- The replay of conditions is kept by every call: device by device, along the order. Assumes nothing.
 use mathlib.Core.Path.{◌≡◌, refl, sym, ap, ap₂, ◌∙◌, subst}
 use mathlib.Core.Logic.{◌≢◌, ◌⊎◌, inl, inr}
-use mathlib.Core.Bool.{Bool, true, false, not, ◌&&◌, ◌||◌, and-false}
+use mathlib.Core.Bool.{Bool, true, false, cond, not, ◌&&◌, ◌||◌, and-false}
 use mathlib.Core.List.{List, [], ◌∷◌, ◌++◌, map, append_assoc}
 use mathlib.Core.Option.{none, some}
 use Prim.Native.Nat.{ℕ}
@@ -10,7 +10,7 @@ use borrow.Author.Tests.{eqb-true, ne_eqb, not-true, not-false}
 use lib.Dec.{eqb}
 use lib.IntN.{ℤ, pos}
 use lib.Signed.{lt_z}
-use Rattle.rules_routine.specs.Choice.{if◌then◌else◌}
+use Rattle.std.specs.Prelude.{if◌then◌else◌}
 use Rattle.rules_routine.specs.Routine.{is_condition}
 use Rattle.rules_routine.specs.declared.Command.{Command}
 use Rattle.rules.specs.Tables.{any_of, put, Each}
@@ -303,8 +303,7 @@ behind_unasked d =
 abbrev FirstOn : ℕ → (Command → ℤ → Type 0) → List Noted → ℤ → Type 0
 FirstOn d P [] v = Unit {0}
 FirstOn d P (x ∷ l) v =
-    if is_left x.outcome then (is_for d x.command ≡ true → P x.command v)
-    else FirstOn d P l (set_by d x.command x.outcome v)
+    cond (is_left x.outcome) (is_for d x.command ≡ true → P x.command v) (FirstOn d P l (set_by d x.command x.outcome v))
 
 runs-first : (d : ℕ) (o : Outcome) (b : Bool) (v : ℤ) {l : List Noted} {k : List Step} → AllAgree l k → InTurn k →
     FirstOn d (λ c v. FoundAs c.setting b v o) l v → RunsOn d l b v → RunsOn d (note_first o l) b v
@@ -324,7 +323,7 @@ first_any d P p [] v = tt
 first_any d P p (x ∷ l) v = go (first_any d P p l (set_by d x.command x.outcome v)) (is_left x.outcome)
   where
     go : FirstOn d P l (set_by d x.command x.outcome v) → (b : Bool) →
-        (if b then (is_for d x.command ≡ true → P x.command v) else FirstOn d P l (set_by d x.command x.outcome v))
+        cond b (is_for d x.command ≡ true → P x.command v) (FirstOn d P l (set_by d x.command x.outcome v))
     go ih true = λ _. p x.command v
     go ih false = ih
 

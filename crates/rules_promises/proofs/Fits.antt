@@ -2,12 +2,12 @@
 -- counts. Every change of its commands keeps them. Assumes nothing.
 use mathlib.Core.Path.{◌≡◌, refl, sym, ap, ap₂, ◌∙◌, subst}
 use mathlib.Core.Logic.{◌≢◌, ◌⊎◌, inl, inr}
-use mathlib.Core.Bool.{Bool, true, false, not, ◌&&◌, ◌||◌, and-true, and-false}
+use mathlib.Core.Bool.{Bool, true, false, cond, not, ◌&&◌, ◌||◌, and-true, and-false}
 use mathlib.Core.List.{List, [], ◌∷◌, map}
 use mathlib.Core.Option.{none, some, none-ne-some, some-ne-none, some-injective}
 use Prim.Native.Nat.{ℕ}
 use borrow.Author.Tests.{eqb-false}
-use Rattle.rules_routine.specs.Choice.{if◌then◌else◌}
+use Rattle.std.specs.Prelude.{if◌then◌else◌}
 use Rattle.rules_routine.specs.Routine.{is_condition}
 use Rattle.rules_routine.specs.declared.Command.{Command}
 use Rattle.rules.specs.Tables.{any_of}
@@ -108,7 +108,7 @@ left_skips_none x = go x.outcome
 abbrev pub AtFirst : (Command → Bool → Bool → Type 0) → Bool → List Noted → Type 0
 AtFirst P skipping [] = Unit {0}
 AtFirst P skipping (x ∷ l) =
-    if is_left x.outcome then P x.command skipping (counts_as_must x.command (names_of l)) else AtFirst P (skips_following x) l
+    cond (is_left x.outcome) (P x.command skipping (counts_as_must x.command (names_of l))) (AtFirst P (skips_following x) l)
 
 names_first : (o : Outcome) (l : List Noted) → names_of (note_first o l) ≡ names_of l
 names_first o [] = refl
@@ -124,8 +124,7 @@ fit_first u o skipping (x ∷ l) h k = go (fit_first u o (skips_following x) l h
     Rest = AtFirst (λ c skipping must. FindsUp (u c.device) skipping must o) (skips_following x) l
 
     go : (Rest → Fit u (skips_following x) (note_first o l)) → (b : Bool) → is_left x.outcome ≡ b →
-        (if b then FindsUp (u x.command.device) skipping (counts_as_must x.command (names_of l)) o
-        else Rest) →
+        cond b (FindsUp (u x.command.device) skipping (counts_as_must x.command (names_of l)) o) Rest →
         Fit u skipping (if b then noted_as o x.command ∷ l else x ∷ note_first o l)
     go ih true e k = (k, fit_more u _ l (subst (λ b. Fit u b l) (left_skips_none x e) h.1))
     go ih false e k = (

@@ -6,7 +6,7 @@ use Prim.Native.Nat.{ℕ, ◌≤◌}
 use native.Mathlib.Omega.{arith}
 use borrow.Author.Tests.{ltb-false, leb-false}
 use lib.Dec.{leb, ltb, eqb}
-use Rattle.rules_routine.specs.Choice.{if◌then◌else◌}
+use Rattle.std.specs.Prelude.{if◌then◌else◌}
 use Rattle.rules_routine.specs.Refusals.{pass_limit_out_of_range}
 use Rattle.rules_routine.specs.declared.Command.{Command}
 use Rattle.rules_routine.proofs.RoutineLaws.{both_accept, not-refused}

@@ -9,7 +9,7 @@ use Prim.Native.Nat.{ℕ, zero, suc, ◌+◌, ◌≤◌}
 use native.Mathlib.Omega.{arith}
 use borrow.Author.Tests.{eqb-true, eqb-false, eq-eqb, ne_eqb, le-ltb, not-true}
 use lib.Dec.{eqb}
-use Rattle.rules_routine.specs.Choice.{if◌then◌else◌}
+use Rattle.std.specs.Prelude.{if◌then◌else◌}
 use Rattle.rules_routine.specs.Routine.{is_condition}
 use Rattle.rules_routine.specs.declared.Command.{Command}
 use Rattle.rules_routine.proofs.RoutineLaws.{by_test}
@@ -24,7 +24,7 @@ use Rattle.rules.specs.Open.{opened, limit_check, new_hub, open_of}
 use Rattle.rules.specs.Limit.{new_limit_check, with_pass_limit}
 use Rattle.rules.specs.Turn.{first_holding, commit_turn, send_turn, skip_turn, is_held, held_turn, not_held_turn, turn_next, wait_or}
 use Rattle.rules.specs.Turn.{turn_found, turn_of}
-use Rattle.rules.specs.Report.{code_done, code_failed, done_report, skip_report, reported, report_found, report_of}
+use Rattle.rules.specs.Report.{code_done, code_failed, done_report, skip_report, report_found, report_of}
 use Rattle.rules.specs.Calls.{result_of, state_after}
 use Rattle.rules.specs.History.{Told, Account, accounts_of}
 use Rattle.rules.specs.World.{is_accepted}

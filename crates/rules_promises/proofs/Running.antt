@@ -1,12 +1,12 @@
 -- Which routines run, told by the answers, is what the hub holds. Assumes nothing.
 use mathlib.Core.Path.{◌≡◌, refl, sym, ap, ◌∙◌, subst}
 use mathlib.Core.Logic.{◌≢◌}
-use mathlib.Core.Bool.{Bool, true, false, not, ◌&&◌, ◌||◌, and-false}
+use mathlib.Core.Bool.{Bool, true, false, cond, not, ◌&&◌, ◌||◌, and-false}
 use mathlib.Core.List.{List, [], ◌∷◌, ◌++◌}
 use Prim.Native.Nat.{ℕ}
 use borrow.Author.Tests.{eqb-true, eq-eqb, ne_eqb}
 use lib.Dec.{eqb}
-use Rattle.rules_routine.specs.Choice.{if◌then◌else◌}
+use Rattle.std.specs.Prelude.{if◌then◌else◌}
 use Rattle.rules.specs.Tables.{any_of, put}
 use Rattle.rules.specs.State.{Status, to-do, in_flight, was_done, was_skipped, was_held, was_not_held, Member, State}
 use Rattle.rules.specs.Answers.{Call, turn, failure, restart, Answer, down, up, Result}
@@ -136,7 +136,7 @@ pub put_part {ℓ κ} : {A : Type ℓ} {B : Type κ} (part : A → B) (f : ℕ �
     part (put f j v i) ≡ put (λ k. part (f k)) j (part v) i
 put_part part f j v i = go (eqb i j)
   where
-    go : (t : Bool) → part (if t then v else f i) ≡ (if t then part v else part (f i))
+    go : (t : Bool) → part (cond t v (f i)) ≡ cond t (part v) (part (f i))
     go true = refl
     go false = refl
 

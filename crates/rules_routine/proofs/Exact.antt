@@ -7,13 +7,13 @@ use mathlib.Core.Logic.{◌⊎◌, inl, inr, ◌↔◌}
 use mathlib.Core.List.{List, [], ◌∷◌, ◌++◌, map}
 use native.Mathlib.Omega.{arith}
 use borrow.Author.Tests.{ltb-true, ltb-false, leb-true, leb-false, eqb-true, eqb-false, not-true, not-false}
-use lib.Dec.{T, leb, ltb, eqb, lt→ltb, ltb→lt}
+use lib.Dec.{leb, ltb, eqb, lt→ltb, ltb→lt}
 use lib.IntN.{ℤ, pos, negsuc}
 use lib.Signed.{◌<ℤ◌, le_z}
 use lib.ListN.{length}
 use Rattle.rules_routine.specs.Limits.{lowest_setting, highest_setting, max_commands}
 use Rattle.rules_routine.specs.Range.{in_range}
-use Rattle.rules_routine.specs.Choice.{if◌then◌else◌}
+use Rattle.std.specs.Prelude.{if◌then◌else◌}
 use Rattle.rules_routine.specs.Refusals.{Cause, devices_out_of_range, pass_limit_out_of_range, first_id_0, command_count}
 use Rattle.rules_routine.specs.Refusals.{device_not_below}
 use Rattle.rules_routine.specs.Refusals.{setting_out_of_range, tag_out_of_range, sequence_full, ids_used_up, not_running}

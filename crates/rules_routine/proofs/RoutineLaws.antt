@@ -12,7 +12,7 @@ use lib.IntN.{pos, negsuc}
 use lib.Signed.{mag}
 use lib.ListN.{length, take, get_or, set, replicate, length-append, length-replicate, length-map}
 use lib.Seq.{sets, set_at, take-append_seam, slice, slice-cons, slice_empty, take-append-le, length-take-le}
-use Rattle.rules_routine.specs.Choice.{if◌then◌else◌}
+use Rattle.std.specs.Prelude.{if◌then◌else◌}
 use Rattle.rules_routine.specs.Limits.{lowest_setting, highest_setting, max_commands}
 use Rattle.rules_routine.specs.Range.{in_range}
 use Rattle.rules_routine.specs.Refusals.{Cause, command_count, device_not_below, setting_out_of_range, tag_out_of_range}

@@ -1,7 +1,6 @@
 -- The table of document 01, "When a call is turned down", with the numbers of document 02. Every definition of the project that refuses
 -- does so through `refusal_of`. Assumes nothing.
-use Rattle.std.specs.Prelude.{Bool, ℕ}
-use Rattle.rules_routine.specs.Choice.{if◌then◌else◌}
+use Rattle.std.specs.Prelude.{Bool, ℕ, if◌then◌else◌}
 use Rattle.rules_routine.specs.declared.Refusal.{Refusal}
 use Rattle.rules_routine.specs.declared.Refusal.TheVariants.{Number, Indexed}
 use Rattle.rules_routine.specs.declared.Verdict.{Verdict}

@@ -1,9 +1,8 @@
 -- Document 01, "Things and ranges": a routine is 1 to 8 commands, each with a device, a tag and a setting; and what turns one down, with
 -- the conditions of document 02, item 4.
 -- Assumes nothing.
-use Rattle.std.specs.Prelude.{Bool, not, ◌&&◌, ◌||◌, List, [], ◌∷◌, ◌++◌, ℕ, suc, ◌+◌, ◌-◌, ◌^◌, leb, ltb, eqb, pos, length, take, set, replicate}
+use Rattle.std.specs.Prelude.{Bool, not, ◌&&◌, ◌||◌, List, [], ◌∷◌, ◌++◌, ℕ, suc, ◌+◌, ◌-◌, ◌^◌, leb, ltb, eqb, pos, length, take, set, replicate, if◌then◌else◌}
 use Rattle.rules_routine.specs.Limits.{max_commands}
-use Rattle.rules_routine.specs.Choice.{if◌then◌else◌}
 use Rattle.rules_routine.specs.Range.{in_range}
 use Rattle.rules_routine.specs.Refusals.{command_count, device_not_below, setting_out_of_range, tag_out_of_range, condition_alone}
 use Rattle.rules_routine.specs.Refusals.{refuse◌when◌, ◌and_then◌}

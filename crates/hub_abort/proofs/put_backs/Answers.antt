@@ -3,10 +3,9 @@
 use borrow.Author.Rules.{rules}
 use native.Mathlib.Omega.{arith}
 use mathlib.Core.Path.{◌≡◌, sym, ap, ◌∙◌}
-use mathlib.Core.Logic.{⊎_elim}
 use mathlib.Core.Bool.{true, false}
 use mathlib.Core.List.{List, [], ◌∷◌, ◌++◌}
-use Prim.Native.Nat.{◌+◌, ◌-◌, ◌≤◌, ◌<◌}
+use Prim.Native.Nat.{◌+◌, ◌-◌, ◌<◌}
 use lib.ListN.{length}
 use mir.Val.{to_z, of_z}
 use mir.Syntax.{w16}
@@ -18,6 +17,7 @@ use Rattle.hub_answers.specs.View.{put_backs_of}
 use Rattle.hub_answers.specs.declared.PutBacks.{PutBacks}
 use Rattle.hub_abort.specs.PutBacks.{is_back_by, put_backs_from}
 use Rattle.hub_abort.proofs.PutBackLaws.{test_read, backs_more, backs_same, backs_end}
+use Rattle.hub_abort.proofs.put_backs.Goals.{then-is_put_back, else-is_put_back}
 use Rattle.hub_abort.proofs.put_backs.Goals as goal
 
 pub loop-d-init : goal.loop-d-init
@@ -40,24 +40,24 @@ loop-d-preserved c = let t = c.args.tables in
     let u = any_default t.up d false true (omega (arith, n, k, c.requires)) in
     let e = test_read t d c.is_put_back.result _ _ _ c.is_put_back.ensures u x y in
     let rest = put_backs_from (is_back_by t) f (d + 1) (c.args.devices - (d + 1)) in
-    ⊎_elim
-    (λ w. (
-      search rules,
-      omega (arith, ap (λ (r : PutBacks). r.count) w.2, w.1.ensures.0, v.1),
-      ap (λ (r : PutBacks). put_backs_of r ++ rest) w.2
-          ∙ ap (λ (r : List Back). r ++ rest) w.1.ensures.1
-          ∙ (λ i. (put_backs_of b ++ (record { device = d; setting = y i } ∷ [])) ++ rest)
-          ∙ backs_more (is_back_by t) f (put_backs_of b) d c.args.devices k (sym e ∙ w.0.taken)
-          ∙ v.2,
-    ))
-    (λ w. (
-      search rules,
-      omega (arith, ap (λ (r : PutBacks). r.count) w.1, v.1),
-      ap (λ (r : PutBacks). put_backs_of r ++ rest) w.1
-          ∙ backs_same (is_back_by t) f (put_backs_of b) d c.args.devices k (sym e ∙ w.0.left)
-          ∙ v.2,
-    ))
-    c.if-is_put_back.branch
+    elim c.if-is_put_back.branch [
+      | then-is_put_back w ↦ (
+        search rules,
+        omega (arith, ap (λ (r : PutBacks). r.count) w.backs-is, w.with_put_back-more.ensures.0, v.1),
+        ap (λ (r : PutBacks). put_backs_of r ++ rest) w.backs-is
+            ∙ ap (λ (r : List Back). r ++ rest) w.with_put_back-more.ensures.1
+            ∙ (λ i. (put_backs_of b ++ (record { device = d; setting = y i } ∷ [])) ++ rest)
+            ∙ backs_more (is_back_by t) f (put_backs_of b) d c.args.devices k (sym e ∙ w.if-is_put_back.true)
+            ∙ v.2,
+      )
+      | else-is_put_back w ↦ (
+        search rules,
+        omega (arith, ap (λ (r : PutBacks). r.count) w.backs-is, v.1),
+        ap (λ (r : PutBacks). put_backs_of r ++ rest) w.backs-is
+            ∙ backs_same (is_back_by t) f (put_backs_of b) d c.args.devices k (sym e ∙ w.if-is_put_back.false)
+            ∙ v.2,
+      )
+    ]
 
 pub returns : goal.returns
 returns c = let v = c.loop-d.invariant in

@@ -1,5 +1,4 @@
 -- `hub_abort::put_backs_of` meets its contract. Assumes nothing.
-use borrow.Author.Rules.{rules}
 use Rattle.hub_abort.proofs.PutBackLaws.{backs_are_by}
 use Rattle.hub_abort.proofs.put_backs_of.Goals as goal
 

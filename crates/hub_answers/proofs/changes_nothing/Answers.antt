@@ -1,7 +1,6 @@
 -- `hub_answers::changes_nothing` meets its contract. Assumes nothing.
 use mathlib.Core.Path.{sym}
 use Rattle.hub_answers.proofs.Cases.{changes}
-use borrow.Author.Rules.{rules}
 use Rattle.hub_answers.proofs.changes_nothing.Goals as goal
 
 pub returns-in_default-answer : goal.returns-in_default-answer

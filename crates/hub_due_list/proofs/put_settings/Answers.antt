@@ -3,9 +3,9 @@
 use borrow.Author.Rules.{rules}
 use native.Mathlib.Omega.{arith}
 use mathlib.Core.Path.{◌≡◌, refl, sym, ap, ◌∙◌}
-use Prim.Native.Nat.{◌+◌, ◌-◌, ◌<◌, ◌≤◌}
+use Prim.Native.Nat.{◌+◌, ◌-◌, ◌<◌}
 use lib.IntN.{ℤ, pos}
-use lib.ListN.{length, get_or, set, length-set}
+use lib.ListN.{get_or, set, length-set}
 use lib.Seq.{sets}
 use mir.Val.{to_z, of_z}
 use mir.Syntax.{w16}
@@ -18,7 +18,7 @@ use Rattle.hub_due_list.proofs.put_settings.Goals as goal
 
 pub returns-then-list-count : goal.returns-then-list-count
 unfolding state_of refusal_of
-returns-then-list-count c = list-refused (state_of c.args.state) c.args.list.now c.if-list-count.true
+returns-then-list-count c = let p = list-refused (state_of c.args.state) c.args.list.now c.if-list-count.true in record { answers = p.0; leaves = p.1 }
 
 pub loop-d-init : goal.loop-d-init
 loop-d-init c = let e : c.args.state.devices - 0 ≡ c.args.state.devices = omega arith in
@@ -49,9 +49,9 @@ pub returns : goal.returns
 unfolding state_of
 returns c = let h = state_of c.args.state in
     let n = c.args.state.devices in
-    let list = c.args.list.now in (
-      list-accepted h list c.if-list-count.false,
-      sym (settings_end (settings_of c.due_settings-table.result) c.loop-d.list c.loop-d.d n c.loop-d-test.false)
+    let list = c.args.list.now in record {
+      answers = list-accepted h list c.if-list-count.false;
+      leaves = sym (settings_end (settings_of c.due_settings-table.result) c.loop-d.list c.loop-d.d n c.loop-d-test.false)
           ∙ c.loop-d.invariant.2 ∙ ap (λ f. sets list 0 (settings_from f 0 n)) c.due_settings-table.ensures
-          ∙ list_stored h list c.if-list-count.false,
-    )
+          ∙ list_stored h list c.if-list-count.false;
+    }

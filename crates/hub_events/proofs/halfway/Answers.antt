@@ -7,21 +7,14 @@ use Rattle.rules_routine.specs.Limits.{max_sequence}
 use Rattle.hub_sequence.specs.Links.{Stands}
 use Rattle.hub_state.proofs.Members.{stands_below}
 use Rattle.hub_events.proofs.EventLaws.{halfway_none, halfway_stands, halfway_skips, halfway_other, halfway_marked}
-use Rattle.hub_events.proofs.halfway.Goals.{After-ids-1, In-At-2}
 use Rattle.hub_events.proofs.halfway.Goals as goal
 
 pub returns-in_default : goal.returns-in_default
 returns-in_default c = let a = c.args in
     halfway_none a.state a.device c.halfway-place.result c.halfway-place.ensures c.in_default.is
 
--- a routine stands in the slot that was found
-stands : (c : In-At-2) → Stands c.args.state.links c.in-At.slot
-stands c =
-    halfway_stands c.args.state c.args.device c.halfway-place.result c.halfway-place.ensures c.requires.0 c.in-At.slot
-    c.in-At.is
-
 pub must_left-requires : goal.must_left-requires
-must_left-requires c = (c.requires.0, stands (goal.at.must_left-requires c).In-At-2)
+must_left-requires c = (c.requires.0, halfway_stands c.args.state c.args.device c.halfway-place.result c.halfway-place.ensures c.requires.0 c.in-At.slot c.in-At.is)
 
 pub returns-then-not-must_left : goal.returns-then-not-must_left
 returns-then-not-must_left c = let t = c.must_left.result in
@@ -29,15 +22,11 @@ returns-then-not-must_left c = let t = c.must_left.result in
     c.in-At.is
     t c.must_left.ensures (not-true t c.if-not-must_left.true-raw)
 
-below : (c : After-ids-1) → c.in-At.slot < max_sequence
-below c =
-    stands_below c.args.state c.in-At.slot c.requires.0 (stands c.before.before.before.before)
-
 pub offset_bounds-ids-slot : goal.offset_bounds-ids-slot
-offset_bounds-ids-slot c = let i = below (goal.at.offset_bounds-ids-slot c).After-ids-1 in omega arith
+offset_bounds-ids-slot c = let i : c.in-At.slot < max_sequence = stands_below c.args.state c.in-At.slot c.requires.0 (halfway_stands c.args.state c.args.device c.halfway-place.result c.halfway-place.ensures c.requires.0 c.in-At.slot c.in-At.is) in omega arith
 
 pub bounds-ids-slot : goal.bounds-ids-slot
-bounds-ids-slot c = below (goal.at.bounds-ids-slot c).After-ids-1
+bounds-ids-slot c = stands_below c.args.state c.in-At.slot c.requires.0 (halfway_stands c.args.state c.args.device c.halfway-place.result c.halfway-place.ensures c.requires.0 c.in-At.slot c.in-At.is)
 
 pub returns-then-mark-id : goal.returns-then-mark-id
 returns-then-mark-id c = let t = c.must_left.result in
@@ -46,7 +35,7 @@ returns-then-mark-id c = let t = c.must_left.result in
     t c.must_left.ensures (not-false t c.if-not-must_left.false-raw) c.if-mark-id.true
 
 pub id_ahead-before-requires : goal.id_ahead-before-requires
-id_ahead-before-requires c = (c.requires.0, stands (goal.at.id_ahead-before-requires c).In-At-2)
+id_ahead-before-requires c = (c.requires.0, halfway_stands c.args.state c.args.device c.halfway-place.result c.halfway-place.ensures c.requires.0 c.in-At.slot c.in-At.is)
 
 pub returns : goal.returns
 returns c = let t = c.must_left.result in

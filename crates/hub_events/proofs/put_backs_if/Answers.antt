@@ -4,6 +4,7 @@ use mathlib.Core.Logic.{⊎_elim}
 use native.Mathlib.Omega.{arith}
 use Rattle.hub_answers.specs.View.{PutBacksOk}
 use Rattle.hub_events.proofs.EventLaws.{one_backs, skip_backs, none_backs}
+use Rattle.hub_events.proofs.put_backs_if.Goals.{else-slot-lt-MAX_SEQUENCE, then-slot-lt-MAX_SEQUENCE+else-must_left}
 use Rattle.hub_events.proofs.put_backs_if.Goals as goal
 
 pub must_left-requires : goal.must_left-requires
@@ -22,8 +23,5 @@ returns c = let a = c.args in
     let n = c.no_put_backs in
     let z = n.ensures.0 in
     let fit : PutBacksOk n.result = omega (arith, z) in
-    ⊎_elim
-    (λ w. skip_backs a.state a.slot a.device _ n.result w.0.taken w.1.result w.1.ensures w.2.left fit
-    n.ensures.1)
-    (λ w. none_backs a.state a.slot a.device _ n.result w.left fit n.ensures.1)
-    c.if-slot-lt-MAX_SEQUENCE.branch
+    (elim c.if-slot-lt-MAX_SEQUENCE.branch [ then-slot-lt-MAX_SEQUENCE+else-must_left w ↦ skip_backs a.state a.slot a.device _ n.result w.if-slot-lt-MAX_SEQUENCE.true w.must_left.result w.must_left.ensures w.if-must_left.false fit
+    n.ensures.1 | else-slot-lt-MAX_SEQUENCE w ↦ none_backs a.state a.slot a.device _ n.result w.if-slot-lt-MAX_SEQUENCE.false fit n.ensures.1 ])

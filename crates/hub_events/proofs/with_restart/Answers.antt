@@ -8,7 +8,7 @@ use mir.Facts.{to_z-of_z}
 use Rattle.rules.specs.Attach.{one_restart, attach}
 use Rattle.hub_state.specs.View.{is_restart, state_of}
 use Rattle.hub_events.proofs.EventLaws.{Stops, one-leaves, one_skips, none_stops, restart-leaves, restart-gives}
-use Rattle.hub_events.proofs.with_restart.Goals.{Joined-slot-lt-MAX_SEQUENCE}
+use Rattle.hub_events.proofs.with_restart.Goals.{Joined-slot-lt-MAX_SEQUENCE, else-slot-lt-MAX_SEQUENCE, then-slot-lt-MAX_SEQUENCE+else-must_left, then-slot-lt-MAX_SEQUENCE+then-must_left}
 use Rattle.hub_events.proofs.with_restart.Goals as goal
 
 pub must_left-requires : goal.must_left-requires
@@ -25,14 +25,12 @@ stops : (c : Joined-slot-lt-MAX_SEQUENCE) → let a = c.args in Stops a.state a.
 stops c =
     let a = c.args in
     let P = Stops a.state a.slot a.device in
-    ⊎_elim
-    (λ w. subst P (sym w.4) (one-leaves a.state a.slot a.device w.0.taken w.1.result w.1.ensures c.requires.0
-    c.requires.3 w.2.taken w.3.result w.3.ensures))
-    (⊎_elim
-    (λ w. subst P (sym w.4) (one_skips a.state a.slot a.device w.0.taken w.1.result w.1.ensures c.requires.0
-    w.2.left w.3.result w.3.ensures))
-    (λ w. subst P (sym w.1) (none_stops a.state a.slot a.device c.requires.0 w.0.left)))
-    c.if-slot-lt-MAX_SEQUENCE.branch
+    elim c.if-slot-lt-MAX_SEQUENCE.branch [
+      then-slot-lt-MAX_SEQUENCE+then-must_left w ↦ subst P (sym w.next-is) (one-leaves a.state a.slot a.device w.if-slot-lt-MAX_SEQUENCE.true
+          w.must_left.result w.must_left.ensures c.requires.0 c.requires.3 w.if-must_left.true w.leave-left.result w.leave-left.ensures)
+      | then-slot-lt-MAX_SEQUENCE+else-must_left w ↦ subst P (sym w.next-is) (one_skips a.state a.slot a.device w.if-slot-lt-MAX_SEQUENCE.true
+          w.must_left.result w.must_left.ensures c.requires.0 w.if-must_left.false w.with_skips-skipped.result w.with_skips-skipped.ensures)
+      | else-slot-lt-MAX_SEQUENCE w ↦ subst P (sym w.next-is) (none_stops a.state a.slot a.device c.requires.0 w.if-slot-lt-MAX_SEQUENCE.false) ]
 
 pub attach-with_it-requires : goal.attach-with_it-requires
 attach-with_it-requires c = let v = (stops (goal.at.attach-with_it-requires c).Joined-slot-lt-MAX_SEQUENCE).0 in

@@ -7,11 +7,11 @@ use Rattle.hub_limit.proofs.check.Goals as goal
 
 pub returns-then-devices-eq0 : goal.returns-then-devices-eq0
 unfolding refusal_of
-returns-then-devices-eq0 c = sym (no_devices _ c.args.pass-limit c.if-devices-eq0.true)
+returns-then-devices-eq0 c = sym (no_devices _ c.args.pass_limit c.if-devices-eq0.true)
 
 pub returns-then-devices-gt-MAX_DEVICES : goal.returns-then-devices-gt-MAX_DEVICES
 unfolding refusal_of
-returns-then-devices-gt-MAX_DEVICES c = sym (many_devices _ c.args.pass-limit c.if-devices-gt-MAX_DEVICES.true)
+returns-then-devices-gt-MAX_DEVICES c = sym (many_devices _ c.args.pass_limit c.if-devices-gt-MAX_DEVICES.true)
 
 pub returns-then-pass_limit-gt-HIGHEST_PASS_LIMIT : goal.returns-then-pass_limit-gt-HIGHEST_PASS_LIMIT
 unfolding refusal_of

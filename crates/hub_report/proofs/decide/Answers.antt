@@ -1,5 +1,4 @@
 -- `hub_report::decide` meets its contract. Assumes nothing.
-use borrow.Author.Rules.{rules}
 use mathlib.Core.Path.{refl, subst}
 use Rattle.hub_state.specs.Unanswered.{NextInFlight, UnansweredIs}
 use Rattle.hub_search.proofs.Found.{stands_at, found-id}
@@ -16,7 +15,7 @@ unanswered_at-open-requires c = (c.requires, stands_at _ _ _ c.running-place.ens
 
 pub returns-in_default-open : goal.returns-in_default-open
 returns-in_default-open c = report-idle c.args.state c.args.id c.args.code _ c.running-place.ensures _ _ c.in-At.is
-    (idle _ _ c.unanswered_at-open.result c.unanswered_at-open.ensures c.in_default-open.keys2) c.refused-in_default-open.ensures
+    (idle _ _ c.unanswered_at-open.result c.unanswered_at-open.ensures c.in_default-open.not-InFlight) c.refused-in_default-open.ensures
 
 -- the command in flight of the routine that was found
 opened : (c : In-InFlight) →

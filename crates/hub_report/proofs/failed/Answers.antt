@@ -1,5 +1,4 @@
 -- `hub_report::failed` meets its contract. Assumes nothing.
-use borrow.Author.Rules.{rules}
 use mathlib.Core.Path.{sym, ◌∙◌, subst}
 use Rattle.hub_state.specs.Contract.{Decides}
 use Rattle.hub_report.proofs.ReportLaws.{tag_read, in_rows, must-decides, failed_must, failed_other}

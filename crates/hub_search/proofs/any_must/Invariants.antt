@@ -1,12 +1,8 @@
 -- `hub_search::any_must` meets its contract. The loop: what is left gives what the whole gives. Assumes nothing.
-use borrow.Author.Rules.{rules}
 use Prim.Native.Nat.{◌-◌}
-use native.Mathlib.Omega.{arith}
-use mathlib.Core.Path.{◌≡◌, sym, ◌∙◌}
-use mathlib.Core.Logic.{⊎_elim}
+use mathlib.Core.Path.{◌≡◌}
 use Rattle.hub_search.specs.Contract.{any_must}
-use Rattle.hub_search.proofs.Commands.{any_at, must_at, at_hit, at_on, at_end, must-at, must-here, must_other, must-answered}
-use Rattle.hub_search.proofs.Commands.{must-not}
+use Rattle.hub_search.proofs.Commands.{any_at, must_at}
 use Rattle.hub_search.proofs.any_must.Given as goal
 
 abbrev pub invariant-loop-k : goal.invariant-loop-k

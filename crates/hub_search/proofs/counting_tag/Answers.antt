@@ -1,6 +1,4 @@
 -- `hub_search::counting_tag` meets its contract. Assumes nothing.
-use borrow.Author.Rules.{rules}
-use mathlib.Core.Logic.{⊎_elim}
 use Rattle.hub_search.proofs.Commands.{counting_next, counting_last, counting_own}
 use Rattle.hub_search.proofs.counting_tag.Goals.{else-tag-k-eq-CONDITION, then-tag-k-eq-CONDITION+else-k-end}
 use Rattle.hub_search.proofs.counting_tag.Goals as goal

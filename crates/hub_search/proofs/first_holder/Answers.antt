@@ -1,21 +1,18 @@
 -- `hub_search::first_holder` meets its contract. The outer loop seeks along the links, up to `at`; the inner one: what is left gives what
 -- the whole gives; for a command it begins past those that are answered. Assumes nothing.
-use borrow.Author.Rules.{rules}
-use Prim.Native.Nat.{◌-◌, ◌*◌, ◌≤◌, ◌<◌}
+use Prim.Native.Nat.{◌≤◌, ◌<◌}
 use native.Mathlib.Omega.{arith}
 use mathlib.Core.Bool.{false}
 use mathlib.Core.Path.{◌≡◌, refl, sym, ap, ◌∙◌}
-use mathlib.Core.Logic.{⊎_elim}
-use lib.ListN.{length, get_or}
+use lib.ListN.{get_or}
 use Rattle.rules_routine.specs.Limits.{max_commands, max_sequence}
-use Rattle.hub_sequence.specs.Links.{along, Stands}
+use Rattle.hub_sequence.specs.Links.{Stands}
 use Rattle.hub_sequence.proofs.ReadLaws.{walks-behind}
 use Rattle.hub_state.specs.View.{holder_of}
 use Rattle.hub_state.proofs.Members.{answered_most}
-use Rattle.hub_state.specs.declared.Holder.TheVariants.{Nobody}
-use Rattle.hub_search.proofs.Slots.{Seeks, stop_at, seeks_start, seeks_there, seeks_on, seeks_less, seeks_spot}
-use Rattle.hub_search.proofs.Commands.{any_at, bound_of, below_at, at_hit, at_on, at_end, below_here, below_other, below_bound}
-use Rattle.hub_search.proofs.SearchLaws.{below_in, below_start, below_left, holds_in, holds-committed, holds_off, commands_fit}
+use Rattle.hub_search.proofs.Slots.{seeks_start, seeks_there, seeks_on, seeks_less, seeks_spot}
+use Rattle.hub_search.proofs.Commands.{bound_of, below_at, at_hit, at_on, at_end, below_here, below_other, below_bound}
+use Rattle.hub_search.proofs.SearchLaws.{below_start, below_left, holds-committed, holds_off, commands_fit}
 use Rattle.hub_search.proofs.SearchLaws.{holder_slot}
 use Rattle.hub_search.proofs.SearchLaws.{holder_nobody, holder_found}
 use Rattle.hub_search.proofs.first_holder.Goals.{In-ahead, Joined-condition, Joined-condition-2, else-condition, else-condition-2, else-device-k, else-not-committed-i, then-condition, then-condition-2, then-device-k+else-stage-k, then-not-committed-i+else-loop-k-test}

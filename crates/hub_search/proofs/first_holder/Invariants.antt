@@ -1,22 +1,14 @@
 -- `hub_search::first_holder` meets its contract. The outer loop seeks along the links, up to `at`; the inner one: what is left gives what
 -- the whole gives; for a command it begins past those that are answered. Assumes nothing.
-use borrow.Author.Rules.{rules}
-use Prim.Native.Nat.{◌-◌, ◌*◌, ◌≤◌, ◌<◌}
-use native.Mathlib.Omega.{arith}
-use mathlib.Core.Path.{◌≡◌, refl, sym, ap, ◌∙◌}
-use mathlib.Core.Logic.{⊎_elim}
-use lib.ListN.{length, get_or}
+use Prim.Native.Nat.{◌-◌, ◌*◌, ◌≤◌}
+use mathlib.Core.Path.{◌≡◌}
+use lib.ListN.{length}
 use Rattle.rules_routine.specs.Limits.{max_commands, max_sequence}
-use Rattle.hub_sequence.specs.Links.{along, Stands}
-use Rattle.hub_sequence.proofs.ReadLaws.{walks-behind}
-use Rattle.hub_state.specs.View.{holder_of}
-use Rattle.hub_state.proofs.Members.{answered_most}
+use Rattle.hub_sequence.specs.Links.{along}
 use Rattle.hub_state.specs.declared.Holder.TheVariants.{Nobody}
-use Rattle.hub_search.proofs.Slots.{Seeks, stop_at, seeks_start, seeks_there, seeks_on, seeks_less, seeks_spot}
-use Rattle.hub_search.proofs.Commands.{any_at, bound_of, below_at, at_hit, at_on, at_end, below_here, below_other, below_bound}
-use Rattle.hub_search.proofs.SearchLaws.{below_in, below_start, below_left, holds_in, holds-committed, holds_off, commands_fit}
-use Rattle.hub_search.proofs.SearchLaws.{holder_slot}
-use Rattle.hub_search.proofs.SearchLaws.{holder_nobody, holder_found}
+use Rattle.hub_search.proofs.Slots.{Seeks, stop_at}
+use Rattle.hub_search.proofs.Commands.{any_at, below_at}
+use Rattle.hub_search.proofs.SearchLaws.{below_in, holds_in}
 use Rattle.hub_search.proofs.first_holder.Given as goal
 
 abbrev pub invariant-loop-k : goal.invariant-loop-k

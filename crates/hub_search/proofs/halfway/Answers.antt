@@ -2,16 +2,14 @@
 use borrow.Author.Rules.{rules}
 use Prim.Native.Nat.{ℕ, ◌≤◌, ◌<◌}
 use native.Mathlib.Omega.{arith}
-use mathlib.Core.Logic.{⊎_elim}
-use lib.ListN.{length, get_or}
+use lib.ListN.{get_or}
 use mir.Syntax.{w8}
 use mir.Val.{Fits}
 use Rattle.rules_routine.specs.Limits.{max_commands, max_sequence}
-use Rattle.hub_sequence.specs.Links.{along}
 use Rattle.hub_sequence.proofs.ReadLaws.{walks-behind}
 use Rattle.hub_search.specs.Contract.{highest_stage}
-use Rattle.hub_search.proofs.Slots.{Seeks, seeks_start, seeks_there, seeks_on, seeks_less, seeks_spot}
-use Rattle.hub_search.proofs.SearchLaws.{halfway_in, halfway_committed, halfway_unbegun, halfway_finished, commands_fit, halfway_at}
+use Rattle.hub_search.proofs.Slots.{seeks_start, seeks_there, seeks_on, seeks_less, seeks_spot}
+use Rattle.hub_search.proofs.SearchLaws.{halfway_committed, halfway_unbegun, halfway_finished, commands_fit, halfway_at}
 use Rattle.hub_search.proofs.SearchLaws.{halfway_nowhere}
 use Rattle.hub_search.proofs.halfway.Goals.{In-loop-i, Start, else-not-committed-i, then-not-committed-i+else-is_staged, then-not-committed-i+then-is_staged+else-is_staged-2}
 use Rattle.hub_search.proofs.halfway.Goals as goal

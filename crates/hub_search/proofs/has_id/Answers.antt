@@ -1,11 +1,9 @@
 -- `hub_search::has_id` meets its contract. The loop: what is left gives what the whole gives. Assumes nothing.
-use borrow.Author.Rules.{rules}
 use Prim.Native.Nat.{◌-◌}
 use native.Mathlib.Omega.{arith}
 use borrow.Author.Tests.{eq-eqb, ne_eqb}
 use mathlib.Core.Path.{◌≡◌, sym, ◌∙◌}
-use Rattle.hub_search.specs.Contract.{any_on}
-use Rattle.hub_search.proofs.Commands.{any_at, on_at, at_hit, at_on, at_end, on-at}
+use Rattle.hub_search.proofs.Commands.{at_hit, at_on, at_end, on-at}
 use Rattle.hub_search.proofs.has_id.Goals as goal
 
 pub loop-j-init : goal.loop-j-init

@@ -1,11 +1,8 @@
 -- `hub_search::is_staged` meets its contract. The loop: what is left gives what the whole gives. Assumes nothing.
-use borrow.Author.Rules.{rules}
 use Prim.Native.Nat.{◌-◌}
 use native.Mathlib.Omega.{arith}
-use mathlib.Core.Path.{◌≡◌, sym, ◌∙◌}
-use mathlib.Core.Logic.{⊎_elim}
-use Rattle.hub_search.specs.Contract.{any_staged}
-use Rattle.hub_search.proofs.Commands.{any_at, staged_at, at_hit, at_on, at_end, staged-at, staged-here, staged_other, staged_below}
+use mathlib.Core.Path.{sym, ◌∙◌}
+use Rattle.hub_search.proofs.Commands.{at_hit, at_on, at_end, staged-at, staged-here, staged_other, staged_below}
 use Rattle.hub_search.proofs.Commands.{staged_above}
 use Rattle.hub_search.proofs.is_staged.Goals.{else-device-k, then-device-k+else-low-stage, then-device-k+then-low-stage+else-stage-k}
 use Rattle.hub_search.proofs.is_staged.Goals as goal

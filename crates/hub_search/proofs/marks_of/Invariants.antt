@@ -1,14 +1,9 @@
 -- `hub_search::marks_of` meets its contract. The loop: the marks of the first j commands are there. Assumes nothing.
-use borrow.Author.Rules.{rules}
-use Prim.Native.Nat.{◌-◌, ◌≤◌, ◌<◌}
-use native.Mathlib.Omega.{arith}
-use mathlib.Core.Path.{◌≡◌, refl}
-use lib.ListN.{length, take, get_or, length-set}
-use Rattle.rules_routine.specs.Limits.{max_devices, max_commands}
-use Rattle.rules_routine.specs.Routine.{zero_command}
-use Rattle.rules_routine.proofs.RoutineLaws.{length_mapped}
+use Prim.Native.Nat.{◌-◌, ◌≤◌}
+use mathlib.Core.Path.{◌≡◌}
+use lib.ListN.{length, take}
+use Rattle.rules_routine.specs.Limits.{max_commands}
 use Rattle.hub_search.specs.Contract.{marks_for}
-use Rattle.hub_search.proofs.SearchLaws.{mark-none, mark-more, mark_all, device_fits}
 use Rattle.hub_search.proofs.marks_of.Given as goal
 
 abbrev pub invariant-loop-j : goal.invariant-loop-j

@@ -1,12 +1,8 @@
 -- `hub_search::running` meets its contract. The loop seeks along the links. Assumes nothing.
-use borrow.Author.Rules.{rules}
-use native.Mathlib.Omega.{arith}
 use lib.ListN.{length}
 use Rattle.hub_sequence.specs.Links.{along}
-use Rattle.hub_sequence.proofs.ReadLaws.{walks-behind}
-use Rattle.hub_search.proofs.Slots.{Seeks, seeks_start, seeks_on, seeks_less, seeks_spot}
-use mathlib.Core.Logic.{⊎_elim}
-use Rattle.hub_search.proofs.SearchLaws.{runs_in, runs_other, runs-committed, running_at, running_nowhere}
+use Rattle.hub_search.proofs.Slots.{Seeks}
+use Rattle.hub_search.proofs.SearchLaws.{runs_in}
 use Rattle.hub_search.proofs.running.Given as goal
 
 abbrev pub invariant-loop-i : goal.invariant-loop-i

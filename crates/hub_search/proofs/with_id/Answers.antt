@@ -1,11 +1,8 @@
 -- `hub_search::with_id` meets its contract. The loop seeks along the links. Assumes nothing.
-use borrow.Author.Rules.{rules}
 use native.Mathlib.Omega.{arith}
-use lib.ListN.{length}
-use Rattle.hub_sequence.specs.Links.{along}
 use Rattle.hub_sequence.proofs.ReadLaws.{walks-behind}
-use Rattle.hub_search.proofs.Slots.{Seeks, seeks_start, seeks_on, seeks_less, seeks_spot}
-use Rattle.hub_search.proofs.SearchLaws.{id_in, id_other, id_at, id_nowhere}
+use Rattle.hub_search.proofs.Slots.{seeks_start, seeks_on, seeks_less, seeks_spot}
+use Rattle.hub_search.proofs.SearchLaws.{id_other, id_at, id_nowhere}
 use Rattle.hub_search.proofs.with_id.Goals as goal
 
 pub loop-i-init : goal.loop-i-init

@@ -1,18 +1,17 @@
 -- `hub_settle::moved_marks` meets its contract. Assumes nothing.
 use borrow.Author.Rules.{rules}
-use Prim.Native.Nat.{ℕ, ◌+◌, ◌-◌, ◌≤◌}
+use Prim.Native.Nat.{ℕ, ◌+◌}
 use native.Mathlib.Omega.{arith}
 use mathlib.Core.Path.{◌≡◌, refl, sym, ap, ◌∙◌}
 use mathlib.Core.Bool.{Bool}
-use mathlib.Core.List.{List, map}
-use mathlib.Core.Logic.{⊎_elim}
+use mathlib.Core.List.{List}
 use borrow.Author.Tests.{eq-eqb, ne_eqb}
 use lib.ListN.{length, get_or, set, length-set}
 use lib.Seq.{set-get_or}
-use Rattle.rules_routine.specs.Choice.{if◌then◌else◌}
-use Rattle.rules_routine.specs.Limits.{max_devices}
+use Rattle.std.specs.Prelude.{if◌then◌else◌}
 use Rattle.hub_state.specs.View.{marks_of}
 use Rattle.hub_settle.proofs.MarkLaws.{remark, remarked, remark_more, remark_end, marks_moved}
+use Rattle.hub_settle.proofs.moved_marks.Goals.{then-mark-from, else-mark-from}
 use Rattle.hub_settle.proofs.moved_marks.Goals as goal
 
 pub loop-d-init : goal.loop-d-init
@@ -24,10 +23,10 @@ loop-d-preserved c = let a = c.args in
     let d = c.loop-d.d in
     let n = c.loop-d.invariant.1 in
     let e : c.if-mark-from.moved ≡ set l d (remark a.from a.to (get_or l d 0)) =
-    ⊎_elim
-    (λ w. w.1 ∙ ap (λ (t : Bool). set l d (if t then a.to else get_or l d 0)) (sym (eq-eqb _ _ w.0.taken)))
-    (λ w. w.1 ∙ sym (set-get_or l d 0) ∙ ap (λ (t : Bool). set l d (if t then a.to else get_or l d 0)) (sym (ne_eqb _ _ w.0.left)))
-    c.if-mark-from.branch in (
+    elim c.if-mark-from.branch [
+      | then-mark-from w ↦ w.moved-is ∙ ap (λ (t : Bool). set l d (if t then a.to else get_or l d 0)) (sym (eq-eqb _ _ w.if-mark-from.true))
+      | else-mark-from w ↦ w.moved-is ∙ sym (set-get_or l d 0) ∙ ap (λ (t : Bool). set l d (if t then a.to else get_or l d 0)) (sym (ne_eqb _ _ w.if-mark-from.false))
+    ] in (
       search rules,
       ap length e ∙ length-set l d _ ∙ n,
       ap (λ (k : List ℕ). remarked a.from a.to (d + 1) k) e

@@ -1,5 +1,4 @@
 -- `hub_submit::decide` meets its contract. Assumes nothing.
-use borrow.Author.Rules.{rules}
 use mathlib.Core.Path.{sym, ◌∙◌}
 use Rattle.hub_submit.proofs.SubmitLaws.{submit-turned-down}
 use Rattle.hub_submit.proofs.decide.Goals as goal

@@ -1,5 +1,4 @@
 -- `hub_submit::id_in` meets its contract. Assumes nothing.
-use borrow.Author.Rules.{rules}
 use Rattle.hub_submit.proofs.SubmitLaws.{id-none, slot_below, id-slot}
 use Rattle.hub_submit.proofs.id_in.Goals as goal
 

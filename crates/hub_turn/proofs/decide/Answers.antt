@@ -1,5 +1,4 @@
 -- `hub_turn::decide` meets its contract. Assumes nothing.
-use borrow.Author.Rules.{rules}
 use mathlib.Core.Path.{refl, subst}
 use Rattle.hub_state.specs.Unanswered.{NextToDo, UnansweredIs}
 use Rattle.hub_search.proofs.Found.{stands_at, found-id}

@@ -1,7 +1,5 @@
 -- `hub_turn::go_on` meets its contract. Assumes nothing.
-use borrow.Author.Rules.{rules}
 use mathlib.Core.Path.{◌≡◌, sym, ap, ◌∙◌, subst}
-use mathlib.Core.Logic.{⊎_elim}
 use mathlib.Core.Bool.{Bool, true, false, not, not-not}
 use Prim.Native.Nat.{◌*◌, ◌≤◌, ◌<◌}
 use native.Mathlib.Omega.{arith}
@@ -79,8 +77,12 @@ skipped : (c : Joined-not-skips) → c.is_skipped-skips.result ≡ next_is_skipp
     ≡ proceed (state_of a.state) (there a.state a.at) (command_at a.state a.k)
 skipped c e t =
     let h = c.args.state in
-    (elim c.if-not-skips.branch [ then-not-skips+then-not-is_up+else-counting_tag-eq-MUST w ↦ proceed_skip h _ _ _ e (un_not _ w.if-not-skips.true-raw) _ (device-read h c.args.k _ c.requires.4) _ w.is_up.ensures
-    (un_not _ w.if-not-is_up.true-raw) _ (counts_as _ _ _ c.requires.2 _ c.requires.5 _ w.counting_tag.ensures) w.if-counting_tag-eq-MUST.false | then-not-skips+else-not-is_up w ↦ absurd (t≠f (sym t ∙ w.skips-is ∙ un_not _ w.if-not-skips.true-raw)) | else-not-skips w ↦ proceed-skipped h _ _ _ e (sym w.skips-is ∙ t) ])
+    (elim c.if-not-skips.branch [
+      | then-not-skips+then-not-is_up+else-counting_tag-eq-MUST w ↦ proceed_skip h _ _ _ e (un_not _ w.if-not-skips.true-raw) _ (device-read h c.args.k _ c.requires.4) _ w.is_up.ensures
+          (un_not _ w.if-not-is_up.true-raw) _ (counts_as _ _ _ c.requires.2 _ c.requires.5 _ w.counting_tag.ensures) w.if-counting_tag-eq-MUST.false
+      | then-not-skips+else-not-is_up w ↦ absurd (t≠f (sym t ∙ w.skips-is ∙ un_not _ w.if-not-skips.true-raw))
+      | else-not-skips w ↦ proceed-skipped h _ _ _ e (sym w.skips-is ∙ t)
+    ])
 
 -- its device is up
 goes-up : (c : Joined-not-skips) → c.is_skipped-skips.result ≡ next_is_skipped false (steps_at c.args.state c.args.at) → c.if-not-skips.skips ≡ false →
@@ -89,8 +91,12 @@ goes-up : (c : Joined-not-skips) → c.is_skipped-skips.result ≡ next_is_skipp
     ≡ proceed (state_of a.state) (there a.state a.at) (command_at a.state a.k)
 goes-up c e f =
     let h = c.args.state in
-    (elim c.if-not-skips.branch [ then-not-skips+then-not-is_up+else-counting_tag-eq-MUST w ↦ absurd (t≠f (sym w.skips-is ∙ f)) | then-not-skips+else-not-is_up w ↦ proceed-up h _ _ _ e (un_not _ w.if-not-skips.true-raw) _ (device-read h c.args.k _ c.requires.4) _ w.is_up.ensures
-    (no_not _ w.if-not-is_up.false-raw) | else-not-skips w ↦ absurd (t≠f (sym (no_not _ w.if-not-skips.false-raw) ∙ sym w.skips-is ∙ f)) ])
+    (elim c.if-not-skips.branch [
+      | then-not-skips+then-not-is_up+else-counting_tag-eq-MUST w ↦ absurd (t≠f (sym w.skips-is ∙ f))
+      | then-not-skips+else-not-is_up w ↦ proceed-up h _ _ _ e (un_not _ w.if-not-skips.true-raw) _ (device-read h c.args.k _ c.requires.4) _ w.is_up.ensures
+          (no_not _ w.if-not-is_up.false-raw)
+      | else-not-skips w ↦ absurd (t≠f (sym (no_not _ w.if-not-skips.false-raw) ∙ sym w.skips-is ∙ f))
+    ])
 
 pub returns-then-counting_tag-eq-MUST : goal.returns-then-counting_tag-eq-MUST
 returns-then-counting_tag-eq-MUST c = let h = c.args.state in

@@ -1,5 +1,4 @@
 -- `hub_turn::is_skipped` meets its contract. Assumes nothing.
-use borrow.Author.Rules.{rules}
 use Rattle.hub_turn.proofs.TurnLaws.{none_before, before-command, before-held, before-condition}
 use Rattle.hub_turn.proofs.is_skipped.Goals as goal
 

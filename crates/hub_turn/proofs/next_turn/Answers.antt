@@ -1,5 +1,4 @@
 -- `hub_turn::next_turn` meets its contract. Assumes nothing.
-use borrow.Author.Rules.{rules}
 use Prim.Native.Nat.{◌*◌, ◌<◌}
 use Rattle.rules_routine.specs.Limits.{max_commands, max_sequence}
 use Rattle.hub_turn.proofs.TurnLaws.{in_rows, device-read, condition-read, goes_on, waits}

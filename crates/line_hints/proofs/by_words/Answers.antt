@@ -17,9 +17,9 @@ alone : (c : Joined-line-gt1) → let line = c.args.line.now in
 alone c =
     let line = c.args.line.now in
     let h = c.if-line-eq0.false in
-    elim c.if-line-gt1.branch
-    [ then-line-gt1+else-line-ne-SPACE w ↦ letter_alone line (omega (arith, h)) c.if-letter-eq-SPACE.false w.if-line-gt1.true w.if-line-ne-SPACE.false
-    | else-line-gt1 w ↦ one_byte line (omega (arith, h)) c.if-letter-eq-SPACE.false (omega (arith, w.if-line-gt1.false))
+    elim c.if-line-gt1.branch [
+      | then-line-gt1+else-line-ne-SPACE w ↦ letter_alone line (omega (arith, h)) c.if-letter-eq-SPACE.false w.if-line-gt1.true w.if-line-ne-SPACE.false
+      | else-line-gt1 w ↦ one_byte line (omega (arith, h)) c.if-letter-eq-SPACE.false (omega (arith, w.if-line-gt1.false))
     ]
 
 pub returns-then-line-eq0 : goal.returns-then-line-eq0

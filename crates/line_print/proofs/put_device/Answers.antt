@@ -7,7 +7,7 @@ use native.Mathlib.Omega.{arith}
 use lib.ListN.{length}
 use mir.Syntax.{w16}
 use mir.Val.{to_z, of_z}
-use Rattle.rules_routine.specs.Choice.{if◌then◌else◌}
+use Rattle.std.specs.Prelude.{if◌then◌else◌}
 use Rattle.line_rules.specs.Text.{line_end, bytes, decimal, signed}
 use Rattle.line_rules.specs.Printing.{as_line}
 use Rattle.line_rules.proofs.TextLaws.{decimal-short}

@@ -1,11 +1,9 @@
 -- `rules_routine::check` meets its contract. The loop's invariant: the check of the commands from the i-th on is the check of all of them.
 -- Assumes nothing.
 use borrow.Author.Rules.{rules}
-use Prim.Native.Nat.{◌-◌, ◌≤◌}
 use native.Mathlib.Omega.{arith}
 use mathlib.Core.Path.{◌≡◌, refl, sym, ◌∙◌}
 use lib.ListN.{length, take}
-use lib.Seq.{slice}
 use Rattle.rules_routine.specs.Refusals.{refusal_of}
 use Rattle.rules_routine.specs.Limits.{max_commands}
 use Rattle.rules_routine.specs.Routine.{commands_of, commands_check, routine_check}

@@ -1,16 +1,10 @@
 -- `rules_routine::check` meets its contract. The loop's invariant: the check of the commands from the i-th on is the check of all of them.
 -- Assumes nothing.
-use borrow.Author.Rules.{rules}
 use Prim.Native.Nat.{◌-◌, ◌≤◌}
-use native.Mathlib.Omega.{arith}
-use mathlib.Core.Path.{◌≡◌, refl, sym, ◌∙◌}
-use lib.ListN.{length, take}
+use mathlib.Core.Path.{◌≡◌}
+use lib.ListN.{take}
 use lib.Seq.{slice}
-use Rattle.rules_routine.specs.Refusals.{refusal_of}
-use Rattle.rules_routine.specs.Limits.{max_commands}
-use Rattle.rules_routine.specs.Routine.{commands_of, commands_check, routine_check}
-use Rattle.rules_routine.proofs.RoutineLaws.{length-commands_of, length_mapped, check_empty, check_long, check_held, commands-more}
-use Rattle.rules_routine.proofs.RoutineLaws.{commands-refused, commands_alone, commands_end}
+use Rattle.rules_routine.specs.Routine.{commands_check}
 use Rattle.rules_routine.proofs.check.Given as goal
 
 abbrev pub invariant-loop-i : goal.invariant-loop-i

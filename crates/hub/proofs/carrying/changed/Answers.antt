@@ -39,8 +39,8 @@ same-setting c = search rules
 
 pub with_restart-requires : goal.with_restart-requires
 with_restart-requires c = let p = c.requires in
-    let x = c.change-in-Restart-1.given.0 in
-    let e = ap (λ (z : ℤ). Restart x.0 z x.1.1.0) (sym (same-setting (goal.at.with_restart-requires c).In-Restart)) in
+    let x = c.in-Restart in
+    let e = ap (λ (z : ℤ). Restart x.device z x.slot) (sym (same-setting (goal.at.with_restart-requires c).In-Restart)) in
     (p.0, (_, decided_as (c.in-Restart.is ∙ e) p.1))
 
 pub returns-in-Nothing : goal.returns-in-Nothing
@@ -68,9 +68,9 @@ returns-in-Fail c = carries_as c.in-Fail.is (λ e. let z : ◌≡◌ {A = ℕ} 0
 
 pub returns-in-Restart : goal.returns-in-Restart
 returns-in-Restart c = let a = c.args in
-    let x = c.change-in-Restart-1.given.0 in
+    let x = c.in-Restart in
     carries_as c.in-Restart.is (λ e. let z : ◌≡◌ {A = ℕ} 0 1 = cc in omega arith) c.with_restart.ensures.0
-    (subst (λ (z : ℤ). view c.with_restart.result ≡ up_with (stopped_by x.0 (view a.hub) (halfway_in a.hub.state x.1.1.0))
-    x.0 z)
+    (subst (λ (z : ℤ). view c.with_restart.result ≡ up_with (stopped_by x.device (view a.hub) (halfway_in a.hub.state x.slot))
+    x.device z)
     (same-setting (goal.at.returns-in-Restart c).In-Restart) c.with_restart.ensures.1)
     c.with_restart.ensures.2

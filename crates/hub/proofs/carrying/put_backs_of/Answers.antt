@@ -11,20 +11,20 @@ use Rattle.hub.proofs.carrying.put_backs_of.Goals as goal
 
 pub put_backs_of-requires : goal.put_backs_of-requires
 put_backs_of-requires c = let p = c.requires in
-    (p.0, subst (LeavingOk _) c.in-Abort.is p.1)
+    (p.0, subst (LeavingOk c.args.state) c.in-Abort.is p.1)
 
 -- a failure is of a device, and aborts one that stands
 fails_ok : (c : In-Fail) →
     let a = c.args in
-    let x = c.change-in-Fail-1.given.0 in (x.0 < max_devices) × StandsOrPast a.state x.1.0
-fails_ok c = subst (LeavingOk _) c.in-Fail.is c.requires.1
+    (c.in-Fail.device < max_devices) × StandsOrPast a.state c.in-Fail.slot
+fails_ok c = subst (LeavingOk c.args.state) c.in-Fail.is c.requires.1
 
 pub put_backs_if-requires : goal.put_backs_if-requires
 put_backs_if-requires c = (c.requires.0, (fails_ok (goal.at.put_backs_if-requires c).In-Fail).1)
 
 pub put_backs_if-requires-in-Restart : goal.put_backs_if-requires-in-Restart
 put_backs_if-requires-in-Restart c = let p = c.requires in
-    (p.0, (subst (LeavingOk _) c.in-Restart.is p.1).2)
+    (p.0, (subst (LeavingOk c.args.state) c.in-Restart.is p.1).2)
 
 pub returns-in-Nothing : goal.returns-in-Nothing
 returns-in-Nothing c = let a = c.args in

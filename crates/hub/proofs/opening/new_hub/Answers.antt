@@ -7,6 +7,6 @@ use Rattle.hub.proofs.opening.new_hub.Goals as goal
 
 pub returns : goal.returns
 returns c = let e = c.empty-links.ensures in
-    let f = c.ranges.first-id in
+    let f = c.ranges.first_id in
     let v = fresh-view _ _ _ _ e in
     (rests_as _ (fresh-valid _ _ _ _ c.requires.0 c.requires.1 (omega (arith, f)) e) v (new_rests _ _ _), v)

@@ -1,5 +1,4 @@
 -- `hub_abort::cancel::decide` meets its contract. Assumes nothing.
-use borrow.Author.Rules.{rules}
 use Rattle.hub_abort.proofs.PutBackLaws.{cancel_nowhere, cancel_aborts}
 use Rattle.hub_abort.proofs.cancel.decide.Goals as goal
 

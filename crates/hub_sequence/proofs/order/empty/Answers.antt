@@ -1,7 +1,6 @@
 -- `hub_sequence::order::empty` meets its contract. Assumes nothing.
 use mathlib.Core.Path.{refl}
 use Rattle.hub_sequence.proofs.EmptyLaws.{none-taken}
-use borrow.Author.Rules.{rules}
 use Rattle.hub_sequence.proofs.order.empty.Goals as goal
 
 pub returns : goal.returns

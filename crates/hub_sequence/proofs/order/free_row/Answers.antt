@@ -2,9 +2,9 @@
 use lib.Seq.{get_or-set_same, get_or-set_other}
 use borrow.Author.Rules.{rules}
 use native.Mathlib.Omega.{arith}
-use mathlib.Core.Path.{◌≡◌, ◌∙◌}
-use Prim.Native.Nat.{ℕ, ◌+◌, ◌-◌, ◌≤◌, ◌<◌}
-use lib.ListN.{length, get_or, length-set, get_or-replicate}
+use mathlib.Core.Path.{◌∙◌}
+use Prim.Native.Nat.{◌<◌}
+use lib.ListN.{length, length-set, get_or-replicate}
 use Rattle.rules_routine.specs.Limits.{max_sequence}
 use Rattle.hub_sequence.specs.Links.{none}
 use Rattle.hub_sequence.proofs.Tables.{by_eq}

@@ -1,13 +1,9 @@
 -- `hub_sequence::order::free_row` meets its contract. Assumes nothing.
-use lib.Seq.{get_or-set_same, get_or-set_other}
-use borrow.Author.Rules.{rules}
-use native.Mathlib.Omega.{arith}
-use mathlib.Core.Path.{◌≡◌, ◌∙◌}
+use mathlib.Core.Path.{◌≡◌}
 use Prim.Native.Nat.{ℕ, ◌+◌, ◌-◌, ◌≤◌, ◌<◌}
-use lib.ListN.{length, get_or, length-set, get_or-replicate}
+use lib.ListN.{length, get_or}
 use Rattle.rules_routine.specs.Limits.{max_sequence}
 use Rattle.hub_sequence.specs.Links.{none}
-use Rattle.hub_sequence.proofs.Tables.{by_eq}
 use Rattle.hub_sequence.proofs.order.free_row.Given as goal
 
 abbrev pub invariant-loop-i : goal.invariant-loop-i

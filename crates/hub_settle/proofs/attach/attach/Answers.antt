@@ -1,6 +1,6 @@
 -- `hub_settle::attach::attach` meets its contract. Assumes nothing.
 use borrow.Author.Rules.{rules}
-use Prim.Native.Nat.{ℕ, ◌+◌, ◌*◌, ◌<◌}
+use Prim.Native.Nat.{◌+◌, ◌*◌, ◌<◌}
 use native.Mathlib.Omega.{arith}
 use mathlib.Core.Path.{◌≡◌, subst}
 use mir.Val.{to_z, of_z}
@@ -42,18 +42,15 @@ returns-in_default c = let f : Finds c.args.state (has_id c.args.id) Nowhere =
     subst (Finds c.args.state (has_id c.args.id)) c.in_default.is c.with_id-place.ensures in
     (c.requires.0, attach_nowhere c.args.state c.args.id _ c.if-id-eq0.false f, itself_in_place c.args.state)
 
-abbrev to : tie.After-known-told → ℕ
-to c = c.before.place.given.0.0
-
-found : (c : In-At) → Finds c.args.state (has_id c.args.id) (At (to c))
+found : (c : In-At) → Finds c.args.state (has_id c.args.id) (At c.in-At.to)
 found c =
     subst (Finds c.args.state (has_id c.args.id)) c.in-At.is c.with_id-place.ensures
 
 -- its slot, and the place in the row
-slot : (c : In-At) → to c < max_sequence
+slot : (c : In-At) → c.in-At.to < max_sequence
 slot c = stands-slot _ _ c.requires.0.links_ok (found c).place_ok
 
-place : (c : In-At) → to c * max_devices + c.args.device < max_sequence * max_devices
+place : (c : In-At) → c.in-At.to * max_devices + c.args.device < max_sequence * max_devices
 place c = let h = slot c in
     let d = c.requires.1 in
     omega arith

@@ -3,7 +3,6 @@ use borrow.Author.Rules.{rules}
 use Prim.Native.Nat.{◌*◌, ◌<◌}
 use native.Mathlib.Omega.{arith}
 use mathlib.Core.Path.{◌≡◌, refl, sym, ap, subst, ◌∙◌}
-use mathlib.Core.Logic.{⊎_elim}
 use lib.ListN.{length, get_or}
 use Rattle.rules_routine.specs.Limits.{max_devices, max_sequence}
 use Rattle.rules_routine.proofs.RoutineLaws.{length_mapped}
@@ -12,6 +11,7 @@ use Rattle.hub_state.specs.View.{settings_of}
 use Rattle.hub_settle.specs.Contract.{MovesRestarts}
 use Rattle.hub_settle.proofs.LeaveLaws.{before_other, leaves-behind, leaves-first}
 use Rattle.hub_settle.proofs.leave.leave.Goals.{Start}
+use Rattle.hub_settle.proofs.leave.leave.Goals.{then-before-lt-MAX_SEQUENCE, else-before-lt-MAX_SEQUENCE}
 use Rattle.hub_settle.proofs.leave.leave.Goals as goal
 
 -- the slot
@@ -48,11 +48,13 @@ pub returns : goal.returns
 returns c = let h = c.args.state in
     let at = c.args.at in
     let b = get_or h.links.ahead at 0 in
-    ⊎_elim
-    (λ w. leaves-behind h at c.leave-links.result c.if-before-lt-MAX_SEQUENCE.restarts c.if-before-lt-MAX_SEQUENCE.settled c.moved_Marks.result c.requires.0 c.requires.1
-    c.leave-links.ensures b refl c.if-before-lt-MAX_SEQUENCE.to c.moved_Marks.ensures w.0.taken w.4 w.2
-    (subst (MovesRestarts h.restarts at b) (sym w.3) w.1.ensures))
-    (λ w. leaves-first h at c.leave-links.result c.if-before-lt-MAX_SEQUENCE.restarts c.if-before-lt-MAX_SEQUENCE.settled c.moved_Marks.result c.requires.0 c.requires.1
-    c.leave-links.ensures b refl c.if-before-lt-MAX_SEQUENCE.to c.moved_Marks.ensures w.0.left w.5
-    (ap settings_of w.3 ∙ w.2.ensures) w.4)
-    c.if-before-lt-MAX_SEQUENCE.branch
+    elim c.if-before-lt-MAX_SEQUENCE.branch [
+      | then-before-lt-MAX_SEQUENCE w ↦
+          leaves-behind h at c.leave-links.result c.if-before-lt-MAX_SEQUENCE.restarts c.if-before-lt-MAX_SEQUENCE.settled c.moved_marks-mark.result c.requires.0 c.requires.1
+          c.leave-links.ensures b refl c.if-before-lt-MAX_SEQUENCE.to c.moved_marks-mark.ensures w.if-before-lt-MAX_SEQUENCE.true w.to-is w.settled-is
+          (subst (MovesRestarts h.restarts at b) (sym w.restarts-is) w.moved_restarts-moved.ensures)
+      | else-before-lt-MAX_SEQUENCE w ↦
+          leaves-first h at c.leave-links.result c.if-before-lt-MAX_SEQUENCE.restarts c.if-before-lt-MAX_SEQUENCE.settled c.moved_marks-mark.result c.requires.0 c.requires.1
+          c.leave-links.ensures b refl c.if-before-lt-MAX_SEQUENCE.to c.moved_marks-mark.ensures w.if-before-lt-MAX_SEQUENCE.false w.to-is
+          (ap settings_of w.settled-is ∙ w.after_restarts-after.ensures) w.restarts-is
+    ]

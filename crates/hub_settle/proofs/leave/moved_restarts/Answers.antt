@@ -1,9 +1,8 @@
 -- `hub_settle::leave::moved_restarts` meets its contract. Assumes nothing.
 use borrow.Author.Rules.{rules}
-use Prim.Native.Nat.{◌+◌, ◌-◌, ◌*◌, ◌≤◌}
+use Prim.Native.Nat.{◌+◌, ◌*◌}
 use native.Mathlib.Omega.{arith}
 use mathlib.Core.Path.{◌≡◌, sym, ap, subst, ◌∙◌}
-use mathlib.Core.Logic.{⊎_elim}
 use mir.Val.{to_z, of_z}
 use mir.Syntax.{w16}
 use lib.IntN.{pos}
@@ -11,6 +10,7 @@ use lib.ListN.{length, get_or, set, length-set}
 use Rattle.rules_routine.specs.Limits.{max_devices, max_sequence}
 use Rattle.hub_due.proofs.Tables.{restart-bits, no_restart-bits}
 use Rattle.hub_settle.proofs.RestartLaws.{MovedUpTo, moved_none, moved_some, moved_skip, moved_all}
+use Rattle.hub_settle.proofs.leave.moved_restarts.Goals.{then-restart-ne-NO_RESTART, else-restart-ne-NO_RESTART}
 use Rattle.hub_settle.proofs.leave.moved_restarts.Goals as goal
 
 pub loop-d-init : goal.loop-d-init
@@ -22,26 +22,26 @@ loop-d-preserved c = let a = c.args in
     let d = c.loop-d.d in
     let r = c.loop-d.moved in
     let p = a.to * max_devices + d in
-    let x = get_or a.t1 (a.from * max_devices + d) (pos 0) in
+    let x = get_or a.row (a.from * max_devices + d) (pos 0) in
     let b : to_z w16 (of_z w16 x) ≡ x = search rules in
-    let n : length a.t1 ≡ max_sequence * max_devices = search rules in
+    let n : length a.row ≡ max_sequence * max_devices = search rules in
     let i = c.requires.0 in
     let j = c.requires.1 in
     let h = c.loop-d-test.true in
-    ⊎_elim
-    (λ w. let e : c.if-restart-ne-NO_RESTART.moved ≡ set r p x = w.1 ∙ ap (set r p) b in (
-      omega arith,
-      ap length e ∙ length-set r p x ∙ v.1,
-      subst (MovedUpTo a.t1 a.from a.to (d + 1)) (sym e)
-          (moved_some a.t1 a.from a.to d r (pos 0) i j h n v.1 v.2 (restart-bits x w.0.taken)),
-    ))
-    (λ w. (
-      omega arith,
-      ap length w.1 ∙ v.1,
-      subst (MovedUpTo a.t1 a.from a.to (d + 1)) (sym w.1)
-          (moved_skip a.t1 a.from a.to d r (pos 0) i j h n v.1 v.2 (no_restart-bits x b w.0.left)),
-    ))
-    c.if-restart-ne-NO_RESTART.branch
+    elim c.if-restart-ne-NO_RESTART.branch [
+      | then-restart-ne-NO_RESTART w ↦ let e : c.if-restart-ne-NO_RESTART.moved ≡ set r p x = w.moved-is ∙ ap (set r p) b in (
+        omega arith,
+        ap length e ∙ length-set r p x ∙ v.1,
+        subst (MovedUpTo a.row a.from a.to (d + 1)) (sym e)
+            (moved_some a.row a.from a.to d r (pos 0) i j h n v.1 v.2 (restart-bits x w.if-restart-ne-NO_RESTART.true)),
+      )
+      | else-restart-ne-NO_RESTART w ↦ (
+        omega arith,
+        ap length w.moved-is ∙ v.1,
+        subst (MovedUpTo a.row a.from a.to (d + 1)) (sym w.moved-is)
+            (moved_skip a.row a.from a.to d r (pos 0) i j h n v.1 v.2 (no_restart-bits x b w.if-restart-ne-NO_RESTART.false)),
+      )
+    ]
 
 pub returns : goal.returns
 returns c = let l = c.loop-d in moved_all _ _ _ l.d l.moved c.loop-d-test.false l.invariant.2

@@ -3,7 +3,6 @@
 use borrow.Author.Rules.{rules}
 use Prim.Native.Nat.{◌*◌, ◌≤◌}
 use native.Mathlib.Omega.{arith}
-use borrow.Author.Tests.{not-true, not-false}
 use mathlib.Core.Path.{◌≡◌}
 use lib.ListN.{length, get_or}
 use Rattle.rules_routine.specs.Limits.{max_devices, max_commands, max_sequence}
@@ -11,9 +10,9 @@ use Rattle.rules_routine.proofs.RoutineLaws.{length_mapped}
 use Rattle.hub_sequence.specs.Links.{Stands}
 use Rattle.hub_state.specs.declared.HubState.{HubState}
 use Rattle.hub_settle.proofs.StateLaws.{tables_in}
-use Rattle.hub_settle.proofs.SettleLaws.{Settling, answered_fit, done_fit, stands-first, settling-none, settling-more, settling-runs}
+use Rattle.hub_settle.proofs.SettleLaws.{answered_fit, done_fit, stands-first, settling-none, settling-more, settling-runs}
 use Rattle.hub_settle.proofs.SettleLaws.{settling_empty}
-use Rattle.hub_settle.proofs.settle.settle.Goals.{In-loop-i, Start}
+use Rattle.hub_settle.proofs.settle.settle.Goals.{At-loop-i, In-loop-i, Start}
 use Rattle.hub_settle.proofs.settle.settle.Goals as goal
 
 -- the length of the row of restarts
@@ -21,16 +20,19 @@ long : (c : Start) → length c.args.state.restarts ≡ max_sequence * max_devic
 long c = search (rules, length_mapped)
 
 -- the state as the loop has it
-abbrev now : tie.At-loop invariant-loop decreases-loop → HubState
-now c = tables_in c.before.before.before.before.before.before.before.before.before.before.before.before.before.before.before.before.before.args.state c.loop.links c.before.before.before.before.before.before.before.before.before.before.before.before.before.before.before.before.before.args.state.restarts c.loop.settled c.before.before.before.before.before.before.before.before.before.before.before.before.before.before.before.before.before.args.state.up
-    c.loop.mark
+abbrev now : At-loop-i → HubState
+now c = tables_in c.args.state c.loop-i.links c.args.state.restarts c.loop-i.settled c.args.state.up c.loop-i.mark
 
 stands : (c : In-loop-i) → Stands c.loop-i.links c.loop-i.i
-stands c = stands-first (now c.before) c.loop-i.i c.loop-i.invariant.valid c.loop-i.invariant.first_is c.loop-i-test.true
+stands c =
+    stands-first (tables_in c.args.state c.loop-i.links c.args.state.restarts c.loop-i.settled c.args.state.up c.loop-i.mark) c.loop-i.i
+    c.loop-i.invariant.valid c.loop-i.invariant.first_is c.loop-i-test.true
 
 -- how many of the first one's commands are answered
 few : (c : In-loop-i) → get_or c.args.state.answered c.loop-i.i 0 ≤ max_commands
-few c = answered_fit (now c.before) c.loop-i.i c.loop-i.invariant.valid (stands c)
+few c =
+    answered_fit (tables_in c.args.state c.loop-i.links c.args.state.restarts c.loop-i.settled c.args.state.up c.loop-i.mark) c.loop-i.i
+    c.loop-i.invariant.valid (stands c)
 
 pub loop-i-init : goal.loop-i-init
 loop-i-init c = settling-none c.args.state c.requires
@@ -80,13 +82,13 @@ loop-i-smaller c = let h = c.leave-left.ensures.taken in omega arith
 
 pub loop-i-preserved : goal.loop-i-preserved
 loop-i-preserved c = settling-more c.args.state (now (goal.at.loop-i-preserved c).At-loop-i) c.loop-i.i c.loop-i.invariant c.after_done-done.result c.after_restarts-after.result
-    c.moved_Marks.result
-    c.leave-left.result c.loop-i-test.true (not-false _ c.if-not-committed-i.false-raw) c.after_done-done.ensures c.after_restarts-after.ensures
-    c.moved_Marks.ensures
+    c.moved_marks-moved.result
+    c.leave-left.result c.loop-i-test.true (c.if-not-committed-i.false) c.after_done-done.ensures c.after_restarts-after.ensures
+    c.moved_marks-moved.ensures
     c.leave-left.ensures
 
 pub returns-after-loop-i : goal.returns-after-loop-i
 returns-after-loop-i c = settling_empty c.args.state (now (goal.at.returns-after-loop-i c).At-loop-i) c.loop-i.i c.loop-i.invariant c.loop-i-test.false
 
 pub returns-then-not-committed-i : goal.returns-then-not-committed-i
-returns-then-not-committed-i c = settling-runs c.args.state (now (goal.at.returns-then-not-committed-i c).At-loop-i) c.loop-i.i c.loop-i.invariant c.loop-i-test.true (not-true _ c.if-not-committed-i.true-raw)
+returns-then-not-committed-i c = settling-runs c.args.state (now (goal.at.returns-then-not-committed-i c).At-loop-i) c.loop-i.i c.loop-i.invariant c.loop-i-test.true (c.if-not-committed-i.true)

@@ -1,5 +1,4 @@
 -- `hub_settle::settle::settles` meets its contract. Assumes nothing.
-use borrow.Author.Rules.{rules}
 use mathlib.Core.Path.{refl}
 use Rattle.hub_settle.proofs.SettleLaws.{settles-first, settles-none}
 use Rattle.hub_settle.proofs.settle.settles.Goals as goal

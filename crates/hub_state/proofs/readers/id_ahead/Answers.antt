@@ -1,5 +1,4 @@
 -- `hub_state::id_ahead` meets its contract. Assumes nothing.
-use borrow.Author.Rules.{rules}
 use Rattle.hub_state.proofs.Members.{stands_below, id_in_row, id-not_in_row}
 use Rattle.hub_state.proofs.readers.id_ahead.Goals as goal
 

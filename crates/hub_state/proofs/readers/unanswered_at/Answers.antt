@@ -1,6 +1,5 @@
 -- `hub_state::unanswered_at` meets its contract. Assumes nothing.
 use native.Mathlib.Omega.{arith}
-use borrow.Author.Rules.{rules}
 use Prim.Native.Nat.{◌+◌, ◌*◌, ◌<◌}
 use lib.ListN.{get_or}
 use Rattle.rules_routine.specs.Limits.{max_commands, max_sequence}

@@ -23,9 +23,9 @@ loop-at-preserved c = let l = c.loop-at in
     let line = c.args.line.now in
     let next : l.at ≡ suc (l.at - 1) = omega (arith, l.invariant.1) in
     let on : spaces_together (drop (l.at - 1) line) ≡ spaces_together (drop l.at line) =
-    elim c.if-line-at-eq-SPACE.branch
-    [ then-line-at-eq-SPACE+else-line-at-eq-SPACE-2 w ↦ together_on_second line (l.at - 1) l.at next c.loop-at-test.true w.if-line-at-eq-SPACE-2.false
-    | else-line-at-eq-SPACE w ↦ together_on_first line (l.at - 1) l.at next c.loop-at-test.true w.if-line-at-eq-SPACE.false
+    elim c.if-line-at-eq-SPACE.branch [
+      | then-line-at-eq-SPACE+else-line-at-eq-SPACE-2 w ↦ together_on_second line (l.at - 1) l.at next c.loop-at-test.true w.if-line-at-eq-SPACE-2.false
+      | else-line-at-eq-SPACE w ↦ together_on_first line (l.at - 1) l.at next c.loop-at-test.true w.if-line-at-eq-SPACE.false
     ] in
     let back : l.at + 1 - 1 ≡ l.at = omega arith in
     (rw back (sym on ∙ l.invariant.0), omega arith)
