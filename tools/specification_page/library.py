@@ -46,6 +46,8 @@ LIBRARY = {
     "true": "yes",
     "false": "no",
     "not": "the other of true and false",
+    "if◌then◌else◌": "the first of two things if a test is true, else the second",
+    "cond": "cond b x y is `if b then x else y`",
     "◌&&◌": "both",
     "◌||◌": "one or the other, or both",
     "eqb": "are they the same?",
