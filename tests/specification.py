@@ -17,7 +17,7 @@ from html.parser import HTMLParser
 from urllib.parse import unquote
 
 ROOT = os.path.dirname(os.path.dirname(os.path.abspath(__file__)))
-CONTRACTS = ["rules_routine", "book_layout", "book_read", "book_write", "book_copy", "hub", "line", "line_parts", "line_hints"]
+CONTRACTS = ["rules_routine", "book_layout", "book_read", "book_write", "book_copy", "hub", "line", "line_c", "line_parts", "line_hints"]
 CHAPTERS = ["reading", "refusals", "book", "rules", "order", "serial", "world", "demand-3", "waiting", "lines", "running", "contracts",
             "values", "examples", "parts"]
 TEXTS = ("code", "marked", "kind", "said", "first")
