@@ -35,8 +35,14 @@ def is_used(name, code, words):
     return name in words
 
 
+def is_trait(path):
+    """It may be one of std's, which is brought in for its methods and not named."""
+    return path[0] == "std" and path[-1][0].isupper()
+
+
 def without_unused(name, text):
-    code = re.sub(r"(--|//)[^\n]*", "", CODE_USE.sub("", GROUP.sub("", text)))
+    code = GROUP.sub("", text)
+    code = re.sub(r"(--|//)[^\n]*", "", CODE_USE.sub("", code) if name.endswith(".rt") else code)
     words = set(re.split(r"[\s()\[\]{};,.]+", code))
     found = []
 
@@ -48,7 +54,7 @@ def without_unused(name, text):
 
     def code_use(match):
         paths = paths_used(match.group())
-        kept = [path for path in paths if re.search(rf"\b{path[-1]}\b", code)]
+        kept = [path for path in paths if re.search(rf"\b{path[-1]}\b", code) or is_trait(path)]
         found.extend("::".join(path) for path in paths if path not in kept)
         return match.group() if len(kept) == len(paths) else "".join(f"use {'::'.join(path)};\n" for path in kept)
 
