@@ -7,6 +7,6 @@ fn main() {
     let archive = std::env::var_os("PLOT_HUB_ARCHIVE").map_or(built, PathBuf::from);
     println!("cargo:rerun-if-env-changed=PLOT_HUB_ARCHIVE");
     println!("cargo:rerun-if-changed={}", archive.display());
-    let archive = archive.canonicalize().expect("`rt staticlib line` builds the archive, from the root");
+    let archive = archive.canonicalize().expect("`tools/build archive` builds the archive, from the root");
     println!("cargo:rustc-link-arg={}", archive.display());
 }

@@ -1,6 +1,7 @@
 # shellcheck shell=sh
-# For bin/start, in the repository alone; no release has it. Builds what is not built yet: rt proves the program and the crates that it is
-# built on, links it and runs it once. Standard error is told how far that is; what rt says goes to a log. Standard output gets nothing.
+# For bin/start, in the repository alone; no release has it. Builds what is not built yet, by tools/build: rt proves the program and the
+# crates that it is built on, links it and runs it once; only then it stands in target/bin. Standard error is told how far that is; what rt
+# says goes to a log. Standard output gets nothing.
 
 # shellcheck disable=SC2154 # bin/start has set root
 log=$root/target/build.log
@@ -25,20 +26,16 @@ named() { # TOOL
 
 lacking() { # PROGRAM...: the crates of those that are not there
     for one do
-        whole "$one" || echo "run_$one"
+        [ -x "$root/target/bin/run_$one" ] || echo "run_$one"
     done
 }
 
-# A program that rt has linked and not yet run counts as unfinished, and so does what is left of a build that was broken off.
 prove() { # CRATE...
     [ $# != 0 ] || return 0
     began=$(date +%s) proved=0 crates=$(how_many "$@") rt=
     say "not built yet; it is proved first, $crates crates, which takes some $(((crates + 4) / 5)) minutes on two processors"
-    for crate do
-        touch "$root/target/bin/$crate.unfinished" || exit 1
-    done
     trap break_off HUP INT TERM
-    (trap - PIPE && cd "$root" && exec setsid rt check "$@") </dev/null >"$log" 2>&1 6>&- & # a group of its own, to be ended whole
+    (trap - PIPE && exec setsid "$root/tools/build" "$@") </dev/null >"$log" 2>&1 6>&- & # a group of its own, to be ended whole
     rt=$!
     while kill -0 "$rt" 2>/dev/null; do
         { sleep 1; } 2>/dev/null # some shells have a word of their own on signals
@@ -49,10 +46,6 @@ prove() { # CRATE...
     tell
     trap - HUP INT TERM
     [ $ended = 0 ] || fail "the build has failed; what rt said is in $log"
-    for crate do
-        [ -x "$root/target/bin/$crate" ] || fail "rt has made no target/bin/$crate; what it said is in $log"
-        rm -f "$root/target/bin/$crate.unfinished"
-    done
     say "built in $(($(date +%s) - began)) s"
 }
 
@@ -65,9 +58,9 @@ break_off() {
 
 # The crates that rt has proved since this was last asked.
 tell() {
-    for crate in $(sed -n 's/^rt: \([^ ]*\) proved (.*/\1/p' "$log" | tail -n "+$((proved + 1))"); do
+    for crate in $(awk '/^crate .*: modules / { crate = $2 } /^logic=proved / { print crate }' "$log" | tail -n "+$((proved + 1))"); do
         proved=$((proved + 1))
-        say "$proved of $crates crates proved: $crate"
+        say "$proved of $crates crates proved: ${crate%:}"
     done
 }
 

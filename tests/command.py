@@ -66,7 +66,9 @@ def tree(folder, shell, release=False):
         os.chmod(path, 0o755)
     for program in ('plot_hub', 'show_book', 'plot_hub_hints'):
         os.symlink(os.path.realpath(built(TREE, program)), os.path.join(folder, programs, program) if release else built(folder, program))
-    for file in ('VERSION', 'KIT') if release else ('VERSION', 'KIT', 'crates.txt', 'bin/build.sh'):
+    if not release:
+        os.makedirs(os.path.join(folder, 'tools'), exist_ok=True)
+    for file in ('VERSION', 'KIT') if release else ('VERSION', 'KIT', 'crates.txt', 'bin/build.sh', 'tools/build'):
         shutil.copy(os.path.join(TREE, file), os.path.join(folder, file))
 
 
@@ -343,19 +345,20 @@ def not_whole(shell, folder):
 # ---- building
 
 # What bin/ needs besides the kit.
-TOOLS = ['sh', 'awk', 'cat', 'date', 'flock', 'mkdir', 'mktemp', 'readlink', 'rm', 'sed', 'setsid', 'sleep', 'tail', 'touch', 'tr']
-# In the place of rt: it tells that it was called and with what, and what it reads, does `script`, then says and makes what rt would.
+TOOLS = ['sh', 'awk', 'cat', 'cmp', 'cp', 'date', 'dirname', 'find', 'flock', 'head', 'mkdir', 'mktemp', 'mv', 'readlink', 'rm', 'sed',
+         'setsid', 'sleep', 'tail', 'touch', 'tr']
+# In the place of rt: it tells where it was called and with what, does `script`, then says and makes what rt would; it prints what it reads.
 FAKE_RT = '''#!/bin/sh
 root={root}
+crate=${{PWD##*/}}
 echo "$PWD: $*" >>"$root/called"
-cat
 {script}
-for crate in {crates}; do echo "rt: $crate proved (0 s)"; done
-shift
-for crate do
-    [ ! -e {programs}/$crate ] || ln -s {programs}/$crate target/bin/$crate
-    echo "rt: $crate ran, and wrote what its file 'stdout' has (0 s)"
+for proved in {crates}; do
+    [ -e "$root/target/told" ] || printf '%s\\n' "crate $proved: modules loaded=0 checked=1" 'logic=proved functions=1' >&2
 done
+touch "$root/target/told"
+[ ! -e {programs}/$crate ] || ln -sf {programs}/$crate out/$crate
+cat
 '''
 
 
@@ -382,7 +385,7 @@ def fake_kit(c, script='', lacking='', crates=()):
 def built_on(*names):
     """The crates, each behind those that it names, as rt takes them: from crates.txt, whose lines stand in such an order."""
     with open(os.path.join(TREE, 'crates.txt'), encoding='utf-8') as file:
-        needs = {line.split(':')[0]: line.split(':')[1].split() for line in file if line.strip() and not line.startswith('#')}
+        needs = {line.split(':')[0].split()[0]: line.split(':')[1].split() for line in file if line.strip() and not line.startswith('#')}
     found, todo = set(), list(names)
     while todo:
         crate = todo.pop()
@@ -409,7 +412,13 @@ class Bare(Commands):
         self.bare()
 
     def bare(self):
-        shutil.rmtree(os.path.join(self.root, 'target'), ignore_errors=True)
+        for folder in ('target', 'crates'):
+            shutil.rmtree(os.path.join(self.root, folder), ignore_errors=True)
+        for crate in ('run_plot_hub', 'run_plot_hub_hints', 'run_show_book'):
+            os.makedirs(os.path.join(self.root, 'crates', crate, 'src'))
+            for file in ('src/main.rt', 'stdin', 'stdout'):
+                with open(os.path.join(self.root, 'crates', crate, file), 'w', encoding='utf-8') as text:
+                    text.write(f'what {crate} reads, and prints\n')
         self.calls()
 
     def run(self, *words, **options):
@@ -417,18 +426,23 @@ class Bare(Commands):
         return status, printed, re.sub(rb'built in \d+ s\n', b'built in 0 s\n', said)
 
     def calls(self):
-        """The words of each call since this was last asked."""
+        """The crate and the words of each call since this was last asked."""
         try:
             with open(os.path.join(self.root, 'called'), encoding='utf-8') as file:
                 lines = file.read().split('\n')[:-1]
             os.remove(os.path.join(self.root, 'called'))
         except FileNotFoundError:
             return []
-        assert all(line.startswith(self.root + ': ') for line in lines), lines
-        return [line[len(self.root) + 2:] for line in lines]
+        folder = os.path.join(self.root, 'crates/')
+        assert all(line.startswith(folder) for line in lines), lines
+        return [line[len(folder):] for line in lines]
 
     def log(self):
         return os.path.join(self.root, 'target/build.log')
+
+    def linked(self, program):
+        """Where rt has a program that it has linked."""
+        return os.path.join(self.root, 'crates', 'run_' + program, 'out', 'run_' + program)
 
 
 def builds_first(c):
@@ -443,12 +457,12 @@ def builds_first(c):
                                (['plain'], {'cwd': c.folder, 'before': f'set -- {quoted(link)} "$2"'})):
             c.bare()
             c.check(expected, name, *words, environment=kit, **options)
-            assert c.calls() == [f'check run_{name}']
+            assert c.calls() == [f'run_{name}: run']
             c.check(good(expected[1]), name, *words, environment=kit, **options)
             assert c.calls() == []
         os.remove(link)
         with open(c.log(), 'rb') as file:
-            assert file.read().startswith(b'rt: '), 'rt has read from standard input'
+            assert file.read().startswith(b'crate '), 'rt has printed what it reads'
         c.bare()
         c.check(good(expected[1]), name, text=text, environment=kit, redirect='2>&-')
         for word in ('--help', '--version'):
@@ -462,16 +476,21 @@ def builds_hints(c):
     said, key = hints_of('plot_hub', LISTING), key_of(LISTING)
     c.bare()
     c.check(good(key, told('plot_hub', both) + said), 'plot_hub', '--hints', text=LISTING, environment=fake_kit(c, crates=both))
-    assert c.calls() == ['check run_plot_hub run_plot_hub_hints']
+    assert c.calls() == ['run_plot_hub: run', 'run_plot_hub_hints: run']
     os.remove(built(c.root, 'plot_hub_hints'))
     c.check(good(key), 'plot_hub', text=LISTING)
+    first, *_, last = told('plot_hub', hinted).splitlines(keepends=True)
+    c.check(good(key, first + last + said), 'plot_hub', '--hints', text=LISTING, environment=fake_kit(c))
+    assert c.calls() == [], 'what rt has linked is still there'
+    for file in (built(c.root, 'plot_hub_hints'), c.linked('plot_hub_hints'), os.path.join(c.root, 'target/told')):
+        os.remove(file)
     c.check(good(key, told('plot_hub', hinted) + said), 'plot_hub', '--hints', text=LISTING, environment=fake_kit(c, crates=hinted))
-    assert c.calls() == ['check run_plot_hub_hints']
+    assert c.calls() == ['run_plot_hub_hints: run']
     c.bare()
     crates = built_on('run_show_book')
     c.check(good(output_of('show_book', BOOK), told('show_book', crates)), 'show_book', '--hints', text=BOOK,
             environment=fake_kit(c, crates=crates))
-    assert c.calls() == ['check run_show_book']
+    assert c.calls() == ['run_show_book: run']
 
 
 def cannot_be_built(c):
@@ -496,34 +515,37 @@ def fails_to_build(c):
     """A build that fails, after it has linked the program or before: nothing is printed, and the next start builds again."""
     crates = built_on('run_plot_hub')
     first = told('plot_hub', crates).split(b'\n')[0] + b'\n'
-    linked = f"ln -sf {quoted(os.path.realpath(built(TREE, 'plot_hub')))} target/bin/run_plot_hub"
+    made, target = quoted(os.path.realpath(built(TREE, 'plot_hub'))), quoted(built(c.root, 'plot_hub'))
+    linked = f'ln -sf {made} out/run_plot_hub'
     failed = f'plot_hub: the build has failed; what rt said is in {c.log()}\n'.encode()
+    proved = "printf '%s\\n' 'crate rules: modules loaded=0 checked=1' 'logic=proved functions=1' >&2"
     for script, said in (
-            ("echo 'rt: rules proved (1 s)'; echo 'rt: hub NOT PROVED (exit 1, 2 s)'; exit 1",
+            (proved + "; echo 'logic=not-proved functions=1' >&2; exit 1",
              b'plot_hub: 1 of %d crates proved: rules\n' % len(crates) + failed),
-            (linked + "; echo 'rt: run_plot_hub proved, and its run FAILED (0 s)'; exit 1", failed),
+            (linked + '; cat; exit 1', failed),
+            (linked + '; echo something else; exit 0', failed),
             (linked + '; kill -KILL $$', failed),
-            ('exit 0', f'plot_hub: rt has made no target/bin/run_plot_hub; what it said is in {c.log()}\n'.encode())):
+            ('cat; exit 0', failed)):
         c.bare()
         c.check((1, b'', first + said), 'plot_hub', text=LISTING, environment=fake_kit(c, script))
-        assert c.calls() == ['check run_plot_hub']
-        remove = f'rm -f {quoted(built(c.root, "plot_hub"))}'
+        assert c.calls() == ['run_plot_hub: run']
+        remove = f'[ ! -e {target} ] || exit 1'
         c.check(good(key_of(LISTING), told('plot_hub', crates)), 'plot_hub', text=LISTING, environment=fake_kit(c, remove, crates=crates))
-        assert c.calls() == ['check run_plot_hub']
+        assert c.calls() == ['run_plot_hub: run']
 
 
 def breaks_off(c):
     """A signal ends the build, with all that rt has started, and what is half made is no program."""
     global checked
     crates = built_on('run_plot_hub')
-    half = f"ln -sf {quoted(os.path.realpath(built(TREE, 'plot_hub')))} target/bin/run_plot_hub"
+    half = f"ln -sf {quoted(os.path.realpath(built(TREE, 'plot_hub')))} out/run_plot_hub"
     for number in (signal.SIGINT, signal.SIGTERM, signal.SIGHUP):
         for whole_group in (True, False):
             c.bare()
             environment = dict(os.environ, **fake_kit(c, half + '; sleep 50 & sleep 50'))
             ran = subprocess.Popen([os.path.join(c.root, 'bin/plot_hub'), '/dev/null'], stdout=subprocess.PIPE, stderr=subprocess.PIPE,
                                    env=environment, start_new_session=True, preexec_fn=as_from_a_terminal)
-            wait_until(lambda: os.path.lexists(built(c.root, 'plot_hub')), 'nothing is built')
+            wait_until(lambda: os.path.lexists(c.linked('plot_hub')), 'nothing is built')
             (os.killpg if whole_group else os.kill)(ran.pid, number)
             printed, said = ran.communicate(timeout=60)
             assert (ran.returncode, printed) == (130, b''), (number, ran.returncode, printed)
@@ -531,7 +553,7 @@ def breaks_off(c):
             lock = os.path.join(c.root, 'target/build.lock')
             wait_until(lambda: subprocess.run(['flock', '-n', lock, 'true'], check=False).returncode == 0, 'something of rt is left')
             checked += 1
-    remove = f'rm -f {quoted(built(c.root, "plot_hub"))}'
+    remove = f'[ ! -e {quoted(built(c.root, "plot_hub"))} ] || exit 1'
     c.check(good(key_of(LISTING), told('plot_hub', crates)), 'plot_hub', text=LISTING, environment=fake_kit(c, remove, crates=crates))
 
 
@@ -552,7 +574,7 @@ def two_at_once(c):
     os.remove(os.path.join(c.root, 'go'))
     assert ends[1] == (expected, b'', 0), ends[1]
     assert ends[0][::2] == (expected, 0), ends[0]
-    assert c.calls() == ['check run_plot_hub']
+    assert c.calls() == ['run_plot_hub: run']
     checked += 2
 
 

@@ -371,8 +371,8 @@ def check_answers(pieces, sittings):
     table = [form_of(code) for row in rows_of(pieces, 'answers') for code in codes(row.content[0])]
     check(len(set(table)) == len(table), 'a form stands twice in the table of answers')
     check(set(table) == shown, f'forms in the table and in the sittings: {set(table) ^ shown}')
-    printed = re.findall(r'^answerText \(([\w-]+)', WORDS_PRINTED.read_text(encoding='utf-8'), re.M)
-    names = {'not-held' if form == 'not held' else form.split()[0] for form in table}
+    printed = re.findall(r'^answer_text \(([\w-]+)', WORDS_PRINTED.read_text(encoding='utf-8'), re.M)
+    names = {'not_held' if form == 'not held' else form.split()[0] for form in table}
     check(set(printed) - names == {'limited'}, f'the definitions print other answers: {set(printed) - names}') # no line is answered so
 
 

@@ -8,7 +8,7 @@
 
 # ---- what is stored in the repository is what the models make
 
-# Names that nothing uses, layout, width, scripts, crates.txt, must-fail edits, the picture of the crates; and planted faults are found.
+# Names that nothing uses, width, scripts, crates.txt, must-fail edits, the picture of the crates; and planted faults are found.
 text() {
     local status=0
     tests/text.py "$scratch" || status=$?
@@ -36,7 +36,7 @@ stored_sittings() {
         cmp "$scratch/stdin" crates/run_sittings/stdin && cmp "$scratch/stdout" crates/run_sittings/stdout
 }
 
-# The output that `rt check` expects of plot_hub, plot_hub_hints and show_book.
+# The output that `rt ci` expects of plot_hub, plot_hub_hints and show_book.
 stored_output() {
     local sitting=crates/run_plot_hub_hints/stdin
     "$bin/reference" <crates/run_plot_hub/stdin | cmp - crates/run_plot_hub/stdout &&
@@ -113,7 +113,7 @@ under_valgrind() {
 
 # A folder like the repository's: bin/, and the tested programs where bin/ looks for them.
 tree() { # FOLDER
-    mkdir -p "$1/bin" "$1/target/bin" && cp bin/* "$1/bin/" && cp VERSION KIT crates.txt "$1/" &&
+    mkdir -p "$1/bin" "$1/tools" "$1/target/bin" && cp bin/* "$1/bin/" && cp tools/build "$1/tools/" && cp VERSION KIT crates.txt "$1/" &&
         ln -s "$program" "$1/target/bin/run_plot_hub" && ln -s "$show_book" "$1/target/bin/run_show_book" &&
         ln -s "$hints" "$1/target/bin/run_plot_hub_hints"
 }

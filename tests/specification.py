@@ -17,12 +17,12 @@ from html.parser import HTMLParser
 from urllib.parse import unquote
 
 ROOT = os.path.dirname(os.path.dirname(os.path.abspath(__file__)))
-CONTRACTS = ["rules_routine", "book_layout", "book_read", "book_write", "book_copy", "hub", "line", "line_parts", "line_hints"]
+CONTRACTS = ["rules_routine", "book_layout", "book_read", "book_write", "book_copy", "hub", "line", "line_c", "line_parts", "line_hints"]
 CHAPTERS = ["reading", "refusals", "book", "rules", "order", "serial", "world", "demand-3", "waiting", "lines", "running", "contracts",
             "values", "examples", "parts"]
 TEXTS = ("code", "marked", "kind", "said", "first")
 SIGNS = {"i": ("-- ", "-- ", ""), "a": ("", "⟪", "⟫"), "b": ("", "⟪", "⟫")}  # a tag's sign in plain text, and in marked text
-USE = re.compile(r"^(?:ghost )?use Rattle·(\w+?)(?:·\w+)?\.(specs|proofs)\.([^\s{]+)\.\{([^}]*)\}", re.M)
+USE = re.compile(r"^(?:ghost )?use Rattle\.(?!std\.)(\w+)\.(specs|proofs)\.([^\s{]+)\.\{([^}]*)\}", re.M)
 WORD = r"[^\s(){}.;,@\"«»]+"
 STATEMENTS, DECISIONS = "docs/STATEMENTS.md", "docs/DECISIONS.md"
 
@@ -166,8 +166,8 @@ def uses(text):
 def place(root, crate, part, rest, name):
     """The id of such a name. A constructor's stands below that of its data type."""
     if rest.startswith("declared."):
-        path = rest[9:].removesuffix(".the-variants")
-        return f"code.{crate}.{path}" + (f".{name}" if rest.endswith(".the-variants") else "")
+        path = rest[9:].removesuffix(".TheVariants")
+        return f"code.{crate}.{path}" + (f".{name}" if rest.endswith(".TheVariants") else "")
     prefix = f"{crate}.{rest}" if part == "specs" else f"{crate}.proofs.{rest}"
     text = read(root, f"crates/{crate}/{part}/{rest}.antt")
     owner = None
@@ -181,7 +181,7 @@ def place(root, crate, part, rest, name):
 
 def parts_of(name):
     """The words by which a name is used: an operator has several."""
-    return [part for part in name.split("_") if part] if "_" in name else [name]
+    return [part for part in name.split("◌") if part]
 
 
 def words_in(text):
@@ -200,7 +200,7 @@ def named_theorems(root):
                 for found, kind in re.findall(r"^pub (\S+) :[ \n]+(.*)$", read(root, f"crates/{crate}/{part}/{name}"), re.M):
                     proved.setdefault(found, set()).add(kind)
     words = set(re.findall(r"`([^`\n]+)`", read(root, STATEMENTS) + read(root, "docs/TRUST.md")))
-    return {w for w in words if w in proved and ("-" in w or any(re.fullmatch(r"[A-Z]\w+", kind) for kind in proved[w]))}
+    return {w for w in words if w in proved and (re.search("[_-]", w) or any(re.fullmatch(r"[A-Z]\w+", kind) for kind in proved[w]))}
 
 
 def listed_theorems(text):
@@ -277,7 +277,7 @@ def misled(name, used, block):
     found = []
     for target, word in block["pairs"]:
         last = target.split(".")[-1]
-        if word.strip("«»") != last and word not in last.split("_") and target not in [t for n, t in used.items() if word in parts_of(n)]:
+        if word.strip("«»") != last and word not in parts_of(last) and target not in [t for n, t in used.items() if word in parts_of(n)]:
             found.append(f"{name}: {word} leads to {target}")
     return found
 
@@ -371,7 +371,7 @@ def check_decisions(text):
 
 def check_rooms(crates, text):
     """ARCHITECTURE has a row for each crate, once, and no other; a crate's name begins with a layer's."""
-    crates = re.findall(r"^(\w+):", crates, re.M)
+    crates = re.findall(r"^(\w+)[^:#\n]*:", crates, re.M)
     rows = Counter(name for first in re.findall(r"^\| (`[^|]*) \|", text.partition("## The way of a line")[0], re.M)
                    for name in re.findall(r"`(\w+)`", first))
     layers = re.findall(r"^\*\*(\w+)\*\*: ", text, re.M)
@@ -473,12 +473,12 @@ def restore(tree, path, text):
 
 
 EDITS = [  # what is changed, and what the tool then says
-    ("crates/rules_routine/specs/Limits.antt", "abbrev pub maxSequence : ℕ\nmaxSequence = 16\n", "", "`maxSequence`"),
-    ("crates/rules_promises/proofs/Theorem.antt", "pub demand-3 : Statement", "pub demand-three : Statement", "`demand-3`"),
-    ("crates/rules/specs/Due.antt", "due s d = afterMembers d", "due s d = afterAll d", "`afterAll`"),
+    ("crates/rules_routine/specs/Limits.antt", "abbrev pub max_sequence : ℕ\nmax_sequence = 16\n", "", "`max_sequence`"),
+    ("crates/rules_promises/proofs/Theorem.antt", "pub demand_3 : Statement", "pub demand_three : Statement", "`demand_3`"),
+    ("crates/rules/specs/Due.antt", "due s d = after_members d", "due s d = after_all d", "`after_all`"),
     ("crates/rules_routine/src/lib.rt", "pub struct Command {", "pub struct Order {", "`Command`"),
-    ("docs/STATEMENTS.md", "- `demand-3`: ", "- `demand-4`: ", "`demand-4`"),
-    ("docs/STATEMENTS.md", "- `replay`: ", "- `demand-3`: ", "`demand-3` twice"),
+    ("docs/STATEMENTS.md", "- `demand_3`: ", "- `demand_4`: ", "`demand_4`"),
+    ("docs/STATEMENTS.md", "- `replay`: ", "- `demand_3`: ", "`demand_3` twice"),
     ("docs/STATEMENTS.md", "- `replay`: ", "- replay: ", "no theorem with what it says"),
     ("docs/STATEMENTS.md", "About `crates/rules/specs/Replay.antt`, proved", "About `Replay.antt`, proved", "no such group"),
 ]
@@ -497,7 +497,7 @@ def must_fail(root, scratch):
     status, said = made(tree, out)
     assert status == 1 and "World" in said, f"without World.antt the tool ends with {status} and says {said}"
     os.rename(os.path.join(tree, "World"), os.path.join(tree, "crates/rules/specs/World.antt"))
-    extra = "-- A file in no list. Assumes nothing.\nuse Prim.Native.Nat.{ℕ}\n\nabbrev pub extra : ℕ\nextra = 7\n"
+    extra = "-- A file in no list. Assumes nothing.\nuse Rattle.std.specs.Prelude.{ℕ}\n\nabbrev pub extra : ℕ\nextra = 7\n"
     restore(tree, "crates/rules/specs/Extra.antt", extra)
     status, said = made(tree, out)
     assert status == 0 and 'id="rules.Extra.extra"' in read("", out), f"a new file is not on the page: {said}"
@@ -514,12 +514,12 @@ WRONG = [  # small pages, and what the test says of them
     ("<p><script>a</script></p>", "has a <script>"),
 ]
 HARM = [  # changes of the page, and what the test says of them
-    (r'id="rules_routine\.Limits\.maxSequence"', 'id="rules_routine.Limits.most"', "rules_routine.Limits.maxSequence is not on the page"),
-    (r'<div class="d t" id="rules_promises\.proofs\.Theorem\.demand-3">.*?</div>\n', "", "theorem demand-3, and it is not"),
+    (r'id="rules_routine\.Limits\.max_sequence"', 'id="rules_routine.Limits.most"', "rules_routine.Limits.max_sequence is not on the page"),
+    (r'<div class="d t" id="rules_promises\.proofs\.Theorem\.demand_3">.*?</div>\n', "", "theorem demand_3, and it is not"),
     (r'<a href="#rules\.Due\.due">due</a>', "due", "no link to rules.Due.due"),
     (r'(id="rules_promises\.proofs\.Theorem\.replay"><b>)Theorem', r"\1Lemma", "replay is a lemma"),
-    (r"(<dfn>|<b>)maxDevices(</dfn>|</b>) = 32", "maxDevices = 33", "another text than the file's"),
-    (r'(hasSet</b>.*?λ x\..*?</a> d )x ', r'\1<a href="#rules.State.Step">x</a> ', "a link on x, which is bound there"),
+    (r"(<dfn>|<b>)max_devices(</dfn>|</b>) = 32", "max_devices = 33", "another text than the file's"),
+    (r'(has_set</b>.*?λ x\..*?</a> d )x ', r'\1<a href="#rules.State.Step">x</a> ', "a link on x, which is bound there"),
     (r"(Proved in crates/rules_promises/proofs/Theorem\.antt, line )\d+", r"\g<1>1",
      "is not at crates/rules_promises/proofs/Theorem.antt, line 1"),
     (r"enum <b>Verdict</b>", "enum <b>Verdicts</b>", "code.rules_routine.Verdict: another text"),
@@ -530,12 +530,12 @@ HARM = [  # changes of the page, and what the test says of them
 
 
 AMISS = [  # changes of docs/STATEMENTS.md, and what the test says of them
-    ("- `any-order`: From every hub", "- `any-order`: From some hub", "says of any-order"),
-    ("- `rounds-exist`: ", "- rounds-exist: ", "lacks the theorem rounds-exist"),
+    ("- `any_order`: From every hub", "- `any_order`: From some hub", "says of any_order"),
+    ("- `rounds_exist`: ", "- rounds_exist: ", "lacks the theorem rounds_exist"),
     ("- `told-is-held`: ", "- `told-is-kept`: ", "lists told-is-kept, which is no theorem"),
-    ("proved in `crates/hub/proofs/Links.antt`", "proved in `crates/hub/proofs/Theorem.antt`", "says of links-are-the-sequence"),
+    ("proved in `crates/hub/proofs/Links.antt`", "proved in `crates/hub/proofs/Theorem.antt`", "says of links_are_the_sequence"),
     ("`crates/rules/specs/World.antt`", "`crates/rules/specs/Worlds.antt`", "there is no such file"),
-    ("`refusalOf`", "`refusalFor`", "names refusalFor, which neither"),
+    ("`refusal_of`", "`refusal_for`", "names refusal_for, which neither"),
 ]
 
 

@@ -27,7 +27,7 @@ class Lacking(Exception):
 def files(root):
     """Every file but those that are built."""
     for folder, folders, names in os.walk(root):
-        folders[:] = sorted(set(folders) - {'.git', 'target', 'dist', '__pycache__'})
+        folders[:] = sorted(set(folders) - {'.git', 'target', 'dist', 'out', '__pycache__'})
         for name in sorted(names):
             yield os.path.relpath(os.path.join(folder, name), root)
 
@@ -50,11 +50,6 @@ def run(root, tool, *words):
 def names(root):
     """What is brought in and not used, lemmas, definitions and code that nothing leads to."""
     return unused.everything(root)
-
-
-def layout(root):
-    """The layout of `rt fmt`."""
-    return run(root, 'rt', 'fmt', '--check')
 
 
 def width(root):
@@ -92,6 +87,7 @@ def crates(root):
             layers += [layer] if layer else []
         elif line and not section:
             name, _, needs = line.partition(':')
+            name = name.split()[0]
             for need in needs.split():
                 if need == name or need in known and need not in listed:
                     yield f'{place}{name} names {need}, which does not stand above it'
@@ -151,7 +147,7 @@ def architecture():
     return tool
 
 
-CHECKS = [names, layout, width, scripts, crates, edits, picture]
+CHECKS = [names, width, scripts, crates, edits, picture]
 
 
 def found_in(root, checks=None):
@@ -168,19 +164,23 @@ def found_in(root, checks=None):
 # ---- planted faults
 
 WHOLE = {  # a small tree in which nothing is found
-    'crates.txt': '# A line for each crate.\n\n# rules: what is true.\nrules_one:\n\n# run: programs.\nrun_two: rules_one io libc\n',
-    'crates/rules_one/src/lib.rt': '''ghost use Rattle·rules_one·specs.specs.Numbers.{eight};
+    'crates.txt': '# A line for each crate.\n\n# rules: what is true.\nrules_one:\n\n# run: programs.\nrun_two: rules_one anyhow\n',
+    'crates/rules_one/src/lib.rt': '''#![tactic(auto)]
+
+ghost use Rattle.std.specs.Prelude.{◌≡◌};
+ghost use Rattle.rules_one.specs.Numbers.{eight};
 
 pub const EIGHT: usize = 8;
 
+#[tactic(auto)]
 pub fn give() -> usize
-    ensures { λ r. ⌜ r ≡ eight ⌝ }
+    ensures { result ≡ eight }
 {
     EIGHT
 }
 ''',
-    'crates/rules_one/specs/Lib.antt': 'pub mod Numbers\n',
-    'crates/rules_one/specs/Numbers.antt': '''use Prim.Native.Nat.{ℕ}
+    'crates/rules_one/specs/Lib.antt': 'pub mod Numbers\nmod Examples\n',
+    'crates/rules_one/specs/Numbers.antt': '''use Rattle.std.specs.Prelude.{ℕ}
 
 pub eight : ℕ
 eight = 8
@@ -189,15 +189,16 @@ eight = 8
 pub Stated : ℕ → Type 0
 Stated n = ℕ
 ''',
-    'crates/rules_one/specs/Examples.antt': '''use Rattle·rules_one·specs.specs.Numbers.{eight}
+    'crates/rules_one/specs/Examples.antt': '''use Rattle.std.specs.Prelude.{◌≡◌, refl}
+use Rattle.rules_one.specs.Numbers.{eight}
 
-seen-by-nobody : eight ≡ eight
-seen-by-nobody = refl
+seen_by_nobody : eight ≡ eight
+seen_by_nobody = refl
 ''',
     'crates/rules_one/proofs/Lib.antt': 'pub mod Laws\n',
     'crates/rules_one/proofs/Laws.antt': '''-- Laws. Assumes nothing.
-use Prim.Native.Nat.{ℕ}
-use Rattle·rules_one·specs.specs.Numbers.{eight, Stated}
+use Rattle.std.specs.Prelude.{ℕ}
+use Rattle.rules_one.specs.Numbers.{eight, Stated}
 
 module _ (n : ℕ)
     (m : ℕ)
@@ -208,8 +209,21 @@ module _ (n : ℕ)
 pub theorem : Stated eight
 theorem = law 1 2
 ''',
+    'crates/rules_one/proofs/give/Answers.antt': '''-- `rules_one::give` meets its contract. Assumes nothing.
+use Rattle.std.specs.Prelude.{◌≡◌, refl}
+use Rattle.rules_one.specs.Numbers.{eight}
+use Rattle.rules_one.proofs.give.Goals.{Start}
+use Rattle.rules_one.proofs.give.Goals as goal
+
+fact : (c : Start) → eight ≡ 8
+fact c = refl
+
+pub returns : goal.returns
+returns c = fact c.Start
+''',
     'crates/rules_one/must-fail/seven.edit': '# seven\nfile: src/lib.rt\nold: = 8;\nnew: = 7;\n',
-    'crates/run_two/src/main.rt': 'use rules_one::give;\n\nfn main() {\n    let n = give();\n}\n',
+    'crates/run_two/src/main.rt':
+        'use rules_one::{\n    EIGHT,\n    give,\n};\n\nfn main(rt: HostRuntime) {\n    let n = give() + EIGHT;\n}\n',
     'docs/STATEMENTS.md':
         'About `crates/rules_one/specs/Numbers.antt`, proved in `crates/rules_one/proofs/Laws.antt`:\n\n- `theorem`: A sentence.\n',
     'bin/start': '#!/bin/sh\n# shellcheck source=bin/more.sh\n. "$1/bin/more.sh"\nmore\n',
@@ -223,15 +237,15 @@ PLANTED = [  # the check, a file, what is found once in it, what stands there in
     (names, 'crates/rules_one/proofs/Laws.antt', 'law = n\n', 'law = n\n\n    pub other : Stated eight\n    other = law\n',
      ':11: other: nothing uses it'),
     (names, 'crates/rules_one/proofs/Laws.antt', 'law 1 2', 'one', ':8: law: nothing uses it'),
-    (names, 'crates/rules_one/proofs/Laws.antt', '{ℕ}', '{ℕ, _+_}', 'Laws.antt: brought in and not used: _+_'),
+    (names, 'crates/rules_one/proofs/Laws.antt', '{ℕ}', '{ℕ, ◌+◌}', 'Laws.antt: brought in and not used: ◌+◌'),
+    (names, 'crates/rules_one/proofs/give/Answers.antt', 'fact c.Start', 'refl', 'give/Answers.antt:7: fact: nothing uses it'),
     (names, 'crates/rules_one/specs/Numbers.antt', '8\n', '8\n\npub nine : ℕ\nnine = 9\n', 'Numbers.antt:6: nine: nothing uses it'),
     (names, 'crates/rules_one/specs/Numbers.antt', 'Type 0\n', 'Type 0\nunfolding eight\n', None),
-    (names, 'crates/rules_one/src/lib.rt', '8;\n', '8;\n\nconst NINE: usize = 9;\n', 'src/lib.rt:5: NINE: nothing uses it'),
-    (names, 'crates/rules_one/src/lib.rt', '8;\n', '8;\n\npub struct Pair {\n    pub one: u8,\n}\n', 'src/lib.rt:5: Pair: nothing uses it'),
-    (names, 'crates/run_two/src/main.rt', 'give()', '8', 'crates/rules_one/src/lib.rt:5: give: nothing uses it'),
+    (names, 'crates/rules_one/src/lib.rt', '8;\n', '8;\n\nconst NINE: usize = 9;\n', 'src/lib.rt:8: NINE: nothing uses it'),
+    (names, 'crates/rules_one/src/lib.rt', '8;\n', '8;\n\npub struct Pair {\n    pub one: u8,\n}\n', 'src/lib.rt:8: Pair: nothing uses it'),
+    (names, 'crates/run_two/src/main.rt', 'give()', '8', 'crates/rules_one/src/lib.rt:9: give: nothing uses it'),
     (names, 'crates/run_two/src/main.rt', 'give()', '8', 'crates/run_two/src/main.rt: brought in and not used: rules_one::give'),
     (names, 'docs/STATEMENTS.md', '- `theorem`', '- `other`', 'Laws.antt:11: theorem: nothing uses it'),
-    (layout, 'crates/rules_one/src/lib.rt', '    EIGHT', '  EIGHT', 'lib.rt'),
     (width, 'crates/rules_one/proofs/Laws.antt', 'Assumes nothing.', 'x' * 140, 'crates/rules_one/proofs/Laws.antt:1: 149 columns'),
     (width, 'bin/start', 'more\n', 'more ' + 'x' * 136 + '\n', 'bin/start:4: 141 columns'),
     (width, 'bin/start', 'more\n', 'more ' + 'x' * 135 + '\n', None),
@@ -242,6 +256,7 @@ PLANTED = [  # the check, a file, what is found once in it, what stands there in
     (crates, 'crates.txt', 'rules_one:\n', 'rules_one: run_two\n', 'crates.txt:4: rules_one names run_two, which does not stand above it'),
     (crates, 'crates.txt', 'rules_one:\n', 'rules_one: rules_one\n', 'crates.txt:4: rules_one names rules_one, which does not'),
     (crates, 'crates.txt', 'rules_one:\n', 'rules_one:\nrules_one:\n', 'crates.txt:5: rules_one is there twice'),
+    (crates, 'crates.txt', 'rules_one:\n', 'rules_one staticlib:\n', None),
     (crates, 'crates.txt', '# run: programs', '# walk: programs', 'crates.txt:7: run_two stands in the section walk'),
     (crates, 'crates.txt', 'rules_one:\n', 'rules_one:\nrules_three:\n', 'crates.txt and crates/: only one of them has rules_three'),
     (crates, 'crates.txt', '# run: programs', '# Programs', 'crates.txt:7: run_two stands in the section of no layer'),
@@ -295,7 +310,7 @@ def main():
     for message in messages:
         print(message)
     if lacking and not messages:
-        print(f"{'; '.join(lacking)}; on Debian: apt-get install shellcheck (rt is of the Rattle kit)")
+        print(f"{'; '.join(lacking)}; on Debian: apt-get install shellcheck")
     return 1 if messages else 77 if lacking else 0
 
 

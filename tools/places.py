@@ -1,45 +1,28 @@
 #!/usr/bin/env python3
-"""The places of a function's code, as its proof names them: for each, the place before, what it binds, and the needs that are asked there.
+"""The places of a function's code, as its proof names them, and the goals that are asked at each.
 
     tools/places.py NAME FUNCTION    # FUNCTION as a path below proofs/, such as reading/check_all
-"""
 
+What is known at a place, and the fields of `c` there, a check prints with each goal: leave a hole, `rt check --only FUNCTION --allow-holes`.
+"""
+import glob
+import os
 import re
 import subprocess
 import sys
 import tempfile
 
+PLACE = re.compile(r"^abbrev pub (\S+) : Type 0\n\S+ =\n?\s+Lts\.", re.M)
+GOAL = re.compile(r"^abbrev pub (\S+) : Type 0\n\S+ =\n?\s+Past\.At\s+(\S+)", re.M)
+
 
 def outline(text):
-    fields, own, order, needs, place = {}, {}, [], [], None
-    lines = text.split('\n')
-    for number, line in enumerate(lines):
-        found = re.match(r'\s+pub record (\S+?)(·own)? : Type', line)
-        if found:
-            place = (found.group(1), bool(found.group(2)))
-            if not place[1]:
-                fields.setdefault(place[0], [])
-                order.append(place[0])
-            continue
-        found = re.match(r'\s+pub (\S+) : (.*)', line)
-        if found and place:
-            if place[1]:
-                own.setdefault(place[0], []).append(found.group(1))
-            else:
-                fields[place[0]].append(found.groups())
-            continue
-        found = re.match(r'\s+(Need-\S+) =', line)
-        if found:
-            where = re.search(r'\(c : (\S+)\)', ' '.join(lines[number:number + 3]))
-            needs.append((found.group(1), where.group(1) if where else '?'))
-            place = None
-    for name in order:
-        if name in ('Args', 'Ranges'):
-            continue
-        before = [kind for field, kind in fields[name] if field == 'before']
-        binds = ', '.join('.' + field for field, _ in fields[name] if field != 'before')
-        asked = ' '.join(need for need, where in needs if where == name)
-        print(f"{name:30} <- {before[0] if before else '-':28} {binds} {' '.join(own.get(name, []))}   {asked}")
+    asked = {}
+    for goal, place in GOAL.findall(text):
+        asked.setdefault(place, []).append(goal)
+    places = [place for place in PLACE.findall(text) if not place.startswith("the-fitted-")]
+    for place in dict.fromkeys(places + list(asked)):
+        print(f"{place:40} {' '.join(asked.get(place, []))}".rstrip())
 
 
 def main():
@@ -47,12 +30,18 @@ def main():
         print(__doc__)
         return 2
     name, function = sys.argv[1:]
+    crate = os.path.join(os.path.dirname(os.path.dirname(os.path.abspath(__file__))), "crates", name)
     with tempfile.TemporaryDirectory() as folder:
-        subprocess.run(['rt', 'dev', name, '--generated', folder], capture_output=True, text=True)
-        with open(f'{folder}/Rattle·{name}·proofs/proofs/{function}/Lts.antt', encoding='utf-8') as file:
+        command = ["rt", "check", "--generated", folder, "--start", function.replace("/", "::")]
+        run = subprocess.run(command, cwd=crate, stdin=subprocess.DEVNULL, capture_output=True, text=True)
+        found = glob.glob(f"{folder}/Rattle*{name}*proofs/{function}/Goals.antt")
+        if not found:
+            print(run.stdout + run.stderr, file=sys.stderr)
+            return 1
+        with open(found[0], encoding="utf-8") as file:
             outline(file.read())
     return 0
 
 
-if __name__ == '__main__':
+if __name__ == "__main__":
     sys.exit(main())

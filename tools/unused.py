@@ -17,10 +17,11 @@ import sys
 TOOLS = os.path.dirname(os.path.abspath(__file__))
 sys.path[:0] = [TOOLS]
 from specification_page import statements  # noqa: E402
-from specification_page.source import BLOCK, SIGNATURE, tokens_of  # noqa: E402
+from specification_page.scope import words_of  # noqa: E402
+from specification_page.source import BLOCK, SIGNATURE, paths_used, tokens_of  # noqa: E402
 
-GROUP = re.compile(r"^((?:ghost )?use )([^\s{;]+)\.\{([^}]*)\}(;?)\n", re.M)
-SINGLE = re.compile(r"^use ([^\n{]*);\n", re.M)
+GROUP = re.compile(r"^((?:ghost )?use )([^\s{;:]+)\.\{([^}]*)\}(;?)\n", re.M)
+CODE_USE = re.compile(r"^use [^;]*;\n", re.M)
 
 # ---- what a file brings in
 
@@ -29,14 +30,14 @@ def is_used(name, code, words):
     name = name.split(" as ")[-1].strip()
     if name == "[]":
         return name in code
-    if name.startswith("_") or name.endswith("_"):  # an operator: each of its parts stands somewhere
-        return all(any(part in word for word in words) for part in name.split("_") if part)
+    if "◌" in name:  # an operator: each of its words stands somewhere
+        return all(any(part in word for word in words) for part in words_of(name))
     return name in words
 
 
 def without_unused(name, text):
-    code = re.sub(r"(--|//)[^\n]*", "", SINGLE.sub("", GROUP.sub("", text)))
-    words = set(re.split(r"[\s()\[\]{};,.⌜⌝]+", code))
+    code = re.sub(r"(--|//)[^\n]*", "", CODE_USE.sub("", GROUP.sub("", text)))
+    words = set(re.split(r"[\s()\[\]{};,.]+", code))
     found = []
 
     def group(match):
@@ -45,16 +46,15 @@ def without_unused(name, text):
         found.extend(n for n in names if n not in kept)
         return f"{match.group(1)}{match.group(2)}.{{{', '.join(kept)}}}{match.group(4)}\n" if kept else ""
 
-    def single(match):
-        last = match.group(1).split("::")[-1]
-        if re.search(rf"\b{last}\b", code):
-            return match.group(0)
-        found.append(match.group(1))
-        return ""
+    def code_use(match):
+        paths = paths_used(match.group())
+        kept = [path for path in paths if re.search(rf"\b{path[-1]}\b", code)]
+        found.extend("::".join(path) for path in paths if path not in kept)
+        return match.group() if len(kept) == len(paths) else "".join(f"use {'::'.join(path)};\n" for path in kept)
 
     text = GROUP.sub(group, text)
     if name.endswith(".rt"):
-        text = SINGLE.sub(single, text)
+        text = CODE_USE.sub(code_use, text)
     return text, found
 
 
@@ -79,8 +79,9 @@ def read(name):
 
 # Files, and names in others, that are there to be checked by themselves.
 EXAMPLES = re.compile(r"/(Examples|Controls|Worlds|Schedules|Starred|Refuted)\.antt$")
-CONTROLS = {("crates/rules_promises/proofs/RoundsExist.antt", "wrong-rules-show")}
-MODULE = re.compile(r"Rattle·(\w+?)(?:·\w+)?\.(specs|proofs)\.(\S+)")
+CONTROLS = {("crates/rules_promises/proofs/RoundsExist.antt", "wrong_rules_show")}
+MODULE = re.compile(r"Rattle\.(\w+)\.(specs|proofs)\.(\S+)")
+ASKED = re.compile(r"/proofs/.+/(Answers|Invariants|Proof)\.antt$")  # of a function, what the check asks for
 ITEM = re.compile(r"(?:pub )?(?:extern \"C\" )?(struct|enum|const|fn) (\w+)")
 PATH = re.compile(r"\b(?:[a-z_][a-z0-9_]*::)+\w+")
 
@@ -88,8 +89,8 @@ PATH = re.compile(r"\b(?:[a-z_][a-z0-9_]*::)+\w+")
 class Declared:
     """A declaration: where it stands, and the words of its text."""
 
-    def __init__(self, path, name, line, text="", block=False):
-        self.path, self.name, self.line, self.text, self.block = path, name, line, text, block
+    def __init__(self, path, name, line, text="", block=False, public=False):
+        self.path, self.name, self.line, self.text, self.block, self.public = path, name, line, text, block, public
         self.root = False
 
     def __str__(self):
@@ -104,7 +105,7 @@ def declarations(path, text):
         line = re.sub(r"(^|\s)--.*", "", line).rstrip()
         bare = line.strip()
         indent = len(line) - len(bare)
-        if not bare or bare.startswith(("use ", "pub mod ", "infix")):
+        if not bare or bare.startswith(("use ", "mod ", "pub mod ", "infix")):
             continue
         if header is None:
             while indent < modules[-1][0]:
@@ -118,7 +119,8 @@ def declarations(path, text):
             continue
         match = (BLOCK.match(bare) or SIGNATURE.match(bare)) if inside else None
         if match:
-            current = Declared(path, match.group(3), number, "".join(text for _, text in modules), match.re is BLOCK)
+            header_text = "".join(text for _, text in modules)
+            current = Declared(path, match.group(3), number, header_text, match.re is BLOCK, "pub " in bare[: match.end()])
             found.append(current)
         if current:
             current.text += "\n" + line
@@ -177,7 +179,7 @@ class Proofs:
         here, brought = self.here[one.path], self.brought[one.path]
         for names in (here, brought):
             for name, found in names.items():
-                if name in words or "_" in name and all(part in words for part in name.split("_") if part):
+                if all(part in words for part in words_of(name)):
                     yield from found
 
     def roots(self, theorems):
@@ -186,9 +188,8 @@ class Proofs:
         contracts = [self.names_brought(read(os.path.join(self.root, path))) for path in listed(self.root, ".rt")]
         yield from (one for names in contracts for found in names.values() for one in found)
         for path, found in self.declared.items():
-            asked = os.path.basename(os.path.dirname(path)).replace("_", "-") + "-spec" if path.endswith("/Proof.antt") else None
             for one in found:
-                if EXAMPLES.search(path) or one.name == asked or (path, one.name) in stated:
+                if EXAMPLES.search(path) or one.public and ASKED.search(path) or (path, one.name) in stated:
                     yield one
 
     def unused(self, theorems):
@@ -213,7 +214,7 @@ def code_items(path, text):
             found[-1].root = marked or match.group(2) == "main"
         elif re.match(r"\w", line):  # a `use`, a `mod`
             continue
-        marked = line.startswith("#[no_mangle]") or marked and not match
+        marked = line.startswith("#[unsafe(no_mangle)]") or marked and not match
         if found:
             found[-1].text += line + "\n"
     return found
@@ -227,14 +228,14 @@ def unused_code(root):
     for path, found in items.items():
         crates.setdefault(path.split("/")[1], []).extend(found)
     proofs = "\n".join(read(os.path.join(root, path)) for path in listed(root, ".antt"))
-    named_by_proofs = re.findall(r"Rattle·(\w+?)(?:·\w+)?\.\w+\.declared\.([\w.]+)", proofs)
+    named_by_proofs = re.findall(r"Rattle\.(\w+)\.specs\.declared\.([\w.]+)", proofs)
     declared = {(crate, name) for crate, path in named_by_proofs for name in path.split(".")}
 
     def named(one):
         """In its own crate by the word, in another by the path to it; a `use` may have brought in its last part or its first."""
         own, words = one.path.split("/")[1], set(re.findall(r"\w+", one.text))
         yield from (other for other in crates[own] if other.name in words)
-        brought = {path.split("::")[-1]: path for path in re.findall(r"^use ([\w:]+);", files[one.path], re.M)}
+        brought = {path[-1]: "::".join(path) for path in paths_used(files[one.path])}
         paths = [brought[word] for word in words & set(brought)]
         for path in PATH.findall(one.text):
             first, rest = path.split("::", 1)
@@ -254,9 +255,12 @@ def unused_code(root):
 
 
 def listed(root, ending):
+    """Those of src/, specs/ and proofs/; what a check keeps in a crate's out/ is none."""
     found = []
-    for folder, _, names in os.walk(os.path.join(root, "crates")):
-        found += [os.path.relpath(os.path.join(folder, name), root) for name in names if name.endswith(ending)]
+    for crate in os.listdir(os.path.join(root, "crates")):
+        for part in ("src", "specs", "proofs"):
+            for folder, _, names in os.walk(os.path.join(root, "crates", crate, part)):
+                found += [os.path.relpath(os.path.join(folder, name), root) for name in names if name.endswith(ending)]
     return sorted(found)
 
 

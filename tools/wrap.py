@@ -12,7 +12,7 @@ import sys
 import textwrap
 
 WIDTH = 140
-OPEN, CLOSE = "([{⌜«", ")]}⌝»"
+OPEN, CLOSE = "([{«", ")]}»"
 
 
 def fill(words, first, rest):

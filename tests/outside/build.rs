@@ -8,7 +8,7 @@ fn main() {
     println!("cargo:rerun-if-env-changed=PLOT_HUB_ARCHIVE");
     println!("cargo:rerun-if-changed={}", archive.display());
     let archive = archive.canonicalize().unwrap_or_else(|problem| {
-        panic!("no archive {}: {problem}; `rt staticlib line` builds it, from the root", archive.display())
+        panic!("no archive {}: {problem}; `tools/build archive` builds it, from the root", archive.display())
     });
     println!("cargo:rustc-link-arg-bins={}", archive.display());
 }

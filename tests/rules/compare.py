@@ -53,7 +53,7 @@ def answer_text(a):
     if a[0] in ("skipped", "aborted"):
         return f"{a[0]} {a[1]} {listed([f'back {d} ({whole(s)})' for d, s in a[2]])}"
     if a[0] == "not held":
-        return f"not-held {a[1]}"
+        return f"not_held {a[1]}"
     return " ".join(str(x) for x in a)
 
 
@@ -64,7 +64,7 @@ def example(i, h):
 abbrev c{i} : List Call
 c{i} = {listed([call_text(c) for c in calls])}
 
-h{i} : Holds (record {{ devices = {n}; passLimit = {k}; firstId = {first};
+h{i} : Holds (record {{ devices = {n}; pass_limit = {k}; first_id = {first};
   calls = c{i};
   answers = {listed([listed([answer_text(x) for x in a]) for a in answers])};
   settings = {listed(settings)} }})
@@ -82,27 +82,24 @@ def reading(i, n, k, first, hub):
     except Refused as refusal:
         verdict = f"Refused (Number {refusal.answer[1]})"
     return f"""
-l{i} : let s = stateAfter (newHub {n} {k} {first}) c{i} in
-  (listCheck s {size} ≡ {verdict}) × (listAfter s (replicate {size} (pos 7)) ≡ {listed([whole(s) for s in lent])})
-unfolding calc allDue listCheck listAfter
+l{i} : let s = state_after (new_hub {n} {k} {first}) c{i} in
+  (list_check s {size} ≡ {verdict}) × (list_after s (replicate {size} (pos 7)) ≡ {listed([whole(s) for s in lent])})
+unfolding calc all_due list_check list_after
 l{i} = (refl, refl)
 """
 
 
 HEADER = """-- Random histories, with the answers of an independent model.
-use mathlib.Core.Path.{_≡_, refl}
-use mathlib.Core.List.{List, [], _∷_}
-use mathlib.Core.Option.{none, some}
-use lib.IntN.{pos, negsuc}
-use lib.ListN.{replicate}
-use Rattle·rules_routine.specs.declared.Refusal.the-variants.{Number, Indexed}
-use Rattle·rules_routine.specs.declared.Verdict.the-variants.{Accepted, Refused}
-use Rattle·rules·specs.specs.AllDue.{allDue, listCheck, listAfter}
-use Rattle·rules·specs.specs.Open.{newHub}
-use Rattle·rules·specs.specs.Calls.{stateAfter}
-use Rattle·rules·specs.specs.Answers.{Call, submit, turn, report, failure, restart, cancel, limit}
-use Rattle·rules·specs.specs.Answers.{refused, placed, wait, send, held, not-held, done, skipped, committed, aborted, down, up, limited}
-use Rattle·rules·specs.specs.Examples.{calc, Holds, back}
+use Rattle.std.specs.Prelude.{◌≡◌, refl, List, [], ◌∷◌, pos, negsuc, replicate}
+use Rattle.std.proofs.Math.Option.{none, some}
+use Rattle.rules_routine.specs.declared.Refusal.TheVariants.{Number, Indexed}
+use Rattle.rules_routine.specs.declared.Verdict.TheVariants.{Accepted, Refused}
+use Rattle.rules.specs.AllDue.{all_due, list_check, list_after}
+use Rattle.rules.specs.Open.{new_hub}
+use Rattle.rules.specs.Calls.{state_after}
+use Rattle.rules.specs.Answers.{Call, submit, turn, report, failure, restart, cancel, limit}
+use Rattle.rules.specs.Answers.{refused, placed, wait, send, held, not_held, done, skipped, committed, aborted, down, up, limited}
+use Rattle.rules.specs.Examples.{calc, Holds, back}
 """
 
 
@@ -114,7 +111,7 @@ def main():
     with tempfile.TemporaryDirectory() as folder:
         crates = os.path.join(folder, "crates")
         for name in ("rules_routine", "rules"):
-            shutil.copytree(os.path.join(ROOT, "crates", name), os.path.join(crates, name))
+            shutil.copytree(os.path.join(ROOT, "crates", name), os.path.join(crates, name), ignore=shutil.ignore_patterns("out"))
         rules = os.path.join(crates, "rules")
         shutil.rmtree(os.path.join(rules, "proofs"))
         shutil.rmtree(os.path.join(rules, "must-fail"))
@@ -124,7 +121,7 @@ def main():
             f.write("mod Histories\n")
         with open(os.path.join(rules, "specs", "Histories.antt"), "w") as f:
             f.write(HEADER + "".join(example(i, history(rng, LIMITS if i % 2 else 0)) for i in range(count)))
-        run = subprocess.run(["rt", "dev", "rules"], cwd=folder, text=True, capture_output=True)
+        run = subprocess.run(["rt", "check"], cwd=rules, stdin=subprocess.DEVNULL, text=True, capture_output=True)
     output = run.stdout + run.stderr
     if run.returncode != 0 or "logic=proved" not in output:
         print("\n".join(line[:400] for line in output.splitlines() if "error" in line) or output[-2000:])

@@ -198,7 +198,7 @@ class Page:
         return self.chapter(name, title, intro, "".join(parts))
 
     def left_over(self):
-        order = re.findall(r"^(\w+):", self.book.text("crates.txt"), re.M)
+        order = re.findall(r"^(\w+)[^:#\n]*:", self.book.text("crates.txt"), re.M)
         left = [key for key in self.book.spec_files() if key not in self.listed]
         left.sort(key=lambda key: (order.index(key[0]) if key[0] in order else len(order), key))
         return [(crate, file, f"{crate}: {file}") for crate, file in left]
@@ -272,7 +272,7 @@ class Page:
             for definition in cited:
                 if definition.place not in self.shown:
                     texts[definition.place] = definition, self.value(definition)
-        order = re.findall(r"^(\w+):", self.book.text("crates.txt"), re.M)
+        order = re.findall(r"^(\w+)[^:#\n]*:", self.book.text("crates.txt"), re.M)
         parts, last = [], None
         for definition, text in sorted(texts.values(), key=lambda v: (order.index(v[0].scope[0]), v[0].scope[1] != "lib", v[0].item.line)):
             crate, module = definition.scope

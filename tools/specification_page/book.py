@@ -6,9 +6,9 @@ from specification_page.scope import Definition, Member, Scope, Target, Type
 from specification_page.source import read_antt, read_code
 from specification_page.walk import Names
 
-MODULE = re.compile(r"Rattle·([a-z_0-9]+)(?:·\w+)?\.(specs|proofs)\.(.+)")
-DECLARED = re.compile(r"declared\.((?:\w+\.)*?)(\w+)(\.the-variants)?$")
-LIBRARY_CONSTRUCTORS = {"true", "false", "zero", "suc", "none", "some", "pos", "negsuc", "[]", "_∷_", "refl"}
+MODULE = re.compile(r"Rattle\.([a-z_0-9]+)\.(specs|proofs)\.(.+)")
+DECLARED = re.compile(r"declared\.((?:\w+\.)*?)(\w+)(\.TheVariants)?$")
+LIBRARY_CONSTRUCTORS = {"true", "false", "zero", "suc", "none", "some", "pos", "negsuc", "[]", "◌∷◌", "refl"}
 
 
 class Missing(Exception):
@@ -88,8 +88,8 @@ class Book:
     def target(self, module, name, here):
         """What a name of a `use` list means, which the file may call otherwise."""
         match = MODULE.match(module)
-        if not match:
-            return Target(None, module, operator="_" in name, constructor=name in LIBRARY_CONSTRUCTORS, word=here)
+        if not match or match.group(1) not in self.crates:
+            return Target(None, module, operator="◌" in name, constructor=name in LIBRARY_CONSTRUCTORS, word=here)
         crate, part, rest = match.groups()
         declared = DECLARED.match(rest)
         if declared:
@@ -130,7 +130,7 @@ class Book:
         for path in self.code_files[crate, module].paths:
             if path[-1] == name:
                 other = path[0] if path[0] in self.crates and len(path) > 1 else crate
-                rest = path[1:-1] if path[0] in self.crates else path[:-1]
+                rest = path[1:-1] if path[0] in self.crates or path[0] == "crate" else path[:-1]
                 found = self.code.get((other, rest[0] if rest else "lib"), {}).get(name)
                 if found:
                     return found
@@ -138,6 +138,9 @@ class Book:
 
     def code_type(self, crate, module, text):
         text = re.sub(r"<[^>]*>", "", text.strip().rstrip(","))
+        lent = re.match(r"&(?:'\w+ )?(?:mut )?", text)
+        if lent:
+            return Type([], "Bor", [self.code_type(crate, module, text[lent.end() :])])
         if text.startswith("["):
             return Type([], "List", [self.code_type(crate, module, text[1:].split(";")[0].rstrip("]"))])
         found = self.code_named(crate, module, text) if re.fullmatch(r"\w+", text) else None
@@ -185,7 +188,7 @@ def header_end(item):
 
 
 def target_of(definition):
-    return Target(definition.place, None, definition, operator="_" in definition.name and definition.kind == "definition")
+    return Target(definition.place, None, definition, operator="◌" in definition.name and definition.kind == "definition")
 
 
 def member_target(definition, member):

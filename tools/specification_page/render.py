@@ -174,13 +174,7 @@ class Render:
         while n < end:
             if walk.tokens[n].text == "{":
                 close = walk.closing[n]
-                inner = dict(local)
-                at = walk.solid(n + 1, close)
-                if walk.tokens[at].text == "λ":
-                    name = walk.tokens[walk.solid(at + 1, close)].text
-                    at = walk.binders(at + 1, close, inner)
-                    inner[name] = Local(result)
-                walk.term(at, close, inner)
+                walk.term(n + 1, close, local | {"result": Local(result)})
                 n = close
             n += 1
 

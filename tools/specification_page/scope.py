@@ -79,8 +79,8 @@ class Scope:
         return self.known
 
     def add(self, name, target):
-        parts = [part for part in name.split("_") if part]
-        if "_" in name and parts and not name.startswith("«"):
+        parts = words_of(name)
+        if "◌" in name and parts:
             self.known[name] = target
             for part in parts:
                 self.known[part] = Target(target.place, target.library, target.definition, target.member, True, target.constructor, name)
@@ -127,6 +127,11 @@ class Scope:
 
     def is_operator(self, word):
         return word in ("×", "¬", "let", "λ") or word in self.names and self.names[word].operator
+
+
+def words_of(name):
+    """The words by which a name is used: an operator has them around and between its arguments' places."""
+    return [part for part in name.split("◌") if part]
 
 
 def depth_at(tokens, end):

@@ -55,7 +55,7 @@ class Item:
 class File:
     intro: list = field(default_factory=list)
     uses: list = field(default_factory=list)  # module, name there, name here
-    paths: list = field(default_factory=list)  # of code: use a::b::C
+    paths: list = field(default_factory=list)  # of code: the parts of a::b::C, from `use a::b::{C, D};`
     items: list = field(default_factory=list)
 
 
@@ -111,9 +111,11 @@ class Reader:
         if match:
             self.flush()
             self.file.uses += names_used(match)
-        elif re.match(r"use [\w:]+;", line):
+        elif self.sign == "//" and re.match(r"(?:pub )?use ", line):
             self.flush()
-            self.file.paths.append(line[4:-1].split("::"))
+            self.current = None
+        elif self.sign == "//" and line.startswith("#"):  # an attribute stands between a comment and what it is about
+            self.current = None
         else:
             item = self.begins(line)
             if item is not None:
@@ -126,7 +128,7 @@ class Reader:
 
 def antt_item(line):
     """A signature or a block; None for a clause."""
-    if re.match(r"infix[lr]? |mutual$|module |open |pub mod |use ", line):
+    if re.match(r"infix[lr]? |mutual$|module |open |(?:pub )?mod |use ", line):
         return Item("fixity" if line.startswith("infix") else "other")
     match = BLOCK.match(line)
     if match:
@@ -159,4 +161,26 @@ def code_item(line):
 
 
 def read_code(text):
-    return Reader(text, "//", code_item).file
+    file = Reader(text, "//", code_item).file
+    file.paths = paths_used(text)
+    return file
+
+
+def paths_used(text):
+    """What each `use` of a file of code brings in, by its parts."""
+    return [parts for tree in re.findall(r"^(?:pub )?use ([^;]*);", text, re.M) for parts in paths_in(tree)]
+
+
+def paths_in(tree):
+    """`a::{b, c::{d, e}}` is a::b, a::c::d and a::c::e."""
+    head, brace, rest = tree.strip().partition("{")
+    if not brace:
+        return [head.split("::")] if head else []
+    inside, depth, parts = rest.rstrip()[:-1], 0, [""]
+    for char in inside:
+        depth += (char == "{") - (char == "}")
+        if char == "," and depth == 0:
+            parts.append("")
+        else:
+            parts[-1] += char
+    return [head.rstrip(":").split("::") + path for part in parts for path in paths_in(part)]

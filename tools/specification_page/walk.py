@@ -4,14 +4,15 @@ are asked of it.
 """
 import re
 
-from specification_page.scope import Local, Scope, Target, Type
+from specification_page.scope import Local, Scope, Target, Type, words_of
 from specification_page.source import tokens_of
 
 # Words of the language, and what it has without a `use`.
 KEYWORDS = {"λ", "let", "in", "record", "where", "→", ":", "=", "_", "Type", "unfolding", "pub", "data", "infix", "infixl", "infixr",
-            "unfoldable", "abbrev", "⌜", "⌝", "×", "¬"}
+            "unfoldable", "abbrev", "×", "¬"}
 BUILT_IN = {"Unit", "tt", "⊥"}
-BREAKS = {"→", ":", "=", "where", "⌜", "⌝", "×", "in", "¬"}  # no argument goes on behind them
+BREAKS = {"→", ":", "=", "where", "×", "in", "¬"}  # no argument goes on behind them
+LENT = {"now", "old", "new", "entry"}  # what is lent, read; the last is the loan itself
 
 
 class Names:
@@ -89,6 +90,7 @@ class Walk:
         """Marks from n to end; gives the type if it is one application. `keep`: what is bound stays bound behind it; `expected`: the
         type that it has to have, if that is known."""
         begun, local, spine, fresh, single = dict(local), local if keep else dict(local), None, True, True
+        atom, head = None, True  # the type of what stands in front, to which a field belongs; does the application begin with it?
         last = None  # the word in front, to tell whose fields are asked
         while True:
             n = self.solid(n, end)
@@ -102,11 +104,11 @@ class Walk:
                 if kind == "binder":
                     fresh, single = True, False
                 elif kind == "argument":
-                    spine, fresh = (found if fresh else spine and spine.applied()), False
+                    spine, atom, head, fresh = (found if fresh else spine and spine.applied()), found, fresh, False
                 last = None
             elif token.kind == "field":
-                spine = self.field(n, spine, last)
-                n, fresh, last = n + 1, False, None
+                atom = self.field(n, atom, last)
+                spine, n, last = atom if head else spine, n + 1, None
             elif token.text == "λ":
                 n = self.binders(n + 1, end, local, expected.arguments if expected and fresh and single else [])
                 fresh, single = True, False
@@ -114,7 +116,8 @@ class Walk:
                 n, fresh, single = self.let(n + 1, end, local), True, False
             elif token.text == "record":
                 n, found = self.literal(n, end, local, expected if single else None)
-                spine, fresh, last = (found if fresh else spine and spine.applied()), False, None
+                spine, atom, head, fresh = (found if fresh else spine and spine.applied()), found, fresh, False
+                last = None
             elif token.text in BREAKS or token.kind in ("dot", "mark"):
                 n, fresh, single = n + 1, True, False
             else:
@@ -122,7 +125,7 @@ class Walk:
                 if operator:
                     fresh, single, last = True, False, None
                 else:
-                    spine, fresh = (found if fresh else spine and spine.applied()), False
+                    spine, atom, head, fresh = (found if fresh else spine and spine.applied()), found, fresh, False
                     last = token.text.strip("«»")
                 n += 1
 
@@ -248,8 +251,6 @@ class Walk:
         if target is None:
             if word in BUILT_IN:
                 self.marks[n] = Target(None, "the language", word=word)
-            elif word == "now" and self.where.endswith(".rt"):
-                self.marks[n] = Target(None, "the logic of contracts", word=word)
             else:
                 self.problem(f"nothing is known of `{word}`")
             return None, False
@@ -266,21 +267,22 @@ class Walk:
             return definition.scope.signature_type(member.type_text)
         return member.type_given
 
-    def field(self, n, spine, last):
+    def field(self, n, kind, last):
+        """Marks a field of something of this type; gives the field's type."""
         name = field_name(self.tokens[n])
         if re.fullmatch(r"\d+", name):
             return None
+        if name in LENT and (kind.head == "Bor" if kind else self.where.endswith(".rt")):
+            self.marks[n] = Target(None, "the logic of contracts", word=name)
+            return kind if name == "entry" else kind.parameters[0] if kind and kind.parameters else None
         owner = None
-        if spine is not None and not spine.arguments and spine.head:
-            owner = next((d for d in self.names.owners.get(name, []) if d.place == spine.head), None)
+        if kind is not None and not kind.arguments and kind.head:
+            owner = next((d for d in self.names.owners.get(name, []) if d.place == kind.head), None)
         if owner is None:
             fields = (self.asked.get(last, set()) if last else set()) | {name}
             owner = self.names.owner(fields, self.scope) or self.names.owner([name], self.scope)
         if owner is None:
-            if name in ("entry", "exit"):
-                self.marks[n] = Target(None, "the logic of contracts", word=name)
-            else:
-                self.untold(n)
+            self.untold(n)
             return None
         self.marks[n] = Target(owner.members[name].place)
         return self.member_type(owner, owner.members[name])
@@ -371,7 +373,7 @@ class Walk:
         else:
             count = None
             for at in range(n, stop):  # the parts of an operator are no patterns
-                if self.tokens[at].text in definition.split("_"):
+                if self.tokens[at].text in words_of(definition):
                     self.marks[at] = "head"
             at = n
             while at < stop:
