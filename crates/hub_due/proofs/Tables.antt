@@ -12,7 +12,6 @@ use lib.Dec.{eqb, ltb}
 use lib.IntN.{ℤ, pos, negsuc}
 use lib.ListN.{length, get_or, set}
 use lib.Seq.{get_or-set_same, get_or-set_other}
-use Rattle.std.specs.Prelude.{if◌then◌else◌}
 use Rattle.rules.specs.Tables.{put, same_setting}
 use Rattle.rules.proofs.Lists.{by_if, this_or_other, same-setting, put_same, put_other}
 use Rattle.hub_state.specs.View.{no_restart, is_restart}

@@ -7,8 +7,6 @@ use mathlib.Core.Option.{Option, none, some}
 use Prim.Native.Nat.{ℕ, ◌+◌, ◌-◌, ◌≤◌, ◌<◌, ◌^◌}
 use native.Mathlib.Omega.{arith}
 use borrow.Author.Tests.{ltb-true, ltb-false, ne_eqb, eqb-false}
-use types.Run.{OneOf, miss}
-use denote.Enum.Declared.{tag_of}
 use lib.Dec.{ltb, eqb}
 use lib.ListN.{length, length-append}
 use Rattle.std.specs.Prelude.{if◌then◌else◌}
@@ -61,7 +59,6 @@ use Rattle.line_read.specs.declared.Call.{Call}
 use Rattle.line_read.specs.declared.Call.TheVariants.{Submit, Turn, Report, Cancel, Fail as Failure, Restart as Restarted}
 use Rattle.line_read.specs.declared.Line.{Line}
 use Rattle.line_read.specs.declared.Line.TheVariants.{Open, Calling, Unread}
-use Rattle.line_read.specs.contracts.Line.{the_type as line-type}
 use Rattle.line.specs.View.{hub_in, heard_of, call_in, FitsCall}
 use Rattle.line.specs.Contract.{is_accepted}
 
@@ -242,9 +239,9 @@ as-call h r {d} {cs} {c} {x} e f w =
     (subst (λ (l : List Command). Decides h.state l d (result_of (view h) (call_in x r))) f w)
 
 -- what is heard by a hub of no devices, and by one with devices
-pub heard_none : (l : Line) (n : ℕ) → n ≡ 0 → OneOf (0 ∷ 2 ∷ []) (tag_of line-type l) → l ≡ heard_of l n
+pub heard_none : (l : Line) (n : ℕ) → n ≡ 0 → ((c : Call) → l ≡ Calling c → ⊥) → l ≡ heard_of l n
 heard_none (Open a b d) n e h = refl
-heard_none (Calling c) n e h = absurd (miss (0 ∷ 2 ∷ []) 1 tt h)
+heard_none (Calling c) n e h = absurd (h c refl)
 heard_none Unread n e h = refl
 
 pub heard_some : (l : Line) (n : ℕ) → n ≢ 0 → l ≡ heard_of l n

@@ -2,10 +2,8 @@
 use mathlib.Core.Path.{◌≡◌, refl, sym, ap, ◌∙◌, subst}
 use mathlib.Core.Bool.{true, false}
 use mathlib.Core.List.{List, [], ◌∷◌, ◌++◌}
-use Prim.Native.Nat.{ℕ, ◌+◌}
+use Prim.Native.Nat.{ℕ}
 use native.Mathlib.Omega.{arith}
-use types.Run.{OneOf, miss}
-use denote.Enum.Declared.{tag_of}
 use Rattle.rules.specs.Answers.{Back, Answer as Said}
 use Rattle.rules.proofs.Lists.{t≠f}
 use Rattle.hub_answers.specs.View.{put_backs_of, one_of, event_abort_of, answer_of, answers_of}
@@ -16,8 +14,6 @@ use Rattle.hub_answers.specs.declared.Answer.TheVariants.{Held, NotHeld}
 use Rattle.hub_answers.specs.declared.EventAbort.{EventAbort}
 use Rattle.hub_answers.specs.declared.EventAbort.TheVariants.{NoAbort, Abort as AbortFirst}
 use Rattle.hub_answers.specs.declared.PutBacks.{PutBacks}
-use Rattle.hub_answers.specs.contracts.Answer.{the_type as answer-type}
-use Rattle.hub_answers.proofs.Cases.{not_aborted}
 use Rattle.hub_state.specs.Contract.{put_backs_by, put_backs_of_decision, told_by, WellTold}
 use Rattle.hub_state.specs.declared.HubState.{HubState}
 use Rattle.hub_state.specs.declared.Change.{Change}
@@ -30,7 +26,7 @@ use Rattle.line_print.proofs.PutLaws.{within, as_text, answers_one}
 use Rattle.line.specs.Contract.{is_abort}
 
 -- an answer that is no abort
-pub no_abort : (a : Answer) {f : EventAbort} → f ≡ NoAbort → OneOf not_aborted (tag_of answer-type a) → is_abort f a ≡ false
+pub no_abort : (a : Answer) {f : EventAbort} → f ≡ NoAbort → ((i : ℕ) → a ≡ Aborted i → ⊥) → is_abort f a ≡ false
 no_abort (Refused x) e h = ap (λ (f : EventAbort). is_abort f (Refused x)) e
 no_abort (Placed x) e h = ap (λ (f : EventAbort). is_abort f (Placed x)) e
 no_abort (Wait i j) e h = ap (λ (f : EventAbort). is_abort f (Wait i j)) e
@@ -38,7 +34,7 @@ no_abort (Sent x) e h = ap (λ (f : EventAbort). is_abort f (Sent x)) e
 no_abort (Done i) e h = ap (λ (f : EventAbort). is_abort f (Done i)) e
 no_abort (Skipped i) e h = ap (λ (f : EventAbort). is_abort f (Skipped i)) e
 no_abort (Committed i) e h = ap (λ (f : EventAbort). is_abort f (Committed i)) e
-no_abort (Aborted i) e h = absurd (miss not_aborted 7 tt h)
+no_abort (Aborted i) e h = absurd (h i refl)
 no_abort (Down d i) e h = ap (λ (f : EventAbort). is_abort f (Down d i)) e
 no_abort (Up d i) e h = ap (λ (f : EventAbort). is_abort f (Up d i)) e
 no_abort (Limited k) e h = ap (λ (f : EventAbort). is_abort f (Limited k)) e

@@ -1,5 +1,5 @@
-// The line program on byte slices: document 01, "The line program". Here stand the calls that others make: the exported one for C, the one
-// over a hub that is lent and changed there, and those for an input that comes in parts. All below them is by value.
+// The line program on byte slices: document 01, "The line program". Here stand the calls that others make: the one that crate `line_c`
+// exports to C, the one over a hub that is lent and changed there, and those for an input that comes in parts. All below them is by value.
 #![tactic(auto)]
 
 mod lines;
@@ -96,9 +96,8 @@ pub fn run(hub: &mut Hub, input: &[u8], out: &mut [u8]) -> i64
 }
 
 // "called from a web server written in C, on two byte slices: the input, and a lent buffer for the output; the result is the length written
-// .. or −21".
-#[unsafe(no_mangle)]
-pub extern "C" fn plot_hub_run(input: &[u8], out: &mut [u8]) -> i64
+// .. or −21". Crate `line_c` exports it to C under this name.
+pub fn plot_hub_run(input: &[u8], out: &mut [u8]) -> i64
     ensures answers { result ≡ length_or21 (program_text input.now) (length out.old) }
     ensures leaves { out.new ≡ buffer_with (program_text input.now) out.old }
 {

@@ -1,5 +1,5 @@
 -- Laws of the reasons: of bytes from a place on, of the words by their places, and one for each way out. Assumes nothing.
-use mathlib.Core.Path.{◌≡◌, refl, sym, ap, subst, ◌∙◌}
+use mathlib.Core.Path.{◌≡◌, refl, sym, ap, ◌∙◌}
 use mathlib.Core.Logic.{◌≢◌}
 use mathlib.Core.Bool.{Bool, true, false, ◌&&◌, and-false}
 use mathlib.Core.List.{List, [], ◌∷◌}
@@ -17,7 +17,6 @@ use Rattle.line_rules.specs.Reading.{is_digit, Line as Said, opening, calling, u
 use Rattle.line_read.specs.Places.{behind_letter, word_at, word_end, words_from}
 use Rattle.line_read.specs.View.{read_as}
 use Rattle.line_read.specs.declared.Call.{Call}
-use Rattle.line_read.specs.declared.Line.{Line}
 use Rattle.line_read.specs.declared.Line.TheVariants.{Calling, Unread}
 use Rattle.line_read.specs.declared.LineRead.{LineRead}
 use Rattle.line_read.proofs.WordLaws.{word_past, word_none, word_more, words_first, words_all}

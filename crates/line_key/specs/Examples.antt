@@ -1,7 +1,6 @@
 -- Inputs by computation: document 01's listing; and one with lines before the last accepted `O`, lines that are not read, openings that are
 -- turned down, and a routine that runs at the end. The theorem is not used. Assumes nothing.
 use Rattle.std.specs.Prelude.{◌≡◌, refl, true, false, List, [], ◌∷◌, ◌++◌, ℕ, zero, suc, pos}
-use Rattle.std.proofs.Common.{sym, ◌∙◌}
 use Rattle.std.proofs.Math.Option.{none}
 use Rattle.rules_routine.specs.declared.Refusal.TheVariants.{Number}
 use Rattle.rules.specs.Answers.{Call, submit, turn, report, failure, restart, cancel, Answer, refused, placed, send, done, committed}
@@ -92,8 +91,8 @@ unfolding calc listing_last
 listing_text = refl
 
 pub listing_key : Key listing
-unfolding calc
-listing_key = record { last = listing_last; text_is = listing-printed ∙ sym listing_text }
+unfolding calc listing_last
+listing_key = record { last = listing_last; text_is = listing-printed }
 
 -- ---- more before the last accepted `O`, and less calm behind it
 
@@ -149,7 +148,8 @@ unfolding calc
 running_printed = refl
 
 pub running_key : Key running
-running_key = record { last = running_last; text_is = running_printed ∙ sym running-text }
+unfolding calc running_last
+running_key = record { last = running_last; text_is = running_printed }
 
 -- ---- no accepted `O`
 

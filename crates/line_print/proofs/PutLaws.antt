@@ -7,7 +7,6 @@ use native.Mathlib.Nat.{add-zero, zero-add}
 use native.Mathlib.Numerals.{add-one}
 use native.Mathlib.Omega.{arith}
 use borrow.Author.Tests.{ltb-true}
-use denote.Enum.Declared.{tag_of}
 use lib.Dec.{T}
 use lib.IntN.{ℤ, pos, negsuc, nat_abs, ◌-ℤ◌}
 use lib.ListN.{length, take, drop, get_or, length-append, length-map}
@@ -25,7 +24,6 @@ use Rattle.hub_answers.specs.declared.EventAbort.{EventAbort}
 use Rattle.hub_answers.specs.declared.EventAbort.TheVariants.{NoAbort, Abort}
 use Rattle.hub_answers.specs.declared.PutBack.{PutBack}
 use Rattle.hub_answers.specs.declared.PutBacks.{PutBacks}
-use Rattle.hub_answers.specs.contracts.Answer.{the_type}
 use Rattle.line_rules.specs.Text.{minus, bytes, decimal, signed}
 use Rattle.line_rules.specs.Reading.{lowest16}
 use Rattle.line_rules.specs.Printing.{as_line, back_list, answer_text, answers_text}

@@ -1,107 +1,97 @@
-// Prints what reading a book gives: a line for each routine and then `end`, or the refusal.
+// Prints what reading a book gives: a line for each routine and then `end`, or the refusal. Each function that prints says whether all of
+// it could be written.
 #![tactic(auto)]
 
 ghost use Rattle.std.specs.Prelude.{◌<◌};
 
 use book_layout::{Item, Next};
 use book_read::reader;
-use libc::STDOUT_FILENO;
 use rules_routine::limits::{MAX_COMMANDS, MAX_ROUTINES};
 use rules_routine::{Command, Refusal, Routine};
+use std::io;
 
-// What is left to print: 0 if a step could not be written, 1 if all is printed, else one more than the steps that may come. A whole
-// reading has a step for each routine, and the end.
-const NOT_WRITTEN: usize = 0;
-
+// What is left to print: 1 if all is printed, else one more than the steps that may come. A whole reading has a step for each routine, and
+// the end.
 const PRINTED: usize = 1;
 
 const WHOLE: usize = PRINTED + MAX_ROUTINES + 1;
 
-// Each function that prints says whether all of it could be written.
-
 // A space and a number.
-pub fn print_number(n: u64) -> bool {
-    io::write_all(STDOUT_FILENO, b" ") && io::print_decimal(STDOUT_FILENO, n)
+pub fn print_number(rt: &impl Print, n: u64) -> io::Result<()> {
+    print!(rt; " {n}")
 }
 
-pub fn print_setting(setting: i16) -> bool {
-    let bits = book_layout::bits_of(setting) as u64;
-    if bits < 32768 {
-        print_number(bits)
-    } else {
-        io::write_all(STDOUT_FILENO, b" -") && io::print_decimal(STDOUT_FILENO, 65536 - bits)
-    }
+pub fn print_setting(rt: &impl Print, setting: i16) -> io::Result<()> {
+    print!(rt; " {setting}")
 }
 
 // The word, the number, and the index if there is one; no line's end.
-pub fn print_refusal(refusal: Refusal) -> bool {
-    if !io::write_all(STDOUT_FILENO, b"refused") {
-        return false;
-    }
+pub fn print_refusal(rt: &impl Print, refusal: Refusal) -> io::Result<()> {
     match refusal {
-        Refusal::Number(number) => print_number(number as u64),
-        Refusal::Indexed(number, index) => print_number(number as u64)
-            && print_number(index as u64),
+        Refusal::Number(number) => print!(rt; "refused {number}"),
+        Refusal::Indexed(number, index) => print!(rt; "refused {number} {index}"),
     }
 }
 
-fn print_command(command: Command) -> bool {
-    let setting = command.setting;
-    print_number(command.device as u64)
-        && print_number(command.tag as u64)
-        && print_setting(setting)
+fn print_command(rt: &impl Print, command: Command) -> io::Result<()> {
+    let Command {
+        device,
+        tag,
+        setting,
+    } = command;
+    print!(rt; " {device} {tag} {setting}")
 }
 
-fn print_commands(routine: Routine) -> bool {
+fn print_commands(rt: &impl Print, routine: Routine) -> io::Result<()> {
     for i in 0..MAX_COMMANDS {
         if routine.count <= i {
-            return true;
+            return Ok(());
         }
         let command = routine.commands[i];
-        if !print_command(command) {
-            return false;
-        }
+        print_command(rt, command)?;
     }
-    true
+    Ok(())
 }
 
-fn print_routine(routine: Routine) -> bool {
-    io::write_all(STDOUT_FILENO, b"routine")
-        && print_commands(routine)
-        && io::write_all(STDOUT_FILENO, b"\n")
+fn print_routine(rt: &impl Print, routine: Routine) -> io::Result<()> {
+    print!(rt; "routine")?;
+    print_commands(rt, routine)?;
+    println!(rt)
 }
 
-fn print_item(item: Item, routine: Routine) -> bool {
+fn print_item(rt: &impl Print, item: Item, routine: Routine) -> io::Result<()> {
     match item {
-        Item::Handed => print_routine(routine),
-        Item::End => io::write_all(STDOUT_FILENO, b"end\n"),
-        Item::Refused(refusal) => print_refusal(refusal) && io::write_all(STDOUT_FILENO, b"\n"),
+        Item::Handed => print_routine(rt, routine),
+        Item::End => println!(rt; "end"),
+        Item::Refused(refusal) => {
+            print_refusal(rt, refusal)?;
+            println!(rt)
+        }
     }
 }
 
 // A step of reading; what is left after it is less.
-fn print_step(step: Next, left: usize) -> usize
-    requires { 1 < left }
-    ensures { result < left }
+fn print_step(rt: &impl Print, step: Next, left: &mut usize) -> io::Result<()>
+    requires { 1 < left.old }
+    ensures { left.new < left.old }
 {
     let item = step.item;
     let routine = step.routine;
-    if !print_item(item, routine) {
-        return NOT_WRITTEN;
-    }
-    let Item::Handed = item else {
-        return PRINTED;
+    *left = if let Item::Handed = item {
+        *left - 1
+    } else {
+        PRINTED
     };
-    left - 1
+    print_item(rt, item, routine)
 }
 
 // The whole book, as the reader hands it out.
-pub fn print_book(book: &[u8]) -> bool {
+pub fn print_book(rt: &impl Print, book: &[u8]) -> io::Result<()> {
     let mut reader = reader::start(book);
     let mut left = WHOLE;
     while PRINTED < left {
         let step = reader::advance(&mut reader);
-        left = print_step(step, left);
+        print_step(rt, step, &mut left)?;
     }
-    left == PRINTED
+    Ok(())
 }

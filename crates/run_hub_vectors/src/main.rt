@@ -9,82 +9,79 @@ mod readings;
 ghost use Rattle.hub.specs.Valid.{Valid};
 
 use hub::Hub;
-use libc::STDOUT_FILENO;
 use rules_routine::Verdict;
+use std::io;
 
 // A record's first byte: is it a book?
 const BOOK: usize = 1;
 
-// A call, or a reading of due settings. The hub after it.
-fn run_call(hub: Hub, call: &[u8]) -> Hub
-    requires { Valid hub }
-    ensures { Valid result }
+// A call, or a reading of due settings. The hub becomes the one after it, before anything is printed.
+fn run_call(rt: &impl Print, hub: &mut Hub, call: &[u8]) -> io::Result<()>
+    requires { Valid hub.old }
+    ensures { Valid hub.new }
 {
     let letter = run_records::byte_at(call, 0);
     let small = calls::small_at(call, 1);
     if letter == calls::ONE {
-        readings::print_one(hub, small);
-        return hub;
+        return readings::print_one(rt, *hub, small);
     }
     if letter == calls::LIST {
         let before = calls::setting_at(call, 2);
-        readings::print_list(hub, small, before);
-        return hub;
+        return readings::print_list(rt, *hub, small, before);
     }
-    let outcome = calls::called(hub, call);
-    print::print_outcome(outcome);
-    outcome.hub
+    let outcome = calls::called(*hub, call);
+    *hub = outcome.hub;
+    print::print_outcome(rt, outcome)
 }
 
 // The calls behind the opening, and then the device lines.
-fn run_calls(opened: Hub, bytes: &[u8])
+fn run_calls(rt: &impl Print, opened: Hub, bytes: &[u8]) -> io::Result<()>
     requires { Valid opened }
 {
     let mut now = opened;
     let mut at = calls::OPENING_SIZE;
     while at < bytes.len() {
-        let next = run_call(now, &bytes[at..]);
-        now = next;
+        run_call(rt, &mut now, &bytes[at..])?;
         at += calls::CALL_SIZE;
     }
-    print::print_devices(now);
+    print::print_devices(rt, now)
 }
 
-fn run_hub(bytes: &[u8]) {
+fn run_hub(rt: &impl Print, bytes: &[u8]) -> io::Result<()> {
     let opened = calls::opened(bytes);
     let verdict = opened.verdict;
     let Verdict::Refused(refusal) = verdict else {
-        io::write_all(STDOUT_FILENO, b"opened\n");
-        run_calls(opened.hub, bytes);
-        return;
+        println!(rt; "opened")?;
+        return run_calls(rt, opened.hub, bytes);
     };
-    run_book_print::print_refusal(refusal);
-    io::write_all(STDOUT_FILENO, b"\n");
+    run_book_print::print_refusal(rt, refusal)?;
+    println!(rt)
 }
 
-fn run_record(bytes: &[u8]) {
+fn run_record(rt: &impl Print, bytes: &[u8]) -> io::Result<()> {
     if run_records::byte_at(bytes, 0) == BOOK {
         if 0 < bytes.len() {
-            run_book_print::print_book(&bytes[1..]);
+            run_book_print::print_book(rt, &bytes[1..])?;
         }
-        return;
+        return Ok(());
     }
-    run_hub(bytes);
+    run_hub(rt, bytes)
 }
 
-fn run_all(all: &[u8]) {
+fn run_all(rt: &impl Print, all: &[u8]) -> io::Result<()> {
     let mut at = 0;
     while at < all.len() {
         let record = run_records::part_at(all, at);
         let from = record.from;
         let to = record.to;
-        run_record(&all[from..to]);
+        run_record(rt, &all[from..to])?;
         at = to;
     }
+    Ok(())
 }
 
-fn main() {
+fn main(rt: HostRuntime) -> io::Result<()> {
     let mut buffer = run_records::room();
-    let n = run_records::load(&mut buffer);
-    run_all(&buffer[..n]);
+    let n = run_records::load(&rt, &mut buffer);
+    run_all(&rt, &buffer[..n])
 }

@@ -2,161 +2,99 @@
 ghost use Rattle.hub.specs.Valid.{Valid};
 
 use hub::{Hub, Outcome};
-use hub_answers::{Answer, EventAbort, PutBacks};
-use libc::STDOUT_FILENO;
+use hub_answers::{Answer, EventAbort, Placed, PutBacks, Sent};
 use rules_routine::limits::MAX_DEVICES;
 use run_book_print::{print_number, print_refusal, print_setting};
-
-fn print_line_end() {
-    io::write_all(STDOUT_FILENO, b"\n");
-}
-
-fn print_id(id: u32) {
-    print_number(id as u64);
-}
+use std::io;
 
 // "`back` a count, then device and setting for each"
-fn print_backs(backs: PutBacks) {
-    io::write_all(STDOUT_FILENO, b" back");
+fn print_backs(rt: &impl Print, backs: PutBacks) -> io::Result<()> {
     let count = backs.count;
-    print_number(count as u64);
+    print!(rt; " back {count}")?;
     let mut i = 0;
     while i < count {
         if i < MAX_DEVICES {
             let back = backs.items[i];
-            print_number(back.device as u64);
+            print_number(rt, back.device as u64)?;
             let setting = back.setting;
-            print_setting(setting);
+            print_setting(rt, setting)?;
         }
         i += 1;
     }
+    Ok(())
 }
 
-fn print_aborted(id: u32, backs: PutBacks) {
-    io::write_all(STDOUT_FILENO, b"aborted");
-    print_id(id);
-    print_backs(backs);
-    print_line_end();
+fn print_aborted(rt: &impl Print, id: u32, backs: PutBacks) -> io::Result<()> {
+    print!(rt; "aborted {id}")?;
+    print_backs(rt, backs)?;
+    println!(rt)
 }
 
 // "`skipped 1` (followed by `back` in the same form where a setting was sent back)"
-fn print_skipped(id: u32, backs: PutBacks) {
-    io::write_all(STDOUT_FILENO, b"skipped");
-    print_id(id);
+fn print_skipped(rt: &impl Print, id: u32, backs: PutBacks) -> io::Result<()> {
+    print!(rt; "skipped {id}")?;
     let count = backs.count;
     if 0 < count {
-        print_backs(backs);
+        print_backs(rt, backs)?;
     }
-    print_line_end();
+    println!(rt)
 }
 
-fn print_event(device: u8, id: u32) {
-    print_number(device as u64);
-    io::write_all(STDOUT_FILENO, b" after");
-    print_id(id);
-    print_line_end();
+fn print_placed(rt: &impl Print, placed: Placed) -> io::Result<()> {
+    let Placed { id, after } = placed;
+    println!(rt; "placed {id} after {after}")
 }
 
-fn print_placed(placed: hub_answers::Placed) {
-    io::write_all(STDOUT_FILENO, b"placed");
-    print_id(placed.id);
-    io::write_all(STDOUT_FILENO, b" after");
-    print_id(placed.after);
-    print_line_end();
-}
-
-fn print_sent(sent: hub_answers::Sent) {
-    io::write_all(STDOUT_FILENO, b"send");
-    print_id(sent.id);
+fn print_sent(rt: &impl Print, sent: Sent) -> io::Result<()> {
+    let id = sent.id;
     let command = sent.command;
-    print_number(command.device as u64);
+    let device = command.device;
     let setting = command.setting;
-    print_setting(setting);
-    print_line_end();
+    println!(rt; "send {id} {device} {setting}")
 }
 
-fn print_wait(id: u32, other: u32) {
-    io::write_all(STDOUT_FILENO, b"wait");
-    print_id(id);
-    io::write_all(STDOUT_FILENO, b" on");
-    print_id(other);
-    print_line_end();
-}
-
-fn print_limited(limit: u8) {
-    io::write_all(STDOUT_FILENO, b"limited");
-    print_number(limit as u64);
-    print_line_end();
-}
-
-fn print_answer(answer: Answer, backs: PutBacks) {
+fn print_answer(rt: &impl Print, answer: Answer, backs: PutBacks) -> io::Result<()> {
     match answer {
         Answer::Refused(refusal) => {
-            print_refusal(refusal);
-            print_line_end();
+            print_refusal(rt, refusal)?;
+            println!(rt)
         }
-        Answer::Placed(placed) => print_placed(placed),
-        Answer::Wait(id, other) => print_wait(id, other),
-        Answer::Sent(sent) => print_sent(sent),
-        Answer::Done(id) => {
-            io::write_all(STDOUT_FILENO, b"done");
-            print_id(id);
-            print_line_end();
-        }
-        Answer::Skipped(id) => print_skipped(id, backs),
-        Answer::Committed(id) => {
-            io::write_all(STDOUT_FILENO, b"committed");
-            print_id(id);
-            print_line_end();
-        }
-        Answer::Aborted(id) => print_aborted(id, backs),
-        Answer::Down(device, id) => {
-            io::write_all(STDOUT_FILENO, b"down");
-            print_event(device, id);
-        }
-        Answer::Up(device, id) => {
-            io::write_all(STDOUT_FILENO, b"up");
-            print_event(device, id);
-        }
-        Answer::Limited(limit) => print_limited(limit),
-        Answer::Held(id) => {
-            io::write_all(STDOUT_FILENO, b"held");
-            print_id(id);
-            print_line_end();
-        }
-        Answer::NotHeld(id) => {
-            io::write_all(STDOUT_FILENO, b"not held");
-            print_id(id);
-            print_line_end();
-        }
+        Answer::Placed(placed) => print_placed(rt, placed),
+        Answer::Wait(id, other) => println!(rt; "wait {id} on {other}"),
+        Answer::Sent(sent) => print_sent(rt, sent),
+        Answer::Done(id) => println!(rt; "done {id}"),
+        Answer::Skipped(id) => print_skipped(rt, id, backs),
+        Answer::Committed(id) => println!(rt; "committed {id}"),
+        Answer::Aborted(id) => print_aborted(rt, id, backs),
+        Answer::Down(device, id) => println!(rt; "down {device} after {id}"),
+        Answer::Up(device, id) => println!(rt; "up {device} after {id}"),
+        Answer::Limited(limit) => println!(rt; "limited {limit}"),
+        Answer::Held(id) => println!(rt; "held {id}"),
+        Answer::NotHeld(id) => println!(rt; "not held {id}"),
     }
 }
 
-pub fn print_outcome(outcome: Outcome) {
+pub fn print_outcome(rt: &impl Print, outcome: Outcome) -> io::Result<()> {
     let backs = outcome.put_backs;
     let first = outcome.first;
     match first {
         EventAbort::NoAbort => {}
-        EventAbort::Abort(id) => print_aborted(id, backs),
+        EventAbort::Abort(id) => print_aborted(rt, id, backs)?,
     }
     let answer = outcome.answer;
-    print_answer(answer, backs);
+    print_answer(rt, answer, backs)
 }
 
-fn print_device(device: u8, up: bool, due: i16) {
-    io::write_all(STDOUT_FILENO, b"device");
-    print_number(device as u64);
+fn print_device(rt: &impl Print, device: u8, up: bool, due: i16) -> io::Result<()> {
     if up {
-        io::write_all(STDOUT_FILENO, b" up");
-        print_setting(due);
+        println!(rt; "device {device} up {due}")
     } else {
-        io::write_all(STDOUT_FILENO, b" down");
+        println!(rt; "device {device} down")
     }
-    print_line_end();
 }
 
 // One line a device, with its due setting if it is up.
-pub fn print_devices(hub: Hub)
+pub fn print_devices(rt: &impl Print, hub: Hub) -> io::Result<()>
     requires { Valid hub }
 {
     let mut table = [0i16; MAX_DEVICES];
@@ -168,8 +106,9 @@ pub fn print_devices(hub: Hub)
         if d < MAX_DEVICES {
             let due = table[d];
             let up = hub::is_up(hub, device);
-            print_device(device, up, due);
+            print_device(rt, device, up, due)?;
         }
         device += 1;
     }
+    Ok(())
 }

@@ -2,52 +2,49 @@
 ghost use Rattle.hub.specs.Valid.{Valid};
 
 use hub::Hub;
-use libc::STDOUT_FILENO;
 use rules_routine::Verdict;
 use run_book_print::{print_refusal, print_setting};
+use std::io;
 
 // Room for more settings than there can be devices.
 const ROOM: usize = 40;
 
 // One device, which the hub need not have.
-pub fn print_one(hub: Hub, device: u8)
+pub fn print_one(rt: &impl Print, hub: Hub, device: u8) -> io::Result<()>
     requires { Valid hub }
 {
     let due = hub::due_setting(hub, device);
-    io::write_all(STDOUT_FILENO, b"due");
-    print_setting(due);
-    io::write_all(STDOUT_FILENO, b"\n");
+    println!(rt; "due {due}")
 }
 
-fn print_settings(list: &[i16]) {
-    let mut i = 0;
-    while i < list.len() {
-        let setting = list[i];
-        print_setting(setting);
-        i += 1;
+fn print_settings(rt: &impl Print, list: &[i16]) -> io::Result<()> {
+    for setting in list {
+        print_setting(rt, *setting)?;
     }
+    Ok(())
 }
 
-fn print_verdict(verdict: Verdict) {
+fn print_verdict(rt: &impl Print, verdict: Verdict) -> io::Result<()> {
     if let Verdict::Refused(refusal) = verdict {
-        print_refusal(refusal);
-        io::write_all(STDOUT_FILENO, b"\n");
+        print_refusal(rt, refusal)?;
+        println!(rt)?;
     }
+    Ok(())
 }
 
 // Lends the first entries of a list that holds the same number everywhere. Prints the refusal, if there is one, and then the whole list,
 // what was not lent of it included.
-pub fn print_list(hub: Hub, lent: u8, before: i16)
+pub fn print_list(rt: &impl Print, hub: Hub, lent: u8, before: i16) -> io::Result<()>
     requires { Valid hub }
 {
     let mut list = [before; ROOM];
     let end = lent as usize;
     if ROOM < end {
-        return;
+        return Ok(());
     }
     let verdict = hub::due_settings(hub, &mut list[..end]);
-    print_verdict(verdict);
-    io::write_all(STDOUT_FILENO, b"list");
-    print_settings(&list);
-    io::write_all(STDOUT_FILENO, b"\n");
+    print_verdict(rt, verdict)?;
+    print!(rt; "list")?;
+    print_settings(rt, &list)?;
+    println!(rt)
 }

@@ -17,14 +17,14 @@ struct Read {
 }
 
 // Writes what a part, or the end of the input, adds to what is printed.
-fn print(text: &[u8]) -> bool
+fn print(rt: &(impl Print + Eprint), text: &[u8]) -> bool
     requires { Adds text.now }
 {
-    run_streams::write_out(b"plot_hub", text)
+    run_streams::write_out(rt, "plot_hub", text)
 }
 
 // Part by part to the end of the input. Nothing says that an input ends, so the loop counts its turns down.
-fn read_all(input: &mut [u8], out: &mut [u8]) -> Read
+fn read_all(rt: &(impl Input + Print + Eprint), input: &mut [u8], out: &mut [u8]) -> Read
     requires { (suc max_line < length input.old) × (room_for (length input.old) ≤ length out.old) }
     ensures { Reached result.hub result.pending input.new }
 {
@@ -32,7 +32,7 @@ fn read_all(input: &mut [u8], out: &mut [u8]) -> Read
     let mut pending = 0usize;
     let mut turns = u64::MAX;
     while turns > 0 {
-        let got = run_streams::read_behind(b"plot_hub", input, pending);
+        let got = run_streams::read_behind(rt, "plot_hub", input, pending);
         if got.count == 0 {
             return Read {
                 hub,
@@ -44,7 +44,7 @@ fn read_all(input: &mut [u8], out: &mut [u8]) -> Read
         hub = step.hub;
         pending = step.pending;
         let length = step.length;
-        if !print(&out[..length]) {
+        if !print(rt, &out[..length]) {
             return Read {
                 hub,
                 pending,
@@ -60,13 +60,13 @@ fn read_all(input: &mut [u8], out: &mut [u8]) -> Read
     }
 }
 
-fn main() {
+fn main(rt: HostRuntime) {
     let mut input = line_parts::input_buffer();
     let mut out = line_parts::out_buffer();
-    let read = read_all(&mut input, &mut out);
+    let read = read_all(&rt, &mut input, &mut out);
     if read.good {
         let hub = read.hub;
         let length = line_parts::take_end(hub, read.pending, &input, &mut out);
-        print(&out[..length]);
+        print(&rt, &out[..length]);
     }
 }

@@ -56,7 +56,7 @@ fn run_line(tally: Tally, line: &[u8], out: &mut [u8]) -> Tally
 }
 
 // A line, the next one.
-fn take_line(tally: Tally, line: &[u8], out: &mut [u8]) -> Tally
+fn take_line(rt: &impl Print, tally: Tally, line: &[u8], out: &mut [u8]) -> Tally
     requires { (Valid tally.hub) × (0 < length out.old) }
     ensures { Valid result.hub }
 {
@@ -65,7 +65,7 @@ fn take_line(tally: Tally, line: &[u8], out: &mut [u8]) -> Tally
     let opened = 0 < hub::device_count(hub);
     let hint = line_hints::of_line(line, opened);
     let Hint::Nothing = hint else {
-        let written = said::say(number, hint);
+        let written = said::say(rt, number, hint).is_ok();
         return Tally {
             hub,
             lines: number,
@@ -85,7 +85,7 @@ fn take_line(tally: Tally, line: &[u8], out: &mut [u8]) -> Tally
 }
 
 // Whole lines in turn.
-fn take_lines(tally: Tally, input: &[u8], out: &mut [u8]) -> Tally
+fn take_lines(rt: &impl Print, tally: Tally, input: &[u8], out: &mut [u8]) -> Tally
     requires { (Valid tally.hub) × (0 < length out.old) }
     ensures { Valid result.hub }
 {
@@ -93,7 +93,7 @@ fn take_lines(tally: Tally, input: &[u8], out: &mut [u8]) -> Tally
     let mut from = 0;
     while from < input.len() {
         let end = line_read::line_end(input, from);
-        so_far = take_line(so_far, &input[from..end], out);
+        so_far = take_line(rt, so_far, &input[from..end], out);
         from = end + 1;
     }
     so_far
@@ -107,12 +107,18 @@ struct Taken {
 }
 
 // The bytes read so far behind the lines that were taken: the whole lines of them are taken, and the rest is pending.
-fn take_part(tally: Tally, filled: usize, input: &mut [u8], out: &mut [u8]) -> Taken
+fn take_part(
+    rt: &impl Print,
+    tally: Tally,
+    filled: usize,
+    input: &mut [u8],
+    out: &mut [u8],
+) -> Taken
     requires { (Valid tally.hub) × (filled ≤ length input.old) × (0 < length out.old) }
     ensures { (Valid result.tally.hub) × (result.pending ≤ length input.new) }
 {
     let whole = line_parts::whole::whole_length(&input[..filled]);
-    let taken = take_lines(tally, &input[..whole], out);
+    let taken = take_lines(rt, tally, &input[..whole], out);
     let pending = line_parts::whole::keep(input, whole, filled);
     Taken {
         tally: taken,
@@ -130,7 +136,7 @@ struct Read {
 
 // Part by part to the end of the input. Nothing says that an input ends, so the loop counts its turns down. What cannot be read is told
 // under the name of the command.
-fn read_all(input: &mut [u8], out: &mut [u8]) -> Read
+fn read_all(rt: &(impl Input + Print + Eprint), input: &mut [u8], out: &mut [u8]) -> Read
     requires { 0 < length out.old }
     ensures { (Valid result.tally.hub) × (result.pending ≤ length input.new) }
 {
@@ -145,7 +151,7 @@ fn read_all(input: &mut [u8], out: &mut [u8]) -> Read
     let mut pending = 0usize;
     let mut turns = u64::MAX;
     while turns > 0 {
-        let got = run_streams::read_behind(b"plot_hub", input, pending);
+        let got = run_streams::read_behind(rt, "plot_hub", input, pending);
         if got.count == 0 {
             return Read {
                 tally,
@@ -153,7 +159,7 @@ fn read_all(input: &mut [u8], out: &mut [u8]) -> Read
                 good: got.good,
             };
         }
-        let taken = take_part(tally, pending + got.count, input, out);
+        let taken = take_part(rt, tally, pending + got.count, input, out);
         tally = taken.tally;
         pending = taken.pending;
         turns -= 1;
@@ -166,27 +172,27 @@ fn read_all(input: &mut [u8], out: &mut [u8]) -> Read
 }
 
 // The line whose end has not come, if there is one.
-fn take_last(tally: Tally, pending: &[u8], out: &mut [u8]) -> Tally
+fn take_last(rt: &impl Print, tally: Tally, pending: &[u8], out: &mut [u8]) -> Tally
     requires { (Valid tally.hub) × (0 < length out.old) }
     ensures { Valid result.hub }
 {
     if pending.len() == 0 {
         return tally;
     }
-    take_line(tally, pending, out)
+    take_line(rt, tally, pending, out)
 }
 
-fn main() {
+fn main(rt: HostRuntime) {
     let mut input = line_parts::input_buffer();
     let mut out = [0u8; OUT_ROOM];
-    let read = read_all(&mut input, &mut out);
+    let read = read_all(&rt, &mut input, &mut out);
     if read.good {
         let pending = read.pending;
         let tally = read.tally;
-        let all = take_last(tally, &input[..pending], &mut out);
-        let told = said::sum_up(all.lines, all.unread, all.refused);
+        let all = take_last(&rt, tally, &input[..pending], &mut out);
+        let told = said::sum_up(&rt, all.lines, all.unread, all.refused).is_ok();
         if !(all.good && told) {
-            run_streams::say_not_written(b"plot_hub");
+            run_streams::say_not_written(&rt, "plot_hub");
         }
     }
 }

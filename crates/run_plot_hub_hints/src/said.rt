@@ -1,68 +1,38 @@
-// What is said of an unread line, and at the end.
-use libc::STDOUT_FILENO;
+// What is said of an unread line, and at the end. Each function says whether all of it could be written.
 use line_hints::Hint;
 use rules_routine::limits::MAX_LINE;
+use std::io;
 
-fn put(text: &[u8]) -> bool {
-    io::write_all(STDOUT_FILENO, text)
-}
-
-fn put_number(number: u64) -> bool {
-    io::print_decimal(STDOUT_FILENO, number)
-}
-
-fn put_too_long() -> bool {
-    let begun = put(b"longer than ");
-    let counted = put_number(MAX_LINE as u64);
-    let ended = put(b" bytes\n");
-    begun && counted && ended
-}
-
-fn put_reason(hint: Hint) -> bool {
+fn put_reason(rt: &impl Print, hint: Hint) -> io::Result<()> {
     match hint {
-        Hint::Nothing => true,
-        Hint::TooLong => put_too_long(),
-        Hint::Empty => put(b"an empty line\n"),
-        Hint::CarriageReturn => put(b"a carriage return\n"),
-        Hint::OtherByte => put(
-            b"a character that no line has, such as a tab or an accented letter\n",
-        ),
-        Hint::SpaceAtEnd => put(b"a space at its end\n"),
-        Hint::SpaceAtStart => put(b"a space at its start\n"),
-        Hint::SpacesTogether => put(b"two spaces together\n"),
-        Hint::LowerCase => put(b"a lower-case letter for the call\n"),
-        Hint::NoCall => put(b"no call of that name\n"),
-        Hint::TooFew => put(b"too few words\n"),
-        Hint::TooMany => put(b"too many words\n"),
-        Hint::NoNumber => put(b"a word that is no number\n"),
-        Hint::OutsideWidth => put(b"a number outside its width\n"),
-        Hint::NoHub => put(b"no hub yet\n"),
+        Hint::Nothing => Ok(()),
+        Hint::TooLong => println!(rt; "longer than {MAX_LINE} bytes"),
+        Hint::Empty => println!(rt; "an empty line"),
+        Hint::CarriageReturn => println!(rt; "a carriage return"),
+        Hint::OtherByte => {
+            println!(rt; "a character that no line has, such as a tab or an accented letter")
+        }
+        Hint::SpaceAtEnd => println!(rt; "a space at its end"),
+        Hint::SpaceAtStart => println!(rt; "a space at its start"),
+        Hint::SpacesTogether => println!(rt; "two spaces together"),
+        Hint::LowerCase => println!(rt; "a lower-case letter for the call"),
+        Hint::NoCall => println!(rt; "no call of that name"),
+        Hint::TooFew => println!(rt; "too few words"),
+        Hint::TooMany => println!(rt; "too many words"),
+        Hint::NoNumber => println!(rt; "a word that is no number"),
+        Hint::OutsideWidth => println!(rt; "a number outside its width"),
+        Hint::NoHub => println!(rt; "no hub yet"),
     }
 }
 
 // The number of a line, and why it is unread.
-pub fn say(number: u64, hint: Hint) -> bool {
-    let begun = put(b"line ");
-    let counted = put_number(number);
-    let middle = put(b": unread: ");
-    let told = put_reason(hint);
-    begun && counted && middle && told
-}
-
-fn put_lines(lines: u64) -> bool {
-    let counted = put_number(lines);
-    if lines == 1 {
-        return put(b" line: ") && counted;
-    }
-    put(b" lines: ") && counted
+pub fn say(rt: &impl Print, number: u64, hint: Hint) -> io::Result<()> {
+    print!(rt; "line {number}: unread: ")?;
+    put_reason(rt, hint)
 }
 
 // How many lines there were, and how many of them were unread and refused.
-pub fn sum_up(lines: u64, unread: u64, refused: u64) -> bool {
-    let begun = put_lines(lines);
-    let first = put_number(unread);
-    let middle = put(b" unread, ");
-    let second = put_number(refused);
-    let told = put(b" refused\n");
-    begun && first && middle && second && told
+pub fn sum_up(rt: &impl Print, lines: u64, unread: u64, refused: u64) -> io::Result<()> {
+    let name = if lines == 1 { "line" } else { "lines" };
+    println!(rt; "{lines} {name}: {unread} unread, {refused} refused")
 }

@@ -1,13 +1,16 @@
 // A book is read and printed; if it is accepted, it is copied, that is read and written again, and the copy compared with it.
 use book_layout::Written;
-use libc::STDOUT_FILENO;
 use rules_routine::Verdict;
+use std::io;
+
+// Room for a copy of any book that is accepted.
+const ROOM: usize = 4096;
 
 fn starts_with(out: &[u8], size: usize, book: &[u8]) -> bool {
     if out.len() < size {
         return false;
     }
-    check::same(book, &out[..size])
+    book == &out[..size]
 }
 
 fn copied_into(book: &[u8], out: &mut [u8]) -> bool {
@@ -19,19 +22,19 @@ fn copied_into(book: &[u8], out: &mut [u8]) -> bool {
 }
 
 fn copied_same(book: &[u8]) -> bool {
-    let mut out = io::buffer();
+    let mut out = [0u8; ROOM];
     copied_into(book, &mut out)
 }
 
-pub fn read_again(book: &[u8]) {
-    run_book_print::print_book(book);
+pub fn read_again(rt: &impl Print, book: &[u8]) -> io::Result<()> {
+    run_book_print::print_book(rt, book)?;
     let verdict = book_read::check(book);
     let Verdict::Accepted = verdict else {
-        return;
+        return Ok(());
     };
     if copied_same(book) {
-        io::write_all(STDOUT_FILENO, b"same\n");
+        println!(rt; "same")
     } else {
-        io::write_all(STDOUT_FILENO, b"differs\n");
+        println!(rt; "differs")
     }
 }

@@ -15,14 +15,14 @@ fn book_buffer() -> [u8; FIRST_BYTES]
     [0; FIRST_BYTES]
 }
 
-fn main() {
+fn main(rt: HostRuntime) {
     let mut buffer = book_buffer();
-    let got = run_streams::read_full(b"show_book", &mut buffer);
+    let got = run_streams::read_full(&rt, "show_book", &mut buffer);
     if !got.good {
         return;
     }
     let n = got.count;
-    if !run_book_print::print_book(&buffer[..n]) {
-        run_streams::say_not_written(b"show_book");
+    if run_book_print::print_book(&rt, &buffer[..n]).is_err() {
+        run_streams::say_not_written(&rt, "show_book");
     }
 }

@@ -2,9 +2,9 @@
 // prints the key, and then a line `end`. tests/reference makes the records and what is printed.
 #![tactic(auto)]
 
-ghost use Rattle.std.specs.Prelude.{◌≡◌, length};
+ghost use Rattle.std.specs.Prelude.{◌≡◌, ◌≤◌, length};
 
-use libc::STDOUT_FILENO;
+use std::io;
 
 // Room for one key. The `ensures` keeps the array shut: only its length is known.
 fn key_room() -> [u8; 524288]
@@ -13,30 +13,38 @@ fn key_room() -> [u8; 524288]
     [0; 524288]
 }
 
-fn run_sitting(sitting: &[u8], out: &mut [u8]) {
-    let result = line::plot_hub_run(sitting, out);
-    if result < 0 {
-        io::write_all(STDOUT_FILENO, b"too short\n");
-    }
-    let count = io::count(result as isize, out);
-    io::write_all(STDOUT_FILENO, &out[..count]);
-    io::write_all(STDOUT_FILENO, b"end\n");
+// How much of the buffer is a key: its length, or nothing where there was too little room.
+fn key_length(answer: i64, out: &[u8]) -> usize
+    ensures { result ≤ length out.now }
+{
+    usize::try_from(answer).unwrap_or(0).min(out.len())
 }
 
-fn run_all(all: &[u8], out: &mut [u8]) {
+fn run_sitting(rt: &impl Print, sitting: &[u8], out: &mut [u8]) -> io::Result<()> {
+    let answer = line::plot_hub_run(sitting, out);
+    if answer < 0 {
+        println!(rt; "too short")?;
+    }
+    let count = key_length(answer, out);
+    rt.write_all(&out[..count])?;
+    println!(rt; "end")
+}
+
+fn run_all(rt: &impl Print, all: &[u8], out: &mut [u8]) -> io::Result<()> {
     let mut at = 0;
     while at < all.len() {
         let record = run_records::part_at(all, at);
         let from = record.from;
         let to = record.to;
-        run_sitting(&all[from..to], out);
+        run_sitting(rt, &all[from..to], out)?;
         at = to;
     }
+    Ok(())
 }
 
-fn main() {
+fn main(rt: HostRuntime) -> io::Result<()> {
     let mut buffer = run_records::room();
-    let n = run_records::load(&mut buffer);
+    let n = run_records::load(&rt, &mut buffer);
     let mut out = key_room();
-    run_all(&buffer[..n], &mut out);
+    run_all(&rt, &buffer[..n], &mut out)
 }

@@ -3,10 +3,13 @@ ghost use Rattle.std.specs.Prelude.{◌≡◌, ◌<◌, ◌≤◌, length};
 ghost use Rattle.run_write_vectors.specs.Lent.{most_settings};
 
 use book_layout::Written;
-use libc::STDOUT_FILENO;
+use std::io;
 
 // A record lends at most this many settings.
 const MOST_SETTINGS: usize = 2048;
+
+// A record's buffer is shorter than this: two bytes of it say how long it is.
+const MOST_ROOM: usize = 65536;
 
 // The settings of their bytes.
 fn settings_of(bytes: &[u8]) -> [i16; MOST_SETTINGS]
@@ -39,52 +42,48 @@ fn checksum(bytes: &[u8]) -> u64 {
     sum
 }
 
-fn print_written(written: Written) {
+fn print_written(rt: &impl Print, written: Written) -> io::Result<()> {
     match written {
-        Written::Length(size) => {
-            io::write_all(STDOUT_FILENO, b"length ");
-            io::print_decimal(STDOUT_FILENO, size as u64);
-        }
-        Written::Refused(refusal) => {
-            run_book_print::print_refusal(refusal);
-        }
+        Written::Length(size) => print!(rt; "length {size}"),
+        Written::Refused(refusal) => run_book_print::print_refusal(rt, refusal),
     }
 }
 
-fn print_checksum(bytes: &[u8]) {
-    io::write_all(STDOUT_FILENO, b" sum ");
-    io::print_decimal(STDOUT_FILENO, checksum(bytes));
-    io::write_all(STDOUT_FILENO, b"\n");
+fn print_checksum(rt: &impl Print, bytes: &[u8]) -> io::Result<()> {
+    let sum = checksum(bytes);
+    println!(rt; " sum {sum}")
 }
 
 fn write_over(
+    rt: &impl Print,
     counts: &[u8],
     devices: &[u8],
     tags: &[u8],
     settings: &[i16],
     first: usize,
     out: &mut [u8],
-)
+) -> io::Result<()>
     requires { first < 256 }
 {
     fill(out, first);
     let written = book_write::write(counts, devices, tags, settings, out);
-    print_written(written);
-    print_checksum(out);
+    print_written(rt, written)?;
+    print_checksum(rt, out)
 }
 
 fn write_one(
+    rt: &impl Print,
     counts: &[u8],
     devices: &[u8],
     tags: &[u8],
     settings: &[i16],
     room: usize,
     first: usize,
-)
+) -> io::Result<()>
     requires { (room < 65536) × (first < 256) }
 {
-    let mut out = io::large_buffer();
-    write_over(counts, devices, tags, settings, first, &mut out[..room]);
+    let mut out = [0u8; MOST_ROOM];
+    write_over(rt, counts, devices, tags, settings, first, &mut out[..room])
 }
 
 fn settings_lent(n: usize) -> usize
@@ -94,7 +93,7 @@ fn settings_lent(n: usize) -> usize
 }
 
 // The parts of a record in turn: counts, devices, tags, the bytes of the settings; then the buffer's length and its first byte.
-pub fn write_lent(record: &[u8]) {
+pub fn write_lent(rt: &impl Print, record: &[u8]) -> io::Result<()> {
     let counts = run_records::part_at(record, 0);
     let a = counts.from;
     let b = counts.to;
@@ -112,11 +111,12 @@ pub fn write_lent(record: &[u8]) {
     let room = run_records::number_at(record, h);
     let first = run_records::byte_at(record, h + 2);
     write_one(
+        rt,
         &record[a..b],
         &record[c..d],
         &record[e..f],
         &settings[..n],
         room,
         first,
-    );
+    )
 }

@@ -4,19 +4,22 @@
 
 mod lent;
 
-fn run_all(all: &[u8]) {
+use std::io;
+
+fn run_all(rt: &impl Print, all: &[u8]) -> io::Result<()> {
     let mut at = 0;
     while at < all.len() {
         let record = run_records::part_at(all, at);
         let from = record.from;
         let to = record.to;
-        lent::write_lent(&all[from..to]);
+        lent::write_lent(rt, &all[from..to])?;
         at = to;
     }
+    Ok(())
 }
 
-fn main() {
+fn main(rt: HostRuntime) -> io::Result<()> {
     let mut buffer = run_records::room();
-    let n = run_records::load(&mut buffer);
-    run_all(&buffer[..n]);
+    let n = run_records::load(&rt, &mut buffer);
+    run_all(&rt, &buffer[..n])
 }

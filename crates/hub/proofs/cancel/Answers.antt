@@ -1,5 +1,4 @@
 -- `hub::cancel` meets its contract. Assumes nothing.
-use borrow.Author.Rules.{rules}
 use Rattle.rules.specs.Answers.{cancel}
 use Rattle.hub.proofs.CallLaws.{decided_none, gives_none}
 use Rattle.hub.proofs.cancel.Goals as goal

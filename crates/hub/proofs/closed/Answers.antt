@@ -1,5 +1,4 @@
 -- `hub::closed` meets its contract. Assumes nothing.
-use borrow.Author.Rules.{rules}
 use Rattle.hub.proofs.OpenLaws.{stays_closed}
 use Rattle.hub.proofs.closed.Goals as goal
 

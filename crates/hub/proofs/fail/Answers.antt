@@ -1,5 +1,4 @@
 -- `hub::fail` meets its contract. Assumes nothing.
-use borrow.Author.Rules.{rules}
 use Rattle.rules.specs.Answers.{failure}
 use Rattle.hub.proofs.CallLaws.{decided_none, gives_none}
 use Rattle.hub.proofs.fail.Goals as goal

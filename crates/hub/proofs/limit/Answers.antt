@@ -1,5 +1,4 @@
 -- `hub::limit` meets its contract. Assumes nothing.
-use borrow.Author.Rules.{rules}
 use Rattle.hub.proofs.LimitLaws.{limits-hub}
 use Rattle.hub.proofs.limit.Goals as goal
 

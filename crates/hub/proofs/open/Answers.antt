@@ -1,5 +1,4 @@
 -- `hub::open` meets its contract. Assumes nothing.
-use borrow.Author.Rules.{rules}
 use mathlib.Core.Path.{sym, ◌∙◌}
 use Rattle.hub.proofs.OpenLaws.{open_fits, opens, opens_not}
 use Rattle.hub.proofs.open.Goals as goal

@@ -1,5 +1,4 @@
 -- `hub::put_backs` meets its contract. Assumes nothing.
-use borrow.Author.Rules.{rules}
 use Rattle.hub.proofs.CallLaws.{leaving_ok}
 use Rattle.hub.proofs.put_backs.Goals as goal
 

@@ -1,5 +1,4 @@
 -- `hub::report` meets its contract. Assumes nothing.
-use borrow.Author.Rules.{rules}
 use Rattle.rules.specs.Answers.{report}
 use Rattle.hub.proofs.CallLaws.{decided_none, gives_none}
 use Rattle.hub.proofs.report.Goals as goal

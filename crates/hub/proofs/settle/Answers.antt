@@ -1,5 +1,4 @@
 -- `hub::settle` meets its contract. Assumes nothing.
-use borrow.Author.Rules.{rules}
 use Rattle.hub.proofs.CallLaws.{settled_rests, rests_as}
 use Rattle.hub.proofs.settle.Goals as goal
 

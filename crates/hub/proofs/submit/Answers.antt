@@ -1,5 +1,4 @@
 -- `hub::submit` meets its contract. Assumes nothing.
-use borrow.Author.Rules.{rules}
 use mathlib.Core.Path.{subst}
 use Rattle.rules.specs.Answers.{submit}
 use Rattle.hub.specs.Contract.{Gives}

@@ -1,5 +1,4 @@
 -- `hub::turn` meets its contract. Assumes nothing.
-use borrow.Author.Rules.{rules}
 use Rattle.rules.specs.Answers.{turn}
 use Rattle.hub.proofs.CallLaws.{decided_none, gives_none}
 use Rattle.hub.proofs.turn.Goals as goal

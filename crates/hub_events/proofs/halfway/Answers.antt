@@ -1,10 +1,8 @@
 -- `hub_events::halfway` meets its contract. Assumes nothing.
-use borrow.Author.Rules.{rules}
 use borrow.Author.Tests.{not-true, not-false}
 use native.Mathlib.Omega.{arith}
 use Prim.Native.Nat.{◌<◌}
 use Rattle.rules_routine.specs.Limits.{max_sequence}
-use Rattle.hub_sequence.specs.Links.{Stands}
 use Rattle.hub_state.proofs.Members.{stands_below}
 use Rattle.hub_events.proofs.EventLaws.{halfway_none, halfway_stands, halfway_skips, halfway_other, halfway_marked}
 use Rattle.hub_events.proofs.halfway.Goals as goal

@@ -1,6 +1,4 @@
 -- `hub_events::put_backs_if` meets its contract. Assumes nothing.
-use borrow.Author.Rules.{rules}
-use mathlib.Core.Logic.{⊎_elim}
 use native.Mathlib.Omega.{arith}
 use Rattle.hub_answers.specs.View.{PutBacksOk}
 use Rattle.hub_events.proofs.EventLaws.{one_backs, skip_backs, none_backs}
@@ -23,5 +21,8 @@ returns c = let a = c.args in
     let n = c.no_put_backs in
     let z = n.ensures.0 in
     let fit : PutBacksOk n.result = omega (arith, z) in
-    (elim c.if-slot-lt-MAX_SEQUENCE.branch [ then-slot-lt-MAX_SEQUENCE+else-must_left w ↦ skip_backs a.state a.slot a.device _ n.result w.if-slot-lt-MAX_SEQUENCE.true w.must_left.result w.must_left.ensures w.if-must_left.false fit
-    n.ensures.1 | else-slot-lt-MAX_SEQUENCE w ↦ none_backs a.state a.slot a.device _ n.result w.if-slot-lt-MAX_SEQUENCE.false fit n.ensures.1 ])
+    (elim c.if-slot-lt-MAX_SEQUENCE.branch [
+      | then-slot-lt-MAX_SEQUENCE+else-must_left w ↦ skip_backs a.state a.slot a.device _ n.result w.if-slot-lt-MAX_SEQUENCE.true w.must_left.result w.must_left.ensures w.if-must_left.false fit
+          n.ensures.1
+      | else-slot-lt-MAX_SEQUENCE w ↦ none_backs a.state a.slot a.device _ n.result w.if-slot-lt-MAX_SEQUENCE.false fit n.ensures.1
+    ])

@@ -1,5 +1,4 @@
 -- `hub_events::with_failure` meets its contract. Assumes nothing.
-use borrow.Author.Rules.{rules}
 use Rattle.hub_events.proofs.EventLaws.{one-leaves, one_skips, none_stops, stands-down, failure_stops}
 use Rattle.hub_events.proofs.with_failure.Goals as goal
 

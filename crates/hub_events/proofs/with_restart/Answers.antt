@@ -1,7 +1,6 @@
 -- `hub_events::with_restart` meets its contract. Assumes nothing.
 use borrow.Author.Rules.{rules}
 use mathlib.Core.Path.{sym, ap, subst, ◌∙◌}
-use mathlib.Core.Logic.{⊎_elim}
 use lib.IntN.{ℤ}
 use lib.ListN.{get_or}
 use mir.Facts.{to_z-of_z}
@@ -26,11 +25,12 @@ stops c =
     let a = c.args in
     let P = Stops a.state a.slot a.device in
     elim c.if-slot-lt-MAX_SEQUENCE.branch [
-      then-slot-lt-MAX_SEQUENCE+then-must_left w ↦ subst P (sym w.next-is) (one-leaves a.state a.slot a.device w.if-slot-lt-MAX_SEQUENCE.true
+      | then-slot-lt-MAX_SEQUENCE+then-must_left w ↦ subst P (sym w.next-is) (one-leaves a.state a.slot a.device w.if-slot-lt-MAX_SEQUENCE.true
           w.must_left.result w.must_left.ensures c.requires.0 c.requires.3 w.if-must_left.true w.leave-left.result w.leave-left.ensures)
       | then-slot-lt-MAX_SEQUENCE+else-must_left w ↦ subst P (sym w.next-is) (one_skips a.state a.slot a.device w.if-slot-lt-MAX_SEQUENCE.true
           w.must_left.result w.must_left.ensures c.requires.0 w.if-must_left.false w.with_skips-skipped.result w.with_skips-skipped.ensures)
-      | else-slot-lt-MAX_SEQUENCE w ↦ subst P (sym w.next-is) (none_stops a.state a.slot a.device c.requires.0 w.if-slot-lt-MAX_SEQUENCE.false) ]
+      | else-slot-lt-MAX_SEQUENCE w ↦ subst P (sym w.next-is) (none_stops a.state a.slot a.device c.requires.0 w.if-slot-lt-MAX_SEQUENCE.false)
+    ]
 
 pub attach-with_it-requires : goal.attach-with_it-requires
 attach-with_it-requires c = let v = (stops (goal.at.attach-with_it-requires c).Joined-slot-lt-MAX_SEQUENCE).0 in

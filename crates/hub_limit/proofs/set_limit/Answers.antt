@@ -1,5 +1,4 @@
 -- `hub_limit::set_limit` meets its contract. Assumes nothing.
-use borrow.Author.Rules.{rules}
 use Rattle.hub_limit.proofs.LimitLaws.{limits_fine, limits-not}
 use Rattle.hub_limit.proofs.set_limit.Goals as goal
 

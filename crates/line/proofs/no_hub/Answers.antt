@@ -1,5 +1,4 @@
 -- `line::no_hub` meets its contract. Assumes nothing.
-use borrow.Author.Rules.{rules}
 use Rattle.line.proofs.no_hub.Goals as goal
 
 pub returns : goal.returns

@@ -1,9 +1,7 @@
 -- `line::run_last` meets its contract. Assumes nothing.
 use mathlib.Core.Path.{refl}
-use mathlib.Core.Logic.{⊎_elim}
 use Prim.Native.Nat.{◌≤◌, ◌<◌, ◌^◌}
 use native.Mathlib.Omega.{arith}
-use borrow.Author.Tests.{not-false}
 use lib.ListN.{length}
 use Rattle.line_rules.specs.Program.{end_text, run_from}
 use Rattle.line_print.specs.Put.{max_end, PutShort}
@@ -11,15 +9,12 @@ use Rattle.line_print.proofs.PutLaws.{as_text}
 use Rattle.line.specs.View.{hub_in}
 use Rattle.line.proofs.Loops.{measured_past, measured_fits, wrote_none, whole_fits, whole_cast, whole_wrote}
 use borrow.Author.Rules.{rules}
-use Rattle.line.proofs.run_last.Goals.{After-put_devices-end, After-slice_known-1}
+use Rattle.line.proofs.run_last.Goals.{After-put_devices-end, then-not-is_ample+else-room-length, else-not-is_ample}
 use Rattle.line.proofs.run_last.Goals as goal
-
-small : (c : After-slice_known-1) → length c.args.out.now < 2 ^ 63
-small c = search rules
 
 -- the device lines are put behind the lines
 ended : (c : After-put_devices-end) →
-    PutShort max_end c.run_lines-ran.new.1.1.0 c.put_devices-end.new.0 c.run_lines-ran.result.at c.put_devices-end.result
+    PutShort max_end c.run_lines-ran.new.out c.put_devices-end.new.out c.run_lines-ran.result.at c.put_devices-end.result
     (end_text (hub_in c.run_lines-ran.result.hub))
 ended c = as_text c.devices_of-devices.ensures.1 c.put_devices-end.ensures
 
@@ -27,15 +22,15 @@ ended c = as_text c.devices_of-devices.ensures.1 c.put_devices-end.ensures
 fits : (c : After-put_devices-end) →
     length (run_from (hub_in c.args.hub) c.args.input.now).text ≤ length c.args.out.now
 fits c =
-    ⊎_elim
-    (λ w. measured_fits w.1.ensures w.2.left)
-    (λ w. whole_fits _ _ _ _ _ _ c.run_lines-ran.ensures _ _ (ended c)
-    (c.is_ample.ensures (not-false _ w.left)))
-    c.if-not-is_ample.branch
+    elim c.if-not-is_ample.branch [
+      | then-not-is_ample+else-room-length w ↦ measured_fits w.whole_length-length.ensures w.if-room-length.false
+      | else-not-is_ample w ↦ whole_fits _ _ _ _ _ _ c.run_lines-ran.ensures _ _ (ended c) (c.is_ample.ensures w.if-not-is_ample.false)
+    ]
 
 fits_cast : (c : After-put_devices-end) → c.put_devices-end.result < 2 ^ 63
 fits_cast c =
-    whole_cast _ _ _ _ _ _ c.run_lines-ran.ensures _ _ (ended c) refl (small c.before.before.before.before.before.before.before.before.before.before) (fits c)
+    let small : length c.args.out.now < 2 ^ 63 = search rules in
+    whole_cast _ _ _ _ _ _ c.run_lines-ran.ensures _ _ (ended c) refl small (fits c)
 
 pub returns-then-room-length : goal.returns-then-room-length
 returns-then-room-length c = let m = c.whole_length-length.ensures in
@@ -45,14 +40,18 @@ returns-then-room-length c = let m = c.whole_length-length.ensures in
     }
 
 pub put_devices-end-requires : goal.put_devices-end-requires
-put_devices-end-requires c = (c.devices_of-devices.ensures.0, omega (arith, c.run_lines-ran.ensures.near, small (goal.at.put_devices-end-requires c).After-slice_known-1))
+put_devices-end-requires c =
+    let small : length c.args.out.now < 2 ^ 63 = search rules in
+    (c.devices_of-devices.ensures.0, omega (arith, c.run_lines-ran.ensures.near, small))
 
 pub overflow_cast-result : goal.overflow_cast-result
 overflow_cast-result c = let h = fits_cast (goal.at.overflow_cast-result c).After-put_devices-end in
     search rules
 
 pub returns : goal.returns
-returns c = record {
-  wrote = whole_wrote _ _ _ _ _ _ c.run_lines-ran.ensures _ _ (ended (goal.at.returns c).After-put_devices-end) refl (small (goal.at.returns c).After-slice_known-1) (fits (goal.at.returns c).After-put_devices-end);
-  enough = λ _. fits (goal.at.returns c).After-put_devices-end;
-}
+returns c =
+    let small : length c.args.out.now < 2 ^ 63 = search rules in
+    record {
+      wrote = whole_wrote _ _ _ _ _ _ c.run_lines-ran.ensures _ _ (ended (goal.at.returns c).After-put_devices-end) refl small (fits (goal.at.returns c).After-put_devices-end);
+      enough = λ _. fits (goal.at.returns c).After-put_devices-end;
+    }

@@ -1,27 +1,22 @@
 -- `line::run_part` meets its contract. Assumes nothing.
-use mathlib.Core.Logic.{⊎_elim}
 use Prim.Native.Nat.{◌≤◌, ◌<◌, ◌^◌}
-use borrow.Author.Tests.{not-false}
 use lib.ListN.{length}
 use Rattle.line_rules.specs.Pieces.{lines_of}
 use Rattle.line_rules.specs.Program.{steps}
 use Rattle.line.specs.View.{hub_in}
 use Rattle.line.proofs.Loops.{measured_past, measured_fits, lines_measured, cast_fits, wrote_none, wrote_all}
 use borrow.Author.Rules.{rules}
-use Rattle.line.proofs.run_part.Goals.{After-run_lines-ran, After-slice_known-1}
+use Rattle.line.proofs.run_part.Goals.{After-run_lines-ran, then-not-is_ample+else-room-length, else-not-is_ample}
 use Rattle.line.proofs.run_part.Goals as goal
-
-small : (c : After-slice_known-1) → length c.args.out.now < 2 ^ 63
-small c = search rules
 
 -- whether it was measured or not, the text fits
 fits : (c : After-run_lines-ran) →
     length (steps (hub_in c.args.hub) (lines_of c.args.input.now)).text ≤ length c.args.out.now
 fits c =
-    ⊎_elim
-    (λ w. measured_fits w.1.ensures w.2.left)
-    (λ w. (lines_measured c.run_lines-ran.ensures).enough (c.is_ample.ensures (not-false _ w.left)))
-    c.if-not-is_ample.branch
+    elim c.if-not-is_ample.branch [
+      | then-not-is_ample+else-room-length w ↦ measured_fits w.lines_length-length.ensures w.if-room-length.false
+      | else-not-is_ample w ↦ (lines_measured c.run_lines-ran.ensures).enough (c.is_ample.ensures w.if-not-is_ample.false)
+    ]
 
 pub returns-then-room-length : goal.returns-then-room-length
 returns-then-room-length c = let m = c.lines_length-length.ensures in
@@ -31,13 +26,17 @@ returns-then-room-length c = let m = c.lines_length-length.ensures in
     }
 
 pub overflow_cast-result : goal.overflow_cast-result
-overflow_cast-result c = let h = cast_fits (small (goal.at.overflow_cast-result c).After-slice_known-1) (fits (goal.at.overflow_cast-result c).After-run_lines-ran) (c.run_lines-ran.ensures.fits (fits (goal.at.overflow_cast-result c).After-run_lines-ran)).1 in
+overflow_cast-result c =
+    let small : length c.args.out.now < 2 ^ 63 = search rules in
+    let h = cast_fits small (fits (goal.at.overflow_cast-result c).After-run_lines-ran) (c.run_lines-ran.ensures.fits (fits (goal.at.overflow_cast-result c).After-run_lines-ran)).1 in
     search rules
 
 pub returns : goal.returns
-returns c = let r = c.run_lines-ran.ensures in
+returns c =
+    let small : length c.args.out.now < 2 ^ 63 = search rules in
+    let r = c.run_lines-ran.ensures in
     let f = r.fits (fits (goal.at.returns c).After-run_lines-ran) in
     record {
-      wrote = wrote_all _ _ _ _ _ _ (small (goal.at.returns c).After-slice_known-1) r.valid f.0 (fits (goal.at.returns c).After-run_lines-ran) f.1 r.unopened;
+      wrote = wrote_all _ _ _ _ _ _ small r.valid f.0 (fits (goal.at.returns c).After-run_lines-ran) f.1 r.unopened;
       enough = λ _. fits (goal.at.returns c).After-run_lines-ran;
     }

@@ -1,13 +1,11 @@
 -- `line_hints::by_words` meets its contract. Assumes nothing.
 use mathlib.Core.Path.{◌≡◌, sym, ◌∙◌}
-use mathlib.Core.Logic.{⊎_elim}
 use native.Mathlib.Omega.{arith}
 use lib.ListN.{get_or}
 use Rattle.line_rules.specs.Pieces.{words_of}
 use Rattle.line_read.specs.Places.{behind_letter, words_from}
 use Rattle.line_hints.specs.Why.{by_letter, by_words}
 use Rattle.line_hints.proofs.ReasonLaws.{no_bytes, a_space, longer_word, one_byte, letter_alone}
-use borrow.Author.Rules.{rules}
 use Rattle.line_hints.proofs.by_words.Goals.{Joined-line-gt1, then-line-gt1+else-line-ne-SPACE, else-line-gt1}
 use Rattle.line_hints.proofs.by_words.Goals as goal
 

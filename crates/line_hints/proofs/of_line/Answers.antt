@@ -1,7 +1,6 @@
 -- `line_hints::of_line` meets its contract. Assumes nothing.
 use mathlib.Core.Path.{refl, sym, ◌∙◌}
 use Rattle.line_hints.proofs.ReasonLaws.{told-unread, told-call, told-opening}
-use borrow.Author.Rules.{rules}
 use Rattle.line_hints.proofs.of_line.Goals as goal
 
 pub returns-in_default-said : goal.returns-in_default-said

@@ -1,7 +1,6 @@
 -- `line_hints::why` meets its contract: one law for each way out. Assumes nothing.
 use mathlib.Core.Path.{sym, ◌∙◌}
 use Rattle.line_hints.proofs.ReasonLaws.{too_long, no_byte, a_return, another_byte, space-last, space-first, two_spaces, words_left}
-use borrow.Author.Rules.{rules}
 use Rattle.line_hints.proofs.why.Goals as goal
 
 pub returns-then-line-gt-MAX_LINE : goal.returns-then-line-gt-MAX_LINE

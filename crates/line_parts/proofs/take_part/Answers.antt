@@ -30,14 +30,14 @@ whole_ran : (c : After-run_part-written) →
     let a = c.args in
     let r = c.run_part-written.result in
     let whole = whole_lines (filled a.hub a.pending a.got a.input.now) in
-    Runs (ran a.hub a.pending a.got a.input.now) whole a.hub r.hub a.out.now c.run_part-written.new.1.1.0 r.result
+    Runs (ran a.hub a.pending a.got a.input.now) whole a.hub r.hub a.out.now c.run_part-written.new.out r.result
 whole_ran c =
     let a = c.args in
     let r = c.run_part-written.result in
     let w = c.whole_length-whole in
     let are = ap (λ (n : ℕ). take n a.input.now) w.ensures ∙ whole_taken a.hub a.pending a.got a.input.now in
     subst
-    (λ (l : List ℕ). Runs (steps (hub_in a.hub) (lines_of l)) l a.hub r.hub a.out.now c.run_part-written.new.1.1.0 r.result)
+    (λ (l : List ℕ). Runs (steps (hub_in a.hub) (lines_of l)) l a.hub r.hub a.out.now c.run_part-written.new.out r.result)
     are c.run_part-written.ensures
 
 -- the buffer has ample room

@@ -1,6 +1,5 @@
 -- `line_print::put_abort` meets its contract. Assumes nothing.
 use Rattle.line_print.proofs.PutLaws.{short_then, exactly}
-use borrow.Author.Rules.{rules}
 use Rattle.line_print.proofs.put_abort.Goals as goal
 
 pub returns : goal.returns

@@ -1,6 +1,5 @@
 -- `line_print::put_aborts` meets its contract. Assumes nothing.
 use Rattle.line_print.proofs.PutLaws.{put_neither, put_own, put_both}
-use borrow.Author.Rules.{rules}
 use Rattle.line_print.proofs.put_aborts.Goals as goal
 
 pub returns-in_default-answer : goal.returns-in_default-answer

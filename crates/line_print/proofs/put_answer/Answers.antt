@@ -1,6 +1,5 @@
 -- `line_print::put_answer` meets its contract. Assumes nothing.
 use Rattle.line_print.proofs.PutLaws.{short_then, exactly}
-use borrow.Author.Rules.{rules}
 use Rattle.line_print.proofs.put_answer.Goals as goal
 
 pub returns : goal.returns

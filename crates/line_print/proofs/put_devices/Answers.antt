@@ -1,7 +1,7 @@
 -- `line_print::put_devices` meets its contract. The loop's invariant: the lines of the first devices are put. Assumes nothing.
 use mathlib.Core.Path.{◌≡◌, refl, sym, ap, ◌∙◌}
 use mathlib.Core.Bool.{false}
-use Prim.Native.Nat.{◌-◌, ◌*◌, ◌<◌, ◌≤◌}
+use Prim.Native.Nat.{◌<◌, ◌≤◌}
 use native.Mathlib.Omega.{arith}
 use borrow.Author.Rules.{rules}
 use mir.Syntax.{w16}
@@ -11,7 +11,7 @@ use lib.IntN.{pos}
 use lib.ListN.{length, take, get_or}
 use Rattle.rules_routine.specs.Limits.{max_devices}
 use Rattle.line_rules.specs.Printing.{as_line, device_text_of}
-use Rattle.line_print.specs.Put.{max_device_line, PutShort}
+use Rattle.line_print.specs.Put.{max_device_line}
 use Rattle.line_print.specs.Texts.{lines_from}
 use Rattle.line_print.proofs.PutLaws.{put-none, short_then, within, as_text, reaches, same-room, end_fits, copied, lines_next}
 use Rattle.line_print.proofs.put_devices.Goals.{After-put_device-end, In-loop-device}

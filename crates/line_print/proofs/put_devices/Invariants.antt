@@ -1,19 +1,9 @@
 -- `line_print::put_devices` meets its contract. The loop's invariant: the lines of the first devices are put. Assumes nothing.
-use mathlib.Core.Path.{◌≡◌, refl, sym, ap, ◌∙◌}
-use mathlib.Core.Bool.{false}
-use Prim.Native.Nat.{◌-◌, ◌*◌, ◌<◌, ◌≤◌}
-use native.Mathlib.Omega.{arith}
-use borrow.Author.Rules.{rules}
-use mir.Syntax.{w16}
-use mir.Val.{to_z, of_z}
-use lib.Seq.{length-take-le}
-use lib.IntN.{pos}
-use lib.ListN.{length, take, get_or}
-use Rattle.rules_routine.specs.Limits.{max_devices}
-use Rattle.line_rules.specs.Printing.{as_line, device_text_of}
+use mathlib.Core.Path.{◌≡◌}
+use Prim.Native.Nat.{◌-◌, ◌*◌, ◌≤◌}
+use lib.ListN.{length}
 use Rattle.line_print.specs.Put.{max_device_line, PutShort}
 use Rattle.line_print.specs.Texts.{lines_from}
-use Rattle.line_print.proofs.PutLaws.{put-none, short_then, within, as_text, reaches, same-room, end_fits, copied, lines_next}
 use Rattle.line_print.proofs.put_devices.Given as goal
 
 abbrev pub invariant-loop-device : goal.invariant-loop-device

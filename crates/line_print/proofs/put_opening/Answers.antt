@@ -2,7 +2,6 @@
 use mathlib.Core.Path.{sym, ap}
 use Rattle.line_print.proofs.PutLaws.{as_text}
 use Rattle.line_print.specs.Texts.{opening_text}
-use borrow.Author.Rules.{rules}
 use Rattle.line_print.proofs.put_opening.Goals as goal
 
 pub returns-in-Accepted : goal.returns-in-Accepted

@@ -1,7 +1,6 @@
 -- `line_print::put_refusal` meets its contract. Assumes nothing.
 use native.Mathlib.Omega.{arith}
 use Rattle.line_print.proofs.PutLaws.{short_then, exactly, within}
-use borrow.Author.Rules.{rules}
 use Rattle.line_print.proofs.put_refusal.Goals as goal
 
 pub returns : goal.returns

@@ -4,7 +4,6 @@ use native.Mathlib.Omega.{arith}
 use Rattle.line_rules.proofs.Parts.{long_unread}
 use Rattle.line_read.specs.View.{read_as}
 use Rattle.line_read.proofs.Forms.{line-short}
-use borrow.Author.Rules.{rules}
 use Rattle.line_read.proofs.read_line.Goals as goal
 
 pub returns-then-line-gt-MAX_LINE : goal.returns-then-line-gt-MAX_LINE

@@ -1,7 +1,6 @@
 -- `line_read::word_end` meets its contract. Assumes nothing.
 use mathlib.Core.Path.{sym, ◌∙◌}
 use Rattle.line_read.proofs.WordLaws.{word_ends}
-use borrow.Author.Rules.{rules}
 use Rattle.line_read.proofs.word_end.Goals as goal
 
 pub returns : goal.returns

@@ -1,3 +1,4 @@
+-- `run_records::read_full` is safe and ends. Assumes nothing.
 use Rattle.std.proofs.Common.{length, ◌-◌, ◌≤◌}
 use Rattle.run_records.proofs.read_full.Given as goal
 

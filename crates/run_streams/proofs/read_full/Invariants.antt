@@ -1,3 +1,4 @@
+-- `run_streams::read_full` meets its contract. Assumes nothing.
 use Rattle.std.proofs.Common.{◌≤◌, ◌-◌, length}
 use Rattle.run_streams.proofs.read_full.Given as goal
 

@@ -1,5 +1,4 @@
 -- `hub::carrying::put_backs_of` meets its contract. Assumes nothing.
-use borrow.Author.Rules.{rules}
 use mathlib.Core.Path.{subst}
 use Prim.Native.Nat.{◌<◌}
 use Rattle.rules_routine.specs.Limits.{max_devices}

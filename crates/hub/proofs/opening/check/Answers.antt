@@ -1,5 +1,4 @@
 -- `hub::opening::check` meets its contract. Assumes nothing.
-use borrow.Author.Rules.{rules}
 use native.Mathlib.Omega.{arith}
 use mathlib.Core.Path.{sym, ◌∙◌}
 use Rattle.rules_routine.specs.Refusals.{refusal_of}

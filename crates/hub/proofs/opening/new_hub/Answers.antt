@@ -1,5 +1,4 @@
 -- `hub::opening::new_hub` meets its contract. Assumes nothing.
-use borrow.Author.Rules.{rules}
 use native.Mathlib.Omega.{arith}
 use Rattle.hub.proofs.CallLaws.{rests_as}
 use Rattle.hub.proofs.OpenLaws.{fresh-valid, fresh-view, new_rests}

@@ -1,10 +1,8 @@
 -- `line::lines::devices_of` meets its contract. The loop's invariant: of the first devices it is known which are up. Assumes nothing.
 use mathlib.Core.Path.{◌≡◌, refl, ap, ◌∙◌}
-use mathlib.Core.Bool.{false}
 use mathlib.Core.List.{List}
-use Prim.Native.Nat.{ℕ, ◌-◌, ◌<◌, ◌≤◌}
+use Prim.Native.Nat.{◌<◌, ◌≤◌}
 use native.Mathlib.Omega.{arith}
-use borrow.Author.Rules.{rules}
 use lib.IntN.{ℤ, pos}
 use lib.ListN.{length, get_or, length-set}
 use Rattle.rules_routine.specs.Limits.{max_devices}
@@ -43,6 +41,6 @@ returns c = let h = c.args.hub in
       devices-told h _ c.device_count-count.ensures
           (λ d k. c.loop-device.invariant.2 d (omega arith))
           (λ d k.
-          ap (λ (t : List ℤ). get_or t d (pos 0)) c.due_settings.ensures.1
+          ap (λ (t : List ℤ). get_or t d (pos 0)) c.due_settings.ensures.leaves
           ∙ list_entry (view h) _ (omega (arith, c.requires.in_order.devices_fit, devices_are h)) d k),
     )

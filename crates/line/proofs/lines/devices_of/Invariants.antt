@@ -1,16 +1,10 @@
 -- `line::lines::devices_of` meets its contract. The loop's invariant: of the first devices it is known which are up. Assumes nothing.
-use mathlib.Core.Path.{◌≡◌, refl, ap, ◌∙◌}
+use mathlib.Core.Path.{◌≡◌}
 use mathlib.Core.Bool.{false}
-use mathlib.Core.List.{List}
 use Prim.Native.Nat.{ℕ, ◌-◌, ◌<◌, ◌≤◌}
-use native.Mathlib.Omega.{arith}
-use borrow.Author.Rules.{rules}
-use lib.IntN.{ℤ, pos}
-use lib.ListN.{length, get_or, length-set}
+use lib.ListN.{length, get_or}
 use Rattle.rules_routine.specs.Limits.{max_devices}
-use Rattle.rules.proofs.AllDue.{list_entry}
 use Rattle.hub.specs.View.{view}
-use Rattle.line.proofs.Loops.{devices_are, devices-told, up_more}
 use Rattle.line.proofs.lines.devices_of.Given as goal
 
 abbrev pub invariant-loop-device : goal.invariant-loop-device

@@ -1,13 +1,13 @@
 -- `line::lines::next_line` meets its contract. Assumes nothing.
 use mathlib.Core.Path.{ap, ◌∙◌}
-use Prim.Native.Nat.{◌≤◌}
 use native.Mathlib.Omega.{arith}
-use lib.ListN.{length}
 use Rattle.line_read.specs.declared.LineRead.{LineRead}
 use Rattle.line.specs.View.{heard_of}
 use Rattle.line.proofs.Loops.{end_within}
-use borrow.Author.Rules.{rules}
 use Rattle.line.proofs.lines.next_line.Goals as goal
+
+pub slice_bounds-read_line-end : goal.slice_bounds-read_line-end
+slice_bounds-read_line-end c = omega (arith, c.line_end-end.ensures, end_within c.args.input.now c.args.from c.requires)
 
 pub slice_bounds-read_line-count : goal.slice_bounds-read_line-count
 slice_bounds-read_line-count c = omega (arith, c.line_end-end.ensures)

@@ -1,7 +1,6 @@
 -- `line::lines::put_answers` meets its contract. Assumes nothing.
 use mathlib.Core.Path.{sym, ◌∙◌}
 use Rattle.line.proofs.Told.{backs_once, put-told, put_left}
-use borrow.Author.Rules.{rules}
 use Rattle.line.proofs.lines.put_answers.Goals as goal
 
 pub put_aborts-requires : goal.put_aborts-requires

@@ -1,13 +1,9 @@
 -- `line::running::ends_in` meets its contract. The loop's invariant: those counted and those left are all. Assumes nothing.
 use mathlib.Core.Path.{◌≡◌}
-use mathlib.Core.Logic.{⊎_elim}
 use Prim.Native.Nat.{◌+◌, ◌-◌, ◌≤◌}
-use native.Mathlib.Omega.{arith}
-use borrow.Author.Rules.{rules}
 use lib.ListN.{length, drop}
 use Rattle.rules.specs.Rounds.{times}
 use Rattle.line_rules.specs.Text.{line_end}
-use Rattle.line.proofs.Loops.{times_end, times_on, times-last}
 use Rattle.line.proofs.running.ends_in.Given as goal
 
 abbrev pub invariant-loop-i : goal.invariant-loop-i

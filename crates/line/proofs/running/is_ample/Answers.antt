@@ -1,6 +1,5 @@
 -- `line::running::is_ample` meets its contract. The loop's invariant: the lines counted and those left are all. Assumes nothing.
 use mathlib.Core.Path.{◌≡◌}
-use mathlib.Core.Logic.{⊎_elim}
 use Prim.Native.Nat.{suc, ◌+◌, ◌-◌, ◌/◌, ◌≤◌, ◌<◌}
 use native.Mathlib.Omega.{arith}
 use borrow.Author.Rules.{rules}
@@ -11,7 +10,7 @@ use Rattle.line_rules.specs.Pieces.{pieces}
 use Rattle.line_print.specs.Put.{max_text}
 use Rattle.line.specs.Contract.{chunk_length}
 use Rattle.line.proofs.Loops.{part_length, count_part, count-last, lines_counted}
-use Rattle.line.proofs.running.is_ample.Goals.{After-ends_in-ends, Joined-end-i-gt-CHUNK_LENGTH}
+use Rattle.line.proofs.running.is_ample.Goals.{After-ends_in-ends, Joined-end-i-gt-CHUNK_LENGTH, then-end-i-gt-CHUNK_LENGTH, else-end-i-gt-CHUNK_LENGTH}
 use Rattle.line.proofs.running.is_ample.Goals as goal
 
 -- the part: some bytes, up to chunk_length, within the input
@@ -19,21 +18,21 @@ part-is : (c : Joined-end-i-gt-CHUNK_LENGTH) →
     (c.loop-i.i < c.if-end-i-gt-CHUNK_LENGTH.end) × (c.if-end-i-gt-CHUNK_LENGTH.end ≤ length c.args.input.now) × (c.if-end-i-gt-CHUNK_LENGTH.end - c.loop-i.i ≤ chunk_length)
 part-is c =
     let t = c.loop-i-test.true in
-    ⊎_elim
-    (λ w. let e = w.1 in let h = w.0.taken in (omega arith, omega arith, omega arith))
-    (λ w. let e = w.1 in let h = w.0.left in (omega arith, omega arith, omega arith))
-    c.if-end-i-gt-CHUNK_LENGTH.branch
+    elim c.if-end-i-gt-CHUNK_LENGTH.branch [
+      | then-end-i-gt-CHUNK_LENGTH w ↦ (omega arith, omega arith, omega arith)
+      | else-end-i-gt-CHUNK_LENGTH w ↦ (omega arith, omega arith, omega arith)
+    ]
 
 -- the lines counted behind it
 part_counted : (c : After-ends_in-ends) →
+    (c.loop-i.i < c.if-end-i-gt-CHUNK_LENGTH.end) × (c.if-end-i-gt-CHUNK_LENGTH.end ≤ length c.args.input.now) × (c.if-end-i-gt-CHUNK_LENGTH.end - c.loop-i.i ≤ chunk_length) →
     let input = c.args.input.now in
     let count = c.loop-i.count + c.ends_in-ends.result in
     (count ≤ suc c.if-end-i-gt-CHUNK_LENGTH.end)
     × (c.if-end-i-gt-CHUNK_LENGTH.end ≤ length input)
     × (count + length (pieces line_end (drop c.if-end-i-gt-CHUNK_LENGTH.end input)) ≡ suc (length (pieces line_end input)))
-part_counted c =
+part_counted c p =
     let input = c.args.input.now in
-    let p = part-is c.before.before.before in
     let more = count_part input c.loop-i.i c.if-end-i-gt-CHUNK_LENGTH.end (omega arith) p.1 line_end in
     (omega (arith, c.loop-i.invariant, c.ends_in-ends.ensures), p.1, omega (arith, c.loop-i.invariant, c.ends_in-ends.ensures))
 
@@ -48,13 +47,13 @@ ends_in-ends-requires c = let p = part-is (goal.at.ends_in-ends-requires c).Join
     omega (arith, part_length c.args.input.now c.loop-i.i c.if-end-i-gt-CHUNK_LENGTH.end (omega arith) p.1)
 
 pub overflow_add-count : goal.overflow_add-count
-overflow_add-count c = let p = part_counted (goal.at.overflow_add-count c).After-ends_in-ends in search rules
+overflow_add-count c = let p = part_counted (goal.at.overflow_add-count c).After-ends_in-ends (part-is (goal.at.overflow_add-count c).Joined-end-i-gt-CHUNK_LENGTH) in search rules
 
 pub loop-i-smaller : goal.loop-i-smaller
 loop-i-smaller c = let p = part-is (goal.at.loop-i-smaller c).Joined-end-i-gt-CHUNK_LENGTH in omega arith
 
 pub loop-i-preserved : goal.loop-i-preserved
-loop-i-preserved c = part_counted (goal.at.loop-i-preserved c).After-ends_in-ends
+loop-i-preserved c = part_counted (goal.at.loop-i-preserved c).After-ends_in-ends (part-is (goal.at.loop-i-preserved c).Joined-end-i-gt-CHUNK_LENGTH)
 
 pub returns : goal.returns
 returns c = let input = c.args.input.now in

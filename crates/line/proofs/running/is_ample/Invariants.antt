@@ -1,16 +1,9 @@
 -- `line::running::is_ample` meets its contract. The loop's invariant: the lines counted and those left are all. Assumes nothing.
 use mathlib.Core.Path.{◌≡◌}
-use mathlib.Core.Logic.{⊎_elim}
-use Prim.Native.Nat.{suc, ◌+◌, ◌-◌, ◌/◌, ◌≤◌, ◌<◌}
-use native.Mathlib.Omega.{arith}
-use borrow.Author.Rules.{rules}
-use borrow.Author.Tests.{ltb-true}
+use Prim.Native.Nat.{suc, ◌+◌, ◌-◌, ◌≤◌}
 use lib.ListN.{length, drop}
 use Rattle.line_rules.specs.Text.{line_end}
 use Rattle.line_rules.specs.Pieces.{pieces}
-use Rattle.line_print.specs.Put.{max_text}
-use Rattle.line.specs.Contract.{chunk_length}
-use Rattle.line.proofs.Loops.{part_length, count_part, count-last, lines_counted}
 use Rattle.line.proofs.running.is_ample.Given as goal
 
 abbrev pub invariant-loop-i : goal.invariant-loop-i

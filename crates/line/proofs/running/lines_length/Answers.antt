@@ -1,6 +1,5 @@
 -- `line::running::lines_length` meets its contract. Assumes nothing.
 use Rattle.line.proofs.Loops.{lines_measured}
-use borrow.Author.Rules.{rules}
 use Rattle.line.proofs.running.lines_length.Goals as goal
 
 pub returns : goal.returns

@@ -1,7 +1,6 @@
 -- `line::running::whole_length` meets its contract. Assumes nothing.
 use Rattle.line_print.proofs.PutLaws.{as_text}
 use Rattle.line.proofs.Loops.{whole_past, whole_measured}
-use borrow.Author.Rules.{rules}
 use Rattle.line.proofs.running.whole_length.Goals as goal
 
 pub returns-then-room-ran : goal.returns-then-room-ran

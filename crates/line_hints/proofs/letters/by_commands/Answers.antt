@@ -1,7 +1,6 @@
 -- `line_hints::letters::by_commands` meets its contract. Assumes nothing.
 use mathlib.Core.Path.{sym, ◌∙◌}
 use Rattle.line_hints.proofs.ReasonLaws.{commands-cut, commands_whole}
-use borrow.Author.Rules.{rules}
 use Rattle.line_hints.proofs.letters.by_commands.Goals as goal
 
 pub returns-then-count-ne0 : goal.returns-then-count-ne0

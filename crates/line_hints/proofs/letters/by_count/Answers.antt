@@ -2,7 +2,6 @@
 use mathlib.Core.Path.{sym, ◌∙◌}
 use native.Mathlib.Omega.{arith}
 use Rattle.line_hints.proofs.ReasonLaws.{count-few, count_many, count_right}
-use borrow.Author.Rules.{rules}
 use Rattle.line_hints.proofs.letters.by_count.Goals as goal
 
 pub returns-then-count-expected : goal.returns-then-count-expected

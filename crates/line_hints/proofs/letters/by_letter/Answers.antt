@@ -1,7 +1,6 @@
 -- `line_hints::letters::by_letter` meets its contract. Assumes nothing.
 use mathlib.Core.Path.{sym, ◌∙◌}
 use Rattle.line_hints.proofs.ReasonLaws.{by-O, by-R, by-S, by_one, by_lower, by_none}
-use borrow.Author.Rules.{rules}
 use Rattle.line_hints.proofs.letters.by_letter.Goals as goal
 
 pub returns-then-byte-eq-OPEN : goal.returns-then-byte-eq-OPEN

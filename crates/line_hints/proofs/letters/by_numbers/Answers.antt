@@ -1,7 +1,6 @@
 -- `line_hints::letters::by_numbers` meets its contract. Assumes nothing.
 use mathlib.Core.Path.{sym, ◌∙◌}
 use Rattle.line_hints.proofs.ReasonLaws.{numbers_all, numbers_some_not}
-use borrow.Author.Rules.{rules}
 use Rattle.line_hints.proofs.letters.by_numbers.Goals as goal
 
 pub returns-then-all_numbers : goal.returns-then-all_numbers

@@ -1,7 +1,6 @@
 -- `line_hints::letters::is_lower` meets its contract. Assumes nothing.
 use mathlib.Core.Path.{sym, ◌∙◌}
 use Rattle.line_hints.proofs.ReasonLaws.{lower_not, lower_so}
-use borrow.Author.Rules.{rules}
 use Rattle.line_hints.proofs.letters.is_lower.Goals as goal
 
 pub returns-then-byte-lt-LOWER_CASE : goal.returns-then-byte-lt-LOWER_CASE

@@ -1,11 +1,7 @@
 -- `line_hints::scans::has_other` meets its contract: the rest of the line says what the whole says. Assumes nothing.
-use Prim.Native.Nat.{◌-◌}
-use mathlib.Core.Path.{◌≡◌, refl, sym, ◌∙◌}
+use mathlib.Core.Path.{refl, sym, ◌∙◌}
 use native.Mathlib.Numerals.{add-one}
-use lib.ListN.{length, drop}
-use Rattle.line_hints.specs.Why.{has_other}
 use Rattle.line_hints.proofs.ReasonLaws.{other_past, other_below, other_above, other_on}
-use borrow.Author.Rules.{rules}
 use Rattle.line_hints.proofs.scans.has_other.Goals as goal
 
 pub loop-at-init : goal.loop-at-init

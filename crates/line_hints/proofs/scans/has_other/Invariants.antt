@@ -1,11 +1,8 @@
 -- `line_hints::scans::has_other` meets its contract: the rest of the line says what the whole says. Assumes nothing.
 use Prim.Native.Nat.{◌-◌}
-use mathlib.Core.Path.{◌≡◌, refl, sym, ◌∙◌}
-use native.Mathlib.Numerals.{add-one}
+use mathlib.Core.Path.{◌≡◌}
 use lib.ListN.{length, drop}
 use Rattle.line_hints.specs.Why.{has_other}
-use Rattle.line_hints.proofs.ReasonLaws.{other_past, other_below, other_above, other_on}
-use borrow.Author.Rules.{rules}
 use Rattle.line_hints.proofs.scans.has_other.Given as goal
 
 abbrev pub invariant-loop-at : goal.invariant-loop-at

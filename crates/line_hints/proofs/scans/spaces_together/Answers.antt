@@ -1,12 +1,10 @@
 -- `line_hints::scans::spaces_together` meets its contract: the line from the byte before on says what the whole says. Assumes nothing.
 use Prim.Native.Nat.{suc, ◌+◌, ◌-◌, ◌≤◌}
 use mathlib.Core.Path.{◌≡◌, refl, sym, ◌∙◌}
-use mathlib.Core.Logic.{⊎_elim}
 use native.Mathlib.Omega.{arith}
 use lib.ListN.{length, drop}
 use Rattle.line_hints.specs.Why.{spaces_together}
 use Rattle.line_hints.proofs.ReasonLaws.{together-here, together_on_first, together_on_second, together-last}
-use borrow.Author.Rules.{rules}
 use Rattle.line_hints.proofs.scans.spaces_together.Goals.{then-line-at-eq-SPACE+else-line-at-eq-SPACE-2, else-line-at-eq-SPACE}
 use Rattle.line_hints.proofs.scans.spaces_together.Goals as goal
 

@@ -1,12 +1,8 @@
 -- `line_hints::scans::spaces_together` meets its contract: the line from the byte before on says what the whole says. Assumes nothing.
-use Prim.Native.Nat.{suc, ◌+◌, ◌-◌, ◌≤◌}
-use mathlib.Core.Path.{◌≡◌, refl, sym, ◌∙◌}
-use mathlib.Core.Logic.{⊎_elim}
-use native.Mathlib.Omega.{arith}
+use Prim.Native.Nat.{◌-◌, ◌≤◌}
+use mathlib.Core.Path.{◌≡◌}
 use lib.ListN.{length, drop}
 use Rattle.line_hints.specs.Why.{spaces_together}
-use Rattle.line_hints.proofs.ReasonLaws.{together-here, together_on_first, together_on_second, together-last}
-use borrow.Author.Rules.{rules}
 use Rattle.line_hints.proofs.scans.spaces_together.Given as goal
 
 abbrev pub invariant-loop-at : goal.invariant-loop-at

@@ -1,14 +1,9 @@
 -- `line_hints::words::all_numbers` meets its contract: the words from each place on. Assumes nothing.
-use Prim.Native.Nat.{suc, ◌+◌, ◌-◌, ◌≤◌}
-use mathlib.Core.Path.{◌≡◌, refl, sym, ap, ◌∙◌}
-use native.Mathlib.Omega.{arith}
-use borrow.Author.Tests.{not-true, not-false}
+use Prim.Native.Nat.{suc, ◌-◌}
+use mathlib.Core.Path.{◌≡◌}
 use lib.ListN.{length}
-use Rattle.line_read.specs.Places.{behind_letter, word_end, words_from}
-use Rattle.line_read.proofs.WordLaws.{word_ends, word_inside, words_none}
+use Rattle.line_read.specs.Places.{behind_letter, words_from}
 use Rattle.line_hints.specs.Why.{all_numbers}
-use Rattle.line_hints.proofs.ReasonLaws.{numbers_not, numbers_on, numbers_none}
-use borrow.Author.Rules.{rules}
 use Rattle.line_hints.proofs.words.all_numbers.Given as goal
 
 abbrev pub invariant-loop-at : goal.invariant-loop-at

@@ -1,9 +1,9 @@
 -- `line_hints::words::count` meets its contract: the words from each place on. Assumes nothing.
-use Prim.Native.Nat.{suc, ◌+◌, ◌-◌, ◌≤◌}
+use Prim.Native.Nat.{suc, ◌+◌, ◌≤◌}
 use mathlib.Core.Path.{◌≡◌, ap}
 use native.Mathlib.Omega.{arith}
 use lib.ListN.{length}
-use Rattle.line_read.specs.Places.{behind_letter, word_end, words_from}
+use Rattle.line_read.specs.Places.{word_end, words_from}
 use Rattle.line_read.proofs.WordLaws.{word_ends, word_inside, words_none}
 use Rattle.line_hints.proofs.ReasonLaws.{one_word}
 use borrow.Author.Rules.{rules}

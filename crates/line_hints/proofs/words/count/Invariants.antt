@@ -1,12 +1,8 @@
 -- `line_hints::words::count` meets its contract: the words from each place on. Assumes nothing.
 use Prim.Native.Nat.{suc, ◌+◌, ◌-◌, ◌≤◌}
-use mathlib.Core.Path.{◌≡◌, ap}
-use native.Mathlib.Omega.{arith}
+use mathlib.Core.Path.{◌≡◌}
 use lib.ListN.{length}
-use Rattle.line_read.specs.Places.{behind_letter, word_end, words_from}
-use Rattle.line_read.proofs.WordLaws.{word_ends, word_inside, words_none}
-use Rattle.line_hints.proofs.ReasonLaws.{one_word}
-use borrow.Author.Rules.{rules}
+use Rattle.line_read.specs.Places.{behind_letter, words_from}
 use Rattle.line_hints.proofs.words.count.Given as goal
 
 abbrev pub invariant-loop-at : goal.invariant-loop-at

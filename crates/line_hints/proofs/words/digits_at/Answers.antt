@@ -1,18 +1,16 @@
 -- `line_hints::words::digits_at` meets its contract: what is left of the word. Assumes nothing.
-use Prim.Native.Nat.{suc, ◌+◌, ◌-◌, ◌<◌, ◌≤◌}
+use Prim.Native.Nat.{suc, ◌+◌, ◌<◌}
 use mathlib.Core.Path.{◌≡◌, sym, ◌∙◌}
 use mathlib.Core.Bool.{true}
 use native.Mathlib.Numerals.{add-one}
 use native.Mathlib.Omega.{arith}
 use borrow.Author.Tests.{lt-ltb, le-ltb}
 use lib.Dec.{ltb}
-use lib.ListN.{length, get_or}
+use lib.ListN.{get_or}
 use Rattle.line_rules.specs.Text.{digit0}
 use Rattle.line_read.specs.Places.{word_at}
 use Rattle.line_read.proofs.WordLaws.{word_past, word_none}
-use Rattle.line_hints.specs.Why.{some_digits}
-use Rattle.line_hints.proofs.ReasonLaws.{rest_digits, rest_some, rest_ended, rest_below, rest_above, rest_on}
-use borrow.Author.Rules.{rules}
+use Rattle.line_hints.proofs.ReasonLaws.{rest_some, rest_ended, rest_below, rest_above, rest_on}
 use Rattle.line_hints.proofs.words.digits_at.Goals as goal
 
 pub loop-at-init : goal.loop-at-init

@@ -1,12 +1,11 @@
 -- `line_hints::words::number_at` meets its contract. Assumes nothing.
 use mathlib.Core.Path.{sym, ◌∙◌}
-use mathlib.Core.Logic.{◌≢◌, ⊎_elim}
+use mathlib.Core.Logic.{◌≢◌}
 use Prim.Native.Nat.{◌<◌}
 use native.Mathlib.Numerals.{add-one}
 use native.Mathlib.Omega.{arith}
 use lib.ListN.{length, get_or}
 use Rattle.line_hints.proofs.ReasonLaws.{number-minus, number_plain}
-use borrow.Author.Rules.{rules}
 use Rattle.line_hints.proofs.words.number_at.Goals.{Joined-from-line, then-from-line+else-line-from-eq-MINUS, else-from-line}
 use Rattle.line_hints.proofs.words.number_at.Goals as goal
 

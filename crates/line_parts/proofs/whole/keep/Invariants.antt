@@ -1,9 +1,7 @@
 -- `line_parts::whole::keep` meets its contract: the first i bytes are moved, and those behind them are as they were. Assumes nothing.
-use mathlib.Core.Path.{◌≡◌, refl}
-use Prim.Native.Nat.{◌+◌, ◌-◌, ◌<◌, ◌≤◌}
-use borrow.Author.Rules.{rules}
+use mathlib.Core.Path.{◌≡◌}
+use Prim.Native.Nat.{◌-◌, ◌≤◌}
 use lib.ListN.{length, take, drop}
-use Rattle.line_parts.proofs.Loops.{one_moved, others_still, all_moved}
 use Rattle.line_parts.proofs.whole.keep.Given as goal
 
 abbrev pub invariant-loop-i : goal.invariant-loop-i

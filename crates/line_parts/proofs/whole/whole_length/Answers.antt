@@ -1,7 +1,5 @@
 -- `line_parts::whole::whole_length` meets its contract: no byte 10 lies behind the place. Assumes nothing.
 use Prim.Native.Nat.{◌≤◌}
-use lib.ListN.{length, drop}
-use Rattle.line_parts.proofs.PartLaws.{NoEnd}
 use Rattle.line_parts.proofs.Loops.{none_at_end, none_before, last-here, none_here}
 use borrow.Author.Rules.{rules}
 use Rattle.line_parts.proofs.whole.whole_length.Goals as goal

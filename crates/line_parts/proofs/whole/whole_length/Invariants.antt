@@ -2,8 +2,6 @@
 use Prim.Native.Nat.{◌≤◌}
 use lib.ListN.{length, drop}
 use Rattle.line_parts.proofs.PartLaws.{NoEnd}
-use Rattle.line_parts.proofs.Loops.{none_at_end, none_before, last-here, none_here}
-use borrow.Author.Rules.{rules}
 use Rattle.line_parts.proofs.whole.whole_length.Given as goal
 
 abbrev pub invariant-loop-at : goal.invariant-loop-at

@@ -1,15 +1,9 @@
 -- `line_print::text::digits_of` meets its contract. The loop's invariant: ten times the power is ten to the count, and the number has
 -- so many digits at least. Assumes nothing.
-use mathlib.Core.Path.{◌≡◌, refl, ap, ◌∙◌}
-use Prim.Native.Nat.{ℕ, ◌+◌, ◌-◌, ◌*◌, ◌^◌, ◌≤◌, ◌<◌}
-use native.Mathlib.Nat.{pow-suc}
-use native.Mathlib.Numerals.{add-one}
-use native.Mathlib.Omega.{arith}
+use mathlib.Core.Path.{◌≡◌}
+use Prim.Native.Nat.{◌-◌, ◌*◌, ◌^◌, ◌≤◌, ◌<◌}
 use lib.ListN.{length}
 use Rattle.line_rules.specs.Text.{decimal}
-use Rattle.line_rules.proofs.TextLaws.{decimal-short}
-use Rattle.line_print.proofs.Stores.{some_digit, digits_above}
-use borrow.Author.Rules.{rules}
 use Rattle.line_print.proofs.text.digits_of.Given as goal
 
 abbrev pub invariant-loop-power : goal.invariant-loop-power

@@ -2,13 +2,12 @@
 -- still to be put. Assumes nothing.
 use mathlib.Core.Path.{◌≡◌, refl, sym, ap, ◌∙◌}
 use mathlib.Core.List.{List}
-use Prim.Native.Nat.{ℕ, suc, ◌+◌, ◌-◌, ◌/◌, ◌%◌, ◌≤◌}
+use Prim.Native.Nat.{ℕ, suc, ◌+◌, ◌-◌, ◌/◌, ◌%◌}
 use native.Mathlib.Omega.{arith}
 use lib.ListN.{length, set, length-set}
 use lib.Seq.{sets}
 use Rattle.line_rules.specs.Text.{digit0, decimal}
 use Rattle.line_print.proofs.Stores.{last_digits, last_all, last-next}
-use borrow.Author.Rules.{rules}
 use Rattle.line_print.proofs.text.put_digits.Goals as goal
 
 pub loop-k-init : goal.loop-k-init

@@ -1,14 +1,11 @@
 -- `line_print::text::put_digits` meets its contract. The loop's invariant: the digits of what is left of the number are
 -- still to be put. Assumes nothing.
-use mathlib.Core.Path.{◌≡◌, refl, sym, ap, ◌∙◌}
-use mathlib.Core.List.{List}
-use Prim.Native.Nat.{ℕ, suc, ◌+◌, ◌-◌, ◌/◌, ◌%◌, ◌≤◌}
-use native.Mathlib.Omega.{arith}
-use lib.ListN.{length, set, length-set}
+use mathlib.Core.Path.{◌≡◌}
+use Prim.Native.Nat.{◌-◌, ◌≤◌}
+use lib.ListN.{length}
 use lib.Seq.{sets}
-use Rattle.line_rules.specs.Text.{digit0, decimal}
-use Rattle.line_print.proofs.Stores.{last_digits, last_all, last-next}
-use borrow.Author.Rules.{rules}
+use Rattle.line_rules.specs.Text.{decimal}
+use Rattle.line_print.proofs.Stores.{last_digits}
 use Rattle.line_print.proofs.text.put_digits.Given as goal
 
 abbrev pub invariant-loop-k : goal.invariant-loop-k

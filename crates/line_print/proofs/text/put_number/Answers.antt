@@ -4,7 +4,6 @@ use Prim.Native.Nat.{◌<◌}
 use native.Mathlib.Omega.{arith}
 use lib.ListN.{length}
 use Rattle.line_rules.proofs.TextLaws.{decimal_small}
-use borrow.Author.Rules.{rules}
 use Rattle.line_print.proofs.text.put_number.Goals as goal
 
 pub put_byte-requires : goal.put_byte-requires

@@ -2,7 +2,6 @@
 use native.Mathlib.Omega.{arith}
 use Rattle.line_rules.proofs.TextLaws.{decimal-short}
 use Rattle.line_print.proofs.PutLaws.{short_then, exactly}
-use borrow.Author.Rules.{rules}
 use Rattle.line_print.proofs.text.put_one.Goals as goal
 
 pub put_number-requires : goal.put_number-requires

@@ -2,7 +2,6 @@
 use native.Mathlib.Omega.{arith}
 use Rattle.line_rules.proofs.TextLaws.{decimal-short}
 use Rattle.line_print.proofs.PutLaws.{short_then, exactly, reaches}
-use borrow.Author.Rules.{rules}
 use Rattle.line_print.proofs.text.put_two.Goals as goal
 
 pub put_word-from-requires : goal.put_word-from-requires

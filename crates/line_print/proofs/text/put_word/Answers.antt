@@ -1,9 +1,9 @@
 -- `line_print::text::put_word` meets its contract. The loop's invariant: the first i bytes are put. Assumes nothing.
 use mathlib.Core.Path.{◌≡◌, refl, ap, ◌∙◌}
 use mathlib.Core.List.{List}
-use Prim.Native.Nat.{ℕ, ◌+◌, ◌-◌, ◌≤◌, ◌<◌}
+use Prim.Native.Nat.{ℕ, ◌+◌, ◌<◌}
 use native.Mathlib.Omega.{arith}
-use lib.ListN.{length, take, get_or, length-set}
+use lib.ListN.{length, get_or, length-set}
 use lib.Seq.{sets, take_all}
 use Rattle.line_print.proofs.Stores.{copied_next}
 use borrow.Author.Rules.{rules}

@@ -2,7 +2,6 @@
 use native.Mathlib.Omega.{arith}
 use Rattle.line_rules.specs.Printing.{answer_text}
 use Rattle.line_print.proofs.PutLaws.{short_then, within, reaches}
-use borrow.Author.Rules.{rules}
 use Rattle.line_print.proofs.words.put_aborted.Goals as goal
 
 pub put_backs-requires : goal.put_backs-requires

@@ -6,7 +6,6 @@ use Rattle.hub_answers.specs.declared.MaybePutBack.{MaybePutBack}
 use Rattle.line_rules.specs.Text.{digits, decimal}
 use Rattle.line_rules.specs.Printing.{back_list, back_text}
 use Rattle.line_print.proofs.PutLaws.{exactly, within, as_text}
-use borrow.Author.Rules.{rules}
 use Rattle.line_print.proofs.words.put_at_most_one.Goals as goal
 
 pub returns-in-Nothing : goal.returns-in-Nothing

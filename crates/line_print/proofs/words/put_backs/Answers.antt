@@ -1,7 +1,7 @@
 -- `line_print::words::put_backs` meets its contract. The loop's invariant: the first i are put behind the count. Assumes nothing.
 use mathlib.Core.Path.{◌≡◌, refl, sym, ap₂, ◌∙◌}
 use mathlib.Core.List.{◌++◌, map}
-use Prim.Native.Nat.{ℕ, ◌-◌, ◌*◌, ◌≤◌, ◌<◌}
+use Prim.Native.Nat.{ℕ, ◌≤◌, ◌<◌}
 use native.Mathlib.Omega.{arith}
 use borrow.Author.Rules.{rules}
 use lib.ListN.{length, take}
@@ -11,7 +11,7 @@ use Rattle.hub_answers.specs.View.{back_of}
 use Rattle.line_rules.specs.Text.{bytes, decimal}
 use Rattle.line_rules.specs.Printing.{back_list, back_text}
 use Rattle.line_rules.proofs.TextLaws.{decimal-short}
-use Rattle.line_print.specs.Put.{max_put_back, PutShort}
+use Rattle.line_print.specs.Put.{PutShort}
 use Rattle.line_print.proofs.PutLaws.{put-none, short_then, shorter, within, as_text, reaches, backs_next, backs_count}
 use Rattle.line_print.proofs.words.put_backs.Goals.{After-put_one-to, Start}
 use Rattle.line_print.proofs.words.put_backs.Goals as goal

@@ -1,18 +1,11 @@
 -- `line_print::words::put_backs` meets its contract. The loop's invariant: the first i are put behind the count. Assumes nothing.
-use mathlib.Core.Path.{◌≡◌, refl, sym, ap₂, ◌∙◌}
-use mathlib.Core.List.{◌++◌, map}
-use Prim.Native.Nat.{ℕ, ◌-◌, ◌*◌, ◌≤◌, ◌<◌}
-use native.Mathlib.Omega.{arith}
-use borrow.Author.Rules.{rules}
+use mathlib.Core.Path.{◌≡◌}
+use mathlib.Core.List.{map}
+use Prim.Native.Nat.{◌-◌, ◌*◌, ◌≤◌}
 use lib.ListN.{length, take}
-use Rattle.rules_routine.specs.Limits.{max_devices}
-use Rattle.rules_routine.proofs.RoutineLaws.{length_mapped}
 use Rattle.hub_answers.specs.View.{back_of}
-use Rattle.line_rules.specs.Text.{bytes, decimal}
-use Rattle.line_rules.specs.Printing.{back_list, back_text}
-use Rattle.line_rules.proofs.TextLaws.{decimal-short}
+use Rattle.line_rules.specs.Printing.{back_list}
 use Rattle.line_print.specs.Put.{max_put_back, PutShort}
-use Rattle.line_print.proofs.PutLaws.{put-none, short_then, shorter, within, as_text, reaches, backs_next, backs_count}
 use Rattle.line_print.proofs.words.put_backs.Given as goal
 
 abbrev pub invariant-loop-i : goal.invariant-loop-i

@@ -3,7 +3,6 @@ use native.Mathlib.Omega.{arith}
 use Rattle.line_rules.specs.Text.{digits, decimal}
 use Rattle.line_rules.specs.Printing.{back_text}
 use Rattle.line_print.proofs.PutLaws.{short_then, exactly, within}
-use borrow.Author.Rules.{rules}
 use Rattle.line_print.proofs.words.put_one_back.Goals as goal
 
 pub returns : goal.returns

@@ -3,7 +3,6 @@ use mathlib.Core.Path.{sym, ap}
 use native.Mathlib.Omega.{arith}
 use Rattle.line_rules.specs.Printing.{refusal_text}
 use Rattle.line_print.proofs.PutLaws.{within, as_text}
-use borrow.Author.Rules.{rules}
 use Rattle.line_print.proofs.words.put_refused.Goals as goal
 
 pub returns-in-Number : goal.returns-in-Number

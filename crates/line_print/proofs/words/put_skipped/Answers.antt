@@ -8,7 +8,6 @@ use Rattle.hub_answers.specs.declared.MaybePutBack.{MaybePutBack}
 use Rattle.line_rules.specs.Text.{bytes, decimal}
 use Rattle.line_rules.specs.Printing.{back_if_any, answer_text}
 use Rattle.line_print.proofs.PutLaws.{short_then, within, as_text}
-use borrow.Author.Rules.{rules}
 use Rattle.line_print.proofs.words.put_skipped.Goals as goal
 
 pub returns-in-Nothing : goal.returns-in-Nothing

@@ -9,7 +9,6 @@ use Rattle.hub_answers.specs.declared.Answer.{Answer}
 use Rattle.line_rules.specs.Printing.{answer_text}
 use Rattle.line_print.specs.Put.{max_answer, PutShort}
 use Rattle.line_print.proofs.PutLaws.{within, as_text}
-use borrow.Author.Rules.{rules}
 use Rattle.line_print.proofs.words.put_words.Goals as goal
 
 -- the text of the case that the answer is

@@ -1,6 +1,5 @@
 -- `line_read::calls::by_letter` meets its contract. Assumes nothing.
 use mathlib.Core.Path.{◌≡◌, sym, ap, ◌∙◌}
-use mathlib.Core.Logic.{⊎_elim}
 use mathlib.Core.List.{[], ◌∷◌}
 use native.Mathlib.Omega.{arith}
 use lib.ListN.{get_or}
@@ -9,7 +8,6 @@ use Rattle.line_rules.specs.Reading.{line_with, line_by}
 use Rattle.line_read.specs.View.{read_as}
 use Rattle.line_read.specs.Places.{behind_letter, words_from}
 use Rattle.line_read.proofs.Forms.{no_words, letter_and_more, one_byte, letter_alone, letter_submit, plain_routine}
-use borrow.Author.Rules.{rules}
 use Rattle.line_read.proofs.calls.by_letter.Goals.{Joined-line-gt1, then-line-gt1+else-line-ne-SPACE, else-line-gt1}
 use Rattle.line_read.proofs.calls.by_letter.Goals as goal
 

@@ -6,7 +6,6 @@ use Rattle.line_read.specs.View.{id_call_with}
 use Rattle.line_read.specs.Places.{behind_letter}
 use Rattle.line_read.proofs.WordLaws.{WordSays, no_number, number_says, number_bound}
 use Rattle.line_read.proofs.Forms.{held_as, one_none, one_more, one_found}
-use borrow.Author.Rules.{rules}
 use Rattle.line_read.proofs.calls.id_line.Goals.{In-Found}
 use Rattle.line_read.proofs.calls.id_line.Goals as goal
 

@@ -1,7 +1,6 @@
 -- `line_read::calls::plain_line` meets its contract. Assumes nothing.
 use mathlib.Core.Path.{sym, ap, ◌∙◌}
 use Rattle.line_read.proofs.Forms.{held_as, letter_open, letter_fail, letter_restart, letter_other}
-use borrow.Author.Rules.{rules}
 use Rattle.line_read.proofs.calls.plain_line.Goals as goal
 
 pub returns-then-letter-eq-OPEN : goal.returns-then-letter-eq-OPEN

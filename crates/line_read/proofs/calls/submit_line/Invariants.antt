@@ -1,15 +1,11 @@
 -- `line_read::calls::submit_line` meets its contract. Assumes nothing.
-use Prim.Native.Nat.{suc, ◌+◌, ◌-◌, ◌≤◌}
-use mathlib.Core.Path.{◌≡◌, sym, ap, ◌∙◌}
-use native.Mathlib.Omega.{arith}
-use borrow.Author.Tests.{not-true, not-false}
+use Prim.Native.Nat.{suc, ◌-◌}
+use mathlib.Core.Path.{◌≡◌}
 use lib.ListN.{length}
-use Rattle.rules_routine.specs.declared.Routine.{Routine}
 use Rattle.line_rules.specs.Reading.{commands, submit_line}
 use Rattle.line_read.specs.View.{read_as}
-use Rattle.line_read.specs.Places.{behind_letter, words_from, command_behind}
-use Rattle.line_read.proofs.Forms.{submit_from, submit_all, submit-more, submit_end}
-use borrow.Author.Rules.{rules}
+use Rattle.line_read.specs.Places.{behind_letter, words_from}
+use Rattle.line_read.proofs.Forms.{submit_from}
 use Rattle.line_read.proofs.calls.submit_line.Given as goal
 
 -- what is left: the commands of the words from a place on, behind those that the routine has

@@ -1,5 +1,4 @@
 -- `line_read::calls::unread` meets its contract. Assumes nothing.
-use borrow.Author.Rules.{rules}
 use Rattle.line_read.proofs.calls.unread.Goals as goal
 
 pub returns : goal.returns

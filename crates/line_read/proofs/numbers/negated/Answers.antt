@@ -9,7 +9,6 @@ use mir.Val.{SFits, to_z}
 use mir.Facts.{to_z_pos, to_z-of_z, sfits_widen}
 use Rattle.line_rules.specs.Reading.{minus_of}
 use Rattle.line_read.proofs.WordLaws.{minus_sub, minus-fits}
-use borrow.Author.Rules.{rules}
 use Rattle.line_read.proofs.numbers.negated.Goals.{Start}
 use Rattle.line_read.proofs.numbers.negated.Goals as goal
 

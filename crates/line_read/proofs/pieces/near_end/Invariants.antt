@@ -1,11 +1,8 @@
 -- `line_read::pieces::near_end` meets its contract: as far as the piece reaches from each place, it ends where it did. Assumes nothing.
 use Prim.Native.Nat.{◌+◌, ◌-◌}
-use mathlib.Core.Path.{◌≡◌, sym, ◌∙◌}
-use native.Mathlib.Numerals.{add-one}
+use mathlib.Core.Path.{◌≡◌}
 use lib.ListN.{length, drop}
 use Rattle.line_rules.specs.Pieces.{reach}
-use Rattle.line_read.proofs.WordLaws.{ends-past, ends-here, ends_on}
-use borrow.Author.Rules.{rules}
 use Rattle.line_read.proofs.pieces.near_end.Given as goal
 
 abbrev pub invariant-loop-at : goal.invariant-loop-at

@@ -1,13 +1,9 @@
 -- `line_read::pieces::piece_end` meets its contract: as far as the piece reaches from each place, it ends where it did. Assumes nothing.
-use Prim.Native.Nat.{ℕ, suc, ◌+◌, ◌-◌, ◌<◌}
-use mathlib.Core.Path.{◌≡◌, ◌∙◌}
+use Prim.Native.Nat.{ℕ, ◌+◌, ◌-◌}
+use mathlib.Core.Path.{◌≡◌}
 use mathlib.Core.List.{List}
-use mathlib.Core.Logic.{⊎_elim}
-use native.Mathlib.Omega.{arith}
-use lib.ListN.{length, drop}
+use lib.ListN.{drop}
 use Rattle.line_rules.specs.Pieces.{reach}
-use Rattle.line_read.proofs.WordLaws.{ends_at, ends_next}
-use borrow.Author.Rules.{rules}
 use Rattle.line_read.proofs.pieces.piece_end.Given as goal
 
 -- from a place the piece ends where it does from another
