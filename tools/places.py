@@ -3,7 +3,8 @@
 
     tools/places.py NAME FUNCTION    # FUNCTION as a path below proofs/, such as reading/check_all
 
-What is known at a place, and the fields of `c` there, a check prints with each goal: leave a hole, `rt check --only FUNCTION --allow-holes`.
+What is known at a place, and the fields of `c` there, a check prints with each goal: leave a hole, and run
+`rt check --only FUNCTION --allow-holes`.
 """
 import glob
 import os

@@ -22,6 +22,7 @@ from specification_page.source import BLOCK, SIGNATURE, paths_used, tokens_of  #
 
 GROUP = re.compile(r"^((?:ghost )?use )([^\s{;:]+)\.\{([^}]*)\}(;?)\n", re.M)
 CODE_USE = re.compile(r"^use [^;]*;\n", re.M)
+TRAITS = (("std", "io", "Read"),)  # brought in for their methods, which no text tells
 
 # ---- what a file brings in
 
@@ -36,7 +37,8 @@ def is_used(name, code, words):
 
 
 def without_unused(name, text):
-    code = re.sub(r"(--|//)[^\n]*", "", CODE_USE.sub("", GROUP.sub("", text)))
+    code = GROUP.sub("", text)
+    code = re.sub(r"(--|//)[^\n]*", "", CODE_USE.sub("", code) if name.endswith(".rt") else code)
     words = set(re.split(r"[\s()\[\]{};,.]+", code))
     found = []
 
@@ -48,7 +50,7 @@ def without_unused(name, text):
 
     def code_use(match):
         paths = paths_used(match.group())
-        kept = [path for path in paths if re.search(rf"\b{path[-1]}\b", code)]
+        kept = [path for path in paths if tuple(path) in TRAITS or re.search(rf"\b{path[-1]}\b", code)]
         found.extend("::".join(path) for path in paths if path not in kept)
         return match.group() if len(kept) == len(paths) else "".join(f"use {'::'.join(path)};\n" for path in kept)
 

@@ -15,7 +15,8 @@ SIGNS = [
     ("data .. where", "a value is one of the cases listed"),
     ("record .. where", "a value has all the parts listed; of a statement: all of them hold"),
     ("abbrev, unfoldable", "how the checker opens a definition; it does not change what it says"),
-    ("ensures { A }", "in a contract: A holds when the function returns; `result` is what it returns, `x.now` the value of what is lent to it "
+    ("ensures { A }", "in a contract: A holds when the function returns; `result` is what it returns, `x.now` the value of what is lent "
+     "to it "
      "as x, `x.old` and `x.new` that before and after the call"),
     ("requires { A }", "in a contract: A is asked of whoever calls"),
 ]
