@@ -3,7 +3,7 @@
 
     tools/places.py NAME FUNCTION    # FUNCTION as a path below proofs/, such as reading/check_all
 
-What is known at a place, and the fields of `c` there, a check prints with each goal that has a hole:
+What is known at a place, and the fields of `c` there, a check prints with each goal: leave a hole, and run
 `rt check --only FUNCTION --allow-holes`.
 """
 import glob

@@ -3,16 +3,17 @@
 
 usage: tools/respell.py [FOLDER]     once, after port.py, at the top of the repository
 
-Turned: the code of .antt files, the clauses and imports of .rt files, the texts of must-fail edits, and code spans of the pages. A name with
-capitals inside turns in comments too. Names of Rust code, strings, and the labels that Rattle makes (in a folder of proofs/, a name that the
-file declares at a type of `tie`, and what stands behind a dot there) keep their spelling.
+Turned: the code of .antt files, the clauses and imports of .rt files, the texts of must-fail edits, and code spans of the pages. A name
+with capitals inside turns in comments too. Names of Rust code, strings, and the labels that Rattle makes (in a folder of proofs/, a name
+that the file declares at a type of `tie`, and what stands behind a dot there) keep their spelling.
 """
 import os
 import re
 import sys
 
 HERE = os.path.dirname(os.path.realpath(__file__))
-TABLE = dict(row.rstrip("\n").split("\t") for row in open(os.path.join(HERE, "respell.tsv"), encoding="utf-8"))
+with open(os.path.join(HERE, "respell.tsv"), encoding="utf-8") as rows:
+    TABLE = dict(row.rstrip("\n").split("\t") for row in rows)
 WORD = re.compile(r"[^\s(){}.;,@\"«»`:|\[\]]+")
 QUIET = re.compile(r'"(?:[^"\\\n]|\\.)*"|(?<![^\s(){}.;,@"«»])--[^\n]*')
 LABEL = re.compile(r"(?m)^([^\s:]+) : tie\.Need")
@@ -37,7 +38,7 @@ def words(text, keep=(), dots=True):
 def camel(text):
     """A comment: names with capitals inside, and code spans."""
     text = SPAN.sub(lambda m: words(m.group(0)), text)
-    return WORD.sub(lambda m: word(m.group(0)) if re.search("[a-z][A-Z]", m.group(0)) and "-" not in m.group(0) else m.group(0), text)
+    return WORD.sub(lambda m: m.group(0) if "-" in m.group(0) else camel_word(m), text)
 
 
 def antt(text, path):
@@ -79,13 +80,17 @@ def camel_lines(text):
     return re.sub(r"//[^\n]*", lambda m: camel(m.group(0)), text)
 
 
+def camel_word(m):
+    return word(m.group(0)) if re.search("[a-z][A-Z]", m.group(0)) else m.group(0)
+
+
 def edit(text):
     rows, of = [], ""
     for row in text.splitlines(keepends=True):
         if row.startswith("file:"):
             of = row.split(":", 1)[1].strip()
         elif row.startswith(("old:", "new:")):
-            row = row[:4] + (words(row[4:]) if of.endswith(".antt") else WORD.sub(lambda m: word(m.group(0)) if re.search("[a-z][A-Z]", m.group(0)) else m.group(0), row[4:]))
+            row = row[:4] + (words(row[4:]) if of.endswith(".antt") else WORD.sub(camel_word, row[4:]))
         rows.append(row)
     return "".join(rows)
 

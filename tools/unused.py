@@ -22,6 +22,7 @@ from specification_page.source import BLOCK, SIGNATURE, paths_used, tokens_of  #
 
 GROUP = re.compile(r"^((?:ghost )?use )([^\s{;:]+)\.\{([^}]*)\}(;?)\n", re.M)
 CODE_USE = re.compile(r"^use [^;]*;\n", re.M)
+TRAITS = (("std", "io", "Read"),)  # brought in for their methods, which no text tells
 
 # ---- what a file brings in
 
@@ -33,11 +34,6 @@ def is_used(name, code, words):
     if "◌" in name:  # an operator: each of its words stands somewhere
         return all(any(part in word for word in words) for part in words_of(name))
     return name in words
-
-
-def is_trait(path):
-    """It may be one of std's, which is brought in for its methods and not named."""
-    return path[0] == "std" and path[-1][0].isupper()
 
 
 def without_unused(name, text):
@@ -54,7 +50,7 @@ def without_unused(name, text):
 
     def code_use(match):
         paths = paths_used(match.group())
-        kept = [path for path in paths if re.search(rf"\b{path[-1]}\b", code) or is_trait(path)]
+        kept = [path for path in paths if tuple(path) in TRAITS or re.search(rf"\b{path[-1]}\b", code)]
         found.extend("::".join(path) for path in paths if path not in kept)
         return match.group() if len(kept) == len(paths) else "".join(f"use {'::'.join(path)};\n" for path in kept)
 

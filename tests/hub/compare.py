@@ -3,8 +3,8 @@
 
     tests/hub/compare.py [COUNT] [SEED] [PROGRAM]
 
-Runs target/bin/run_hub_vectors, which `tools/build` makes, or another, on COUNT histories (2000 if no number is given), COUNT with readings
-of due settings, and COUNT with new pass limits. The seed is printed. Exit status 0: all agree.
+Runs target/bin/run_hub_vectors, which `tools/build` builds, or another, on COUNT histories (2000 if no number is given), COUNT with
+readings of due settings, and COUNT with new pass limits. The seed is printed. Exit status 0: all agree.
 """
 import os
 import random

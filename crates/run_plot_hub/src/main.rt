@@ -20,7 +20,7 @@ struct Read {
 fn print(rt: &(impl Print + Eprint), text: &[u8]) -> bool
     requires { Adds text.now }
 {
-    run_streams::write_out(rt, "plot_hub", text)
+    run_streams::write_out(rt, b"plot_hub", text)
 }
 
 // Part by part to the end of the input. Nothing says that an input ends, so the loop counts its turns down.
@@ -32,7 +32,7 @@ fn read_all(rt: &(impl Input + Print + Eprint), input: &mut [u8], out: &mut [u8]
     let mut pending = 0usize;
     let mut turns = u64::MAX;
     while turns > 0 {
-        let got = run_streams::read_behind(rt, "plot_hub", input, pending);
+        let got = run_streams::read_behind(rt, b"plot_hub", input, pending);
         if got.count == 0 {
             return Read {
                 hub,

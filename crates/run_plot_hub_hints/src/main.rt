@@ -151,7 +151,7 @@ fn read_all(rt: &(impl Input + Print + Eprint), input: &mut [u8], out: &mut [u8]
     let mut pending = 0usize;
     let mut turns = u64::MAX;
     while turns > 0 {
-        let got = run_streams::read_behind(rt, "plot_hub", input, pending);
+        let got = run_streams::read_behind(rt, b"plot_hub", input, pending);
         if got.count == 0 {
             return Read {
                 tally,
@@ -192,7 +192,7 @@ fn main(rt: HostRuntime) {
         let all = take_last(&rt, tally, &input[..pending], &mut out);
         let told = said::sum_up(&rt, all.lines, all.unread, all.refused).is_ok();
         if !(all.good && told) {
-            run_streams::say_not_written(&rt, "plot_hub");
+            run_streams::say_not_written(&rt, b"plot_hub");
         }
     }
 }

@@ -17,12 +17,12 @@ fn book_buffer() -> [u8; FIRST_BYTES]
 
 fn main(rt: HostRuntime) {
     let mut buffer = book_buffer();
-    let got = run_streams::read_full(&rt, "show_book", &mut buffer);
+    let got = run_streams::read_full(&rt, b"show_book", &mut buffer);
     if !got.good {
         return;
     }
     let n = got.count;
     if run_book_print::print_book(&rt, &buffer[..n]).is_err() {
-        run_streams::say_not_written(&rt, "show_book");
+        run_streams::say_not_written(&rt, b"show_book");
     }
 }

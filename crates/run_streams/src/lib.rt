@@ -6,12 +6,13 @@ ghost use Rattle.std.specs.Prelude.{◌+◌, ◌≤◌, ◌≡◌, length, take}
 
 use std::io::Read;
 
-// What cannot be said on standard error is not said.
-fn say(rt: &impl Eprint, program: &str, message: &str) {
-    let _ = eprintln!(rt; "{program}: {message}");
+// What cannot be said on standard error is not said; nor is a name that is no text, which standard error does not take.
+fn say(rt: &impl Eprint, program: &[u8], message: &str) {
+    let name = str::from_utf8(program).unwrap_or("");
+    let _ = eprintln!(rt; "{name}: {message}");
 }
 
-pub fn say_not_written(rt: &impl Eprint, program: &str) {
+pub fn say_not_written(rt: &impl Eprint, program: &[u8]) {
     say(rt, program, "standard output cannot be written");
 }
 
@@ -25,7 +26,7 @@ pub struct Got {
 // Reads into the input behind the pending bytes, which stay.
 pub fn read_behind(
     rt: &(impl Input + Eprint),
-    program: &str,
+    program: &[u8],
     input: &mut [u8],
     pending: usize,
 ) -> Got
@@ -46,7 +47,7 @@ pub fn read_behind(
 }
 
 // Reads until the buffer is full or the input ends: how many bytes, and whether they could be read.
-pub fn read_full(rt: &(impl Input + Eprint), program: &str, input: &mut [u8]) -> Got
+pub fn read_full(rt: &(impl Input + Eprint), program: &[u8], input: &mut [u8]) -> Got
     ensures { result.count ≤ length input.old }
 {
     let mut filled = 0;
@@ -67,7 +68,7 @@ pub fn read_full(rt: &(impl Input + Eprint), program: &str, input: &mut [u8]) ->
 }
 
 // Whether all of a text could be written.
-pub fn write_out(rt: &(impl Print + Eprint), program: &str, text: &[u8]) -> bool {
+pub fn write_out(rt: &(impl Print + Eprint), program: &[u8], text: &[u8]) -> bool {
     let good = rt.write_all(text).is_ok();
     if !good {
         say_not_written(rt, program);
