@@ -1,4 +1,6 @@
 -- Laws of rows, of the steps that read them, and of the copy. Assumes nothing.
+use Rattle.std.proofs.Common.{Ok, Err}
+use Rattle.rules_routine.specs.Refusals.{Verdict}
 use Prim.Native.Nat.{ℕ, zero, suc, ◌+◌, ◌-◌, ◌*◌, ◌≤◌, ◌<◌}
 use mathlib.Core.Path.{◌≡◌, refl, sym, ap, ap₂, subst, ◌∙◌}
 use mathlib.Core.List.{List, [], ◌∷◌, ◌++◌, map, append_assoc, append-nil, map-append}
@@ -13,9 +15,7 @@ use Rattle.std.specs.Prelude.{if◌then◌else◌}
 use Rattle.rules_routine.specs.Limits.{max_commands, max_routines}
 use Rattle.rules_routine.specs.Routine.{zero_command, commands_of, routine_check}
 use Rattle.rules_routine.specs.declared.Command.{Command}
-use Rattle.rules_routine.specs.declared.Refusal.{Refusal}
-use Rattle.rules_routine.specs.declared.Verdict.{Verdict}
-use Rattle.rules_routine.specs.declared.Verdict.TheVariants.{Accepted, Refused}
+use Rattle.rules_routine.specs.declared.refusals.Refusal.{Refusal}
 use Rattle.rules_routine.proofs.RoutineLaws.{both_accept, check_accepted}
 use Rattle.book_layout.specs.Claims.{Hands, ends, hands, Bytes}
 use Rattle.book_layout.specs.Layout.{book_devices}
@@ -113,13 +113,13 @@ with-routine rs r h k =
 
 -- ---- routines that may be written are few and short
 
-pub routines-short : (rs : List (List Command)) (i : ℕ) → routines_check rs ≡ Accepted → length (get_or rs i []) ≤ max_commands
+pub routines-short : (rs : List (List Command)) (i : ℕ) → routines_check rs ≡ Ok tt → length (get_or rs i []) ≤ max_commands
 unfolding routines_check
 routines-short [] i e = omega arith
 routines-short (r ∷ rs) zero e = (check_accepted book_devices r (both_accept (routine_check book_devices r) _ e).0).1
 routines-short (r ∷ rs) (suc i) e = routines-short rs i (both_accept (routine_check book_devices r) _ e).1
 
-row_short : (rs : List (List Command)) (i : ℕ) → routines_check rs ≡ Accepted → length (row_of (take i rs)) ≤ max_commands * i
+row_short : (rs : List (List Command)) (i : ℕ) → routines_check rs ≡ Ok tt → length (row_of (take i rs)) ≤ max_commands * i
 unfolding routines_check
 row_short rs zero e = omega arith
 row_short [] (suc i) e = omega arith
@@ -130,7 +130,7 @@ row_short (r ∷ rs) (suc i) e =
     omega (arith, length-append r (row_of (take i rs)))
 
 -- the rows of the first routines, with the next
-pub rows_more : (rs : List (List Command)) (i : ℕ) → routines_check rs ≡ Accepted → i < length rs → i < max_routines →
+pub rows_more : (rs : List (List Command)) (i : ℕ) → routines_check rs ≡ Ok tt → i < length rs → i < max_routines →
     with_routine (rows_of (take i rs)) (get_or rs i []) ≡ rows_of (take (i + 1) rs)
 rows_more rs i e h k =
     let s = row_short rs i e in
@@ -183,7 +183,7 @@ rows_lent rs r e =
     ∙ ap (λ (ns : List ℕ). routines_lent ns (rows_of rs).devices (rows_of rs).tags (rows_of rs).settings) (take-append_seam (counts_of rs) _)
     ∙ lent_again rs _ _ _
 
-module _ (b : List ℕ) (rs : List (List Command)) (accepted : book_check b ≡ Accepted) (makes : Makes rs b) where
+module _ (b : List ℕ) (rs : List (List Command)) (accepted : book_check b ≡ Ok tt) (makes : Makes rs b) where
   check_same : (room : ℕ) → write_check rs room ≡ copy_check b room
   unfolding write_check copy_check
   check_same room = rw (makes.fine, le-ltb max_routines (length rs) makes.few, makes.book, accepted)
@@ -198,7 +198,7 @@ module _ (b : List ℕ) (rs : List (List Command)) (accepted : book_check b ≡ 
   after_copied buffer = ap₂ (λ (v : _) (l : List ℕ). buffer_with v l buffer) (check_same (length buffer)) makes.book
 
 -- a book that is turned down
-pub refused_copied : (b buffer : List ℕ) (x : Refusal) → book_check b ≡ Refused x →
+pub refused_copied : (b buffer : List ℕ) (x : Refusal) → book_check b ≡ Err x →
     (NotWritten x ≡ copied_of b (length buffer)) × (buffer ≡ copy_after b buffer)
 unfolding copied_of copy_after copy_check
 refused_copied b buffer x e = (rw e, rw e)
@@ -208,26 +208,26 @@ refused_copied b buffer x e = (rw e, rw e)
 -- rows of an accepted book
 pub record Read (b : List ℕ) (r : RowsRead) : Type 0 where
   pub routines : List (List Command)
-  pub accepted : book_check b ≡ Accepted
+  pub accepted : book_check b ≡ Ok tt
   pub makes : Makes routines b
   pub rows : r.rows ≡ rows_of routines
 
 module _ (b : List ℕ) (bytes : Bytes b) (r : RowsRead) (of : RowsOfBook b r) where
-  pub read-refused : (x : Refusal) → r.verdict ≡ Refused x → book_check b ≡ Refused x
+  pub read-refused : (x : Refusal) → r.verdict ≡ Err x → book_check b ≡ Err x
   read-refused x e = go (book_check b) refl
     where
-      go : (v : Verdict) → book_check b ≡ v → book_check b ≡ Refused x
-      go Accepted a =
+      go : (v : Verdict) → book_check b ≡ v → book_check b ≡ Err x
+      go (Ok tt) a =
           let w = (read_then_write b bytes).0 a in
           let f = ap (λ (s : RowsRead). s.verdict) (of.accepted w.0 w.1) in
           let z : ◌≡◌ {A = ℕ} 0 1 = cc in absurd (omega arith)
-      go (Refused y) a = a ∙ sym (ap (λ (s : RowsRead). s.verdict) (of.refused y a)) ∙ e
+      go (Err y) a = a ∙ sym (ap (λ (s : RowsRead). s.verdict) (of.refused y a)) ∙ e
 
-  pub read-accepted : r.verdict ≡ Accepted → Read b r
+  pub read-accepted : r.verdict ≡ Ok tt → Read b r
   read-accepted e = go (book_check b) refl
     where
       go : (v : Verdict) → book_check b ≡ v → Read b r
-      go Accepted a =
+      go (Ok tt) a =
           let w = (read_then_write b bytes).0 a in
           record {
             routines = w.0;
@@ -235,6 +235,6 @@ module _ (b : List ℕ) (bytes : Bytes b) (r : RowsRead) (of : RowsOfBook b r) w
             makes = hands_make b bytes w.0 w.1;
             rows = ap (λ (s : RowsRead). s.rows) (of.accepted w.0 w.1);
           }
-      go (Refused y) a =
+      go (Err y) a =
           let f = ap (λ (s : RowsRead). s.verdict) (of.refused y a) in
           let z : ◌≡◌ {A = ℕ} 0 1 = cc in absurd (omega arith)

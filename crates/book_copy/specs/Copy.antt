@@ -1,14 +1,14 @@
 -- A book that is read, and what was read is written: the same bytes. Document 01, "The routine book". Assumes nothing.
+use Rattle.rules_routine.specs.declared.refusals.Refusal.TheVariants.{NoRoom}
 use Rattle.std.specs.Prelude.{List, ℕ, ltb, length}
-use Rattle.rules_routine.specs.Refusals.{no_room, refuse◌when◌, ◌and_then◌}
-use Rattle.rules_routine.specs.declared.Verdict.{Verdict}
+use Rattle.rules_routine.specs.Refusals.{refuse◌when◌, ◌and_then◌, Verdict}
 use Rattle.book_layout.specs.Reading.{book_check}
 use Rattle.book_layout.specs.Writing.{written_with, buffer_with}
 use Rattle.book_layout.specs.declared.Written.{Written}
 
 -- The book's refusal; then 21, for a buffer of so many bytes.
 unfoldable pub copy_check : List ℕ → ℕ → Verdict
-copy_check b room = book_check b and_then refuse no_room when ltb room (length b)
+copy_check b room = book_check b and_then refuse NoRoom when ltb room (length b)
 
 -- The answer: the length of the same book, or the refusal.
 unfoldable pub copied_of : List ℕ → ℕ → Written

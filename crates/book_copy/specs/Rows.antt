@@ -1,9 +1,8 @@
 -- Rows: routines as the writer takes them, by value. Assumes nothing.
-use Rattle.std.specs.Prelude.{◌≡◌, List, [], ◌∷◌, ◌++◌, map, ℕ, ◌+◌, ◌-◌, ◌*◌, ltb, pos, length, set, replicate, if◌then◌else◌}
+use Rattle.std.specs.Prelude.{◌≡◌, List, [], ◌∷◌, ◌++◌, map, ℕ, ◌+◌, ◌-◌, ◌*◌, ltb, pos, length, set, replicate, if◌then◌else◌, Ok, Err}
 use Rattle.rules_routine.specs.Limits.{max_commands, max_routines}
 use Rattle.rules_routine.specs.declared.Command.{Command}
-use Rattle.rules_routine.specs.declared.Refusal.{Refusal}
-use Rattle.rules_routine.specs.declared.Verdict.TheVariants.{Accepted, Refused}
+use Rattle.rules_routine.specs.declared.refusals.Refusal.{Refusal}
 use Rattle.book_layout.specs.Claims.{Hands}
 use Rattle.book_layout.specs.Reading.{book_check}
 use Rattle.book_layout.specs.Writing.{row_of, counts_of}
@@ -36,8 +35,8 @@ rows_of rs = rows_with (counts_of rs) (row_of rs)
 -- What `rows_of` gives of book b: of an accepted one (which has such routines: `ReadThenWrite`) the rows of the routines that reading hands
 -- out, of a refused one its refusal and no rows.
 pub record RowsOfBook (b : List ℕ) (r : RowsRead) : Type 0 where
-  pub accepted : (rs : List (List Command)) → Hands b 0 rs → r ≡ record { verdict = Accepted; rows = rows_of rs }
-  pub refused : (x : Refusal) → book_check b ≡ Refused x → r ≡ record { verdict = Refused x; rows = rows_of [] }
+  pub accepted : (rs : List (List Command)) → Hands b 0 rs → r ≡ record { verdict = (Ok tt); rows = rows_of rs }
+  pub refused : (x : Refusal) → book_check b ≡ Err x → r ≡ record { verdict = Err x; rows = rows_of [] }
 
 -- ---- how rows are put together
 

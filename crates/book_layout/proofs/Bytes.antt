@@ -1,5 +1,6 @@
 -- Numbers, settings and commands as bytes and back, for theorems (a) and (b) and those of the sign. `drop p b` is what book b holds from
 -- place p on. Assumes nothing.
+use Rattle.std.proofs.Common.{Ok}
 use Prim.Native.Nat.{ℕ, zero, suc, ◌+◌, ◌-◌, ◌*◌, ◌/◌, ◌%◌, ◌≤◌, ◌<◌}
 use mathlib.Core.Path.{◌≡◌, refl, sym, ap, ap₂, ◌∙◌}
 use mathlib.Core.Bool.{Bool, true}
@@ -16,7 +17,6 @@ use Rattle.rules_routine.specs.Limits.{lowest_setting, highest_setting}
 use Rattle.rules_routine.specs.Range.{in_range}
 use Rattle.rules_routine.specs.Routine.{commands_check}
 use Rattle.rules_routine.specs.declared.Command.{Command}
-use Rattle.rules_routine.specs.declared.Verdict.TheVariants.{Accepted}
 use Rattle.rules_routine.proofs.RoutineLaws.{by_test, in_range_pos, in_range_negsuc, command-accepted, commands-accepted}
 use Rattle.book_layout.specs.Numbers.{two_bytes, four_bytes, byte_at, two_at, four_at, bits_of, setting_of}
 use Rattle.book_layout.specs.Layout.{command_size, command_bytes, commands_bytes, command_at, commands_at}
@@ -108,7 +108,7 @@ command-read b rest p c h e =
     λ i. record { device = x i; tag = y i; setting = z i }
 
 -- accepted commands in a row are read as they were
-pub commands-read : (limit k : ℕ) (b rest : List ℕ) (p : ℕ) (cs : List Command) → commands_check limit k cs ≡ Accepted →
+pub commands-read : (limit k : ℕ) (b rest : List ℕ) (p : ℕ) (cs : List Command) → commands_check limit k cs ≡ Ok tt →
     drop p b ≡ commands_bytes cs ++ rest → commands_at b p (length cs) ≡ cs
 commands-read limit k b rest p [] h e = refl
 commands-read limit k b rest p (c ∷ cs) h e =

@@ -1,5 +1,6 @@
 -- Theorem (c): each refusal of a book is given exactly under its cause, and a book is accepted exactly if it breaks no test.
 -- Assumes nothing.
+use Rattle.std.proofs.Common.{Ok}
 use Prim.Native.Nat.{ℕ, zero, suc, ◌+◌, ◌-◌, ◌*◌, ◌/◌, ◌≤◌, ◌<◌}
 use mathlib.Core.Path.{◌≡◌, sym, ap, subst, ◌∙◌}
 use mathlib.Core.Bool.{Bool, not}
@@ -12,10 +13,8 @@ use lib.Signed.{mag}
 use lib.ListN.{length}
 use Rattle.rules_routine.specs.Limits.{lowest_setting, highest_setting, max_commands, max_routines}
 use Rattle.rules_routine.specs.Range.{in_range}
-use Rattle.rules_routine.specs.Refusals.{refuse◌when◌, ◌and_then◌}
+use Rattle.rules_routine.specs.Refusals.{refuse◌when◌, ◌and_then◌, Verdict}
 use Rattle.rules_routine.specs.Routine.{condition_tag, highest_tag, command_check, stands_alone, commands_check}
-use Rattle.rules_routine.specs.declared.Verdict.{Verdict}
-use Rattle.rules_routine.specs.declared.Verdict.TheVariants.{Accepted}
 use Rattle.rules_routine.proofs.RoutineLaws.{by_test, not-refused, in_range_pos, in_range_negsuc}
 use Rattle.rules_routine.proofs.Exact.{Decides, less, at_most, same, otherwise, either, both, second, agree, Outcome, none, passed, one}
 use Rattle.rules_routine.proofs.Exact.{join, accepted_passes, exactly}
@@ -75,11 +74,11 @@ module _ (b : List ℕ) (bytes : Bytes b) where
   made : (t : Test) (test : Bool) → Decides test (Breaks b t) → ComesTo (t ∷ []) (refuse cause_of t when test)
   made t test d = one (Breaks b) cause_of t test d
 
-  then : {ts us : List Test} {v w : Verdict} → ComesTo ts v → (v ≡ Accepted → ComesTo us w) → ComesTo (ts ++ us) (v and_then w)
+  then : {ts us : List Test} {v w : Verdict} → ComesTo ts v → (v ≡ Ok tt → ComesTo us w) → ComesTo (ts ++ us) (v and_then w)
   then o p = join (Breaks b) cause_of o p
 
   -- commands that are not there break no test
-  commands-past : (i k j : ℕ) → (i < count-of b → length_at b i ≤ command_size * j) → ComesTo (command_tests i j k) Accepted
+  commands-past : (i k j : ℕ) → (i < count-of b → length_at b i ≤ command_size * j) → ComesTo (command_tests i j k) (Ok tt)
   unfolding command_tests
   commands-past i zero j past = none
   commands-past i (suc k) j past =
@@ -91,7 +90,7 @@ module _ (b : List ℕ) (bytes : Bytes b) where
       (commands-past i k (suc j) (λ h. let p = past h in omega arith)))))
 
   -- nor do routines that are not there
-  routines-past : (n i : ℕ) → count-of b ≤ i → ComesTo (routine_tests i n) Accepted
+  routines-past : (n i : ℕ) → count-of b ≤ i → ComesTo (routine_tests i n) (Ok tt)
   unfolding routine_tests
   routines-past zero i h = none
   routines-past (suc n) i h =

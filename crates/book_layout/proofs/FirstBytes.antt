@@ -1,4 +1,6 @@
 -- Theorem (d): a book is judged by its first bytes, one more than the longest book has. Assumes nothing.
+use Rattle.std.proofs.Common.{Ok, Err}
+use Rattle.rules_routine.specs.declared.refusals.Refusal.TheVariants.{BookLength}
 use Prim.Native.Nat.{ℕ, zero, suc, ◌+◌, ◌*◌, ◌/◌, ◌≤◌, ◌<◌}
 use mathlib.Core.Path.{◌≡◌, refl, sym, ap, ap₂, ◌∙◌}
 use mathlib.Core.Bool.{Bool, true, not}
@@ -8,10 +10,8 @@ use borrow.Author.Tests.{le-ltb, ltb-true, ltb-false, not-false}
 use lib.Dec.{ltb}
 use lib.ListN.{length, take}
 use lib.Seq.{length-take-le, take_all, get_or-take}
-use Rattle.rules_routine.specs.Refusals.{book_length, refuse◌when◌, ◌and_then◌}
+use Rattle.rules_routine.specs.Refusals.{refuse◌when◌, ◌and_then◌, Verdict}
 use Rattle.rules_routine.specs.Limits.{max_commands, max_routines}
-use Rattle.rules_routine.specs.declared.Verdict.{Verdict}
-use Rattle.rules_routine.specs.declared.Verdict.TheVariants.{Accepted, Refused}
 use Rattle.rules_routine.proofs.RoutineLaws.{by_test, not-refused}
 use Rattle.book_layout.specs.Numbers.{byte_at, two_at, four_at, setting_of}
 use Rattle.book_layout.specs.Layout.{offset_size, command_size, pairs_end, count-of, pair_place, offset_at, length_at}
@@ -22,9 +22,9 @@ use Rattle.book_layout.specs.Claims.{longest_book, JudgedByFirstBytes}
 use Rattle.book_layout.proofs.LayoutLaws.{fits_in_fours, placed, checks_left_over, head_many, head_fine, book-refused, book-placed}
 
 -- what follows a verdict matters only where it accepts
-same_after : (v w x : Verdict) → (v ≡ Accepted → w ≡ x) → v and_then w ≡ v and_then x
-same_after Accepted w x h = h refl
-same_after (Refused r) w x h = refl
+same_after : (v w x : Verdict) → (v ≡ Ok tt → w ≡ x) → v and_then w ≡ v and_then x
+same_after (Ok tt) w x h = h refl
+same_after (Err r) w x h = refl
 
 -- a length that fits is at most 32
 fits-few : (n : ℕ) → length_fits n ≡ true → n ≤ command_size * max_commands
@@ -72,8 +72,8 @@ module _ (a b : List ℕ) (la : longest_book < length a) (lb : longest_book < le
   placed_same : (i at : ℕ) → i < max_routines → at + command_size * max_commands ≤ longest_book → placed_check a i at ≡ placed_check b i at
   unfolding placed_check
   placed_same i at h k =
-      rw (length-same i h, offset_same i h) (same_after (refuse (book_length i) when not (length_fits (length_at b i))) _ _ (λ e.
-      let l = fits-few (length_at b i) (not-false _ (not-refused (book_length i) _ e)) in
+      rw (length-same i h, offset_same i h) (same_after (refuse (BookLength i) when not (length_fits (length_at b i))) _ _ (λ e.
+      let l = fits-few (length_at b i) (not-false _ (not-refused (BookLength i) _ e)) in
       rw (
         le-ltb (length a) (at + length_at b i) (omega arith),
         le-ltb (length b) (at + length_at b i) (omega arith),

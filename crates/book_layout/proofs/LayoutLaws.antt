@@ -1,4 +1,6 @@
 -- Laws of the layout's definitions that the theorems and the code's proofs cite. Assumes nothing.
+use Rattle.std.proofs.Common.{Ok, Err}
+use Rattle.rules_routine.specs.declared.refusals.Refusal.TheVariants.{BookCutShort, BookMisplaced, BookLength}
 use Prim.Native.Nat.{ℕ, zero, suc, ◌+◌, ◌-◌, ◌*◌, ◌/◌, ◌%◌, ◌≤◌, ◌<◌}
 use mathlib.Core.Path.{◌≡◌, refl, sym, ap, subst, ◌∙◌}
 use mathlib.Core.Bool.{true, false, ◌&&◌}
@@ -10,12 +12,10 @@ use lib.Dec.{leb, eqb}
 use lib.IntN.{ℤ, pos, negsuc, nat_abs, ◌+ℤ◌, ◌-ℤ◌}
 use lib.Signed.{le_z, mag}
 use lib.ListN.{length, length-append}
-use Rattle.rules_routine.specs.Refusals.{book_cut_short, book_misplaced, book_length, refusal_of}
 use Rattle.rules_routine.specs.Limits.{max_commands, max_routines}
 use Rattle.rules_routine.specs.Routine.{routine_of, commands_check}
 use Rattle.rules_routine.specs.declared.Command.{Command}
-use Rattle.rules_routine.specs.declared.Refusal.{Refusal}
-use Rattle.rules_routine.specs.declared.Verdict.TheVariants.{Accepted, Refused}
+use Rattle.rules_routine.specs.declared.refusals.Refusal.{Refusal}
 use Rattle.rules_routine.proofs.RoutineLaws.{and-true, both_accept, not-refused, or-false}
 use Rattle.book_layout.specs.Numbers.{two_bytes, four_bytes, byte_at, two_at, four_at, bits_of, setting_of}
 use Rattle.book_layout.specs.Layout.{count_size, pair_size, offset_size, command_size, book_devices, pairs_end, length_in}
@@ -134,16 +134,16 @@ length-commands_at b at (suc n) = ap suc (length-commands_at b (at + command_siz
 -- ---- a routine of a book, by its tests
 
 module _ (b : List ℕ) (i at : ℕ) where
-  pub placed-length : length_fits (length_at b i) ≡ false → placed_check b i at ≡ Refused (refusal_of (book_length i))
+  pub placed-length : length_fits (length_at b i) ≡ false → placed_check b i at ≡ Err (BookLength i)
   unfolding placed_check
   placed-length e = simp e
 
-  pub placed_offset : length_fits (length_at b i) ≡ true → (offset_at b i ≡ at → ⊥) → placed_check b i at ≡ Refused (refusal_of book_misplaced)
+  pub placed_offset : length_fits (length_at b i) ≡ true → (offset_at b i ≡ at → ⊥) → placed_check b i at ≡ Err BookMisplaced
   unfolding placed_check
   placed_offset e o = simp (e, ne_eqb (offset_at b i) at o)
 
   pub placed_end : length_fits (length_at b i) ≡ true → offset_at b i ≡ at → length b < at + length_at b i →
-      placed_check b i at ≡ Refused (refusal_of book_misplaced)
+      placed_check b i at ≡ Err BookMisplaced
   unfolding placed_check
   placed_end e o l = simp (e, eq-eqb (offset_at b i) at o, lt-ltb (length b) (at + length_at b i) l)
 
@@ -157,9 +157,9 @@ pub record Placed (b : List ℕ) (i at : ℕ) : Type 0 where
   pub fits : length_fits (length_at b i) ≡ true
   pub offset : offset_at b i ≡ at
   pub inside : at + length_at b i ≤ length b
-  pub fine : commands_check book_devices 0 (commands_at b at (length_at b i / command_size)) ≡ Accepted
+  pub fine : commands_check book_devices 0 (commands_at b at (length_at b i / command_size)) ≡ Ok tt
 
-pub placed : (b : List ℕ) (i at : ℕ) → placed_check b i at ≡ Accepted → Placed b i at
+pub placed : (b : List ℕ) (i at : ℕ) → placed_check b i at ≡ Ok tt → Placed b i at
 unfolding placed_check
 placed b i at e =
     let x = both_accept _ _ e in
@@ -175,28 +175,28 @@ placed b i at e =
 -- ---- the routines of a book in turn: what is left from the i-th on
 
 module _ (b : List ℕ) (i n at : ℕ) (h : i < n) where
-  pub checks_more : placed_check b i at ≡ Accepted → placed_checks b i (n - i) at ≡ placed_checks b (i + 1) (n - (i + 1)) (at + length_at b i)
+  pub checks_more : placed_check b i at ≡ Ok tt → placed_checks b i (n - i) at ≡ placed_checks b (i + 1) (n - (i + 1)) (at + length_at b i)
   unfolding placed_checks
   checks_more e =
       let k : n - i ≡ suc (n - (i + 1)) = omega arith in
       rw (k, e) (ap (λ (j : ℕ). placed_checks b j (n - (i + 1)) (at + length_at b i)) (sym (add-one i)))
 
-  pub checks_refused : (r : Refusal) → placed_check b i at ≡ Refused r → placed_checks b i (n - i) at ≡ Refused r
+  pub checks_refused : (r : Refusal) → placed_check b i at ≡ Err r → placed_checks b i (n - i) at ≡ Err r
   unfolding placed_checks
   checks_refused r e =
       let k : n - i ≡ suc (n - (i + 1)) = omega arith in
       rw (k, e)
 
-pub checks_left_over : (b : List ℕ) (i at : ℕ) → at < length b → placed_checks b i 0 at ≡ Refused (refusal_of book_misplaced)
+pub checks_left_over : (b : List ℕ) (i at : ℕ) → at < length b → placed_checks b i 0 at ≡ Err BookMisplaced
 unfolding placed_checks
 checks_left_over b i at h = simp (lt-ltb at (length b) h)
 
-pub checks_end : (b : List ℕ) (i at : ℕ) → length b ≤ at → placed_checks b i 0 at ≡ Accepted
+pub checks_end : (b : List ℕ) (i at : ℕ) → length b ≤ at → placed_checks b i 0 at ≡ Ok tt
 unfolding placed_checks
 checks_end b i at h = simp (le-ltb at (length b) h)
 
 -- where all are accepted, the length of each fits: routine j, the k-th from the i-th on
-checks_fit : (b : List ℕ) (i n at j k : ℕ) → placed_checks b i n at ≡ Accepted → i + k ≡ j → k < n → length_fits (length_at b j) ≡ true
+checks_fit : (b : List ℕ) (i n at j k : ℕ) → placed_checks b i n at ≡ Ok tt → i + k ≡ j → k < n → length_fits (length_at b j) ≡ true
 unfolding placed_checks
 checks_fit b i zero at j k e p h = absurd (omega arith)
 checks_fit b i (suc n) at j zero e p h =
@@ -208,33 +208,33 @@ checks_fit b i (suc n) at j (suc k) e p h =
 -- ---- the head of a book, by its tests
 
 module _ (b : List ℕ) where
-  pub head-count : length b < count_size → head_check b ≡ Refused (refusal_of book_cut_short)
+  pub head-count : length b < count_size → head_check b ≡ Err BookCutShort
   unfolding head_check
   head-count h = simp (lt-ltb (length b) count_size h)
 
-  pub head_many : count_size ≤ length b → max_routines < count-of b → head_check b ≡ Refused (refusal_of book_cut_short)
+  pub head_many : count_size ≤ length b → max_routines < count-of b → head_check b ≡ Err BookCutShort
   unfolding head_check
   head_many h k = simp (le-ltb (length b) count_size h, lt-ltb max_routines (count-of b) k)
 
   pub head_pairs : count_size ≤ length b → count-of b ≤ max_routines → length b < pairs_end (count-of b) →
-      head_check b ≡ Refused (refusal_of book_cut_short)
+      head_check b ≡ Err BookCutShort
   unfolding head_check
   head_pairs h k l = simp (le-ltb (length b) count_size h, le-ltb max_routines (count-of b) k, lt-ltb (length b) (pairs_end (count-of b)) l)
 
-  pub head_fine : count_size ≤ length b → count-of b ≤ max_routines → pairs_end (count-of b) ≤ length b → head_check b ≡ Accepted
+  pub head_fine : count_size ≤ length b → count-of b ≤ max_routines → pairs_end (count-of b) ≤ length b → head_check b ≡ Ok tt
   unfolding head_check
   head_fine h k l = simp (le-ltb (length b) count_size h, le-ltb max_routines (count-of b) k, le-ltb (length b) (pairs_end (count-of b)) l)
 
-  pub book-refused : (r : Refusal) → head_check b ≡ Refused r → book_check b ≡ Refused r
+  pub book-refused : (r : Refusal) → head_check b ≡ Err r → book_check b ≡ Err r
   unfolding book_check
   book-refused r e = rw e
 
-  pub book-placed : head_check b ≡ Accepted → book_check b ≡ placed_checks b 0 (count-of b) (pairs_end (count-of b))
+  pub book-placed : head_check b ≡ Ok tt → book_check b ≡ placed_checks b 0 (count-of b) (pairs_end (count-of b))
   unfolding book_check
   book-placed e = rw e
 
   -- the length of each routine of an accepted book fits
-  pub book-fits : (i : ℕ) → book_check b ≡ Accepted → i < count-of b → length_fits (length_at b i) ≡ true
+  pub book-fits : (i : ℕ) → book_check b ≡ Ok tt → i < count-of b → length_fits (length_at b i) ≡ true
   unfolding book_check
   book-fits i e h = checks_fit b 0 (count-of b) (pairs_end (count-of b)) i i (both_accept (head_check b) _ e).1 (omega arith) h
 
@@ -261,14 +261,14 @@ module _ (b : List ℕ) (at : ℕ) where
   pair-between h k = simp (lt-ltb at (pairs_end (count-of b)) h, ne_eqb (at % pair_size) count_size k)
 
 module _ (b : List ℕ) where
-  pub next-first : book_check b ≡ Accepted → next_of b 0 ≡ pair_next b count_size
+  pub next-first : book_check b ≡ Ok tt → next_of b 0 ≡ pair_next b count_size
   unfolding next_of
   next-first e = rw e
 
-  pub next-later : book_check b ≡ Accepted → (at : ℕ) → (at ≡ 0 → ⊥) → next_of b at ≡ pair_next b at
+  pub next-later : book_check b ≡ Ok tt → (at : ℕ) → (at ≡ 0 → ⊥) → next_of b at ≡ pair_next b at
   unfolding next_of
   next-later e at h = simp (e, ne_eqb at 0 h)
 
-  pub next-refused : (r : Refusal) → book_check b ≡ Refused r → (at : ℕ) → next_of b at ≡ turns_down r
+  pub next-refused : (r : Refusal) → book_check b ≡ Err r → (at : ℕ) → next_of b at ≡ turns_down r
   unfolding next_of
   next-refused r e at = rw e

@@ -1,4 +1,5 @@
 -- Routines that are lent as counts and rows are those routines again; and what is written was lent whole. Assumes nothing.
+use Rattle.std.proofs.Common.{Ok}
 use Prim.Native.Nat.{ℕ, zero, suc, ◌+◌, ◌<◌}
 use mathlib.Core.Path.{◌≡◌, refl, sym, ap, ap₂, subst, ◌∙◌}
 use mathlib.Core.Bool.{Bool}
@@ -14,7 +15,6 @@ use Rattle.rules_routine.specs.Limits.{highest_setting}
 use Rattle.rules_routine.specs.Range.{in_range}
 use Rattle.rules_routine.specs.Routine.{command_check, commands_check, routine_check}
 use Rattle.rules_routine.specs.declared.Command.{Command}
-use Rattle.rules_routine.specs.declared.Verdict.TheVariants.{Accepted}
 use Rattle.rules_routine.proofs.RoutineLaws.{both_accept, by_test, in_range_pos, command-accepted, commands-accepted, check_accepted}
 use Rattle.book_layout.specs.Layout.{book_devices, book_bytes}
 use Rattle.book_layout.specs.Writing.{missing_device, missing_tag, missing_setting, command_lent, commands_lent, routines_from}
@@ -91,17 +91,17 @@ inside l at d h =
 
 module _ (ds ts : List ℕ) (ss : List ℤ) where
   -- No command that passes has a part that is not lent.
-  device-lent : (j at : ℕ) → command_check book_devices j (command_lent ds ts ss at) ≡ Accepted → at < length ds
+  device-lent : (j at : ℕ) → command_check book_devices j (command_lent ds ts ss at) ≡ Ok tt → at < length ds
   device-lent j at e = let a = command-accepted book_devices j (command_lent ds ts ss at) e in inside ds at missing_device (λ m. omega arith)
 
-  setting-lent : (j at : ℕ) → command_check book_devices j (command_lent ds ts ss at) ≡ Accepted → at < length ss
+  setting-lent : (j at : ℕ) → command_check book_devices j (command_lent ds ts ss at) ≡ Ok tt → at < length ss
   setting-lent j at e =
       let a = command-accepted book_devices j (command_lent ds ts ss at) e in
       inside ss at missing_setting (λ m.
       let far = leb-true (mag missing_setting) (mag highest_setting) (sym (in_range_pos (mag missing_setting)) ∙ ap in_range (sym m) ∙ a.1) in
       omega arith)
 
-  tag_lent : (j at : ℕ) → command_check book_devices j (command_lent ds ts ss at) ≡ Accepted → at < length ts
+  tag_lent : (j at : ℕ) → command_check book_devices j (command_lent ds ts ss at) ≡ Ok tt → at < length ts
   tag_lent j at e = let a = command-accepted book_devices j (command_lent ds ts ss at) e in inside ts at missing_tag (λ m. omega arith)
 
   -- These commands are lent from a place up to another.
@@ -111,7 +111,7 @@ module _ (ds ts : List ℕ) (ss : List ℤ) where
   lends_none : (at : ℕ) → LendsTo at at []
   lends_none at = record { devices = refl; tags = refl; settings = refl }
 
-  lends_one : (j at to : ℕ) (cs : List Command) → command_check book_devices j (command_lent ds ts ss at) ≡ Accepted → LendsTo (suc at) to cs →
+  lends_one : (j at to : ℕ) (cs : List Command) → command_check book_devices j (command_lent ds ts ss at) ≡ Ok tt → LendsTo (suc at) to cs →
       LendsTo at to (command_lent ds ts ss at ∷ cs)
   lends_one j at to cs e h = record {
     devices = drop-cons ds at missing_device (device-lent j at e) ∙ ap (λ (l : List ℕ). get_or ds at missing_device ∷ l) h.devices;
@@ -128,7 +128,7 @@ module _ (ds ts : List ℕ) (ss : List ℤ) where
         settings = simp (map-append, append_assoc) (cc);
       }
 
-  commands_whole : (j at n : ℕ) → commands_check book_devices j (commands_lent ds ts ss at n) ≡ Accepted →
+  commands_whole : (j at n : ℕ) → commands_check book_devices j (commands_lent ds ts ss at n) ≡ Ok tt →
       LendsTo at (at + n) (commands_lent ds ts ss at n)
   commands_whole j at zero e = let z : at ≡ at + 0 = omega arith in subst (λ (p : ℕ). LendsTo at p []) z (lends_none at)
   commands_whole j at (suc n) e =
@@ -138,7 +138,7 @@ module _ (ds ts : List ℕ) (ss : List ℤ) where
       (subst (λ (q : ℕ). LendsTo (suc at) q (commands_lent ds ts ss (suc at) n)) p (commands_whole (suc j) (suc at) n a.2))
 
   -- So for a routine that passes, and for routines.
-  pub routine_whole : (at n : ℕ) → routine_check book_devices (commands_lent ds ts ss at n) ≡ Accepted →
+  pub routine_whole : (at n : ℕ) → routine_check book_devices (commands_lent ds ts ss at n) ≡ Ok tt →
       LendsTo at (at + n) (commands_lent ds ts ss at n)
   routine_whole at n e = commands_whole 0 at n (check_accepted book_devices (commands_lent ds ts ss at n) e).2
 
@@ -146,7 +146,7 @@ module _ (ds ts : List ℕ) (ss : List ℤ) where
   length-lent at zero = refl
   length-lent at (suc n) = ap suc (length-lent (suc at) n)
 
-  routines_whole : (at : ℕ) (ns : List ℕ) → routines_check (routines_from ds ts ss at ns) ≡ Accepted →
+  routines_whole : (at : ℕ) (ns : List ℕ) → routines_check (routines_from ds ts ss at ns) ≡ Ok tt →
       LendsTo at (at + length (row_of (routines_from ds ts ss at ns))) (row_of (routines_from ds ts ss at ns))
   unfolding routines_check
   routines_whole at [] e = let z : at ≡ at + 0 = omega arith in subst (λ (p : ℕ). LendsTo at p []) z (lends_none at)

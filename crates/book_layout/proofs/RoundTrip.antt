@@ -1,5 +1,8 @@
 -- Theorems (a) and (b): a book is accepted only if it is the bytes of routines that may be written, and such bytes are accepted and read as
 -- the same routines. Assumes nothing.
+use Rattle.std.proofs.Common.{Ok, Err}
+use Rattle.rules_routine.specs.Refusals.{Verdict}
+use Rattle.rules_routine.specs.declared.refusals.Refusal.TheVariants.{BookCutShort, BookMisplaced, NoRoom}
 use Prim.Native.Nat.{ℕ, zero, suc, ◌+◌, ◌*◌, ◌/◌, ◌≤◌, ◌<◌}
 use mathlib.Core.Path.{◌≡◌, refl, sym, ap, ap₂, subst, ◌∙◌}
 use mathlib.Core.Bool.{true, ◌||◌}
@@ -9,13 +12,10 @@ use borrow.Author.Tests.{le-ltb, ltb-false}
 use lib.Dec.{ltb}
 use lib.ListN.{length, take, drop, length-append, length-drop, drop_of_length-le}
 use lib.Seq.{take-append_seam}
-use Rattle.rules_routine.specs.Refusals.{book_cut_short, book_misplaced, no_room}
 use Rattle.rules_routine.specs.Limits.{max_commands, max_routines}
 use Rattle.rules_routine.specs.Routine.{commands_of, routine_of, commands_check, routine_check}
 use Rattle.rules_routine.specs.declared.Command.{Command}
-use Rattle.rules_routine.specs.declared.Refusal.{Refusal}
-use Rattle.rules_routine.specs.declared.Verdict.{Verdict}
-use Rattle.rules_routine.specs.declared.Verdict.TheVariants.{Accepted, Refused}
+use Rattle.rules_routine.specs.declared.refusals.Refusal.{Refusal}
 use Rattle.rules_routine.proofs.RoutineLaws.{both_accept, accept_both, not-refused, or-false, check_counted, check_accepted}
 use Rattle.rules_routine.proofs.RoutineLaws.{routine_of-commands}
 use Rattle.book_layout.specs.Numbers.{two_bytes, four_bytes}
@@ -42,10 +42,10 @@ record Stands (b : List ℕ) (i at : ℕ) (r : List Command) : Type 0 where
   same : commands_at b at (length r) ≡ r
   some : 1 ≤ length r
   few : length r ≤ max_commands
-  fine : commands_check book_devices 0 r ≡ Accepted
+  fine : commands_check book_devices 0 r ≡ Ok tt
 
 -- It does if its pair and its commands are written there.
-stands : (b x y z : List ℕ) (i at : ℕ) (r : List Command) → routine_check book_devices r ≡ Accepted →
+stands : (b x y z : List ℕ) (i at : ℕ) (r : List Command) → routine_check book_devices r ≡ Ok tt →
     drop (pair_place i) b ≡ four_bytes at ++ x → drop (pair_place i + offset_size) b ≡ four_bytes (length_in r) ++ y →
     drop at b ≡ commands_bytes r ++ z → Stands b i at r
 unfolding offset_at length_at
@@ -64,11 +64,11 @@ stands b x y z i at r h offset size body =
     }
 
 -- At the place of a pair of an accepted book a step of reading looks at the pair;
-pair-next : (b : List ℕ) → book_check b ≡ Accepted → (i : ℕ) → next_of b (pair_place i) ≡ pair_next b (pair_place i)
+pair-next : (b : List ℕ) → book_check b ≡ Ok tt → (i : ℕ) → next_of b (pair_place i) ≡ pair_next b (pair_place i)
 pair-next b a i = next-later b a (pair_place i) (λ e. omega arith)
 
 -- behind the pairs it is at the end;
-pairs_over : (b : List ℕ) → book_check b ≡ Accepted → (i : ℕ) → count-of b ≤ i → (next_of b (pair_place i)).item ≡ End
+pairs_over : (b : List ℕ) → book_check b ≡ Ok tt → (i : ℕ) → count-of b ≤ i → (next_of b (pair_place i)).item ≡ End
 pairs_over b a i h = ap (λ (t : Next). t.item) (pair-next b a i ∙ pair-past b (pair_place i) (omega arith))
 
 -- and this is the step that hands out r, the i-th routine.
@@ -87,13 +87,13 @@ module _ (b : List ℕ) (i at : ℕ) (r : List Command) (s : Stands b i at r) wh
       ap (commands_at b at) n ∙ s.same
 
   -- it passes the check of a book,
-  stands-accepted : placed_check b i at ≡ Accepted
+  stands-accepted : placed_check b i at ≡ Ok tt
   stands-accepted =
       let e = s.size in let l = s.inside in
       placed-commands b i at size_fits s.offset (omega arith) ∙ ap (commands_check book_devices 0) commands-same ∙ s.fine
 
   -- and it is handed out, the whole book being accepted.
-  stands_handed : book_check b ≡ Accepted → i < count-of b → next_of b (pair_place i) ≡ handed i r
+  stands_handed : book_check b ≡ Ok tt → i < count-of b → next_of b (pair_place i) ≡ handed i r
   unfolding offset_at length_at
   stands_handed a h =
       let o = s.offset in
@@ -114,9 +114,9 @@ hands_by b p t r rs e x y z =
 
 -- Of the routines from the i-th on, of which the first begins at a place, the pairs and the commands are written: they pass and, the whole
 -- book being accepted, are handed out.
-read_back : (b rest : List ℕ) (i at : ℕ) (rs : List (List Command)) → routines_check rs ≡ Accepted → i + length rs ≡ count-of b →
+read_back : (b rest : List ℕ) (i at : ℕ) (rs : List (List Command)) → routines_check rs ≡ Ok tt → i + length rs ≡ count-of b →
     drop (pair_place i) b ≡ pairs_bytes at rs ++ rest → drop at b ≡ body_bytes rs →
-    (placed_checks b i (length rs) at ≡ Accepted) × (book_check b ≡ Accepted → Hands b (pair_place i) rs)
+    (placed_checks b i (length rs) at ≡ Ok tt) × (book_check b ≡ Ok tt → Hands b (pair_place i) rs)
 unfolding routines_check placed_checks
 read_back b rest i at [] h n pairs body =
     let l = ap length body in
@@ -140,13 +140,13 @@ read_back b rest i at (r ∷ rs) h n pairs body =
     )
 
 -- An accepted book is read from position 0 as from its first pair.
-from_start : (b : List ℕ) (rs : List (List Command)) → book_check b ≡ Accepted → Hands b count_size rs → Hands b 0 rs
+from_start : (b : List ℕ) (rs : List (List Command)) → book_check b ≡ Ok tt → Hands b count_size rs → Hands b 0 rs
 from_start b [] e (ends x) = let t = next-first b e ∙ sym (pair-next b e 0) in ends {at = 0} (ap (λ (u : Next). u.item) t ∙ x)
 from_start b (r ∷ rs) e (hands x y z) = hands_by b 0 (next_of b count_size) r rs (next-first b e ∙ sym (pair-next b e 0)) x y z
 
 -- Routines that may be written, and book b is their bytes.
 pub record Makes (rs : List (List Command)) (b : List ℕ) : Type 0 where
-  pub fine : routines_check rs ≡ Accepted
+  pub fine : routines_check rs ≡ Ok tt
   pub few : length rs ≤ max_routines
   pub book : book_bytes rs ≡ b
 
@@ -164,7 +164,7 @@ book-read rs b w =
     let f = read_back b body 0 (pairs_end (length rs)) rs w.fine (omega arith) p q in
     let z = ap length e in
     let l : pairs_end (count-of b) ≤ length b = omega (arith, length-append pairs body, length-pairs_bytes (pairs_end (length rs)) rs) in
-    let a : book_check b ≡ Accepted = book-placed b (head_fine b (omega arith) (omega arith) l) ∙ rw n f.0 in
+    let a : book_check b ≡ (Ok tt) = book-placed b (head_fine b (omega arith) (omega arith) l) ∙ rw n f.0 in
     from_start b rs a (f.1 a)
 
 -- ---- an accepted book is the bytes of routines that may be written
@@ -172,7 +172,7 @@ book-read rs b w =
 -- A routine that may be written, and book b holds its pair as the i-th and its commands at a place.
 record Holds (b : List ℕ) (i at : ℕ) : Type 0 where
   routine : List Command
-  fine : routine_check book_devices routine ≡ Accepted
+  fine : routine_check book_devices routine ≡ Ok tt
   size : length_at b i ≡ length_in routine
   pair : drop (pair_place i) b ≡ four_bytes at ++ (four_bytes (length_in routine) ++ drop (pair_place (suc i)) b)
   body : drop at b ≡ commands_bytes routine ++ drop (at + length_in routine) b
@@ -204,7 +204,7 @@ holds b bytes i at l p f =
 record HoldsAll (b : List ℕ) (i n at : ℕ) : Type 0 where
   routines : List (List Command)
   many : length routines ≡ n
-  fine : routines_check routines ≡ Accepted
+  fine : routines_check routines ≡ Ok tt
   pairs : drop (pair_place i) b ≡ pairs_bytes at routines ++ drop (pair_place (i + n)) b
   body : drop at b ≡ body_bytes routines
 
@@ -231,9 +231,9 @@ holds_more b i n at h m =
     }
 
 -- and for all that pass the check.
-holds_all : (b : List ℕ) → Bytes b → (i n at : ℕ) → pair_place (i + n) ≤ length b → placed_checks b i n at ≡ Accepted → HoldsAll b i n at
+holds_all : (b : List ℕ) → Bytes b → (i n at : ℕ) → pair_place (i + n) ≤ length b → placed_checks b i n at ≡ Ok tt → HoldsAll b i n at
 unfolding placed_checks
-holds_all b bytes i zero at l e = holds-none b i at (ltb-false at (length b) (not-refused book_misplaced _ e))
+holds_all b bytes i zero at l e = holds-none b i at (ltb-false at (length b) (not-refused BookMisplaced _ e))
 holds_all b bytes i (suc n) at l e =
     let a = both_accept (placed_check b i at) _ e in
     let p = placed b i at a.0 in
@@ -241,11 +241,11 @@ holds_all b bytes i (suc n) at l e =
     holds_more b i n at h (holds_all b bytes (suc i) n (at + length_in h.routine) (omega arith) (rw h.size at a.1))
 
 -- So an accepted book is the bytes of its routines.
-book-written : (b : List ℕ) → Bytes b → book_check b ≡ Accepted → (rs : List (List Command)) × Makes rs b
+book-written : (b : List ℕ) → Bytes b → book_check b ≡ Ok tt → (rs : List (List Command)) × Makes rs b
 unfolding book_check head_check count-of book_bytes
 book-written b bytes e =
     let a = both_accept (head_check b) _ e in
-    let t = or-false (ltb (length b) count_size || ltb max_routines (count-of b)) _ (not-refused book_cut_short _ a.0) in
+    let t = or-false (ltb (length b) count_size || ltb max_routines (count-of b)) _ (not-refused BookCutShort _ a.0) in
     let u = or-false (ltb (length b) count_size) _ t.0 in
     let k = ltb-false max_routines (count-of b) u.1 in
     let l = ltb-false (length b) (pairs_end (count-of b)) t.1 in
@@ -265,11 +265,11 @@ hands-same b p (r ∷ rs) [] (hands x y z) (ends x') = let z : ◌≡◌ {A = �
 hands-same b p (r ∷ rs) (r' ∷ rs') (hands x y z) (hands x' y' z') = ap₂ ◌∷◌ (sym y ∙ y') (hands-same b (next_of b p).position rs rs' z z')
 
 -- Only an accepted book is read.
-not-turned-down : (b : List ℕ) (v : Verdict) → ((r : Refusal) → (next_with v b 0).item ≡ RefusedBook r → ⊥) → v ≡ Accepted
-not-turned-down b Accepted h = refl
-not-turned-down b (Refused r) h = absurd (h r refl)
+not-turned-down : (b : List ℕ) (v : Verdict) → ((r : Refusal) → (next_with v b 0).item ≡ RefusedBook r → ⊥) → v ≡ Ok tt
+not-turned-down b (Ok tt) h = refl
+not-turned-down b (Err r) h = absurd (h r refl)
 
-pub hands-accepted : (b : List ℕ) (rs : List (List Command)) → Hands b 0 rs → book_check b ≡ Accepted
+pub hands-accepted : (b : List ℕ) (rs : List (List Command)) → Hands b 0 rs → book_check b ≡ Ok tt
 unfolding next_of
 hands-accepted b [] (ends x) = not-turned-down b (book_check b) (λ r e. let z : ◌≡◌ {A = ℕ} 0 1 = cc in omega arith)
 hands-accepted b (r ∷ rs) (hands x y z) = not-turned-down b (book_check b) (λ r e. let z : ◌≡◌ {A = ℕ} 0 1 = cc in omega arith)
@@ -281,18 +281,18 @@ hands_make b bytes rs h =
     subst (λ (qs : List (List Command)). Makes qs b) (hands-same b 0 w.0 rs (book-read w.0 b w.1) h) w.1
 
 -- A length is answered only for a writing that is accepted, and is the book's;
-pub written-accepted : (v : Verdict) (book : List ℕ) (n : ℕ) → written_with v book ≡ Length n → (v ≡ Accepted) × (length book ≡ n)
-written-accepted Accepted book n e = (refl, cc)
-written-accepted (Refused r) book n e = let z : ◌≡◌ {A = ℕ} 0 1 = cc in absurd (omega arith)
+pub written-accepted : (v : Verdict) (book : List ℕ) (n : ℕ) → written_with v book ≡ Length n → (v ≡ Ok tt) × (length book ≡ n)
+written-accepted (Ok tt) book n e = (refl, cc)
+written-accepted (Err r) book n e = let z : ◌≡◌ {A = ℕ} 0 1 = cc in absurd (omega arith)
 
 -- the book is then the first bytes of the buffer.
-first-bytes : (rs : List (List Command)) (buffer : List ℕ) → write_check rs (length buffer) ≡ Accepted →
+first-bytes : (rs : List (List Command)) (buffer : List ℕ) → write_check rs (length buffer) ≡ Ok tt →
     take (length (book_bytes rs)) (buffer_after rs buffer) ≡ book_bytes rs
 unfolding buffer_after
 first-bytes rs buffer e = rw e (take-append_seam (book_bytes rs) (drop (length (book_bytes rs)) buffer))
 
 -- Routines that may be written are accepted where there is room,
-write_fits : (rs : List (List Command)) (b : List ℕ) (room : ℕ) → Makes rs b → length b ≤ room → write_check rs room ≡ Accepted
+write_fits : (rs : List (List Command)) (b : List ℕ) (room : ℕ) → Makes rs b → length b ≤ room → write_check rs room ≡ Ok tt
 unfolding write_check
 write_fits rs b room w l =
     let few = w.few in let e = ap length w.book in
@@ -313,7 +313,7 @@ unfolding written_of write_check
 write_then_read rs buffer n e =
     let w = written-accepted (write_check rs (length buffer)) (book_bytes rs) n e in
     let a = both_accept (routines_check rs) _ w.0 in
-    let t = or-false (ltb max_routines (length rs)) _ (not-refused no_room _ a.1) in
+    let t = or-false (ltb max_routines (length rs)) _ (not-refused NoRoom _ a.1) in
     book-read rs (take n (buffer_after rs buffer)) (record {
       fine = a.0;
       few = ltb-false max_routines (length rs) t.0;

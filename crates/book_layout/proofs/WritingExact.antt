@@ -1,4 +1,6 @@
 -- Each refusal of writing is given exactly under its cause: `exact_writing` of specs/WritingCauses.antt. Assumes nothing.
+use Rattle.std.proofs.Common.{Ok, Err}
+use Rattle.rules_routine.specs.Refusals.{Verdict}
 use mathlib.Core.Path.{◌≡◌, refl, sym, ap, subst, ◌∙◌}
 use mathlib.Core.List.{List, [], ◌∷◌}
 use Prim.Native.Nat.{ℕ, suc, ◌+◌, ◌<◌}
@@ -6,9 +8,7 @@ use native.Mathlib.Omega.{arith}
 use lib.ListN.{length}
 use Rattle.rules_routine.specs.Causes.{RoutineCause}
 use Rattle.rules_routine.specs.declared.Command.{Command}
-use Rattle.rules_routine.specs.declared.Refusal.{Refusal}
-use Rattle.rules_routine.specs.declared.Verdict.{Verdict}
-use Rattle.rules_routine.specs.declared.Verdict.TheVariants.{Accepted, Refused}
+use Rattle.rules_routine.specs.declared.refusals.Refusal.{Refusal}
 use Rattle.rules_routine.proofs.Exact.{less, either, Outcome, none, one, join, exactly, renamed, routine-outcome}
 use Rattle.rules_routine.specs.Limits.{max_routines}
 use Rattle.book_layout.specs.Layout.{book_devices, book_bytes}
@@ -61,13 +61,13 @@ module _ (rs : List (List Command)) (room : ℕ) where
       (λ _. one H write_cause_of of_room _ (either _ _ (less max_routines (length rs)) (less room (length (book_bytes rs)))))
 
 -- the answer says the same as the verdict
-refused-written : (v : Verdict) (book : List ℕ) (r : Refusal) → written_with v book ≡ NotWritten r → v ≡ Refused r
-refused-written Accepted book r e = let z : ◌≡◌ {A = ℕ} 0 1 = cc in absurd (omega arith)
-refused-written (Refused x) book r e = let f : x ≡ r = cc in ap Refused f
+refused-written : (v : Verdict) (book : List ℕ) (r : Refusal) → written_with v book ≡ NotWritten r → v ≡ Err r
+refused-written (Ok tt) book r e = let z : ◌≡◌ {A = ℕ} 0 1 = cc in absurd (omega arith)
+refused-written (Err x) book r e = let f : x ≡ r = cc in ap Err f
 
-accepted-written : (v : Verdict) (book : List ℕ) → written_with v book ≡ Length (length book) → v ≡ Accepted
-accepted-written Accepted book e = refl
-accepted-written (Refused x) book e = let z : ◌≡◌ {A = ℕ} 0 1 = cc in absurd (omega arith)
+accepted-written : (v : Verdict) (book : List ℕ) → written_with v book ≡ Length (length book) → v ≡ Ok tt
+accepted-written (Ok tt) book e = refl
+accepted-written (Err x) book e = let z : ◌≡◌ {A = ℕ} 0 1 = cc in absurd (omega arith)
 
 pub exact_writing : ExactWriting
 unfolding written_of buffer_after

@@ -1,13 +1,12 @@
 -- What is claimed of the definitions, beside the contracts of crates `book_read` and `book_write`. The theorems stand in
 -- proofs/Theorems.antt. Assumes nothing.
-use Rattle.std.specs.Prelude.{◌≡◌, ◌⊎◌, ◌≢◌, List, [], ◌∷◌, ◌++◌, ℕ, zero, suc, ◌+◌, ◌*◌, ◌<◌, ◌≤◌, ℤ, length, take}
-use Rattle.rules_routine.specs.Refusals.{Cause, device_not_below, setting_out_of_range, tag_out_of_range, book_cut_short, book_misplaced}
-use Rattle.rules_routine.specs.Refusals.{book_length, condition_alone}
+use Rattle.rules_routine.specs.declared.refusals.Refusal.TheVariants.{DeviceNotBelow, SettingOutOfRange, TagOutOfRange, BookCutShort, BookMisplaced, BookLength, ConditionAlone}
+use Rattle.rules_routine.specs.declared.refusals.Refusal.{Refusal}
+use Rattle.std.specs.Prelude.{◌≡◌, ◌⊎◌, ◌≢◌, List, [], ◌∷◌, ◌++◌, ℕ, zero, suc, ◌+◌, ◌*◌, ◌<◌, ◌≤◌, ℤ, length, take, Ok, Err}
 use Rattle.rules_routine.specs.Causes.{Exactly}
 use Rattle.rules_routine.specs.Limits.{max_commands, lowest_setting, highest_setting, max_routines}
 use Rattle.rules_routine.specs.Routine.{highest_tag, condition_tag, commands_of}
 use Rattle.rules_routine.specs.declared.Command.{Command}
-use Rattle.rules_routine.specs.declared.Verdict.TheVariants.{Accepted, Refused}
 use Rattle.book_layout.specs.Numbers.{byte_at, two_at, bits_of}
 use Rattle.book_layout.specs.Layout.{count_size, command_size, book_devices, pairs_end, count-of, offset_at, length_at}
 use Rattle.book_layout.specs.Reading.{book_check, next_of}
@@ -38,7 +37,7 @@ WriteThenRead =
 abbrev pub ReadThenWrite : Type 0
 ReadThenWrite =
     (b : List ℕ) → Bytes b →
-    (book_check b ≡ Accepted → (rs : List (List Command)) × Hands b 0 rs)
+    (book_check b ≡ Ok tt → (rs : List (List Command)) × Hands b 0 rs)
     × ((rs : List (List Command)) → Hands b 0 rs → (buffer : List ℕ) → length b ≤ length buffer →
     (written_of rs (length buffer) ≡ Length (length b)) × (take (length b) (buffer_after rs buffer) ≡ b))
 
@@ -90,15 +89,15 @@ unfoldable pub tests : List Test
 tests = head ∷ (routine_tests 0 max_routines ++ (left_over ∷ []))
 
 -- The cause for which a test turns a book down.
-abbrev pub cause_of : Test → Cause
-cause_of head = book_cut_short
-cause_of (routine_length i) = book_length i
-cause_of (routine_place i) = book_misplaced
-cause_of (command_device i j) = device_not_below j
-cause_of (command_setting i j) = setting_out_of_range j
-cause_of (command_tag i j) = tag_out_of_range j
-cause_of (command_alone i j) = condition_alone j
-cause_of left_over = book_misplaced
+abbrev pub cause_of : Test → Refusal
+cause_of head = BookCutShort
+cause_of (routine_length i) = BookLength i
+cause_of (routine_place i) = BookMisplaced
+cause_of (command_device i j) = DeviceNotBelow j
+cause_of (command_setting i j) = SettingOutOfRange j
+cause_of (command_tag i j) = TagOutOfRange j
+cause_of (command_alone i j) = ConditionAlone j
+cause_of left_over = BookMisplaced
 
 -- Where the layout puts routine i: where the pairs end, and then where the routine before ends.
 unfoldable pub place : List ℕ → ℕ → ℕ
@@ -127,7 +126,7 @@ Breaks b left_over = place b (count-of b) < length b
 -- with r; and a book is accepted exactly if it breaks none.
 abbrev pub ExactRefusals : Type 0
 ExactRefusals =
-    (b : List ℕ) → Bytes b → Exactly (Breaks b) cause_of tests (λ r. book_check b ≡ Refused r) (book_check b ≡ Accepted)
+    (b : List ℕ) → Bytes b → Exactly (Breaks b) cause_of tests (λ r. book_check b ≡ Err r) (book_check b ≡ Ok tt)
 
 -- ---- how much of a book has to be read
 

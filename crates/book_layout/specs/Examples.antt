@@ -1,13 +1,10 @@
 -- Worked books, by computation. The first two are document 01's ★ examples. Assumes nothing.
-use Rattle.std.specs.Prelude.{◌≡◌, refl, List, [], ◌∷◌, ◌++◌, ℕ, suc, ℤ, pos, negsuc, take}
+use Rattle.rules_routine.specs.Refusals.{numbered, indexed, Verdict}
+use Rattle.std.specs.Prelude.{◌≡◌, refl, List, [], ◌∷◌, ◌++◌, ℕ, suc, ℤ, pos, negsuc, take, Ok, Err}
 use Rattle.rules_routine.specs.Limits.{first_bytes}
 use Rattle.rules_routine.specs.Range.{in_range}
-use Rattle.rules_routine.specs.Refusals.{refusal_of}
 use Rattle.rules_routine.specs.Routine.{routine_of, command_check, stands_alone, commands_check, routine_check}
 use Rattle.rules_routine.specs.declared.Command.{Command}
-use Rattle.rules_routine.specs.declared.Refusal.TheVariants.{Number, Indexed}
-use Rattle.rules_routine.specs.declared.Verdict.{Verdict}
-use Rattle.rules_routine.specs.declared.Verdict.TheVariants.{Accepted, Refused}
 use Rattle.book_layout.specs.Numbers.{two_bytes, four_bytes, two_at, four_at, bits_of, setting_of}
 use Rattle.book_layout.specs.Layout.{command_bytes, book_bytes, count-of, offset_at, length_at, command_at}
 use Rattle.book_layout.specs.Reading.{head_check, length_fits, placed_check, placed_checks, book_check, pair_next, turns_down, next_of}
@@ -20,7 +17,7 @@ use Rattle.book_layout.specs.declared.Written.TheVariants.{Length, Refused as No
 
 -- All that a computation opens.
 abbrev calc : Unit {0}
-unfolding in_range refusal_of command_check stands_alone commands_check routine_check two_bytes four_bytes two_at four_at bits_of setting_of
+unfolding in_range command_check stands_alone commands_check routine_check two_bytes four_bytes two_at four_at bits_of setting_of
     command_bytes book_bytes count-of offset_at length_at command_at head_check length_fits placed_check placed_checks book_check pair_next next_of
     routine_of routines_check write_check written_of buffer_after
 calc = tt
@@ -43,11 +40,11 @@ AllHold (e ∷ l) = Holds e × AllHold l
 
 -- ★ "Book `00 00` is empty and accepted"
 abbrev pub empty_book : Example
-empty_book = record { book = 0 ∷ 0 ∷ []; verdict = Accepted; first = End }
+empty_book = record { book = 0 ∷ 0 ∷ []; verdict = (Ok tt); first = End }
 
 -- ★ "`00` is refused (18)"
 abbrev pub cut_book : Example
-cut_book = record { book = 0 ∷ []; verdict = Refused (Number 18); first = NotRead (Number 18) }
+cut_book = record { book = 0 ∷ []; verdict = Err (numbered 18); first = NotRead (numbered 18) }
 
 -- Those with ★.
 abbrev pub book_examples : List Example
@@ -65,12 +62,12 @@ two = (command 0 0 (pos 50) ∷ command 31 1 (negsuc 999) ∷ []) ∷ (command 0
 abbrev bytes : List ℕ
 bytes = 2 ∷ 0 ∷ 18 ∷ 0 ∷ 0 ∷ 0 ∷ 8 ∷ 0 ∷ 0 ∷ 0 ∷ 26 ∷ 0 ∷ 0 ∷ 0 ∷ 4 ∷ 0 ∷ 0 ∷ 0 ∷ 0 ∷ 0 ∷ 50 ∷ 0 ∷ 31 ∷ 1 ∷ 24 ∷ 252 ∷ 0 ∷ 0 ∷ 70 ∷ 0 ∷ []
 
-pub written : (book_bytes two ≡ bytes) × (written_of two 30 ≡ Length 30) × (written_of two 29 ≡ NotWritten (Number 21))
+pub written : (book_bytes two ≡ bytes) × (written_of two 30 ≡ Length 30) × (written_of two 29 ≡ NotWritten (numbered 21))
 unfolding calc
 written = (refl, refl, refl)
 
 -- Each routine in turn, then the end.
-pub read : (book_check bytes ≡ Accepted) × ((next_of bytes 0).item ≡ Handed) × ((next_of bytes 0).position ≡ 10)
+pub read : (book_check bytes ≡ Ok tt) × ((next_of bytes 0).item ≡ Handed) × ((next_of bytes 0).position ≡ 10)
     × ((next_of bytes 10).routine.commands ≡ (routine_of (command 0 0 (pos 70) ∷ [])).commands) × ((next_of bytes 18).item ≡ End)
 unfolding calc
 read = (refl, refl, refl, refl, refl)
@@ -80,16 +77,16 @@ read = (refl, refl, refl, refl, refl)
 abbrev wrong_device : List ℕ
 wrong_device = 1 ∷ 0 ∷ 10 ∷ 0 ∷ 0 ∷ 0 ∷ 4 ∷ 0 ∷ 0 ∷ 0 ∷ 255 ∷ 255 ∷ 255 ∷ 255 ∷ []
 
-pub not_read : (book_check wrong_device ≡ Refused (Indexed 5 0)) × (next_of wrong_device 0 ≡ turns_down (Indexed 5 0))
-    × (next_of wrong_device 2 ≡ turns_down (Indexed 5 0)) × (next_of wrong_device 10 ≡ turns_down (Indexed 5 0))
+pub not_read : (book_check wrong_device ≡ Err (indexed 5 0)) × (next_of wrong_device 0 ≡ turns_down (indexed 5 0))
+    × (next_of wrong_device 2 ≡ turns_down (indexed 5 0)) × (next_of wrong_device 10 ≡ turns_down (indexed 5 0))
 unfolding calc
 not_read = (refl, refl, refl, refl)
 
 -- Cut short, with a byte left over, with a device that no book has, with a setting of 1,001 (its low byte at 20 is 233, its high byte 3).
-pub turned-down : (book_check (take 17 bytes) ≡ Refused (Number 18)) × (book_check (take 29 bytes) ≡ Refused (Number 19))
-    × (book_check (bytes ++ (0 ∷ [])) ≡ Refused (Number 19))
-    × (book_check (take 22 bytes ++ (32 ∷ 1 ∷ 24 ∷ 252 ∷ 0 ∷ 0 ∷ 70 ∷ 0 ∷ [])) ≡ Refused (Indexed 5 1))
-    × (book_check (take 20 bytes ++ (233 ∷ 3 ∷ 31 ∷ 1 ∷ 24 ∷ 252 ∷ 0 ∷ 0 ∷ 70 ∷ 0 ∷ [])) ≡ Refused (Indexed 6 0))
+pub turned-down : (book_check (take 17 bytes) ≡ Err (numbered 18)) × (book_check (take 29 bytes) ≡ Err (numbered 19))
+    × (book_check (bytes ++ (0 ∷ [])) ≡ Err (numbered 19))
+    × (book_check (take 22 bytes ++ (32 ∷ 1 ∷ 24 ∷ 252 ∷ 0 ∷ 0 ∷ 70 ∷ 0 ∷ [])) ≡ Err (indexed 5 1))
+    × (book_check (take 20 bytes ++ (233 ∷ 3 ∷ 31 ∷ 1 ∷ 24 ∷ 252 ∷ 0 ∷ 0 ∷ 70 ∷ 0 ∷ [])) ≡ Err (indexed 6 0))
 unfolding calc
 turned-down = (refl, refl, refl, refl, refl)
 
@@ -117,17 +114,17 @@ abbrev eight : {A : Type 0} → A → List A
 eight x = x ∷ x ∷ x ∷ x ∷ x ∷ x ∷ x ∷ x ∷ []
 
 -- A count is the caller's word: 9 with eight commands lent, and 0, are refused with 4; eight with eight lent is written.
-pub counted : (answered (9 ∷ []) (eight 0) (eight 0) (eight (pos 0)) ≡ NotWritten (Number 4))
-    × (answered (0 ∷ []) (eight 0) (eight 0) (eight (pos 0)) ≡ NotWritten (Number 4))
+pub counted : (answered (9 ∷ []) (eight 0) (eight 0) (eight (pos 0)) ≡ NotWritten (numbered 4))
+    × (answered (0 ∷ []) (eight 0) (eight 0) (eight (pos 0)) ≡ NotWritten (numbered 4))
     × (answered (8 ∷ []) (eight 0) (eight 0) (eight (pos 0)) ≡ Length 42)
 unfolding calc
 counted = (refl, refl, refl)
 
 -- Three commands with one lent: the second is not there. Of two commands, the second without its device, its setting, its tag.
-pub not_all_there : (answered (3 ∷ []) (0 ∷ []) (0 ∷ []) (pos 0 ∷ []) ≡ NotWritten (Indexed 5 1))
-    × (answered (2 ∷ []) (0 ∷ []) (0 ∷ 0 ∷ []) (pos 0 ∷ pos 0 ∷ []) ≡ NotWritten (Indexed 5 1))
-    × (answered (2 ∷ []) (0 ∷ 0 ∷ []) (0 ∷ 0 ∷ []) (pos 0 ∷ []) ≡ NotWritten (Indexed 6 1))
-    × (answered (2 ∷ []) (0 ∷ 0 ∷ []) (0 ∷ []) (pos 0 ∷ pos 0 ∷ []) ≡ NotWritten (Indexed 7 1))
+pub not_all_there : (answered (3 ∷ []) (0 ∷ []) (0 ∷ []) (pos 0 ∷ []) ≡ NotWritten (indexed 5 1))
+    × (answered (2 ∷ []) (0 ∷ []) (0 ∷ 0 ∷ []) (pos 0 ∷ pos 0 ∷ []) ≡ NotWritten (indexed 5 1))
+    × (answered (2 ∷ []) (0 ∷ 0 ∷ []) (0 ∷ 0 ∷ []) (pos 0 ∷ []) ≡ NotWritten (indexed 6 1))
+    × (answered (2 ∷ []) (0 ∷ 0 ∷ []) (0 ∷ []) (pos 0 ∷ pos 0 ∷ []) ≡ NotWritten (indexed 7 1))
 unfolding calc
 not_all_there = (refl, refl, refl, refl)
 
@@ -145,15 +142,15 @@ one_routine size commands = 1 ∷ 0 ∷ 10 ∷ 0 ∷ 0 ∷ 0 ∷ size ∷ 0 ∷ 
 
 -- Below 20 on device 3 nothing is done with device 4: read and written. The condition alone; followed by another; behind its command.
 -- A tag of 3 is 7. 22 of a command comes before 5 of the next.
-pub conditions : (book_check (one_routine 8 (3 ∷ 2 ∷ 20 ∷ 0 ∷ 4 ∷ 0 ∷ 70 ∷ 0 ∷ [])) ≡ Accepted)
+pub conditions : (book_check (one_routine 8 (3 ∷ 2 ∷ 20 ∷ 0 ∷ 4 ∷ 0 ∷ 70 ∷ 0 ∷ [])) ≡ Ok tt)
     × (book_bytes ((command 3 2 (pos 20) ∷ command 4 0 (pos 70) ∷ []) ∷ []) ≡ one_routine 8 (3 ∷ 2 ∷ 20 ∷ 0 ∷ 4 ∷ 0 ∷ 70 ∷ 0 ∷ []))
-    × (book_check (one_routine 4 (3 ∷ 2 ∷ 20 ∷ 0 ∷ [])) ≡ Refused (Indexed 22 0))
-    × (book_check (one_routine 12 (3 ∷ 2 ∷ 20 ∷ 0 ∷ 3 ∷ 2 ∷ 20 ∷ 0 ∷ 4 ∷ 0 ∷ 70 ∷ 0 ∷ [])) ≡ Refused (Indexed 22 0))
-    × (book_check (one_routine 8 (4 ∷ 0 ∷ 70 ∷ 0 ∷ 3 ∷ 2 ∷ 20 ∷ 0 ∷ [])) ≡ Refused (Indexed 22 1))
-    × (book_check (one_routine 4 (3 ∷ 3 ∷ 20 ∷ 0 ∷ [])) ≡ Refused (Indexed 7 0))
-    × (book_check (one_routine 8 (3 ∷ 2 ∷ 20 ∷ 0 ∷ 32 ∷ 2 ∷ 70 ∷ 0 ∷ [])) ≡ Refused (Indexed 22 0))
-    × (book_check (one_routine 8 (3 ∷ 2 ∷ 20 ∷ 0 ∷ 32 ∷ 0 ∷ 70 ∷ 0 ∷ [])) ≡ Refused (Indexed 5 1))
-    × (written_of ((command 4 0 (pos 70) ∷ command 3 2 (pos 20) ∷ []) ∷ []) 100 ≡ NotWritten (Indexed 22 1))
+    × (book_check (one_routine 4 (3 ∷ 2 ∷ 20 ∷ 0 ∷ [])) ≡ Err (indexed 22 0))
+    × (book_check (one_routine 12 (3 ∷ 2 ∷ 20 ∷ 0 ∷ 3 ∷ 2 ∷ 20 ∷ 0 ∷ 4 ∷ 0 ∷ 70 ∷ 0 ∷ [])) ≡ Err (indexed 22 0))
+    × (book_check (one_routine 8 (4 ∷ 0 ∷ 70 ∷ 0 ∷ 3 ∷ 2 ∷ 20 ∷ 0 ∷ [])) ≡ Err (indexed 22 1))
+    × (book_check (one_routine 4 (3 ∷ 3 ∷ 20 ∷ 0 ∷ [])) ≡ Err (indexed 7 0))
+    × (book_check (one_routine 8 (3 ∷ 2 ∷ 20 ∷ 0 ∷ 32 ∷ 2 ∷ 70 ∷ 0 ∷ [])) ≡ Err (indexed 22 0))
+    × (book_check (one_routine 8 (3 ∷ 2 ∷ 20 ∷ 0 ∷ 32 ∷ 0 ∷ 70 ∷ 0 ∷ [])) ≡ Err (indexed 5 1))
+    × (written_of ((command 4 0 (pos 70) ∷ command 3 2 (pos 20) ∷ []) ∷ []) 100 ≡ NotWritten (indexed 22 1))
 unfolding calc
 conditions = (refl, refl, refl, refl, refl, refl, refl, refl, refl)
 

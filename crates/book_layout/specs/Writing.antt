@@ -1,11 +1,10 @@
 -- Writing a book: document 01, "The routine book" and "When a call is turned down" ("Writing: the routines in turn (4, then commands), then
 -- 21"). Assumes nothing.
-use Rattle.std.specs.Prelude.{◌||◌, List, [], ◌∷◌, ◌++◌, map, ℕ, zero, suc, ◌+◌, ltb, ℤ, pos, length, drop, get_or}
-use Rattle.rules_routine.specs.Refusals.{no_room, refuse◌when◌, ◌and_then◌}
+use Rattle.rules_routine.specs.declared.refusals.Refusal.TheVariants.{NoRoom}
+use Rattle.std.specs.Prelude.{◌||◌, List, [], ◌∷◌, ◌++◌, map, ℕ, zero, suc, ◌+◌, ltb, ℤ, pos, length, drop, get_or, Ok, Err}
+use Rattle.rules_routine.specs.Refusals.{refuse◌when◌, ◌and_then◌, Verdict}
 use Rattle.rules_routine.specs.Routine.{routine_check}
 use Rattle.rules_routine.specs.declared.Command.{Command}
-use Rattle.rules_routine.specs.declared.Verdict.{Verdict}
-use Rattle.rules_routine.specs.declared.Verdict.TheVariants.{Accepted, Refused}
 use Rattle.rules_routine.specs.Limits.{max_routines}
 use Rattle.book_layout.specs.Layout.{book_devices, book_bytes}
 use Rattle.book_layout.specs.declared.Written.{Written}
@@ -64,26 +63,26 @@ settings_of rs = map (λ (c : Command). c.setting) (row_of rs)
 
 -- The routines in turn: 4, then commands.
 unfoldable pub routines_check : List (List Command) → Verdict
-routines_check [] = Accepted
+routines_check [] = Ok tt
 routines_check (r ∷ rs) = routine_check book_devices r and_then routines_check rs
 
 -- Then 21, for a buffer of so many bytes: "over 64 routines to write, or buffer too short".
 unfoldable pub write_check : List (List Command) → ℕ → Verdict
 write_check rs room =
     routines_check rs
-    and_then refuse no_room when (ltb max_routines (length rs) || ltb room (length (book_bytes rs)))
+    and_then refuse NoRoom when (ltb max_routines (length rs) || ltb room (length (book_bytes rs)))
 
 abbrev pub written_with : Verdict → List ℕ → Written
-written_with Accepted book = Length (length book)
-written_with (Refused r) book = NotWritten r
+written_with (Ok tt) book = Length (length book)
+written_with (Err r) book = NotWritten r
 
 -- The answer: the book's length, or the refusal.
 unfoldable pub written_of : List (List Command) → ℕ → Written
 written_of rs room = written_with (write_check rs room) (book_bytes rs)
 
 abbrev pub buffer_with : Verdict → List ℕ → List ℕ → List ℕ
-buffer_with Accepted book buffer = book ++ drop (length book) buffer
-buffer_with (Refused r) book buffer = buffer
+buffer_with (Ok tt) book buffer = book ++ drop (length book) buffer
+buffer_with (Err r) book buffer = buffer
 
 -- The buffer afterwards: the book over its first bytes, and nothing changed after them; on a refusal nothing changed at all.
 unfoldable pub buffer_after : List (List Command) → List ℕ → List ℕ

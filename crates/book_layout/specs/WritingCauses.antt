@@ -2,11 +2,11 @@
 -- buffer; the order in which they are tested; and what `exact_writing` (proofs/Theorems.antt) says: each number under its cause alone.
 -- Causes 4 to 7 and 22, and what "each under its cause alone" means, stand in `specs/Causes.antt` of crate `rules_routine`. Assumes
 -- nothing.
+use Rattle.rules_routine.specs.declared.refusals.Refusal.TheVariants.{NoRoom}
 use Rattle.std.specs.Prelude.{◌≡◌, ◌⊎◌, List, [], ◌∷◌, ◌++◌, map, ℕ, zero, suc, ◌<◌, length, get_or}
-use Rattle.rules_routine.specs.Refusals.{Cause, no_room}
 use Rattle.rules_routine.specs.Causes.{Exactly, RoutineCause, routine_causes}
 use Rattle.rules_routine.specs.declared.Command.{Command}
-use Rattle.rules_routine.specs.declared.Refusal.{Refusal}
+use Rattle.rules_routine.specs.declared.refusals.Refusal.{Refusal}
 use Rattle.rules_routine.specs.Limits.{max_routines}
 use Rattle.book_layout.specs.Layout.{book_devices, book_bytes}
 use Rattle.book_layout.specs.Writing.{written_of, buffer_after}
@@ -15,12 +15,12 @@ use Rattle.book_layout.specs.declared.Written.TheVariants.{Length, Refused as No
 
 -- The tests of writing: of routine j for a cause of a routine (4 to 7, 22), and of the room.
 pub data WriteTest : Type 0 where
-  of_routine : ℕ → Cause → WriteTest
+  of_routine : ℕ → Refusal → WriteTest
   of_room : WriteTest
 
-abbrev pub write_cause_of : WriteTest → Cause
+abbrev pub write_cause_of : WriteTest → Refusal
 write_cause_of (of_routine j cause) = cause
-write_cause_of of_room = no_room
+write_cause_of of_room = NoRoom
 
 -- Routine j, where there is one: where j is below the number of routines.
 abbrev pub routine_no : ℕ → List (List Command) → List Command

@@ -1,4 +1,6 @@
 -- The reader checks the whole book first, then hands out routine by routine, then the end: `routine_by_routine`. Assumes nothing.
+use Rattle.std.proofs.Common.{Ok, Err}
+use Rattle.rules_routine.specs.Refusals.{Verdict}
 use mathlib.Core.Path.{◌≡◌, refl, sym, ap, subst, ◌∙◌}
 use mathlib.Core.Bool.{Bool, true, false, ◌&&◌}
 use mathlib.Core.List.{List, [], ◌∷◌}
@@ -10,9 +12,7 @@ use denote.Ref.{Bor}
 use Rattle.std.specs.Prelude.{if◌then◌else◌}
 use Rattle.rules_routine.specs.Routine.{commands_of}
 use Rattle.rules_routine.specs.declared.Command.{Command}
-use Rattle.rules_routine.specs.declared.Refusal.{Refusal}
-use Rattle.rules_routine.specs.declared.Verdict.{Verdict}
-use Rattle.rules_routine.specs.declared.Verdict.TheVariants.{Accepted, Refused}
+use Rattle.rules_routine.specs.declared.refusals.Refusal.{Refusal}
 use Rattle.book_layout.specs.Claims.{Hands, ends, hands}
 use Rattle.book_layout.specs.Layout.{count_size, pair_size, pairs_end, count-of}
 use Rattle.book_layout.specs.Reading.{book_check, end_at, pair_next, turns_down, next_of}
@@ -37,18 +37,18 @@ unfolding pair_next
 pair_ends b at e =
     if_ends (ltb at (pairs_end (count-of b)) && eqb (at % pair_size) count_size) _ _ refl e
 
-later-ends : (b : List ℕ) → book_check b ≡ Accepted → (at : ℕ) → (at ≡ 0 → ⊥) → (next_of b at).item ≡ End →
+later-ends : (b : List ℕ) → book_check b ≡ Ok tt → (at : ℕ) → (at ≡ 0 → ⊥) → (next_of b at).item ≡ End →
     (next_of b (next_of b at).position).item ≡ End
 later-ends b c at n e =
     let f = next-later b c at n in
     ap (λ (p : ℕ). (next_of b p).item) (ap (λ (s : Next). s.position) (f ∙ pair_ends b at (sym (ap item f) ∙ e))) ∙ e
 
 ends_by : (b : List ℕ) (v : Verdict) → book_check b ≡ v → (at : ℕ) → (next_of b at).item ≡ End → (next_of b (next_of b at).position).item ≡ End
-ends_by b Accepted c zero e =
+ends_by b (Ok tt) c zero e =
     let f : next_of b 0 ≡ next_of b count_size = next-first b c ∙ sym (next-later b c count_size (λ z. omega arith)) in
     subst (λ (s : Next). (next_of b s.position).item ≡ End) (sym f) (later-ends b c count_size (λ z. omega arith) (sym (ap item f) ∙ e))
-ends_by b Accepted c (suc at) e = later-ends b c (suc at) (λ z. omega arith) e
-ends_by b (Refused r) c at e = let f = ap item (next-refused b r c at) in let z : ◌≡◌ {A = ℕ} 0 1 = cc in absurd (omega arith)
+ends_by b (Ok tt) c (suc at) e = later-ends b c (suc at) (λ z. omega arith) e
+ends_by b (Err r) c at e = let f = ap item (next-refused b r c at) in let z : ◌≡◌ {A = ℕ} 0 1 = cc in absurd (omega arith)
 
 ends-again : (b : List ℕ) (at : ℕ) → (next_of b at).item ≡ End → (next_of b (next_of b at).position).item ≡ End
 ends-again b at e = ends_by b (book_check b) refl at e
@@ -62,7 +62,7 @@ module _ (book : Bor (List ℕ)) where
   step_is before after s e a = a.read ∙ ap (λ (c : Bor (List ℕ)). next_of c.now before.position) e
 
   -- A refused book is turned down at each step.
-  turned-down : (r : Refusal) → book_check book.now ≡ Refused r → (k : ℕ) (reader : ℕ → BookReader) (step : ℕ → Next) →
+  turned-down : (r : Refusal) → book_check book.now ≡ Err r → (k : ℕ) (reader : ℕ → BookReader) (step : ℕ → Next) →
       (reader 0).book ≡ book → ((i : ℕ) → i ≤ k → Advanced (reader i) (reader (suc i)) (step i)) → step k ≡ turns_down r
   turned-down r e zero reader step h c = step_is _ _ _ h (c 0 (omega arith)) ∙ next-refused book.now r e (reader 0).position
   turned-down r e (suc k) reader step h c =

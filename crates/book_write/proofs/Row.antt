@@ -1,4 +1,6 @@
 -- Laws of the routines as they are lent, of what their counts say, and of bytes that are written one after another. Assumes nothing.
+use Rattle.std.proofs.Common.{Ok, Err}
+use Rattle.rules_routine.specs.declared.refusals.Refusal.TheVariants.{NoRoom}
 use Prim.Native.Nat.{ℕ, zero, suc, ◌+◌, ◌-◌, ◌*◌, ◌≤◌, ◌<◌}
 use mathlib.Core.Path.{◌≡◌, refl, sym, ap, ap₂, ◌∙◌}
 use mathlib.Core.List.{List, [], ◌∷◌, ◌++◌, map, append_assoc}
@@ -9,11 +11,9 @@ use borrow.Author.Tests.{lt-ltb, le-ltb}
 use lib.IntN.{ℤ}
 use lib.ListN.{length, drop, get_or, length-append, length-map, length-drop, drop_of_length-le}
 use lib.Seq.{sets, sets-eq, drop-cons}
-use Rattle.rules_routine.specs.Refusals.{no_room, refusal_of}
 use Rattle.rules_routine.specs.Routine.{routine_check}
 use Rattle.rules_routine.specs.declared.Command.{Command}
-use Rattle.rules_routine.specs.declared.Refusal.{Refusal}
-use Rattle.rules_routine.specs.declared.Verdict.TheVariants.{Accepted, Refused}
+use Rattle.rules_routine.specs.declared.refusals.Refusal.{Refusal}
 use Rattle.rules_routine.proofs.RoutineLaws.{sets_append}
 use Rattle.rules_routine.specs.Limits.{max_routines}
 use Rattle.book_layout.specs.Layout.{count_size, pair_size, offset_size, command_size, book_devices, pairs_end}
@@ -67,7 +67,7 @@ module _ (ds ts : List ℕ) (ss : List ℤ) where
       ap (commands_lent ds ts ss i) k ∙ ap (λ (p : ℕ). command_lent ds ts ss i ∷ commands_lent ds ts ss p (n - (i + 1))) (sym (add-one i))
 
   -- what passes the check is there
-  pub routine-there : (at n : ℕ) → at ≤ length ds → routine_check book_devices (commands_lent ds ts ss at n) ≡ Accepted → at + n ≤ length ds
+  pub routine-there : (at n : ℕ) → at ≤ length ds → routine_check book_devices (commands_lent ds ts ss at n) ≡ Ok tt → at + n ≤ length ds
   routine-there at n h e =
       let cs = commands_lent ds ts ss at n in
       let parts = map (λ (c : Command). c.device) cs in
@@ -140,16 +140,16 @@ module _ (ds ts : List ℕ) (ss : List ℤ) where
       )
 
 -- the routines in turn
-pub check_none : routines_check [] ≡ Accepted
+pub check_none : routines_check [] ≡ Ok tt
 unfolding routines_check
 check_none = refl
 
 module _ (r : List Command) (rs : List (List Command)) where
-  pub check_more : routine_check book_devices r ≡ Accepted → routines_check (r ∷ rs) ≡ routines_check rs
+  pub check_more : routine_check book_devices r ≡ Ok tt → routines_check (r ∷ rs) ≡ routines_check rs
   unfolding routines_check
   check_more e = rw e
 
-  pub check_stops : (x : Refusal) → routine_check book_devices r ≡ Refused x → routines_check (r ∷ rs) ≡ Refused x
+  pub check_stops : (x : Refusal) → routine_check book_devices r ≡ Err x → routines_check (r ∷ rs) ≡ Err x
   unfolding routines_check
   check_stops x e = rw e
 
@@ -215,30 +215,30 @@ module _ (ds ts : List ℕ) (ss : List ℤ) where
 -- ---- what is answered and what is left in the buffer
 
 module _ (rs : List (List Command)) (room : ℕ) where
-  pub write_refused : (x : Refusal) → routines_check rs ≡ Refused x → write_check rs room ≡ Refused x
+  pub write_refused : (x : Refusal) → routines_check rs ≡ Err x → write_check rs room ≡ Err x
   unfolding write_check
   write_refused x e = rw e
 
-  pub write_many : routines_check rs ≡ Accepted → max_routines < length rs → write_check rs room ≡ Refused (refusal_of no_room)
+  pub write_many : routines_check rs ≡ Ok tt → max_routines < length rs → write_check rs room ≡ Err NoRoom
   unfolding write_check
   write_many e h = simp (e, lt-ltb max_routines (length rs) h)
 
-  pub write_short : routines_check rs ≡ Accepted → length rs ≤ max_routines → room < length (book_bytes rs) →
-      write_check rs room ≡ Refused (refusal_of no_room)
+  pub write_short : routines_check rs ≡ Ok tt → length rs ≤ max_routines → room < length (book_bytes rs) →
+      write_check rs room ≡ Err NoRoom
   unfolding write_check
   write_short e h k = simp (e, le-ltb max_routines (length rs) h, lt-ltb room (length (book_bytes rs)) k)
 
-  pub write_fits : routines_check rs ≡ Accepted → length rs ≤ max_routines → length (book_bytes rs) ≤ room → write_check rs room ≡ Accepted
+  pub write_fits : routines_check rs ≡ Ok tt → length rs ≤ max_routines → length (book_bytes rs) ≤ room → write_check rs room ≡ Ok tt
   unfolding write_check
   write_fits e h k = simp (e, le-ltb max_routines (length rs) h, le-ltb room (length (book_bytes rs)) k)
 
 module _ (rs : List (List Command)) (out : List ℕ) where
-  pub turned-down : (x : Refusal) → write_check rs (length out) ≡ Refused x →
+  pub turned-down : (x : Refusal) → write_check rs (length out) ≡ Err x →
       (NotWritten x ≡ written_of rs (length out)) × (out ≡ buffer_after rs out)
   unfolding written_of buffer_after
   turned-down x e = (rw e, rw e)
 
-  pub written : write_check rs (length out) ≡ Accepted → length (book_bytes rs) ≤ length out → (n : ℕ) (o : List ℕ) →
+  pub written : write_check rs (length out) ≡ Ok tt → length (book_bytes rs) ≤ length out → (n : ℕ) (o : List ℕ) →
       n ≡ length (book_bytes rs) → o ≡ sets out 0 (book_bytes rs) →
       (Length n ≡ written_of rs (length out)) × (o ≡ buffer_after rs out)
   unfolding written_of buffer_after

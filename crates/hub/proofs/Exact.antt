@@ -1,12 +1,12 @@
 -- Each number under its cause alone, of the running hub: the theorems of the rules, carried over by the contracts. Assumes nothing.
+use Rattle.rules_routine.specs.Refusals.{Verdict}
 use mathlib.Core.Path.{◌≡◌, sym, ap, subst, ◌∙◌}
 use mathlib.Core.Logic.{inl, inr}
 use mathlib.Core.List.{List, [], ◌∷◌, ◌++◌}
 use Prim.Native.Nat.{ℕ}
 use native.Mathlib.Omega.{arith}
 use Rattle.rules_routine.specs.Causes.{NoneOf}
-use Rattle.rules_routine.specs.declared.Refusal.{Refusal}
-use Rattle.rules_routine.specs.declared.Verdict.{Verdict}
+use Rattle.rules_routine.specs.declared.refusals.Refusal.{Refusal}
 use Rattle.rules.specs.Answers.{Back, refused, Result}
 use Rattle.rules.specs.Open.{new_hub, open_if}
 use Rattle.rules.specs.Calls.{result_of}

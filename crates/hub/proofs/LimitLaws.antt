@@ -1,11 +1,11 @@
 -- A new pass limit gives what its contract says. Assumes nothing.
+use Rattle.std.proofs.Common.{Ok, Err}
+use Rattle.rules_routine.specs.Refusals.{Verdict}
 use mathlib.Core.Path.{◌≡◌, sym, ap, ◌∙◌}
 use mathlib.Core.Bool.{false}
 use mathlib.Core.List.{List, [], ◌∷◌}
 use Prim.Native.Nat.{ℕ}
 use native.Mathlib.Omega.{arith}
-use Rattle.rules_routine.specs.declared.Verdict.{Verdict}
-use Rattle.rules_routine.specs.declared.Verdict.TheVariants.{Accepted, Refused}
 use Rattle.rules.specs.State.{State}
 use Rattle.rules.specs.Answers.{Back, Result, limited, unless_refused}
 use Rattle.rules.specs.Settle.{settling}
@@ -32,8 +32,8 @@ limit_rests s k f = go (new_limit_check s.devices k)
     go : (v : Verdict) →
         first_committed (unless_refused v s (settling (record { state = with_pass_limit s k; answers = limited k ∷ [] }))).state.sequence
         ≡ false
-    go Accepted = settled_rests (with_pass_limit s k)
-    go (Refused r) = f
+    go (Ok tt) = settled_rests (with_pass_limit s k)
+    go (Err r) = f
 
 pub limits-hub : (h : Hub) (k : ℕ) (l : NewLimit) (b : PutBacks) → Valid h → Limits h.state k l → b.count ≡ 0 →
     put_backs_of b ≡ [] →

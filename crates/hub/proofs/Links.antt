@@ -1,11 +1,11 @@
 -- The links are the sequence: document 02, item 8, along every chain of the hub's calls. Assumes nothing.
+use Rattle.std.proofs.Common.{Ok, Err}
+use Rattle.rules_routine.specs.Refusals.{Verdict}
 use mathlib.Core.Path.{◌≡◌, refl, sym, ap, ap₂, ◌∙◌}
 use mathlib.Core.List.{List, [], ◌∷◌, ◌++◌, map, reverse, reverse_aux}
 use Prim.Native.Nat.{ℕ}
 use native.Mathlib.Omega.{arith}
 use lib.IntN.{ℤ}
-use Rattle.rules_routine.specs.declared.Verdict.{Verdict}
-use Rattle.rules_routine.specs.declared.Verdict.TheVariants.{Accepted, Refused}
 use Rattle.rules.specs.State.{Member, State}
 use Rattle.rules.specs.Answers.{Answer as Told, Result}
 use Rattle.rules.specs.Open.{opened, open_check, new_hub, open_if, open_of}
@@ -62,8 +62,8 @@ unfolding open_of
 opened_as n k first s = go (open_check n k first)
   where
     go : (v : Verdict) → open_if v (new_hub n k first) ≡ opened s → s ≡ new_hub n k first
-    go Accepted e = let same : new_hub n k first ≡ s = cc in sym same
-    go (Refused r) e = let z : ◌≡◌ {A = ℕ} 0 1 = cc in absurd (omega arith)
+    go (Ok tt) e = let same : new_hub n k first ≡ s = cc in sym same
+    go (Err r) e = let z : ◌≡◌ {A = ℕ} 0 1 = cc in absurd (omega arith)
 
 pub links_are_the_sequence : LinksAreTheSequence
 links_are_the_sequence n k first o op accepted acts ch =

@@ -1,4 +1,6 @@
 -- Laws for the proofs of the opening. Assumes nothing.
+use Rattle.std.proofs.Common.{Ok, Err}
+use Rattle.rules_routine.specs.declared.refusals.Refusal.TheVariants.{DevicesOutOfRange, FirstIdZero}
 use mathlib.Core.Path.{◌≡◌, refl, sym, ap, ◌∙◌, subst}
 use mathlib.Core.Bool.{true, false}
 use mathlib.Core.List.{map}
@@ -8,11 +10,9 @@ use borrow.Author.Tests.{ltb-false, eq-eqb, ne_eqb, eqb-false}
 use lib.Dec.{eqb, ltb}
 use lib.IntN.{pos}
 use lib.ListN.{replicate, get_or}
-use Rattle.rules_routine.specs.Refusals.{devices_out_of_range, first_id_0, refusal_of, refuse◌when◌, ◌and_then◌}
+use Rattle.rules_routine.specs.Refusals.{refuse◌when◌, ◌and_then◌, Verdict}
 use Rattle.rules_routine.specs.Limits.{max_devices, max_commands, highest_id, max_sequence}
-use Rattle.rules_routine.specs.declared.Refusal.{Refusal}
-use Rattle.rules_routine.specs.declared.Verdict.{Verdict}
-use Rattle.rules_routine.specs.declared.Verdict.TheVariants.{Accepted, Refused as TurnedDown}
+use Rattle.rules_routine.specs.declared.refusals.Refusal.{Refusal}
 use Rattle.rules_routine.proofs.RoutineLaws.{both_accept, not-refused, or-false}
 use Rattle.rules.specs.Open.{devices_check, limit_check, open_check, new_hub, closed_hub, open_if, open_of}
 use Rattle.rules.specs.Limit.{new_limit_check}
@@ -43,35 +43,35 @@ stays_closed h e = subst StaysClosed (sym e) closed_stays
 
 module _ (n k first : ℕ) where
   -- 1 and 2 are tested together, then 3
-  open_then : (v : Verdict) → new_limit_check n k ≡ v → open_check n k first ≡ (v and_then refuse first_id_0 when eqb first 0)
+  open_then : (v : Verdict) → new_limit_check n k ≡ v → open_check n k first ≡ (v and_then refuse FirstIdZero when eqb first 0)
   unfolding open_check
   open_then v e =
-      grouped (devices_check n) (limit_check k) (refuse first_id_0 when eqb first 0)
-      ∙ ap (λ (x : Verdict). x and_then refuse first_id_0 when eqb first 0) e
+      grouped (devices_check n) (limit_check k) (refuse FirstIdZero when eqb first 0)
+      ∙ ap (λ (x : Verdict). x and_then refuse FirstIdZero when eqb first 0) e
     where
       grouped : (x y z : Verdict) → (x and_then y and_then z) ≡ ((x and_then y) and_then z)
-      grouped Accepted y z = refl
-      grouped (TurnedDown r) y z = refl
+      grouped (Ok tt) y z = refl
+      grouped (Err r) y z = refl
 
   -- one law for each way out of the check
-  pub open_out : (r : Refusal) → new_limit_check n k ≡ TurnedDown r → open_check n k first ≡ TurnedDown r
-  open_out r e = open_then (TurnedDown r) e
+  pub open_out : (r : Refusal) → new_limit_check n k ≡ Err r → open_check n k first ≡ Err r
+  open_out r e = open_then (Err r) e
 
-  pub open_first-id : new_limit_check n k ≡ Accepted → first ≡ 0 → open_check n k first ≡ TurnedDown (refusal_of first_id_0)
-  open_first-id e f = open_then Accepted e ∙ simp (eq-eqb first 0 f)
+  pub open_first-id : new_limit_check n k ≡ Ok tt → first ≡ 0 → open_check n k first ≡ Err FirstIdZero
+  open_first-id e f = open_then (Ok tt) e ∙ simp (eq-eqb first 0 f)
 
-  pub open_fine : new_limit_check n k ≡ Accepted → 0 < first → open_check n k first ≡ Accepted
-  open_fine e f = open_then Accepted e ∙ simp (ne_eqb first 0 (λ e. omega arith))
+  pub open_fine : new_limit_check n k ≡ Ok tt → 0 < first → open_check n k first ≡ Ok tt
+  open_fine e f = open_then (Ok tt) e ∙ simp (ne_eqb first 0 (λ e. omega arith))
 
   -- an accepted opening has these in range
-  pub open_fits : open_check n k first ≡ Accepted → (n ≤ max_devices) × (0 < first)
+  pub open_fits : open_check n k first ≡ Ok tt → (n ≤ max_devices) × (0 < first)
   unfolding open_check
   open_fits e =
-      let id = refuse first_id_0 when eqb first 0 in
+      let id = refuse FirstIdZero when eqb first 0 in
       let a = both_accept (devices_check n) (limit_check k and_then id) e in
       let b = both_accept (limit_check k) id a.1 in
-      let m = ltb-false max_devices n (or-false (eqb n 0) (ltb max_devices n) (not-refused devices_out_of_range _ a.0)).1 in
-      let f = eqb-false first 0 (not-refused first_id_0 _ b.1) in
+      let m = ltb-false max_devices n (or-false (eqb n 0) (ltb max_devices n) (not-refused DevicesOutOfRange _ a.0)).1 in
+      let f = eqb-false first 0 (not-refused FirstIdZero _ b.1) in
       (m, omega (arith, f))
 
   -- the state of the hub that is made
@@ -125,7 +125,7 @@ module _ (n k first : ℕ) where
   new_rests = refl
 
   -- what is answered
-  pub opens : (o : Opened) → o.verdict ≡ open_check n k first → o.verdict ≡ Accepted → Valid o.hub → view o.hub ≡ new_hub n k first →
+  pub opens : (o : Opened) → o.verdict ≡ open_check n k first → o.verdict ≡ Ok tt → Valid o.hub → view o.hub ≡ new_hub n k first →
       Opens n k first o
   unfolding open_of
   opens o c e v w = record {
@@ -134,7 +134,7 @@ module _ (n k first : ℕ) where
     no_hub = λ r t. let z : ◌≡◌ {A = ℕ} 0 1 = cc in absurd (omega arith);
   }
 
-  pub opens_not : (o : Opened) (r : Refusal) → o.verdict ≡ open_check n k first → o.verdict ≡ TurnedDown r → Valid o.hub →
+  pub opens_not : (o : Opened) (r : Refusal) → o.verdict ≡ open_check n k first → o.verdict ≡ Err r → Valid o.hub →
       view o.hub ≡ closed_hub → Opens n k first o
   unfolding open_of
   opens_not o r c e v w = record {

@@ -1,8 +1,8 @@
 -- Demand 3 of this hub, and the replay of conditions: the theorems of the rules, carried along a chain of calls. Assumes nothing.
+use Rattle.std.proofs.Common.{Ok}
 use mathlib.Core.Path.{◌≡◌, refl, sym, ap, ◌∙◌, subst}
 use mathlib.Core.List.{List, [], ◌∷◌, ◌++◌, map, map-append}
 use Prim.Native.Nat.{ℕ}
-use Rattle.rules_routine.specs.declared.Verdict.TheVariants.{Accepted}
 use Rattle.rules.specs.State.{State}
 use Rattle.rules.specs.Answers.{Result}
 use Rattle.rules.specs.Due.{due}
@@ -101,7 +101,7 @@ state-then w h (called c o v ∷ l) e = state-then (after_call w (call_of c) v (
 state-then w h (device_takes d k ∷ l) e = state-then (world_after w (takes_one d k)) h l e
 
 -- an accepted opening gives the rules' hub
-pub opens_as : (n k first : ℕ) (o : Opened) → Opens n k first o → o.verdict ≡ Accepted → open_of n k first ≡ opened (view o.hub)
+pub opens_as : (n k first : ℕ) (o : Opened) → Opens n k first o → o.verdict ≡ Ok tt → open_of n k first ≡ opened (view o.hub)
 opens_as n k first o op accepted = sym op.gives ∙ ap (λ v. open_if v (view o.hub)) accepted
 
 -- Demand 3.

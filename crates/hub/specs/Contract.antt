@@ -1,9 +1,8 @@
 -- The contracts of the public calls. Assumes nothing.
-use Rattle.std.specs.Prelude.{◌≡◌, true, ℕ, ℤ}
+use Rattle.std.specs.Prelude.{◌≡◌, true, ℕ, ℤ, Err}
 use Rattle.rules_routine.specs.Routine.{commands_of}
-use Rattle.rules_routine.specs.declared.Refusal.{Refusal}
+use Rattle.rules_routine.specs.declared.refusals.Refusal.{Refusal}
 use Rattle.rules_routine.specs.declared.Routine.{Routine}
-use Rattle.rules_routine.specs.declared.Verdict.TheVariants.{Refused}
 use Rattle.rules.specs.Answers.{Result}
 use Rattle.rules.specs.Open.{closed_hub, open_if, open_of}
 use Rattle.rules.specs.Calls.{StaysClosed}
@@ -26,7 +25,7 @@ use Rattle.hub.specs.declared.Outcome.{Outcome}
 pub record Opens (n k first : ℕ) (o : Opened) : Type 0 where
   pub valid : Valid o.hub
   pub gives : open_if o.verdict (view o.hub) ≡ open_of n k first
-  pub no_hub : (r : Refusal) → o.verdict ≡ Refused r → (view o.hub ≡ closed_hub) × StaysClosed (view o.hub)
+  pub no_hub : (r : Refusal) → o.verdict ≡ Err r → (view o.hub ≡ closed_hub) × StaysClosed (view o.hub)
 
 -- A call on the hub h gives what the rules give: the answers and, as the rules see it, the next hub, which is valid again. Its list of
 -- put-backs fits its array and is that of the answers. No routine is moved (document 02, item 8). Where nothing changes, it is the same

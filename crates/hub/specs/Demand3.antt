@@ -1,10 +1,9 @@
 -- Demand 3 of this hub: for every chain of hubs that starts at an accepted `open` and goes from each hub to the next by the contract of a
 -- public call, with the answers that the contracts give. The proof is `hub_demand_3` of `proofs/Theorem.antt`. The same of the replay of
 -- conditions (document 02, item 4), `hub-replay`. Assumes nothing.
-use Rattle.std.specs.Prelude.{◌≡◌, List, [], ◌∷◌, ◌++◌, ℕ, ◌<◌, ◌≤◌, ℤ, pos, length, get_or}
+use Rattle.std.specs.Prelude.{◌≡◌, List, [], ◌∷◌, ◌++◌, ℕ, ◌<◌, ◌≤◌, ℤ, pos, length, get_or, Ok}
 use Rattle.rules_routine.specs.Routine.{commands_of}
 use Rattle.rules_routine.specs.declared.Routine.{Routine}
-use Rattle.rules_routine.specs.declared.Verdict.TheVariants.{Accepted}
 use Rattle.rules.specs.Answers.{Call, submit, turn, report, failure, restart, cancel, limit}
 use Rattle.rules.specs.Due.{due}
 use Rattle.rules.specs.AllDue.{list_after}
@@ -108,19 +107,19 @@ ReadersTell h acts =
 
 -- Demand 3, for every accepted opening and every chain.
 abbrev pub HubStatement : Type 0
-HubStatement = (n k first : ℕ) (o : Opened) → Opens n k first o → o.verdict ≡ Accepted → (acts : List HubAct) → Chain o.hub acts →
+HubStatement = (n k first : ℕ) (o : Opened) → Opens n k first o → o.verdict ≡ Ok tt → (acts : List HubAct) → Chain o.hub acts →
     HubDemand3 o.hub acts
 
 -- And document 02, item 4: run in the hub's order, every condition that was not skipped has the outcome that it had live. It needs no
 -- premise on the devices. The proof is `hub-replay`.
 abbrev pub HubReplayStatement : Type 0
 HubReplayStatement =
-    (n k first : ℕ) (o : Opened) → Opens n k first o → o.verdict ≡ Accepted → (acts : List HubAct) → Chain o.hub acts →
+    (n k first : ℕ) (o : Opened) → Opens n k first o → o.verdict ≡ Ok tt → (acts : List HubAct) → Chain o.hub acts →
     ConditionsReplay (world_then_all (new_world_of o.hub) acts)
 
 -- And what the readers tell. The proof is `hub-readers`.
 abbrev pub ReadersStatement : Type 0
-ReadersStatement = (n k first : ℕ) (o : Opened) → Opens n k first o → o.verdict ≡ Accepted → (acts : List HubAct) → Chain o.hub acts →
+ReadersStatement = (n k first : ℕ) (o : Opened) → Opens n k first o → o.verdict ≡ Ok tt → (acts : List HubAct) → Chain o.hub acts →
     ReadersTell o.hub acts
 
 -- And the list that `hub::due_settings` leaves, if it is long enough: at each device, up or down, the setting that the same run gives.
@@ -132,5 +131,5 @@ ListTells h acts =
 
 -- The proof is `hub-list`.
 abbrev pub ListStatement : Type 0
-ListStatement = (n k first : ℕ) (o : Opened) → Opens n k first o → o.verdict ≡ Accepted → (acts : List HubAct) → Chain o.hub acts →
+ListStatement = (n k first : ℕ) (o : Opened) → Opens n k first o → o.verdict ≡ Ok tt → (acts : List HubAct) → Chain o.hub acts →
     ListTells o.hub acts

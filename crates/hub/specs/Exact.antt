@@ -1,10 +1,9 @@
 -- Document 01, "When a call is turned down": each number under its cause alone, of the running hub: of every outcome that the contract of
 -- `hub::open` or of a call gives. The causes and their order stand in `specs/Causes.antt` of crates `rules` and `rules_routine`. The
 -- theorems are `hub-opening-exact` and `hub-calls-exact` of `proofs/Exact.antt`. Assumes nothing.
-use Rattle.std.specs.Prelude.{◌≡◌, ℕ}
+use Rattle.std.specs.Prelude.{◌≡◌, ℕ, Ok, Err}
 use Rattle.rules_routine.specs.Causes.{Exactly, itself}
-use Rattle.rules_routine.specs.declared.Refusal.{Refusal}
-use Rattle.rules_routine.specs.declared.Verdict.TheVariants.{Accepted, Refused as TurnedDown}
+use Rattle.rules_routine.specs.declared.refusals.Refusal.{Refusal}
 use Rattle.rules.specs.Causes.{OpeningCause, CallCause, opening_causes, call_causes}
 use Rattle.hub_answers.specs.declared.Answer.{Answer}
 use Rattle.hub_answers.specs.declared.Answer.TheVariants.{Refused}
@@ -19,7 +18,7 @@ use Rattle.hub.specs.declared.Outcome.{Outcome}
 abbrev pub HubOpeningExact : Type 0
 HubOpeningExact =
     (n k first : ℕ) (o : Opened) → Opens n k first o →
-    Exactly (OpeningCause n k first) itself opening_causes (λ r. o.verdict ≡ TurnedDown r) (o.verdict ≡ Accepted)
+    Exactly (OpeningCause n k first) itself opening_causes (λ r. o.verdict ≡ Err r) (o.verdict ≡ Ok tt)
 
 abbrev pub NotRefused : Answer → Type 0
 NotRefused a = (r : Refusal) → ¬ (a ≡ Refused r)

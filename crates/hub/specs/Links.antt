@@ -4,8 +4,7 @@
 -- leaving changes no links but its own and its neighbours', and moves no other routine": of one placement and one leaving that is a
 -- contract, `Joins` and `Leaves` of crate `hub_sequence`, `Places` of crate `hub_apply`, `LeavesHub` of crate `hub_settle`; of each call of
 -- a chain, with the settling that follows, it is `NothingMoves`, proved as `nothing_moves`. Assumes nothing.
-use Rattle.std.specs.Prelude.{◌≡◌, List, [], ◌∷◌, ◌++◌, map, reverse, ℕ, ◌+◌, ℤ}
-use Rattle.rules_routine.specs.declared.Verdict.TheVariants.{Accepted}
+use Rattle.std.specs.Prelude.{◌≡◌, List, [], ◌∷◌, ◌++◌, map, reverse, ℕ, ◌+◌, ℤ, Ok}
 use Rattle.rules.specs.State.{Member, State}
 use Rattle.rules.specs.Answers.{Call, Answer as Told}
 use Rattle.rules.specs.Open.{new_hub}
@@ -61,7 +60,7 @@ LinksKeep n k first h acts =
 -- For every accepted opening and every chain of calls.
 abbrev pub LinksAreTheSequence : Type 0
 LinksAreTheSequence =
-    (n k first : ℕ) (o : Opened) → Opens n k first o → o.verdict ≡ Accepted → (acts : List HubAct) → Chain o.hub acts →
+    (n k first : ℕ) (o : Opened) → Opens n k first o → o.verdict ≡ Ok tt → (acts : List HubAct) → Chain o.hub acts →
     LinksKeep n k first o.hub acts
 
 -- For every accepted opening, every chain of calls and each call in it, from the hub before that call to the hub after it: a routine that
@@ -69,6 +68,6 @@ LinksAreTheSequence =
 -- left.
 abbrev pub NothingMoves : Type 0
 NothingMoves =
-    (n k first : ℕ) (o : Opened) → Opens n k first o → o.verdict ≡ Accepted →
+    (n k first : ℕ) (o : Opened) → Opens n k first o → o.verdict ≡ Ok tt →
     (before later : List HubAct) (c : HubCall) (p : Outcome) (v : ℤ) → Chain o.hub (before ++ (called c p v ∷ later)) →
     Unmoved (hub_after o.hub before).state p.hub.state

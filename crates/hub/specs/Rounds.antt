@@ -1,9 +1,8 @@
 -- Document 02, item 1, "Nobody waits for ever", with the new pass limits of item 13, of this hub: for every chain of its calls, with the
 -- answers that its contracts give. Rounds and schedules are those of `specs/Rounds.antt` of crate `rules`. The proof is `hub_ended_in_time`
 -- of `proofs/Rounds.antt`. Assumes nothing.
-use Rattle.std.specs.Prelude.{◌≡◌, List, [], ◌∷◌, ◌++◌, ℕ, ◌≤◌, ℤ}
+use Rattle.std.specs.Prelude.{◌≡◌, List, [], ◌∷◌, ◌++◌, ℕ, ◌≤◌, ℤ, Ok}
 use Rattle.rules_routine.specs.declared.Routine.{Routine}
-use Rattle.rules_routine.specs.declared.Verdict.TheVariants.{Accepted}
 use Rattle.rules.specs.Tables.{Each}
 use Rattle.rules.specs.Answers.{placed}
 use Rattle.rules.specs.History.{Told}
@@ -25,7 +24,7 @@ told_in (device_takes d k ∷ l) = told_in l
 -- many rounds count, by the K in force, the routine is ended.
 abbrev pub HubEndedInTime : Type 0
 HubEndedInTime =
-    (n k first : ℕ) (o : Opened) → Opens n k first o → o.verdict ≡ Accepted →
+    (n k first : ℕ) (o : Opened) → Opens n k first o → o.verdict ≡ Ok tt →
     (before : List HubAct) (r : Routine) (p : Outcome) (v : ℤ) (i j : ℕ) → answers_in p ≡ placed i j ∷ [] →
     (later : List HubAct) (rounds : ℕ) →
     let start = told_then [] (told_in (before ++ (called (submits r) p v ∷ []))) in
@@ -36,7 +35,7 @@ HubEndedInTime =
 -- Where no new pass limit is asked for: the promise of item 1, with the K of the opening.
 abbrev pub HubEndedInTimeAtOneLimit : Type 0
 HubEndedInTimeAtOneLimit =
-    (n k first : ℕ) (o : Opened) → Opens n k first o → o.verdict ≡ Accepted →
+    (n k first : ℕ) (o : Opened) → Opens n k first o → o.verdict ≡ Ok tt →
     (before : List HubAct) (r : Routine) (p : Outcome) (v : ℤ) (i j : ℕ) → answers_in p ≡ placed i j ∷ [] →
     (later : List HubAct) (rounds : ℕ) →
     let start = told_then [] (told_in (before ++ (called (submits r) p v ∷ []))) in

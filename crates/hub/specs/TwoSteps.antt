@@ -1,9 +1,8 @@
 -- Calls in two steps: decided on a hub, then applied and settled, as the contracts of those functions have it. What comes of one is what
 -- the contract of the call gives (`applied_meets`), so that demand 3, the replay of conditions, what the readers tell and the links hold
 -- along chains that are made so, or partly so (`applied_demand_3`). The proofs are in `proofs/TwoSteps.antt`. Assumes nothing.
-use Rattle.std.specs.Prelude.{◌≡◌, true, false, List, [], ◌∷◌, ◌⊎◌, ℕ}
+use Rattle.std.specs.Prelude.{◌≡◌, true, false, List, [], ◌∷◌, ◌⊎◌, ℕ, Ok}
 use Rattle.rules_routine.specs.declared.Command.{Command}
-use Rattle.rules_routine.specs.declared.Verdict.TheVariants.{Accepted}
 use Rattle.rules.specs.Calls.{result_of}
 use Rattle.rules.specs.Replay.{ConditionsReplay}
 use Rattle.rules.specs.Rounds.{KeepsLimit}
@@ -73,5 +72,5 @@ pub record Promised (n k first : ℕ) (h : Hub) (acts : List HubAct) : Type 0 wh
 
 -- Demand 3 and the rest, for every accepted opening and every such chain.
 abbrev pub AppliedDemand3 : Type 0
-AppliedDemand3 = (n k first : ℕ) (o : Opened) → Opens n k first o → o.verdict ≡ Accepted → (acts : List HubAct) → AnyChain o.hub acts →
+AppliedDemand3 = (n k first : ℕ) (o : Opened) → Opens n k first o → o.verdict ≡ Ok tt → (acts : List HubAct) → AnyChain o.hub acts →
     Promised n k first o.hub acts

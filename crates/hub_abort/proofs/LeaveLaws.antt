@@ -1,9 +1,9 @@
 -- The hub that an abort leaves, read off the rows as they are: its due settings are those with the routine's commands left out, and its
 -- commands in flight are those of the others. Assumes nothing.
+use Rattle.std.proofs.Common.{Option, None, Some}
 use mathlib.Core.Path.{◌≡◌, refl, sym, ap, subst, ◌∙◌, fun_ext}
 use mathlib.Core.Bool.{Bool, ◌||◌}
 use mathlib.Core.List.{List, [], ◌∷◌, ◌++◌, map, map-append}
-use mathlib.Core.Option.{Option, none, some}
 use Prim.Native.Nat.{ℕ, ◌+◌, ◌≤◌}
 use native.Mathlib.Omega.{arith}
 use borrow.Author.Tests.{eq-eqb, ne_eqb}
@@ -74,8 +74,8 @@ module _ (d : ℕ) (e : ℕ → Option ℤ) where
   after-later o v = go (e d)
     where
       go : (p : Option ℤ) → after_restart (later o p) v ≡ after_restart p (after_restart o v)
-      go none = refl
-      go (some w) = refl
+      go None = refl
+      go (Some w) = refl
 
   after_attached : (m : Member) (v : ℤ) → after_member d (attach_to e m) v ≡ after_restart (e d) (after_member d m v)
   unfolding after_member attach_to

@@ -1,8 +1,9 @@
 -- Laws that the proofs of this crate, and those above it, cite. Assumes nothing.
+use Rattle.rules_routine.specs.Refusals.{numbered}
+use Rattle.std.proofs.Common.{None}
 use mathlib.Core.Path.{◌≡◌, refl, sym, ap, ◌∙◌, subst, fun_ext}
 use mathlib.Core.Bool.{Bool, true, false, not, ◌&&◌, ◌||◌, or-true, or-false}
 use mathlib.Core.List.{List, [], ◌∷◌, ◌++◌, append_assoc, append-nil}
-use mathlib.Core.Option.{none}
 use Prim.Native.Nat.{ℕ, zero, suc, ◌+◌, ◌-◌, ◌*◌, ◌<◌, ◌≤◌}
 use native.Mathlib.Numerals.{add-one}
 use native.Mathlib.Omega.{arith}
@@ -13,10 +14,8 @@ use lib.Dec.{eqb, ltb}
 use lib.IntN.{ℤ, pos}
 use lib.ListN.{length, get_or, set, replicate, length-replicate}
 use Rattle.std.specs.Prelude.{if◌then◌else◌}
-use Rattle.rules_routine.specs.Refusals.{refusal_of}
 use Rattle.rules_routine.specs.Limits.{max_commands, max_devices, max_sequence}
 use Rattle.rules_routine.specs.declared.Command.{Command}
-use Rattle.rules_routine.specs.declared.Refusal.TheVariants.{Number}
 use Rattle.rules_routine.proofs.RoutineLaws.{by_test}
 use Rattle.rules.specs.Tables.{put, any_of, same_setting}
 use Rattle.rules.specs.State.{Member, State}
@@ -175,7 +174,7 @@ module _ (h : HubState) (x : ℕ) (v : StateOk h) (s : Stands h.links x) where
   flies_in d = ap (any_of (flies d)) (member_steps h x)
 
   -- it has none in flight
-  not-flying : flight (steps_at h x) ≡ none → flags_of (replicate max_devices false) ≡ (λ d. in_flight_on d (member_at h x))
+  not-flying : flight (steps_at h x) ≡ None → flags_of (replicate max_devices false) ≡ (λ d. in_flight_on d (member_at h x))
   not-flying e =
       fun_ext
       (λ d. none-set max_devices d ∙ sym (flies_in d ∙ flights_none (answered_at h x) (steps_at h x) (v.slots_ok x s).come_so_far e d))
@@ -211,15 +210,15 @@ module _ (h : HubState) (x : ℕ) (v : StateOk h) (s : Stands h.links x) where
 -- ---- a decision that was made
 
 -- a call was turned down with a number of the table
-pub refused_as : (h : HubState) (cs : List Command) (n : ℕ) (r : Decision) (result : Result) → r ≡ plainly (Refused (Number n)) NoChange →
-    turned_down (Number n) (state_of h) ≡ result → Decides h cs r result
-refused_as h cs n r result k e = subst (λ (d : Decision). Decides h cs d result) (sym k) (refused-decides h cs result (Number n) e)
+pub refused_as : (h : HubState) (cs : List Command) (n : ℕ) (r : Decision) (result : Result) → r ≡ plainly (Refused (numbered n)) NoChange →
+    turned_down (numbered n) (state_of h) ≡ result → Decides h cs r result
+refused_as h cs n r result k e = subst (λ (d : Decision). Decides h cs d result) (sym k) (refused-decides h cs result (numbered n) e)
 
 -- ---- the ways out of a cancel
 
 module _ (h : HubState) (i : ℕ) (p : Place) (f : Finds h (runs i) p) where
-  pub cancel_nowhere : (r : Decision) → r ≡ plainly (Refused (Number 10)) NoChange → p ≡ Nowhere → Decides h [] r (cancel_of (state_of h) i)
-  unfolding cancel_of refusal_of
+  pub cancel_nowhere : (r : Decision) → r ≡ plainly (Refused (numbered 10)) NoChange → p ≡ Nowhere → Decides h [] r (cancel_of (state_of h) i)
+ unfolding cancel_of
   cancel_nowhere r k e =
       refused_as h [] 10 r (cancel_of (state_of h) i) k (sym (ap (cancel_found (state_of h)) (found_as h (runs i) p f Nowhere e)))
 

@@ -1,11 +1,11 @@
 -- A routine joins: its rows are filled in at a free slot, those behind it are passed, and all else stays. Assumes nothing.
+use Rattle.std.proofs.Common.{Option, None}
 use Prim.Native.Nat.{ℕ, zero, suc, ◌+◌, ◌*◌, ◌≤◌, ◌<◌}
 use native.Mathlib.Omega.{arith}
 use borrow.Author.Tests.{ltb-true}
 use mathlib.Core.Path.{◌≡◌, refl, sym, ap, subst, ◌∙◌}
 use mathlib.Core.Bool.{Bool, false, not}
 use mathlib.Core.List.{List, [], ◌∷◌, ◌++◌, map, map-append}
-use mathlib.Core.Option.{Option, none}
 use lib.Dec.{ltb}
 use lib.IntN.{ℤ, pos}
 use lib.ListN.{length, take, get_or, set}
@@ -65,11 +65,11 @@ same-restarts : {f g : ℕ → Option ℤ} → ((d : ℕ) → f d ≡ g d) → f
 same-restarts e = λ i d. e d i
 
 no_restarts : (row restarts : List ℤ) (slot : ℕ) → Fills no_restart row (slot * max_devices) max_devices (λ d. no_restart) restarts →
-    restarts_at restarts slot ≡ (λ d. none)
+    restarts_at restarts slot ≡ (λ d. None)
 unfolding restarts_at
 no_restarts row restarts slot f =
     same-restarts
-    (λ d. by_test (λ (t : Bool). (if t then restart_of (get_or restarts (slot * max_devices + d) no_restart) else none) ≡ none) (ltb d max_devices)
+    (λ d. by_test (λ (t : Bool). (if t then restart_of (get_or restarts (slot * max_devices + d) no_restart) else None) ≡ None) (ltb d max_devices)
     (λ t. rw (f.inside d (ltb-true d max_devices t)) (restart-none no_restart refl))
     (λ t. refl))
 
@@ -78,8 +78,8 @@ other_restarts : (row restarts : List ℤ) (slot x : ℕ) → Fills no_restart r
 unfolding restarts_at
 other_restarts row restarts slot x f n =
     same-restarts
-    (λ d. by_test (λ (t : Bool). (if t then restart_of (get_or restarts (x * max_devices + d) no_restart) else none)
-    ≡ (if t then restart_of (get_or row (x * max_devices + d) no_restart) else none)) (ltb d max_devices)
+    (λ d. by_test (λ (t : Bool). (if t then restart_of (get_or restarts (x * max_devices + d) no_restart) else None)
+    ≡ (if t then restart_of (get_or row (x * max_devices + d) no_restart) else None)) (ltb d max_devices)
     (λ t. ap restart_of (f.outside (x * max_devices + d) (λ e k q. n (same_place x slot d e (ltb-true d max_devices t) k q).0)))
     (λ t. refl))
 

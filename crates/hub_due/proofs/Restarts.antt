@@ -1,7 +1,7 @@
 -- A table of settings after the restarts of a slot, made device by device. Assumes nothing.
+use Rattle.std.proofs.Common.{Option, None, Some}
 use mathlib.Core.Path.{◌≡◌, sym, ap, ◌∙◌, fun_ext}
 use mathlib.Core.List.{List}
-use mathlib.Core.Option.{Option, none, some}
 use Prim.Native.Nat.{ℕ, ◌+◌, ◌*◌, ◌<◌, ◌≤◌}
 use native.Mathlib.Omega.{arith}
 use mir.Val.{to_z, of_z}
@@ -20,12 +20,12 @@ use Rattle.hub_due.proofs.Tables.{below_all}
 
 module _ (row : List ℤ) (x d : ℕ) (l : length row ≡ max_sequence * max_devices) (h : x < max_sequence) (i : d < max_devices) where
   pub restart-there : (of_z w16 (get_or row (x * max_devices + d) (pos 0)) ≡ of_z w16 no_restart → ⊥) →
-      restarts_at row x d ≡ some (get_or row (x * max_devices + d) (pos 0))
+      restarts_at row x d ≡ Some (get_or row (x * max_devices + d) (pos 0))
   restart-there n = restarts-read row x d (pos 0) l h i
       ∙ restart_some (get_or row (x * max_devices + d) (pos 0)) (restart-bits (get_or row (x * max_devices + d) (pos 0)) n)
 
   pub restart_absent : to_z w16 (of_z w16 (get_or row (x * max_devices + d) (pos 0))) ≡ get_or row (x * max_devices + d) (pos 0) →
-      of_z w16 (get_or row (x * max_devices + d) (pos 0)) ≡ of_z w16 no_restart → restarts_at row x d ≡ none
+      of_z w16 (get_or row (x * max_devices + d) (pos 0)) ≡ of_z w16 no_restart → restarts_at row x d ≡ None
   restart_absent b e = restarts-read row x d (pos 0) l h i
       ∙ restart-none (get_or row (x * max_devices + d) (pos 0)) (no_restart-bits (get_or row (x * max_devices + d) (pos 0)) b e)
 
@@ -44,7 +44,7 @@ pub restarts_yet : (row : List ℤ) (x : ℕ) (table : List ℤ) → length tabl
 restarts_yet row x table l = record { long = l; same = λ e. sym (below_none (after row x table) (settings_of table) e) }
 
 module _ {row : List ℤ} {x : ℕ} {table : List ℤ} {d : ℕ} {now : List ℤ} (t : RestartsTo row x table d now) where
-  pub restart_store : {next : List ℤ} (v : ℤ) → next ≡ set now d v → d < max_devices → restarts_at row x d ≡ some v →
+  pub restart_store : {next : List ℤ} (v : ℤ) → next ≡ set now d v → d < max_devices → restarts_at row x d ≡ Some v →
       RestartsTo row x table (d + 1) next
   unfolding settle_restarts
   restart_store {next} v q h e =
@@ -57,7 +57,7 @@ module _ {row : List ℤ} {x : ℕ} {table : List ℤ} {d : ℕ} {now : List ℤ
             (ap (λ (o : Option ℤ). after_restart o (settings_of table d)) (sym e)) i;
       }
 
-  pub restart_keep : {next : List ℤ} → next ≡ now → restarts_at row x d ≡ none → RestartsTo row x table (d + 1) next
+  pub restart_keep : {next : List ℤ} → next ≡ now → restarts_at row x d ≡ None → RestartsTo row x table (d + 1) next
   unfolding settle_restarts
   restart_keep {next} q e =
       record {

@@ -1,9 +1,9 @@
 -- Slots by what their rows have: what a device is due after them, along the sequence and back, and which have a command in flight on it.
 -- Assumes nothing.
+use Rattle.std.proofs.Common.{Option, None, Some}
 use mathlib.Core.Path.{◌≡◌, refl, sym, ap, ◌∙◌, subst, fun_ext}
 use mathlib.Core.Bool.{Bool, true, false, not, ◌&&◌, ◌||◌, and-true, and-false, or-true, or-false, or_assoc}
 use mathlib.Core.List.{List, [], ◌∷◌, map, reverse, reverse_aux}
-use mathlib.Core.Option.{Option, none, some}
 use Prim.Native.Nat.{ℕ, zero, suc, ◌+◌, ◌-◌, ◌*◌, ◌≤◌, ◌<◌}
 use native.Mathlib.Omega.{arith}
 use borrow.Author.Tests.{eq-eqb, ne_eqb, lt-ltb, le-ltb}
@@ -100,11 +100,11 @@ module _ {row device stage : List ℕ} {setting restarts : List ℤ} {answered :
     back-next = sym (ap (λ (l : List ℕ). back_slots device stage setting restarts answered d l v) (walks_next t h).0) ∙ f.same
 
     -- the slot has a restart
-    pub back-restart : (r : ℤ) → restarts_at restarts x d ≡ some r →
+    pub back-restart : (r : ℤ) → restarts_at restarts x d ≡ Some r →
         r ≡ back_slots device stage setting restarts answered d (along row last) v
     back-restart r e = sym (ap after e) ∙ back-next
 
-    module _ (e : restarts_at restarts x d ≡ none) {k : ℕ}
+    module _ (e : restarts_at restarts x d ≡ None) {k : ℕ}
         (i : BehindLastDone device stage (x * max_commands) (x * max_commands + get_or answered x 0) d k) where
       back_places : (w : ℤ) →
           after_steps d (steps_from (rows_with device stage setting []) (pos 0) (x * max_commands)

@@ -1,8 +1,9 @@
 -- Laws that the proofs of this crate, and those above it, cite. Assumes nothing.
+use Rattle.rules_routine.specs.Refusals.{numbered}
+use Rattle.std.proofs.Common.{Option, None, Some}
 use mathlib.Core.Path.{◌≡◌, refl, sym, ap, subst, ◌∙◌}
 use mathlib.Core.Bool.{Bool, true, false, not}
 use mathlib.Core.List.{List, [], ◌∷◌, ◌++◌, append-nil}
-use mathlib.Core.Option.{Option, none, some}
 use Prim.Native.Nat.{ℕ, ◌<◌, ◌≤◌}
 use native.Mathlib.Omega.{arith}
 use borrow.Author.Tests.{leb-true, le-leb, lt-leb, lt-ltb, le-ltb, eq-eqb, ne_eqb}
@@ -13,8 +14,6 @@ use lib.ListN.{get_or}
 use Rattle.std.specs.Prelude.{if◌then◌else◌}
 use Rattle.rules_routine.specs.Limits.{highest_setting, max_devices, max_sequence}
 use Rattle.rules_routine.specs.Range.{in_range}
-use Rattle.rules_routine.specs.Refusals.{refusal_of}
-use Rattle.rules_routine.specs.declared.Refusal.TheVariants.{Number}
 use Rattle.rules_routine.proofs.RoutineLaws.{by_test, in_range_pos}
 use Rattle.rules.specs.Tables.{put}
 use Rattle.rules.specs.State.{State}
@@ -53,10 +52,10 @@ use Rattle.hub_events.specs.declared.Affected.{Affected}
 -- ---- the routine that is halfway, by its slot
 
 module _ (h : HubState) (x : ℕ) where
-  half_there : x < max_sequence → halfway_in h x ≡ some (there h x)
+  half_there : x < max_sequence → halfway_in h x ≡ Some (there h x)
   half_there i = rw (lt-ltb x max_sequence i)
 
-  half_past : max_sequence ≤ x → halfway_in h x ≡ none
+  half_past : max_sequence ≤ x → halfway_in h x ≡ None
   half_past i = rw (le-ltb x max_sequence i)
 
 -- is a must of it left?
@@ -69,12 +68,12 @@ stop_by t d s f = if t then abort s f else record { state = skip_rest d s f; ans
 
 module _ (d : ℕ) (s : State) (f : Found) where
   -- one is: it aborts
-  stop-leaves : must_left d f.it ≡ true → stopped_by d s (some f) ≡ leave s f
+  stop-leaves : must_left d f.it ≡ true → stopped_by d s (Some f) ≡ leave s f
   unfolding abort
   stop-leaves e = ap (λ (t : Bool). (stop_by t d s f).state) e
 
   -- none is: what is left is skipped
-  stop_skips : must_left d f.it ≡ false → stopped_by d s (some f) ≡ skip_rest d s f
+  stop_skips : must_left d f.it ≡ false → stopped_by d s (Some f) ≡ skip_rest d s f
   stop_skips e = ap (λ (t : Bool). (stop_by t d s f).state) e
 
   mark-skipped : (skip_rest d s f).mark ≡ s.mark
@@ -121,8 +120,8 @@ module _ (h : HubState) (d : ℕ) (p : Place) (f : Finds h (is_halfway d) p) whe
     mark-there = λ i. sym (state-mark h) i d
 
     -- so it is told, and m is D's mark then
-    halfway_one : (first : EventAbort) (m : ℕ) → ((l : List Back) → event_abort_of first l ≡ abort_told d (some (there h x)) l) →
-        m ≡ (stopped_by d (state_of h) (some (there h x))).mark d → IsHalfway h d (record { slot = x; first = first; mark = m })
+    halfway_one : (first : EventAbort) (m : ℕ) → ((l : List Back) → event_abort_of first l ≡ abort_told d (Some (there h x)) l) →
+        m ≡ (stopped_by d (state_of h) (Some (there h x))).mark d → IsHalfway h d (record { slot = x; first = first; mark = m })
     halfway_one first m t q =
         let g = half_there h x (stands_below h x v halfway_stands) in
         record {
@@ -166,8 +165,8 @@ module _ (h : HubState) (d : ℕ) (p : Place) (f : Finds h (is_halfway d) p) whe
 stops_as : (d : ℕ) (s : State) (o : Option Found) →
     record { state = stopped_by d s o; answers = abort_told d o (put_backs_stopped d s o) } ≡ stop_if_any d s o
 unfolding abort
-stops_as d s none = refl
-stops_as d s (some f) =
+stops_as d s None = refl
+stops_as d s (Some f) =
     by_test
     (λ (t : Bool). record {
       state = (stop_by t d s f).state;
@@ -178,16 +177,16 @@ stops_as d s (some f) =
 -- that a device is down changes no mark
 down-mark : (s : State) (d : ℕ) (o : Option Found) → (stopped_by d s o).mark d ≡ (stopped_by d (down_with s d) o).mark d
 unfolding abort skip_rest
-down-mark s d none = refl
-down-mark s d (some f) =
+down-mark s d None = refl
+down-mark s d (Some f) =
     by_test (λ (t : Bool). (stop_by t d s f).state.mark d ≡ (stop_by t d (down_with s d) f).state.mark d) (must_left d f.it)
     (λ e. mark_left s f d ∙ sym (mark_left (down_with s d) f d)) (λ e. refl)
 
 -- the event's own answer puts nothing back
 own_backs : (d : ℕ) (o : Option Found) (s : State) (t : Told) → put_backs_in (t ∷ []) ≡ [] →
     put_backs_stopped d s o ≡ put_backs_in (abort_told d o (put_backs_stopped d s o) ++ (t ∷ []))
-own_backs d none s t e = sym e
-own_backs d (some f) s t e =
+own_backs d None s t e = sym e
+own_backs d (Some f) s t e =
     let l = put_backs_left s f in
     by_test
     (λ (u : Bool). (if u then l else []) ≡ put_backs_in ((if u then aborted f.it.id (if u then l else []) ∷ [] else []) ++ (t ∷ [])))
@@ -260,12 +259,12 @@ restart_entry (negsuc n) e = refl
 -- ---- whether it is turned down
 
 module _ (s : State) (d : ℕ) where
-  pub failure_14 : s.devices ≤ d → turned_down (Number 14) s ≡ failure_of s d
-  unfolding failure_of refusal_of
+  pub failure_14 : s.devices ≤ d → turned_down (numbered 14) s ≡ failure_of s d
+ unfolding failure_of
   failure_14 h = rw (le-leb s.devices d h)
 
-  pub failure_15 : d < s.devices → s.up d ≡ false → turned_down (Number 15) s ≡ failure_of s d
-  unfolding failure_of refusal_of
+  pub failure_15 : d < s.devices → s.up d ≡ false → turned_down (numbered 15) s ≡ failure_of s d
+ unfolding failure_of
   failure_15 h u = rw (lt-leb s.devices d h, u)
 
   pub failure_passes : d < s.devices → s.up d ≡ true → settling (failure_result s d) ≡ failure_of s d
@@ -273,16 +272,16 @@ module _ (s : State) (d : ℕ) where
   failure_passes h u = rw (lt-leb s.devices d h, u)
 
 module _ (s : State) (d : ℕ) (v : ℤ) where
-  pub restart_14 : s.devices ≤ d → turned_down (Number 14) s ≡ restart_of s d v
-  unfolding restart_of refusal_of
+  pub restart_14 : s.devices ≤ d → turned_down (numbered 14) s ≡ restart_of s d v
+ unfolding restart_of
   restart_14 h = rw (le-leb s.devices d h)
 
-  pub restart_16 : d < s.devices → s.up d ≡ true → turned_down (Number 16) s ≡ restart_of s d v
-  unfolding restart_of refusal_of
+  pub restart_16 : d < s.devices → s.up d ≡ true → turned_down (numbered 16) s ≡ restart_of s d v
+ unfolding restart_of
   restart_16 h u = rw (lt-leb s.devices d h, u)
 
-  pub restart_17 : d < s.devices → s.up d ≡ false → in_range v ≡ false → turned_down (Number 17) s ≡ restart_of s d v
-  unfolding restart_of refusal_of
+  pub restart_17 : d < s.devices → s.up d ≡ false → in_range v ≡ false → turned_down (numbered 17) s ≡ restart_of s d v
+ unfolding restart_of
   restart_17 h u r = rw (lt-leb s.devices d h, u, r)
 
   pub restart_passes : d < s.devices → s.up d ≡ false → in_range v ≡ true → settling (restart_result s d v) ≡ restart_of s d v
@@ -359,7 +358,7 @@ pub failure_stops : (h g : HubState) (d x : ℕ) → StateOk h → state_of g �
     (StateOk r) × (state_of r ≡ stopped_by d (down_with (state_of h) d) (halfway_in h x)) × (OnlyLeave h r)
 failure_stops h g d x v e k t r a = (
   a.0,
-  a.1 ∙ (λ i. stopped_by d (e i) (if ltb x max_sequence then some (t i x) else none)),
+  a.1 ∙ (λ i. stopped_by d (e i) (if ltb x max_sequence then Some (t i x) else None)),
   leave_then h g r (up-leaves h g v k t) a.2,
 )
 

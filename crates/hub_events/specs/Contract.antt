@@ -1,6 +1,5 @@
 -- What events promise. Assumes nothing.
-use Rattle.std.specs.Prelude.{◌≡◌, List, [], ◌∷◌, ℕ, if◌then◌else◌}
-use Rattle.std.proofs.Math.Option.{Option, none, some}
+use Rattle.std.specs.Prelude.{◌≡◌, List, [], ◌∷◌, ℕ, if◌then◌else◌, Option, None, Some}
 use Rattle.rules.specs.Answers.{Back, Answer as Told, aborted}
 use Rattle.rules.specs.Sequence.{Found, find}
 use Rattle.rules.specs.Events.{is_halfway, must_left}
@@ -12,8 +11,8 @@ use Rattle.hub_events.specs.declared.Affected.{Affected}
 
 -- The abort that is told first, of a routine with a must left on the device.
 abbrev pub abort_told : ℕ → Option Found → List Back → List Told
-abort_told d none l = []
-abort_told d (some f) l = if must_left d f.it then aborted f.it.id l ∷ [] else []
+abort_told d None l = []
+abort_told d (Some f) l = if must_left d f.it then aborted f.it.id l ∷ [] else []
 
 -- The routine that is halfway with the device, if there is one; if it aborts, that is told, and the device's mark is that after it.
 pub record IsHalfway (h : HubState) (device : ℕ) (r : Affected) : Type 0 where

@@ -1,14 +1,14 @@
 -- Laws for the proofs of a new pass limit. Assumes nothing.
+use Rattle.std.proofs.Common.{Ok, Err}
+use Rattle.rules_routine.specs.Refusals.{Verdict}
+use Rattle.rules_routine.specs.declared.refusals.Refusal.TheVariants.{DevicesOutOfRange, PassLimitOutOfRange}
 use mathlib.Core.Path.{◌≡◌, refl, sym, ap, ◌∙◌}
 use mathlib.Core.List.{[], ◌∷◌}
 use Prim.Native.Nat.{ℕ, ◌<◌, ◌≤◌}
 use native.Mathlib.Omega.{arith}
 use borrow.Author.Tests.{lt-ltb, le-ltb, eq-eqb, ne_eqb}
-use Rattle.rules_routine.specs.Refusals.{devices_out_of_range, pass_limit_out_of_range, refusal_of}
 use Rattle.rules_routine.specs.Limits.{max_devices, highest_pass_limit}
-use Rattle.rules_routine.specs.declared.Refusal.{Refusal}
-use Rattle.rules_routine.specs.declared.Verdict.{Verdict}
-use Rattle.rules_routine.specs.declared.Verdict.TheVariants.{Accepted, Refused as TurnedDown}
+use Rattle.rules_routine.specs.declared.refusals.Refusal.{Refusal}
 use Rattle.rules.specs.State.{State}
 use Rattle.rules.specs.Answers.{limited}
 use Rattle.rules.specs.Settle.{settle}
@@ -25,16 +25,16 @@ use Rattle.hub_limit.specs.Contract.{Limits}
 
 -- one law for each way out of the check
 module _ (n k : ℕ) where
-  pub no_devices : n ≡ 0 → new_limit_check n k ≡ TurnedDown (refusal_of devices_out_of_range)
+  pub no_devices : n ≡ 0 → new_limit_check n k ≡ Err DevicesOutOfRange
   no_devices h = simp (eq-eqb n 0 h)
 
-  pub many_devices : max_devices < n → new_limit_check n k ≡ TurnedDown (refusal_of devices_out_of_range)
+  pub many_devices : max_devices < n → new_limit_check n k ≡ Err DevicesOutOfRange
   many_devices h = simp (ne_eqb n 0 (λ e. omega arith), lt-ltb max_devices n h)
 
-  pub limit_out : 0 < n → n ≤ max_devices → highest_pass_limit < k → new_limit_check n k ≡ TurnedDown (refusal_of pass_limit_out_of_range)
+  pub limit_out : 0 < n → n ≤ max_devices → highest_pass_limit < k → new_limit_check n k ≡ Err PassLimitOutOfRange
   limit_out h m l = simp (ne_eqb n 0 (λ e. omega arith), le-ltb max_devices n m, lt-ltb highest_pass_limit k l)
 
-  pub limit_fine : 0 < n → n ≤ max_devices → k ≤ highest_pass_limit → new_limit_check n k ≡ Accepted
+  pub limit_fine : 0 < n → n ≤ max_devices → k ≤ highest_pass_limit → new_limit_check n k ≡ Ok tt
   limit_fine h m l = simp (ne_eqb n 0 (λ e. omega arith), le-ltb max_devices n m, le-ltb highest_pass_limit k l)
 
 -- the rows with another pass limit
@@ -85,7 +85,7 @@ limited-unmoved h k r u = record { same_slot = u.same_slot; same_routine = u.sam
 module _ (h : HubState) (k : ℕ) (verdict : Verdict) (made : verdict ≡ new_limit_check h.devices k) where
   -- it is in force
   pub limits_fine : (next : HubState) → StateOk next → state_of next ≡ settle (with_pass_limit (state_of h) k) → Unmoved h next →
-      verdict ≡ Accepted → Limits h k (record { state = next; answer = Limited k })
+      verdict ≡ Ok tt → Limits h k (record { state = next; answer = Limited k })
   unfolding state_of
   limits_fine next v e p a = record {
     valid = v;
@@ -95,7 +95,7 @@ module _ (h : HubState) (k : ℕ) (verdict : Verdict) (made : verdict ≡ new_li
   }
 
   -- it is turned down
-  pub limits-not : (r : Refusal) → StateOk h → verdict ≡ TurnedDown r → Limits h k (record { state = h; answer = Refused r })
+  pub limits-not : (r : Refusal) → StateOk h → verdict ≡ Err r → Limits h k (record { state = h; answer = Refused r })
   unfolding state_of
   limits-not r v a =
       record {

@@ -1,9 +1,10 @@
 -- Laws that the proofs of this crate cite. Assumes nothing.
+use Rattle.rules_routine.specs.Refusals.{numbered}
+use Rattle.std.proofs.Common.{Option, None}
 use mathlib.Core.Path.{◌≡◌, refl, sym, ap, ◌∙◌, subst}
 use mathlib.Core.Logic.{◌≢◌}
 use mathlib.Core.Bool.{Bool, true, false, ◌&&◌}
 use mathlib.Core.List.{List, [], ◌∷◌, ◌++◌}
-use mathlib.Core.Option.{Option, none}
 use Prim.Native.Nat.{ℕ, ◌*◌, ◌<◌, ◌≤◌}
 use native.Mathlib.Omega.{arith}
 use borrow.Author.Tests.{lt-ltb, le-ltb, eq-eqb, ne_eqb}
@@ -11,10 +12,8 @@ use lib.Dec.{eqb}
 use lib.IntN.{ℤ, pos}
 use lib.ListN.{length, get_or}
 use Rattle.std.specs.Prelude.{if◌then◌else◌}
-use Rattle.rules_routine.specs.Refusals.{refusal_of}
 use Rattle.rules_routine.specs.Limits.{max_commands, max_sequence}
 use Rattle.rules_routine.specs.Routine.{must_tag}
-use Rattle.rules_routine.specs.declared.Refusal.TheVariants.{Number}
 use Rattle.rules_routine.proofs.RoutineLaws.{by_test, any_default}
 use Rattle.rules.specs.State.{Status, to-do, in_flight, was_done, was_skipped, was_held, was_not_held, Step, Member, State}
 use Rattle.rules.specs.Tables.{same_setting}
@@ -191,19 +190,19 @@ module _ (t : ℕ) (a b : Result) where
 
 -- no command is in flight
 pub idle : (h : HubState) (x : ℕ) (o : Unanswered) → UnansweredIs h x o → ((j : ℕ) → o ≡ InFlight j → ⊥) →
-    flight (steps_at h x) ≡ none
+    flight (steps_at h x) ≡ None
 idle h x Nothing k t = k.no_flight
 idle h x (ToDo j) k t = k.no_flight
 idle h x (InFlight j) k t = absurd (t j refl)
 
 module _ (h : HubState) (i code : ℕ) (p : Place) (f : Finds h (runs i) p) (y : Decision) where
-  refuses : (n : ℕ) → y ≡ plainly (Refused (Number n)) NoChange → turned_down (Number n) (state_of h) ≡ report_of (state_of h) i code →
+  refuses : (n : ℕ) → y ≡ plainly (Refused (numbered n)) NoChange → turned_down (numbered n) (state_of h) ≡ report_of (state_of h) i code →
       Decides h [] y (report_of (state_of h) i code)
-  refuses n z e = subst (λ (d : Decision). Decides h [] d (report_of (state_of h) i code)) (sym z) (refused-decides h [] _ (Number n) e)
+  refuses n z e = subst (λ (d : Decision). Decides h [] d (report_of (state_of h) i code)) (sym z) (refused-decides h [] _ (numbered n) e)
 
   -- 10: no running routine has this id
-  pub report_nowhere : p ≡ Nowhere → y ≡ plainly (Refused (Number 10)) NoChange → Decides h [] y (report_of (state_of h) i code)
-  unfolding report_of refusal_of
+  pub report_nowhere : p ≡ Nowhere → y ≡ plainly (Refused (numbered 10)) NoChange → Decides h [] y (report_of (state_of h) i code)
+ unfolding report_of
   report_nowhere e z = refuses 10 z (sym (ap (report_found (state_of h) code) (found_as h (runs i) p f Nowhere e)))
 
   module _ (x : ℕ) (e : p ≡ At x) where
@@ -216,15 +215,13 @@ module _ (h : HubState) (i code : ℕ) (p : Place) (f : Finds h (runs i) p) (y :
         ∙ ap (report_flight (state_of h) (there h x) code) (ap flight l ∙ q))
 
     -- 12: none is in flight
-    pub report-idle : flight (steps_at h x) ≡ none → y ≡ plainly (Refused (Number 12)) NoChange →
+    pub report-idle : flight (steps_at h x) ≡ None → y ≡ plainly (Refused (numbered 12)) NoChange →
         Decides h [] y (report_of (state_of h) i code)
-    unfolding refusal_of
-    report-idle q z = refuses 12 z (report_at none q)
+    report-idle q z = refuses 12 z (report_at None q)
 
     module _ (k : ℕ) (o : NextInFlight h x k) where
       -- 13: a code that there is not
-      pub report_code : code_failed < code → y ≡ plainly (Refused (Number 13)) NoChange → Decides h [] y (report_of (state_of h) i code)
-      unfolding refusal_of
+      pub report_code : code_failed < code → y ≡ plainly (Refused (numbered 13)) NoChange → Decides h [] y (report_of (state_of h) i code)
       report_code l z = refuses 13 z (rw (lt-ltb code_failed code l) at (report_at _ o.flight_is))
 
       report_on : code ≤ code_failed → reported (state_of h) (there h x) (flight_at h x k) code ≡ report_of (state_of h) i code

@@ -1,8 +1,8 @@
 -- What a search has found, by the place that it gave. Assumes nothing.
+use Rattle.std.proofs.Common.{Option, None, Some}
 use mathlib.Core.Path.{◌≡◌, sym, ap, ◌∙◌, subst}
 use mathlib.Core.Bool.{Bool, true}
 use mathlib.Core.List.{List, [], ◌∷◌}
-use mathlib.Core.Option.{Option, none, some}
 use Prim.Native.Nat.{ℕ}
 use borrow.Author.Tests.{eqb-true}
 use lib.Dec.{eqb}
@@ -20,12 +20,12 @@ use Rattle.hub_search.specs.Contract.{Finds}
 
 -- what is found passes the test
 abbrev Passes : (Member → Bool) → Option Found → Type 0
-Passes p none = Unit {0}
-Passes p (some f) = p f.it ≡ true
+Passes p None = Unit {0}
+Passes p (Some f) = p f.it ≡ true
 
 onto_passes : (p : Member → Bool) (m : Member) (o : Option Found) → Passes p o → Passes p (onto m o)
-onto_passes p m none t = t
-onto_passes p m (some f) t = t
+onto_passes p m None t = t
+onto_passes p m (Some f) t = t
 
 find_passes : (p : Member → Bool) (l : List Member) → Passes p (find p l)
 find_passes p [] = tt

@@ -1,11 +1,11 @@
 -- What a search along the links of a state finds, for each way out of it. Assumes nothing.
+use Rattle.std.proofs.Common.{None, Some}
 use Prim.Native.Nat.{ℕ, zero, suc, ◌+◌, ◌-◌, ◌*◌, ◌≤◌, ◌<◌}
 use native.Mathlib.Omega.{arith}
 use borrow.Author.Tests.{eq-eqb, ne_eqb, le-leb, lt-leb}
 use mathlib.Core.Path.{◌≡◌, refl, sym, ap, ◌∙◌, subst}
 use mathlib.Core.Bool.{Bool, true, false, not, ◌&&◌, ◌||◌, and-false, or-true}
 use mathlib.Core.List.{List, [], ◌∷◌, ◌++◌, map-append, reverse}
-use mathlib.Core.Option.{none as nothing, some}
 use lib.Dec.{eqb, leb}
 use native.Mathlib.Numerals.{add-one}
 use lib.IntN.{pos}
@@ -328,14 +328,14 @@ module _ (h : HubState) (v : StateOk h) where
       unfolding stop_at
       stops_is = first-same _ stops (slots_of h.links) (λ y k. ap (λ (u : Bool). eqb y at || u) (holds-is y))
 
-      pub holder_nobody : x ≡ at → nothing ≡ first_holding d condition (there h at).ahead
+      pub holder_nobody : x ≡ at → None ≡ first_holding d condition (there h at).ahead
       unfolding there stop_at
       holder_nobody e =
           sym
           (holding_none d condition (member_at h) at (slots_of h.links) (stops_is ∙ seeks_found s holder_slot (rw (eq-eqb x at e)) ∙ e))
 
       pub holder_found : (x ≡ at → ⊥) → not (get_or h.committed x false) ≡ true → below_in h.counts device stage bound d x ≡ true →
-          some (get_or h.ids x 0) ≡ first_holding d condition (there h at).ahead
+          Some (get_or h.ids x 0) ≡ first_holding d condition (there h at).ahead
       unfolding there member_at stop_at holds_in
       holder_found n c o =
           sym

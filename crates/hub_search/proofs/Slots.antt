@@ -1,11 +1,11 @@
 -- A search from slot to slot is a search in the list of the members that stand there. Assumes nothing.
+use Rattle.std.proofs.Common.{None, Some}
 use Prim.Native.Nat.{ℕ, ◌≤◌, ◌<◌}
 use native.Mathlib.Omega.{arith}
 use borrow.Author.Tests.{eq-eqb, ne_eqb}
 use mathlib.Core.Path.{◌≡◌, refl, sym, ap, ◌∙◌}
 use mathlib.Core.Bool.{Bool, true, false, ◌||◌}
 use mathlib.Core.List.{List, [], ◌∷◌, map}
-use mathlib.Core.Option.{none as nothing, some}
 use lib.Dec.{eqb}
 use lib.ListN.{length, get_or}
 use Rattle.std.specs.Prelude.{if◌then◌else◌}
@@ -104,26 +104,26 @@ first_some t (y ∷ l) x h e =
 
 module _ (p : Member → Bool) (f : ℕ → Member) where
   pub find-slot : (l : List ℕ) (x : ℕ) → first_slot (λ y. p (f y)) l ≡ x → (x ≡ none → ⊥) →
-      find p (map f l) ≡ some (record { ahead = map f (up_to x l); it = f x; behind = map f (rest x l) })
+      find p (map f l) ≡ Some (record { ahead = map f (up_to x l); it = f x; behind = map f (rest x l) })
   unfolding first_slot
   find-slot [] x e n = absurd (n (sym e))
   find-slot (y ∷ l) x e n =
       by_eq y x
       (λ q. let a : p (f y) ≡ true = ap (λ (z : ℕ). p (f z)) q ∙ first_passes (λ z. p (f z)) (y ∷ l) x e n in
-      rw (eq-eqb y x q, a) (ap (λ (z : ℕ). some (record { ahead = []; it = f z; behind = map f l })) q))
+      rw (eq-eqb y x q, a) (ap (λ (z : ℕ). Some (record { ahead = []; it = f z; behind = map f l })) q))
       (λ m.
       by_test (λ (u : Bool). p (f y) ≡ u → (if u then y else first_slot (λ z. p (f z)) l) ≡ x →
-      (if u then some (record { ahead = []; it = f y; behind = map f l }) else onto (f y) (find p (map f l)))
-      ≡ some (record { ahead = map f (up_to x (y ∷ l)); it = f x; behind = map f (rest x (y ∷ l)) })) (p (f y))
+      (if u then Some (record { ahead = []; it = f y; behind = map f l }) else onto (f y) (find p (map f l)))
+      ≡ Some (record { ahead = map f (up_to x (y ∷ l)); it = f x; behind = map f (rest x (y ∷ l)) })) (p (f y))
       (λ _ a b. absurd (m b))
       (λ _ a b. rw (ne_eqb y x m, find-slot l x b n)) refl e)
 
-  pub find_nowhere : (l : List ℕ) → first_slot (λ y. p (f y)) l ≡ none → count none l ≡ 0 → find p (map f l) ≡ nothing
+  pub find_nowhere : (l : List ℕ) → first_slot (λ y. p (f y)) l ≡ none → count none l ≡ 0 → find p (map f l) ≡ None
   unfolding first_slot
   find_nowhere [] e h = refl
   find_nowhere (y ∷ l) e h =
       by_test (λ (u : Bool). (if u then y else first_slot (λ z. p (f z)) l) ≡ none →
-      (if u then some (record { ahead = []; it = f y; behind = map f l }) else onto (f y) (find p (map f l))) ≡ nothing) (p (f y))
+      (if u then Some (record { ahead = []; it = f y; behind = map f l }) else onto (f y) (find p (map f l))) ≡ None) (p (f y))
       (λ _ b. absurd (omega (arith, same_eq none y (sym b))))
       (λ _ b. rw (find_nowhere l b (omega arith))) e
 
@@ -137,7 +137,7 @@ module _ (d : ℕ) (condition : Bool) (f : ℕ → Member) (at : ℕ) where
   abbrev stops : ℕ → Bool
   stops x = stop_at at (λ y. holds_up d condition (f y)) x
 
-  pub holding_none : (l : List ℕ) → first_slot stops l ≡ at → first_holding d condition (map f (up_to at l)) ≡ nothing
+  pub holding_none : (l : List ℕ) → first_slot stops l ≡ at → first_holding d condition (map f (up_to at l)) ≡ None
   unfolding first_slot stop_at
   holding_none [] e = refl
   holding_none (y ∷ l) e =
@@ -147,12 +147,12 @@ module _ (d : ℕ) (condition : Bool) (f : ℕ → Member) (at : ℕ) where
       let g : (if holds_up d condition (f y) then y else first_slot stops l) ≡ at = rw (ne_eqb y at m) at e in
       rw (ne_eqb y at m)
       (by_test (λ (u : Bool). (if u then y else first_slot stops l) ≡ at →
-      (if u then some (f y).id else first_holding d condition (map f (up_to at l))) ≡ nothing) (holds_up d condition (f y))
+      (if u then Some (f y).id else first_holding d condition (map f (up_to at l))) ≡ None) (holds_up d condition (f y))
       (λ _ b. absurd (m b))
       (λ _ b. holding_none l b) g))
 
   pub holding_some : (l : List ℕ) (x : ℕ) → first_slot stops l ≡ x → (x ≡ at → ⊥) → (x ≡ none → ⊥) →
-      first_holding d condition (map f (up_to at l)) ≡ some (f x).id
+      first_holding d condition (map f (up_to at l)) ≡ Some (f x).id
   unfolding first_slot stop_at
   holding_some [] x e k n = absurd (n (sym e))
   holding_some (y ∷ l) x e k n =
@@ -162,6 +162,6 @@ module _ (d : ℕ) (condition : Bool) (f : ℕ → Member) (at : ℕ) where
       let g : (if holds_up d condition (f y) then y else first_slot stops l) ≡ x = rw (ne_eqb y at m) at e in
       rw (ne_eqb y at m)
       (by_test (λ (u : Bool). (if u then y else first_slot stops l) ≡ x →
-      (if u then some (f y).id else first_holding d condition (map f (up_to at l))) ≡ some (f x).id) (holds_up d condition (f y))
-      (λ _ b. ap (λ (z : ℕ). some (f z).id) b)
+      (if u then Some (f y).id else first_holding d condition (map f (up_to at l))) ≡ Some (f x).id) (holds_up d condition (f y))
+      (λ _ b. ap (λ (z : ℕ). Some (f z).id) b)
       (λ _ b. holding_some l x b k n) g))

@@ -1,8 +1,8 @@
 -- Restarts that are attached to a slot, device by device. Assumes nothing.
+use Rattle.std.proofs.Common.{Option, None, Some}
 use mathlib.Core.Path.{◌≡◌, refl, sym, ap, ◌∙◌}
 use mathlib.Core.Bool.{true, false}
 use mathlib.Core.List.{List}
-use mathlib.Core.Option.{Option, none, some}
 use Prim.Native.Nat.{ℕ, ◌+◌, ◌*◌, ◌≤◌, ◌<◌}
 use native.Mathlib.Omega.{arith}
 use borrow.Author.Tests.{eq-eqb, ne_eqb}
@@ -50,8 +50,8 @@ module _ (row : List ℤ) (from to : ℕ) where
 
       pub moved_some : is_restart here ≡ true → MovedUpTo row from to (d + 1) (set r (to * max_devices + d) here)
       moved_some t =
-          let o : restarts_at row from d ≡ some here = restarts-read row from d z l i h ∙ restart_some here t in
-          let s : restarts_at (set r (to * max_devices + d) here) to d ≡ some here = restarts-set r to d here h k j ∙ restart_some here t in
+          let o : restarts_at row from d ≡ Some here = restarts-read row from d z l i h ∙ restart_some here t in
+          let s : restarts_at (set r (to * max_devices + d) here) to d ≡ Some here = restarts-set r to d here h k j ∙ restart_some here t in
           record {
             moved = λ e u. by_eq e d
                 (λ q. rw q (s ∙ sym (ap (later (restarts_at row to d)) o)))
@@ -62,7 +62,7 @@ module _ (row : List ℤ) (from to : ℕ) where
 
       pub moved_skip : is_restart here ≡ false → MovedUpTo row from to (d + 1) r
       moved_skip t =
-          let o : restarts_at row from d ≡ none = restarts-read row from d z l i h ∙ restart-none here t in
+          let o : restarts_at row from d ≡ None = restarts-read row from d z l i h ∙ restart-none here t in
           record {
             moved = λ e u. by_eq e d
                 (λ q. rw q (m.still d (omega arith) ∙ sym (ap (later (restarts_at row to d)) o)))
@@ -81,6 +81,6 @@ attaches_one row x d v l i h t y e =
     by_eq y x
     (λ q. rw (eq-eqb y x q, q)
     (by_eq e d
-    (λ p. rw p (restarts-set row x d v h l i ∙ restart_some v t ∙ sym (ap (later (restarts_at row x d)) (put_same (λ j. none) d (some v)))))
-    (λ n. restarts_other row x d v h x e (λ p. n p.1) ∙ sym (ap (later (restarts_at row x e)) (put_other (λ j. none) d (some v) e n)))))
+    (λ p. rw p (restarts-set row x d v h l i ∙ restart_some v t ∙ sym (ap (later (restarts_at row x d)) (put_same (λ j. None) d (Some v)))))
+    (λ n. restarts_other row x d v h x e (λ p. n p.1) ∙ sym (ap (later (restarts_at row x e)) (put_other (λ j. None) d (Some v) e n)))))
     (λ n. rw (ne_eqb y x n) (restarts_other row x d v h y e (λ p. n p.0)))

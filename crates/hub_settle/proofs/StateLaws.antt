@@ -1,8 +1,8 @@
 -- The state with other links and other tables, and restarts attached to an id of it. Assumes nothing.
+use Rattle.std.proofs.Common.{Option, None, Some}
 use mathlib.Core.Path.{◌≡◌, refl, sym, ap, ◌∙◌, fun_ext}
 use mathlib.Core.Bool.{Bool, true, false}
 use mathlib.Core.List.{List, [], ◌∷◌, ◌++◌}
-use mathlib.Core.Option.{Option, none, some}
 use Prim.Native.Nat.{ℕ, ◌<◌}
 use borrow.Author.Tests.{eq-eqb, ne_eqb}
 use lib.Dec.{eqb}
@@ -149,21 +149,21 @@ module _ (h : HubState) (k : Links) (row settled : List ℤ) (up : List Bool) (m
 -- ---- the routine that is found
 
 abbrev attached_to : (ℕ → Option ℤ) → List Member → Option Found → List Member
-attached_to e l none = l
-attached_to e l (some f) = f.ahead ++ (attach_to e f.it ∷ f.behind)
+attached_to e l None = l
+attached_to e l (Some f) = f.ahead ++ (attach_to e f.it ∷ f.behind)
 
 attach-found : (i : ℕ) (e : ℕ → Option ℤ) (l : List Member) → attach_at i e l ≡ attached_to e l (find (has_id i) l)
 attach-found i e [] = refl
 attach-found i e (m ∷ l) =
     by_test (λ (t : Bool). (if t then attach_to e m ∷ l else m ∷ attach_at i e l) ≡ attached_to e (m ∷ l)
-    (if t then some (record { ahead = []; it = m; behind = l }) else onto m (find (has_id i) l)))
+    (if t then Some (record { ahead = []; it = m; behind = l }) else onto m (find (has_id i) l)))
     (eqb m.id i)
     (λ _. refl)
     (λ _. ap (λ (k : List Member). m ∷ k) (attach-found i e l) ∙ sym (behind (find (has_id i) l)))
   where
     behind : (o : Option Found) → attached_to e (m ∷ l) (onto m o) ≡ m ∷ attached_to e l o
-    behind none = refl
-    behind (some f) = refl
+    behind None = refl
+    behind (Some f) = refl
 
 module _ (h : HubState) (id : ℕ) (e : ℕ → Option ℤ) where
   pub attach-settled : (table : List ℤ) → id ≡ 0 → settings_of table ≡ settle_restarts e (settings_of h.settled_at) →

@@ -6,7 +6,7 @@ use Prim.Native.Nat.{ℕ}
 use native.Mathlib.Omega.{arith}
 use Rattle.std.specs.Prelude.{if◌then◌else◌}
 use Rattle.rules_routine.specs.declared.Command.{Command}
-use Rattle.rules_routine.specs.declared.Refusal.{Refusal}
+use Rattle.rules_routine.specs.declared.refusals.Refusal.{Refusal}
 use Rattle.rules.specs.State.{Member, State}
 use Rattle.rules.specs.Answers.{Back, Result, wait, skipped, aborted, turned_down}
 use Rattle.rules.specs.Sequence.{with_sequence}

@@ -1,8 +1,8 @@
 -- The rows of commands and of restarts: how a slot's part of them is read, and what a store in a row changes of it. Assumes nothing.
+use Rattle.std.proofs.Common.{None, Some}
 use mathlib.Core.Path.{◌≡◌, refl, sym, ap, ◌∙◌}
 use mathlib.Core.Bool.{Bool, true, false}
 use mathlib.Core.List.{List, ◌∷◌}
-use mathlib.Core.Option.{none, some}
 use Prim.Native.Nat.{ℕ, zero, suc, ◌+◌, ◌*◌, ◌-◌, ◌≤◌, ◌<◌}
 use native.Mathlib.Omega.{arith}
 use borrow.Author.Tests.{eq-eqb, ne_eqb, eqb-true, eqb-false, ltb-true, lt-ltb, le-ltb}
@@ -221,7 +221,7 @@ steps_other rows other u v k (suc n) h =
     λ i. e i ∷ r i
 
 -- the due setting of one in flight does not matter where none is
-pub steps-due : (rows : Rows) (u v : ℤ) (k n : ℕ) → flight (steps_from rows u k n) ≡ none → steps_from rows v k n ≡ steps_from rows u k n
+pub steps-due : (rows : Rows) (u v : ℤ) (k n : ℕ) → flight (steps_from rows u k n) ≡ None → steps_from rows v k n ≡ steps_from rows u k n
 steps-due rows u v k zero e = refl
 steps-due rows u v k (suc n) e =
     let t = flight-not (step_at rows u k) (step_at rows u k).status (flight (steps_from rows u (suc k) n)) e in
@@ -282,14 +282,14 @@ same_place x y d e h i q = let z : x ≡ y = omega arith in let w : d ≡ e = om
 
 -- ---- restarts
 
-pub restart_some : (v : ℤ) → is_restart v ≡ true → restart_of v ≡ some v
-restart_some v e = ap (λ (t : Bool). if t then some v else none) e
+pub restart_some : (v : ℤ) → is_restart v ≡ true → restart_of v ≡ Some v
+restart_some v e = ap (λ (t : Bool). if t then Some v else None) e
 
-pub restart-none : (v : ℤ) → is_restart v ≡ false → restart_of v ≡ none
-restart-none v e = ap (λ (t : Bool). if t then some v else none) e
+pub restart-none : (v : ℤ) → is_restart v ≡ false → restart_of v ≡ None
+restart-none v e = ap (λ (t : Bool). if t then Some v else None) e
 
 -- a device past the most there can be has none
-pub restarts-past : (row : List ℤ) (x d : ℕ) → max_devices ≤ d → restarts_at row x d ≡ none
+pub restarts-past : (row : List ℤ) (x d : ℕ) → max_devices ≤ d → restarts_at row x d ≡ None
 unfolding restarts_at
 restarts-past row x d h = rw (le-ltb d max_devices h)
 
@@ -304,8 +304,8 @@ module _ (row : List ℤ) (y e : ℕ) (v : ℤ) (i : e < max_devices) where
   unfolding restarts_at
   restarts_other x d n =
       by_test
-      (λ (t : Bool). (if t then restart_of (get_or (set row (y * max_devices + e) v) (x * max_devices + d) no_restart) else none)
-      ≡ (if t then restart_of (get_or row (x * max_devices + d) no_restart) else none))
+      (λ (t : Bool). (if t then restart_of (get_or (set row (y * max_devices + e) v) (x * max_devices + d) no_restart) else None)
+      ≡ (if t then restart_of (get_or row (x * max_devices + d) no_restart) else None))
       (ltb d max_devices)
       (λ t. ap restart_of
       (get_or-set_other row (y * max_devices + e) (x * max_devices + d) v no_restart

@@ -1,9 +1,9 @@
 -- The commands of a routine, of which the first so many are answered: what the tests along them come to, and what a changed status keeps.
 -- Assumes nothing.
+use Rattle.std.proofs.Common.{Option, None, Some}
 use mathlib.Core.Path.{◌≡◌, refl, sym, ap, ◌∙◌}
 use mathlib.Core.Bool.{Bool, true, false, not, ◌&&◌, and-true, and-false, or-false}
 use mathlib.Core.List.{List, [], ◌∷◌, map}
-use mathlib.Core.Option.{Option, none, some}
 use Prim.Native.Nat.{ℕ, zero, suc, ◌≤◌, ◌<◌}
 use native.Mathlib.Omega.{arith}
 use lib.Dec.{eqb}
@@ -46,15 +46,15 @@ each_at P (x ∷ l) (suc i) z h k = each_at P l i z (omega arith) k.1
 same_first : (x y : Step) (l m : List Step) → x ∷ l ≡ y ∷ m → x ≡ y
 same_first x y l m e = cc
 
-not_none : {A : Type 0} {C : Type 0} (x : A) → none ≡ some x → C
+not_none : {A : Type 0} {C : Type 0} (x : A) → None ≡ Some x → C
 not_none x e = let z : ◌≡◌ {A = ℕ} 0 1 = cc in absurd (omega arith)
 
 no_steps : {C : Type 0} (x : Step) (l : List Step) → [] ≡ x ∷ l → C
 no_steps x l e = let z : ◌≡◌ {A = ℕ} 0 1 = cc in absurd (omega arith)
 
 abbrev command_or : Command → Option Flight → Command
-command_or c none = c
-command_or c (some f) = f.command
+command_or c None = c
+command_or c (Some f) = f.command
 
 -- ---- one status
 
@@ -108,7 +108,7 @@ flight-past x was_held other e = refl
 flight-past x was_not_held other e = refl
 
 -- there is no flight: this is none, nor is one behind it
-pub flight-not : (x : Step) (st : Status) (other : Option Flight) → flight_or x st other ≡ none → (is_in_flight st ≡ false) × (other ≡ none)
+pub flight-not : (x : Step) (st : Status) (other : Option Flight) → flight_or x st other ≡ None → (is_in_flight st ≡ false) × (other ≡ None)
 flight-not x to-do other e = (refl, e)
 flight-not x (in_flight u) other e = not_none _ (sym e)
 flight-not x was_done other e = (refl, e)
@@ -117,12 +117,12 @@ flight-not x was_held other e = (refl, e)
 flight-not x was_not_held other e = (refl, e)
 
 -- there is one, and not behind this
-flight_this : (x : Step) (st : Status) (other : Option Flight) (f : Flight) → other ≡ none → flight_or x st other ≡ some f →
+flight_this : (x : Step) (st : Status) (other : Option Flight) (f : Flight) → other ≡ None → flight_or x st other ≡ Some f →
     (is_to_do st ≡ false) × (is_in_flight st ≡ true) × (x.command ≡ f.command)
 flight_this x to-do other f n e = not_none f (sym n ∙ e)
 flight_this x (in_flight u) other f n e = let c : x.command ≡ f.command = flown x.command u f e in (refl, refl, c)
   where
-    flown : (c : Command) (u : ℤ) (f : Flight) → some (record { command = c; due_then = u }) ≡ some f → c ≡ f.command
+    flown : (c : Command) (u : ℤ) (f : Flight) → Some (record { command = c; due_then = u }) ≡ Some f → c ≡ f.command
     flown c u f e = ap (λ (o : Option Flight). command_or c o) e
 flight_this x was_done other f n e = not_none f (sym n ∙ e)
 flight_this x was_skipped other f n e = not_none f (sym n ∙ e)
@@ -135,7 +135,7 @@ behind_flies : (d : ℕ) (l : List Step) → Each IsBehind l → any_of (flies d
 behind_flies d [] h = refl
 behind_flies d (x ∷ l) h = rw ((behind-is x.status h.0).0, and-false (is_on d x)) (behind_flies d l h.1)
 
-pub behind-flight : (l : List Step) → Each IsBehind l → flight l ≡ none
+pub behind-flight : (l : List Step) → Each IsBehind l → flight l ≡ None
 behind-flight [] h = refl
 behind-flight (x ∷ l) h = flight-past x x.status (flight l) (behind-is x.status h.0).0 ∙ behind-flight l h.1
 
@@ -172,14 +172,14 @@ done_upto (suc n) [] a d v = absurd a
 done_upto (suc n) (x ∷ l) a d v = done_upto n l a.1 d _
 
 -- the one in flight, if there is one
-pub flights_none : (n : ℕ) (l : List Step) → AnsweredUpTo n l → flight l ≡ none → (d : ℕ) → any_of (flies d) l ≡ false
+pub flights_none : (n : ℕ) (l : List Step) → AnsweredUpTo n l → flight l ≡ None → (d : ℕ) → any_of (flies d) l ≡ false
 flights_none zero [] a e d = refl
 flights_none zero (x ∷ l) a e d = rw ((flight-not x x.status (flight l) e).0, and-false (is_on d x)) (behind_flies d l a.1)
 flights_none (suc n) [] a e d = absurd a
 flights_none (suc n) (x ∷ l) a e d =
     let t = flight-not x x.status (flight l) e in rw (t.0, and-false (is_on d x)) (flights_none n l a.1 t.1 d)
 
-pub flights_some : (n : ℕ) (l : List Step) → AnsweredUpTo n l → (f : Flight) → flight l ≡ some f → (d : ℕ) →
+pub flights_some : (n : ℕ) (l : List Step) → AnsweredUpTo n l → (f : Flight) → flight l ≡ Some f → (d : ℕ) →
     any_of (flies d) l ≡ eqb f.command.device d
 flights_some zero [] a f e d = not_none f e
 flights_some zero (x ∷ l) a f e d =
@@ -192,14 +192,14 @@ flights_some (suc n) (x ∷ l) a f e d =
 
 -- ---- all are answered
 
-pub flight_all : (n : ℕ) (l : List Step) → AnsweredUpTo n l → length l ≤ n → flight l ≡ none
+pub flight_all : (n : ℕ) (l : List Step) → AnsweredUpTo n l → length l ≤ n → flight l ≡ None
 flight_all zero [] a h = refl
 flight_all zero (x ∷ l) a h = absurd (omega arith)
 flight_all (suc n) [] a h = absurd a
 flight_all (suc n) (x ∷ l) a h =
     flight-past x x.status (flight l) (answered-is x.status a.0).1 ∙ flight_all n l a.1 (omega arith)
 
-pub next_all : (n : ℕ) (l : List Step) → AnsweredUpTo n l → length l ≤ n → next l ≡ none
+pub next_all : (n : ℕ) (l : List Step) → AnsweredUpTo n l → length l ≤ n → next l ≡ None
 next_all zero [] a h = refl
 next_all zero (x ∷ l) a h = absurd (omega arith)
 next_all (suc n) [] a h = absurd a
@@ -222,7 +222,7 @@ first_to_do : (y x : Step) → y ≡ x → is_answered y.status ≡ false → is
 first_to_do y x e a t = open_to_do y.status a (ap (λ (z : Step). is_in_flight z.status) e ∙ t)
 
 pub flight_to_do : (n : ℕ) (l : List Step) → AnsweredUpTo n l → (x : Step) (r : List Step) → drop n l ≡ x ∷ r →
-    is_in_flight x.status ≡ false → flight l ≡ none
+    is_in_flight x.status ≡ false → flight l ≡ None
 flight_to_do zero [] a x r e t = no_steps x r e
 flight_to_do zero (y ∷ l) a x r e t =
     flight-past y y.status (flight l) (to_do_is y.status (first_to_do y x (same_first y x l r e) a.0 t)).1
@@ -232,10 +232,10 @@ flight_to_do (suc n) (y ∷ l) a x r e t =
     flight-past y y.status (flight l) (answered-is y.status a.0).1 ∙ flight_to_do n l a.1 x r e t
 
 pub next_to_do : (n : ℕ) (l : List Step) → AnsweredUpTo n l → (x : Step) (r : List Step) → drop n l ≡ x ∷ r →
-    is_in_flight x.status ≡ false → next l ≡ some x.command
+    is_in_flight x.status ≡ false → next l ≡ Some x.command
 next_to_do zero [] a x r e t = no_steps x r e
 next_to_do zero (y ∷ l) a x r e t =
-    let i = same_first y x l r e in rw (first_to_do y x i a.0 t) (ap (λ (z : Step). some z.command) i)
+    let i = same_first y x l r e in rw (first_to_do y x i a.0 t) (ap (λ (z : Step). Some z.command) i)
 next_to_do (suc n) [] a x r e t = absurd a
 next_to_do (suc n) (y ∷ l) a x r e t = rw (answered-is y.status a.0).0 (next_to_do n l a.1 x r e t)
 
@@ -279,12 +279,12 @@ first-sent y x u e t = ap (λ (z : Step). z.status) e ∙ t
 
 pub flight-sent : (n : ℕ) (l : List Step) → AnsweredUpTo n l → (x : Step) (r : List Step) → drop n l ≡ x ∷ r → (u : ℤ) →
     x.status ≡ in_flight u →
-    flight l ≡ some (record { command = x.command; due_then = u })
+    flight l ≡ Some (record { command = x.command; due_then = u })
 flight-sent zero [] a x r e u t = no_steps x r e
 flight-sent zero (y ∷ l) a x r e u t =
     let i = same_first y x l r e in
     ap (λ (st : Status). flight_or y st (flight l)) (first-sent y x u i t)
-    ∙ ap (λ (z : Step). some (record { command = z.command; due_then = u })) i
+    ∙ ap (λ (z : Step). Some (record { command = z.command; due_then = u })) i
 flight-sent (suc n) [] a x r e u t = absurd a
 flight-sent (suc n) (y ∷ l) a x r e u t =
     flight-past y y.status (flight l) (answered-is y.status a.0).1 ∙ flight-sent n l a.1 x r e u t

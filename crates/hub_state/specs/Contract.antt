@@ -1,6 +1,5 @@
 -- What a decision means: what it changes, what it tells, and what the appliers may rely on. Assumes nothing.
-use Rattle.std.specs.Prelude.{◌≡◌, true, false, List, [], ◌∷◌, ◌++◌, map, ℕ, zero, suc, ◌≤◌, ◌<◌, ltb, ℤ, get_or, length, if◌then◌else◌}
-use Rattle.std.proofs.Math.Option.{Option, none, some}
+use Rattle.std.specs.Prelude.{◌≡◌, true, false, List, [], ◌∷◌, ◌++◌, map, ℕ, zero, suc, ◌≤◌, ◌<◌, ltb, ℤ, get_or, length, if◌then◌else◌, Option, None, Some}
 use Rattle.rules_routine.specs.Limits.{max_devices, max_commands, max_sequence, highest_id}
 use Rattle.rules_routine.specs.declared.Command.{Command}
 use Rattle.rules.specs.State.{Status, Step, State}
@@ -70,15 +69,15 @@ put_backs_left s f = put_backs s f.it (leave s f) 0 s.devices
 
 -- The routine that an event finds halfway with its device, by its slot; there is none past the slots.
 abbrev pub halfway_in : HubState → ℕ → Option Found
-halfway_in h x = if ltb x max_sequence then some (there h x) else none
+halfway_in h x = if ltb x max_sequence then Some (there h x) else None
 
 -- The state that an event of d leaves of it, by its abort or by skips (document 02, item 3); and what its abort puts back.
 abbrev pub stopped_by : ℕ → State → Option Found → State
 stopped_by d s o = (stop_if_any d s o).state
 
 abbrev pub put_backs_stopped : ℕ → State → Option Found → List Back
-put_backs_stopped d s none = []
-put_backs_stopped d s (some f) = if must_left d f.it then put_backs_left s f else []
+put_backs_stopped d s None = []
+put_backs_stopped d s (Some f) = if must_left d f.it then put_backs_left s f else []
 
 -- A device becomes down.
 abbrev pub down_with : State → ℕ → State

@@ -1,6 +1,5 @@
 -- The first command of a routine that is not answered, as the code finds it: what the rules then have. Assumes nothing.
-use Rattle.std.specs.Prelude.{◌≡◌, Bool, false, List, ℕ, zero, suc, ◌+◌, ◌*◌, ◌-◌, ◌<◌, ℤ, pos, get_or}
-use Rattle.std.proofs.Math.Option.{none, some}
+use Rattle.std.specs.Prelude.{◌≡◌, Bool, false, List, ℕ, zero, suc, ◌+◌, ◌*◌, ◌-◌, ◌<◌, ℤ, pos, get_or, None, Some}
 use Rattle.rules_routine.specs.Limits.{max_commands, max_devices}
 use Rattle.rules_routine.specs.declared.Command.{Command}
 use Rattle.rules.specs.State.{Status}
@@ -34,16 +33,16 @@ commands_past h x n = commands_in (steps_from (rows_of h) (due_then_at h x) (x *
 
 -- All are answered.
 pub record AllAnswered (h : HubState) (x : ℕ) : Type 0 where
-  pub no_flight : flight (steps_at h x) ≡ none
-  pub no_next : next (steps_at h x) ≡ none
+  pub no_flight : flight (steps_at h x) ≡ None
+  pub no_next : next (steps_at h x) ≡ None
 
 -- The next command stands at k, and nothing is in flight.
 pub record NextToDo (h : HubState) (x k : ℕ) : Type 0 where
   pub place : k ≡ x * max_commands + answered_at h x
   pub not_all : answered_at h x < get_or h.counts x 0
   pub device_fits : (command_at h k).device < max_devices
-  pub no_flight : flight (steps_at h x) ≡ none
-  pub next_is : next (steps_at h x) ≡ some (command_at h k)
+  pub no_flight : flight (steps_at h x) ≡ None
+  pub next_is : next (steps_at h x) ≡ Some (command_at h k)
   pub advances : (st : Status) → advance st (steps_at h x) ≡ set_status (answered_at h x) st (steps_at h x)
   pub next_skipped : next_is_skipped false (steps_at h x) ≡ skips_after h x (answered_at h x)
   pub next_must : next_counts_as_must (steps_at h x) ≡ counts_as_must (command_at h k) (commands_past h x (suc (answered_at h x)))
@@ -53,7 +52,7 @@ pub record NextInFlight (h : HubState) (x k : ℕ) : Type 0 where
   pub place : k ≡ x * max_commands + answered_at h x
   pub not_all : answered_at h x < get_or h.counts x 0
   pub device_fits : (command_at h k).device < max_devices
-  pub flight_is : flight (steps_at h x) ≡ some (record { command = command_at h k; due_then = due_then_at h x })
+  pub flight_is : flight (steps_at h x) ≡ Some (record { command = command_at h k; due_then = due_then_at h x })
   pub answers : (st : Status) → answer_flight st (steps_at h x) ≡ set_status (answered_at h x) st (steps_at h x)
 
 abbrev pub UnansweredIs : HubState → ℕ → Unanswered → Type 0

@@ -1,6 +1,5 @@
 -- The hub's rows read as the state of the rules. Assumes nothing.
-use Rattle.std.specs.Prelude.{Bool, true, false, not, List, [], ◌∷◌, map, ℕ, zero, suc, ◌+◌, ◌*◌, eqb, ltb, ℤ, pos, get_or, if◌then◌else◌}
-use Rattle.std.proofs.Math.Option.{Option, none, some}
+use Rattle.std.specs.Prelude.{Bool, true, false, not, List, [], ◌∷◌, map, ℕ, zero, suc, ◌+◌, ◌*◌, eqb, ltb, ℤ, pos, get_or, if◌then◌else◌, Option, None, Some}
 use Rattle.rules_routine.specs.Limits.{max_devices, max_commands}
 use Rattle.rules.specs.State.{Status, to-do, in_flight, was_done, was_skipped, was_held, was_not_held, Step, Member, State}
 use Rattle.rules.specs.Tables.{same_setting}
@@ -39,7 +38,7 @@ abbrev pub is_restart : ℤ → Bool
 is_restart v = not (same_setting v no_restart)
 
 abbrev pub restart_of : ℤ → Option ℤ
-restart_of v = if is_restart v then some v else none
+restart_of v = if is_restart v then Some v else None
 
 -- ---- a routine in its slot
 
@@ -98,7 +97,7 @@ steps_at h x = steps_from (rows_of h) (get_or h.due_then x (pos 0)) (x * max_com
 
 -- The restarts of a slot, by device; a newcomer has none.
 unfoldable pub restarts_at : List ℤ → ℕ → ℕ → Option ℤ
-restarts_at row x d = if ltb d max_devices then restart_of (get_or row (x * max_devices + d) no_restart) else none
+restarts_at row x d = if ltb d max_devices then restart_of (get_or row (x * max_devices + d) no_restart) else None
 
 unfoldable pub member_at : HubState → ℕ → Member
 member_at h x = record {
@@ -137,12 +136,12 @@ there h x = record {
 -- ---- the cases of the enums
 
 abbrev pub found_at : HubState → Place → Option Found
-found_at h (At x) = some (there h x)
-found_at h Nowhere = none
+found_at h (At x) = Some (there h x)
+found_at h Nowhere = None
 
 abbrev pub holder_of : Holder → Option ℕ
-holder_of (Routine i) = some i
-holder_of Nobody = none
+holder_of (Routine i) = Some i
+holder_of Nobody = None
 
 -- The first of them is committed.
 abbrev pub first_committed : List Member → Bool

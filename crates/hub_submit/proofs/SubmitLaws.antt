@@ -1,4 +1,6 @@
 -- Laws that the proofs of this crate cite. Assumes nothing.
+use Rattle.std.proofs.Common.{Ok, Err}
+use Rattle.rules_routine.specs.declared.refusals.Refusal.TheVariants.{SequenceFull, IdsUsedUp, CommandCount}
 use mathlib.Core.Path.{◌≡◌, refl, sym, ap, ◌∙◌, subst}
 use mathlib.Core.Bool.{Bool, false, ◌&&◌}
 use mathlib.Core.List.{List, [], ◌∷◌, ◌++◌, map}
@@ -8,12 +10,11 @@ use borrow.Author.Tests.{lt-leb, le-leb, lt-ltb, le-ltb, leb-false, ltb-false}
 use lib.Dec.{leb, ltb, eqb}
 use lib.ListN.{length, get_or, length-map}
 use Rattle.std.specs.Prelude.{if◌then◌else◌}
-use Rattle.rules_routine.specs.Refusals.{refusal_of, sequence_full, ids_used_up, command_count, refuse◌when◌}
+use Rattle.rules_routine.specs.Refusals.{refuse◌when◌}
 use Rattle.rules_routine.specs.Limits.{max_devices, max_commands, max_sequence, highest_id}
 use Rattle.rules_routine.specs.Routine.{commands_check, routine_check}
 use Rattle.rules_routine.specs.declared.Command.{Command}
-use Rattle.rules_routine.specs.declared.Refusal.{Refusal}
-use Rattle.rules_routine.specs.declared.Verdict.TheVariants.{Accepted, Refused}
+use Rattle.rules_routine.specs.declared.refusals.Refusal.{Refusal}
 use Rattle.rules_routine.proofs.RoutineLaws.{both_accept, not-refused, by_test, command-accepted, commands-accepted}
 use Rattle.rules.specs.Tables.{any_of, Each}
 use Rattle.rules.specs.State.{Member, State}
@@ -40,22 +41,22 @@ use Rattle.hub_search.specs.Contract.{Latest}
 -- ---- the check of a submit, by its tests
 
 module _ (s : State) (cs : List Command) where
-  pub check_routine : (r : Refusal) → routine_check s.devices cs ≡ Refused r → submit_check s cs ≡ Refused r
+  pub check_routine : (r : Refusal) → routine_check s.devices cs ≡ Err r → submit_check s cs ≡ Err r
   unfolding submit_check
   check_routine r e = rw e
 
-  pub check_full : routine_check s.devices cs ≡ Accepted → max_sequence ≤ length s.sequence →
-      submit_check s cs ≡ Refused (refusal_of sequence_full)
+  pub check_full : routine_check s.devices cs ≡ Ok tt → max_sequence ≤ length s.sequence →
+      submit_check s cs ≡ Err SequenceFull
   unfolding submit_check
   check_full e h = rw (e, le-leb max_sequence (length s.sequence) h)
 
-  pub check_ids : routine_check s.devices cs ≡ Accepted → length s.sequence < max_sequence → highest_id < s.next_id →
-      submit_check s cs ≡ Refused (refusal_of ids_used_up)
+  pub check_ids : routine_check s.devices cs ≡ Ok tt → length s.sequence < max_sequence → highest_id < s.next_id →
+      submit_check s cs ≡ Err IdsUsedUp
   unfolding submit_check
   check_ids e h k = rw (e, lt-leb max_sequence (length s.sequence) h, lt-ltb highest_id s.next_id k)
 
-  pub check_fine : routine_check s.devices cs ≡ Accepted → length s.sequence < max_sequence → s.next_id ≤ highest_id →
-      submit_check s cs ≡ Accepted
+  pub check_fine : routine_check s.devices cs ≡ Ok tt → length s.sequence < max_sequence → s.next_id ≤ highest_id →
+      submit_check s cs ≡ Ok tt
   unfolding submit_check
   check_fine e h k = rw (e, lt-leb max_sequence (length s.sequence) h, le-ltb highest_id s.next_id k)
 
@@ -67,35 +68,35 @@ taken_is h v = taken-length h.links v.links_ok ∙ sym (length-map (slots_of h.l
 -- ---- what an accepted check says
 
 -- the commands' devices
-commands_below : (limit i : ℕ) (cs : List Command) → commands_check limit i cs ≡ Accepted → Each (λ (c : Command). c.device < limit) cs
+commands_below : (limit i : ℕ) (cs : List Command) → commands_check limit i cs ≡ Ok tt → Each (λ (c : Command). c.device < limit) cs
 commands_below limit i [] e = tt
 commands_below limit i (c ∷ cs) e =
     let a = commands-accepted limit i c cs e in ((command-accepted limit i c a.0).0, commands_below limit (suc i) cs a.2)
 
 -- and their count
-routine_below : (limit : ℕ) (cs : List Command) → routine_check limit cs ≡ Accepted →
+routine_below : (limit : ℕ) (cs : List Command) → routine_check limit cs ≡ Ok tt →
     (length cs ≤ max_commands) × Each (λ (c : Command). c.device < limit) cs
 unfolding routine_check
 routine_below limit cs e =
     let b = both_accept _ (commands_check limit 0 cs) e in (
-      ltb-false max_commands (length cs) (or_right (eqb (length cs) 0) (ltb max_commands (length cs)) (not-refused command_count _ b.0)),
+      ltb-false max_commands (length cs) (or_right (eqb (length cs) 0) (ltb max_commands (length cs)) (not-refused CommandCount _ b.0)),
       commands_below limit 0 cs b.1,
     )
 
 -- the three parts of the check
-accepted : (s : State) (cs : List Command) → submit_check s cs ≡ Accepted →
-    (routine_check s.devices cs ≡ Accepted) × (length s.sequence < max_sequence) × (s.next_id ≤ highest_id)
+accepted : (s : State) (cs : List Command) → submit_check s cs ≡ Ok tt →
+    (routine_check s.devices cs ≡ Ok tt) × (length s.sequence < max_sequence) × (s.next_id ≤ highest_id)
 unfolding submit_check
 accepted s cs e =
     let b = both_accept (routine_check s.devices cs) _ e in
-    let full = refuse sequence_full when leb max_sequence (length s.sequence) in
-    let k = both_accept full (refuse ids_used_up when ltb highest_id s.next_id) b.1 in (
+    let full = refuse SequenceFull when leb max_sequence (length s.sequence) in
+    let k = both_accept full (refuse IdsUsedUp when ltb highest_id s.next_id) b.1 in (
       b.0,
-      leb-false max_sequence (length s.sequence) (not-refused sequence_full _ k.0),
-      ltb-false highest_id s.next_id (not-refused ids_used_up _ k.1),
+      leb-false max_sequence (length s.sequence) (not-refused SequenceFull _ k.0),
+      ltb-false highest_id s.next_id (not-refused IdsUsedUp _ k.1),
     )
 
-module _ (h : HubState) (cs : List Command) (e : submit_check (state_of h) cs ≡ Accepted) (v : StateOk h) where
+module _ (h : HubState) (cs : List Command) (e : submit_check (state_of h) cs ≡ Ok tt) (v : StateOk h) where
   -- the routine can be held
   pub fine_routine : (length cs ≤ max_commands) × CommandsOk cs
   unfolding state_of
@@ -170,24 +171,24 @@ module _ (h : HubState) (x : ℕ) where
 -- ---- the submit
 
 -- turned down, or accepted
-submit-refused : (s : State) (cs : List Command) (r : Refusal) → submit_check s cs ≡ Refused r → turned_down r s ≡ submit_of s cs
+submit-refused : (s : State) (cs : List Command) (r : Refusal) → submit_check s cs ≡ Err r → turned_down r s ≡ submit_of s cs
 unfolding submit_of
 submit-refused s cs r e = rw e
 
-submit-accepted : (s : State) (cs : List Command) → submit_check s cs ≡ Accepted →
+submit-accepted : (s : State) (cs : List Command) → submit_check s cs ≡ Ok tt →
     settling (record { state = place s cs; answers = placed s.next_id (last_id_or 0 (up_to_last (blocks s cs) s.sequence)) ∷ [] })
     ≡ submit_of s cs
 unfolding submit_of
 submit-accepted s cs e = rw e
 
 module _ (h : HubState) (cs : List Command) (y : Decision) where
-  pub submit-turned-down : (r : Refusal) → submit_check (state_of h) cs ≡ Refused r → y ≡ plainly (TurnedDown r) Nothing →
+  pub submit-turned-down : (r : Refusal) → submit_check (state_of h) cs ≡ Err r → y ≡ plainly (TurnedDown r) Nothing →
       Decides h cs y (submit_of (state_of h) cs)
   submit-turned-down r e z =
       subst (λ (d : Decision). Decides h cs d (submit_of (state_of h) cs)) (sym z)
       (refused-decides h cs _ r (submit-refused (state_of h) cs r e))
 
-  module _ (x : ℕ) (e : submit_check (state_of h) cs ≡ Accepted) (v : StateOk h) (l : Latest h cs x) where
+  module _ (x : ℕ) (e : submit_check (state_of h) cs ≡ Ok tt) (v : StateOk h) (l : Latest h cs x) where
     -- the appliers can carry it out
     join_ok : h.pass_limit ≤ highest_passed → JoinOk h cs x
     unfolding state_of

@@ -1,9 +1,10 @@
 -- Laws that the proofs of this crate cite. Assumes nothing.
+use Rattle.rules_routine.specs.Refusals.{numbered}
+use Rattle.std.proofs.Common.{Option, None}
 use mathlib.Core.Path.{◌≡◌, refl, sym, ap, ◌∙◌, subst}
 use mathlib.Core.Logic.{◌≢◌}
 use mathlib.Core.Bool.{Bool, true, false, cond, not, ◌&&◌, and-false}
 use mathlib.Core.List.{List, [], ◌∷◌}
-use mathlib.Core.Option.{Option, none}
 use Prim.Native.Nat.{ℕ, suc, ◌+◌, ◌-◌, ◌*◌, ◌<◌, ◌≤◌}
 use native.Mathlib.Omega.{arith}
 use borrow.Author.Tests.{eq-eqb, ne_eqb, lt-ltb, le-ltb}
@@ -12,11 +13,9 @@ use lib.IntN.{ℤ, pos}
 use lib.ListN.{get_or}
 use lib.Signed.{lt_z}
 use Rattle.std.specs.Prelude.{if◌then◌else◌}
-use Rattle.rules_routine.specs.Refusals.{refusal_of}
 use Rattle.rules_routine.specs.Limits.{max_devices, max_commands, max_sequence}
 use Rattle.rules_routine.specs.Routine.{must_tag, condition_tag, is_condition}
 use Rattle.rules_routine.specs.declared.Command.{Command}
-use Rattle.rules_routine.specs.declared.Refusal.TheVariants.{Number}
 use Rattle.rules.specs.State.{Status, in_flight, was_skipped, was_held, was_not_held, Member, State}
 use Rattle.rules.specs.Tables.{put}
 use Rattle.rules.specs.Answers.{Answer as Told, Result, wait, send, skipped, held, not_held, committed}
@@ -343,11 +342,11 @@ module _ (s : State) (f : Found) (c : Command) where
 
 module _ (h : HubState) (i : ℕ) (p : Place) (f : Finds h (runs i) p) (y : Decision) where
   -- 10: no running routine has this id
-  pub turn_nowhere : p ≡ Nowhere → y ≡ plainly (Refused (Number 10)) Nothing → Decides h [] y (turn_of (state_of h) i)
-  unfolding turn_of refusal_of
+  pub turn_nowhere : p ≡ Nowhere → y ≡ plainly (Refused (numbered 10)) Nothing → Decides h [] y (turn_of (state_of h) i)
+ unfolding turn_of
   turn_nowhere e z =
       subst (λ (d : Decision). Decides h [] d (turn_of (state_of h) i)) (sym z)
-      (refused-decides h [] _ (Number 10) (sym (ap (turn_found (state_of h)) (found_as h (runs i) p f Nowhere e))))
+      (refused-decides h [] _ (numbered 10) (sym (ap (turn_found (state_of h)) (found_as h (runs i) p f Nowhere e))))
 
   module _ (x : ℕ) (e : p ≡ At x) where
     -- the command in flight decides
@@ -358,17 +357,16 @@ module _ (h : HubState) (i : ℕ) (p : Place) (f : Finds h (runs i) p) (y : Deci
         ∙ ap (turn_flight (state_of h) (there h x)) (ap flight (steps-there h x) ∙ q))
 
     -- 11: turn with a command in flight
-    pub turn-sent : (k : ℕ) → NextInFlight h x k → y ≡ plainly (Refused (Number 11)) Nothing → Decides h [] y (turn_of (state_of h) i)
-    unfolding refusal_of
+    pub turn-sent : (k : ℕ) → NextInFlight h x k → y ≡ plainly (Refused (numbered 11)) Nothing → Decides h [] y (turn_of (state_of h) i)
     turn-sent k o z =
         subst (λ (d : Decision). Decides h [] d (turn_of (state_of h) i)) (sym z)
-        (refused-decides h [] _ (Number 11) (turn_at _ o.flight_is))
+        (refused-decides h [] _ (numbered 11) (turn_at _ o.flight_is))
 
     -- no command is in flight: the next one
-    turn-next : (o : Option Command) → flight (steps_at h x) ≡ none → next (steps_at h x) ≡ o →
+    turn-next : (o : Option Command) → flight (steps_at h x) ≡ None → next (steps_at h x) ≡ o →
         turn_next (state_of h) (there h x) o ≡ turn_of (state_of h) i
     turn-next o q n =
-        ap (turn_next (state_of h) (there h x)) (sym (ap next (steps-there h x) ∙ n)) ∙ turn_at none q
+        ap (turn_next (state_of h) (there h x)) (sym (ap next (steps-there h x) ∙ n)) ∙ turn_at None q
 
     pub turn_on : (k : ℕ) → NextToDo h x k → Decides h [] y (turn_next (state_of h) (there h x) (next (steps_at h x))) →
         Decides h [] y (turn_of (state_of h) i)
@@ -381,4 +379,4 @@ module _ (h : HubState) (i : ℕ) (p : Place) (f : Finds h (runs i) p) (y : Deci
         let n = id-there h x i (found-id h i p f x e) in
         subst (λ (d : Decision). Decides h [] d (turn_of (state_of h) i)) (sym z)
         (commit-decides h [] _ (Committed i) refl x (stands_at h (runs i) p f x e)
-        ((λ j. settling (record { state = committed_at h x; answers = committed (n j) ∷ [] })) ∙ turn-next none o.no_flight o.no_next))
+        ((λ j. settling (record { state = committed_at h x; answers = committed (n j) ∷ [] })) ∙ turn-next None o.no_flight o.no_next))

@@ -1,23 +1,22 @@
 -- What one line does: for each way that a line can go, what the line program does of it, and the hub afterwards. Assumes nothing.
+use Rattle.rules_routine.specs.declared.refusals.Refusal.TheVariants.{CommandCount, DevicesOutOfRange, PassLimitOutOfRange, FirstIdZero}
+use Rattle.std.proofs.Common.{Option, None, Some, Ok, Err}
 use mathlib.Core.Path.{◌≡◌, refl, sym, ap, ◌∙◌, subst}
 use mathlib.Core.Logic.{◌≢◌}
 use mathlib.Core.Bool.{Bool, true, false, ◌||◌}
 use mathlib.Core.List.{List, [], ◌∷◌, ◌++◌, append-nil, append_assoc}
-use mathlib.Core.Option.{Option, none, some}
 use Prim.Native.Nat.{ℕ, ◌+◌, ◌-◌, ◌≤◌, ◌<◌, ◌^◌}
 use native.Mathlib.Omega.{arith}
 use borrow.Author.Tests.{ltb-true, ltb-false, ne_eqb, eqb-false}
 use lib.Dec.{ltb, eqb}
 use lib.ListN.{length, length-append}
 use Rattle.std.specs.Prelude.{if◌then◌else◌}
-use Rattle.rules_routine.specs.Refusals.{command_count, devices_out_of_range, pass_limit_out_of_range, first_id_0, refusal_of, refuse◌when◌}
+use Rattle.rules_routine.specs.Refusals.{refuse◌when◌, Verdict}
 use Rattle.rules_routine.specs.Refusals.{◌and_then◌}
 use Rattle.rules_routine.specs.Limits.{max_devices, max_commands, highest_pass_limit}
 use Rattle.rules_routine.specs.Routine.{commands_of, routine_of, no_routine, with_command}
 use Rattle.rules_routine.specs.declared.Command.{Command}
 use Rattle.rules_routine.specs.declared.Routine.{Routine}
-use Rattle.rules_routine.specs.declared.Verdict.{Verdict}
-use Rattle.rules_routine.specs.declared.Verdict.TheVariants.{Accepted, Refused}
 use Rattle.rules_routine.proofs.RoutineLaws.{by_test, both_accept, not-refused, or-false, length-commands_of, routine_of-commands}
 use Rattle.rules_routine.proofs.RoutineLaws.{routine_of-count}
 use Rattle.rules_routine.proofs.RoutineLaws.{with_more, check_long}
@@ -84,7 +83,7 @@ together_many r (c ∷ cs) h =
     (λ e. omega (arith, ltb-false r.count (2 ^ 64 - 1) e)))
 
 -- a routine of more than eight commands is turned down for its count
-submit_long : (s : State) (cs : List Command) → max_commands < length cs → submit_of s cs ≡ turned_down (refusal_of command_count) s
+submit_long : (s : State) (cs : List Command) → max_commands < length cs → submit_of s cs ≡ turned_down CommandCount s
 unfolding submit_of
 submit_long s cs h =
     ap
@@ -118,7 +117,7 @@ same-call s (cancels i) = refl
 
 -- the hub, if it has devices
 abbrev hub_if : Bool → Hub → Option State
-hub_if t h = if t then none else some (view h)
+hub_if t h = if t then None else Some (view h)
 
 abbrev heard_if : Bool → LineCall → Line
 heard_if t c = if t then Unread else Calling (call_as c)
@@ -171,37 +170,37 @@ line-calling h unread call e = let z : ◌≡◌ {A = ℕ} 0 1 = cc in absurd (o
 
 -- ---- the hub
 
-pub hub-none : (h : Hub) → view h ≡ closed_hub → hub_in h ≡ none
+pub hub-none : (h : Hub) → view h ≡ closed_hub → hub_in h ≡ None
 unfolding hub_in new_hub
-hub-none h e = ap (λ (s : State). if eqb s.devices 0 then none else some s) e
+hub-none h e = ap (λ (s : State). if eqb s.devices 0 then None else Some s) e
 
-pub hub_some : (h : Hub) → (view h).devices ≢ 0 → hub_in h ≡ some (view h)
+pub hub_some : (h : Hub) → (view h).devices ≢ 0 → hub_in h ≡ Some (view h)
 unfolding hub_in
-hub_some h e = ap (λ (t : Bool). if t then none else some (view h)) (ne_eqb (view h).devices 0 e)
+hub_some h e = ap (λ (t : Bool). if t then None else Some (view h)) (ne_eqb (view h).devices 0 e)
 
 -- a hub with devices is not none
-not_none : {h : Option State} {s : State} {P : Type 0} → h ≡ some s → h ≡ none → P
+not_none : {h : Option State} {s : State} {P : Type 0} → h ≡ Some s → h ≡ None → P
 not_none there z = let w : ◌≡◌ {A = ℕ} 0 1 = cc in absurd (omega arith)
 
 -- an accepted opening has devices
-open_some : (n k first : ℕ) → open_check n k first ≡ Accepted → n ≢ 0
+open_some : (n k first : ℕ) → open_check n k first ≡ Ok tt → n ≢ 0
 unfolding open_check
 open_some n k first e =
-    let rest = refuse pass_limit_out_of_range when ltb highest_pass_limit k and_then refuse first_id_0 when eqb first 0 in
-    let a = (both_accept (refuse devices_out_of_range when (eqb n 0 || ltb max_devices n)) rest e).0 in
-    eqb-false n 0 (or-false (eqb n 0) (ltb max_devices n) (not-refused devices_out_of_range _ a)).0
+    let rest = refuse PassLimitOutOfRange when ltb highest_pass_limit k and_then refuse FirstIdZero when eqb first 0 in
+    let a = (both_accept (refuse DevicesOutOfRange when (eqb n 0 || ltb max_devices n)) rest e).0 in
+    eqb-false n 0 (or-false (eqb n 0) (ltb max_devices n) (not-refused DevicesOutOfRange _ a)).0
 
 opened_as : (v : Verdict) (s : State) {t : State} → open_if v s ≡ opened t → opened s ≡ opened t
-opened_as Accepted s e = e
-opened_as (Refused r) s e = let z : ◌≡◌ {A = ℕ} 0 1 = cc in absurd (omega arith)
+opened_as (Ok tt) s e = e
+opened_as (Err r) s e = let z : ◌≡◌ {A = ℕ} 0 1 = cc in absurd (omega arith)
 
 opened_some : (n k first : ℕ) (s : State) → open_of n k first ≡ opened s → s.devices ≢ 0
 unfolding open_of new_hub
 opened_some n k first s = go (open_check n k first) refl
   where
     go : (v : Verdict) → open_check n k first ≡ v → open_if v (new_hub n k first) ≡ opened s → s.devices ≢ 0
-    go Accepted a e = let same : new_hub n k first ≡ s = cc in subst (λ (t : State). t.devices ≢ 0) same (open_some n k first a)
-    go (Refused r) a e = let z : ◌≡◌ {A = ℕ} 0 1 = cc in absurd (omega arith)
+    go (Ok tt) a e = let same : new_hub n k first ≡ s = cc in subst (λ (t : State). t.devices ≢ 0) same (open_some n k first a)
+    go (Err r) a e = let z : ◌≡◌ {A = ℕ} 0 1 = cc in absurd (omega arith)
 
 -- ---- what the call that a line makes comes to
 
@@ -254,7 +253,7 @@ heard_some Unread n e = refl
 pub record Does (h : Hub) (q : Said) (next : Hub) (text : List ℕ) : Type 0 where
   pub valid : Valid next
   pub is : step (hub_in h) q ≡ record { hub = hub_in next; text = text }
-  pub unopened : hub_in next ≡ none → next ≡ h
+  pub unopened : hub_in next ≡ None → next ≡ h
 
 pub does_unread : (h : Hub) (q : Said) → Valid h → heard_of (read_as q).line (view h).devices ≡ Unread →
     Does h q h (as_line (bytes "unread"))
@@ -268,7 +267,7 @@ module _ (h : Hub) (q : Said) (n k first : ℕ) (e : heard_of (read_as q).line (
   does_open o w t = go v same t
     where
       go : (u : Verdict) → u ≡ open_check n k first → is_accepted u ≡ true → Does h q o.hub (opening_text u)
-      go Accepted a _ =
+      go (Ok tt) a _ =
           let accepted : open_of n k first ≡ opened (new_hub n k first) = ap (λ (x : Verdict). open_if x (new_hub n k first)) (sym a) in
           let f = accepted ∙ sym (opened_as o.verdict (view o.hub) (w.gives ∙ accepted)) in
           let there = hub_some o.hub (opened_some n k first (view o.hub) f) in
@@ -278,15 +277,15 @@ module _ (h : Hub) (q : Said) (n k first : ℕ) (e : heard_of (read_as q).line (
                 ∙ ap (λ (s : Option State). record { hub = s; text = as_line (bytes "opened") }) (sym there);
             unopened = λ z. not_none there z;
           }
-      go (Refused r) a u = t≠f (sym u)
+      go (Err r) a u = t≠f (sym u)
 
   pub does_not_open : Valid h → is_accepted v ≡ false → Does h q h (opening_text v)
   unfolding open_of
   does_not_open valid t = go v same t
     where
       go : (u : Verdict) → u ≡ open_check n k first → is_accepted u ≡ false → Does h q h (opening_text u)
-      go Accepted a u = t≠f u
-      go (Refused r) a _ =
+      go (Ok tt) a u = t≠f u
+      go (Err r) a _ =
           let f : open_of n k first ≡ not_opened r = ap (λ (x : Verdict). open_if x (new_hub n k first)) (sym a) in
           record { valid = valid; is = line-opening h q n k first e ∙ ap (prints_opening (hub_in h)) f; unopened = λ _. refl }
 
@@ -392,9 +391,9 @@ module _ (h : Hub) (q : Said) (call : Call) (e : heard_of (read_as q).line (view
   -- a refusal or a wait
   pub does_same : Valid h → changes_nothing d.answer ≡ true → Does h q made (answers_text told)
   does_same valid t =
-      let none = w.nothing_told t in
-      does_call made (subst Valid (sym (m.same_hub none)) valid)
+      let None = w.nothing_told t in
+      does_call made (subst Valid (sym (m.same_hub None)) valid)
       (ap (λ (s : State). record { state = s; answers = told }) m.gives
       ∙ sym (ap (λ (c : Change). settled_unless_nothing c
-      (record { state = applied_to h.state (commands_of r) d.change; answers = told })) none)
+      (record { state = applied_to h.state (commands_of r) d.change; answers = told })) None)
       ∙ w.gives)

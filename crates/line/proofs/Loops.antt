@@ -1,9 +1,9 @@
 -- Lines in turn, the device lines, and what is left in the buffer. Assumes nothing.
+use Rattle.std.proofs.Common.{Option, None, Some}
 use mathlib.Core.Path.{◌≡◌, refl, sym, ap, ap₂, ◌∙◌, subst}
 use mathlib.Core.Logic.{◌≢◌}
 use mathlib.Core.Bool.{Bool, false}
 use mathlib.Core.List.{List, [], ◌∷◌, ◌++◌, append-nil, append_assoc}
-use mathlib.Core.Option.{Option, none, some}
 use Prim.Native.Nat.{ℕ, zero, suc, ◌+◌, ◌-◌, ◌*◌, ◌≤◌, ◌<◌, ◌^◌}
 use native.Mathlib.Nat.{zero-add}
 use native.Mathlib.Numerals.{add-one}
@@ -52,7 +52,7 @@ pub record Ran (h : Hub) (input buffer buffer' : List ℕ) (room : ℕ) (now : H
   pub done : ℕ
   pub counted : done + length (lines_of (drop from input)) ≡ length (lines_of input)
   pub short : at ≤ max_text * done
-  pub unopened : hub_in now ≡ none → now ≡ h
+  pub unopened : hub_in now ≡ None → now ≡ h
 
 pub ran_none : (h : Hub) (input buffer : List ℕ) (room : ℕ) → Valid h → Ran h input buffer buffer room h 0 0
 ran_none h input buffer room v = record {
@@ -171,9 +171,9 @@ pub ran_all : {h : Hub} {input buffer out : List ℕ} {room : ℕ} {s : Lines} {
     length input ≤ from → RunsLines h input room buffer out s
 unfolding steps
 ran_all {h} {input} {buffer} {out} {room} {s} {from} r end =
-    let none = lines_none input from end in
+    let None = lines_none input from end in
     let whole : steps (hub_in h) (lines_of input) ≡ record { hub = hub_in s.hub; text = r.text } =
-    r.left ∙ ap (λ (l : List (List ℕ)). before r.text (steps (hub_in s.hub) l)) none
+    r.left ∙ ap (λ (l : List (List ℕ)). before r.text (steps (hub_in s.hub) l)) None
     ∙ ap (λ (t : List ℕ). record { hub = hub_in s.hub; text = t }) (append-nil r.text) in
     let long : s.at ≡ length (steps (hub_in h) (lines_of input)).text =
     r.put.ends ∙ zero-add (length r.text) ∙ sym (ap (λ (p : Printed). length p.text) whole) in
@@ -186,7 +186,7 @@ ran_all {h} {input} {buffer} {out} {room} {s} {from} r end =
       );
       past = λ k. omega (arith, long);
       unopened = r.unopened;
-      ample = λ _. let k = ap length none in omega (arith, long, r.short, r.counted);
+      ample = λ _. let k = ap length None in omega (arith, long, r.short, r.counted);
     }
 
 -- ---- how many lines there are
@@ -280,7 +280,7 @@ devices_are h = refl
 pub end-text : (h : Hub) → end_text (hub_in h) ≡ device_lines (view h) 0 (view h).devices
 unfolding hub_in end_text device_lines
 end-text h =
-    by_test (λ (t : Bool). end_text (if t then none else some (view h)) ≡ device_lines (view h) 0 (view h).devices) (eqb (view h).devices 0)
+    by_test (λ (t : Bool). end_text (if t then None else Some (view h)) ≡ device_lines (view h) 0 (view h).devices) (eqb (view h).devices 0)
     (λ e. ap (device_lines (view h) 0) (sym (eqb-true (view h).devices 0 e))) (λ _. refl)
 
 -- one more device is known to be up or down
@@ -349,7 +349,7 @@ answers_all text buffer buffer' at small fits put =
 
 pub wrote_all : (p : Printed) (h next : Hub) (buffer buffer' : List ℕ) (at : ℕ) → length buffer < 2 ^ 63 → Valid next →
     hub_in next ≡ p.hub →
-    length p.text ≤ length buffer → Put buffer buffer' 0 at p.text → (hub_in next ≡ none → next ≡ h) →
+    length p.text ≤ length buffer → Put buffer buffer' 0 at p.text → (hub_in next ≡ None → next ≡ h) →
     Wrote p h next buffer buffer' (to_z w64 at)
 unfolding hub_with
 wrote_all p h next buffer buffer' at small v e fits put unopened = record {

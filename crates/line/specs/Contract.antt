@@ -1,8 +1,6 @@
 -- The contracts of the line program's calls. Assumes nothing.
-use Rattle.std.specs.Prelude.{◌≡◌, Bool, true, false, List, ℕ, suc, ◌+◌, ◌-◌, ◌*◌, ◌<◌, ◌≤◌, ℤ, length, take, drop}
-use Rattle.std.proofs.Math.Option.{none}
-use Rattle.rules_routine.specs.declared.Verdict.{Verdict}
-use Rattle.rules_routine.specs.declared.Verdict.TheVariants.{Accepted, Refused as TurnedDown}
+use Rattle.rules_routine.specs.Refusals.{Verdict}
+use Rattle.std.specs.Prelude.{◌≡◌, Bool, true, false, List, ℕ, suc, ◌+◌, ◌-◌, ◌*◌, ◌<◌, ◌≤◌, ℤ, length, take, drop, None, Ok, Err}
 use Rattle.hub_answers.specs.declared.Answer.{Answer}
 use Rattle.hub_answers.specs.declared.Answer.TheVariants.{Refused, Placed, Wait, Sent, Done, Skipped, Committed, Aborted, Down, Up}
 use Rattle.hub_answers.specs.declared.Answer.TheVariants.{Limited}
@@ -32,7 +30,7 @@ pub record Wrote (p : Printed) (before after : Hub) (buffer buffer' : List ℕ) 
   pub leaves : buffer' ≡ buffer_with p.text buffer
   pub hub : hub_in after ≡ hub_with (hub_in before) p (length buffer)
   pub kept : length buffer < length p.text → after ≡ before
-  pub unopened : hub_in after ≡ none → after ≡ before
+  pub unopened : hub_in after ≡ None → after ≡ before
 
 -- Room for any text of the lines of an input, and as much again for the device lines.
 abbrev pub Ample : List ℕ → ℕ → Type 0
@@ -58,7 +56,7 @@ pub record RunsLines (h : Hub) (input : List ℕ) (room : ℕ) (buffer buffer' :
       length (steps (hub_in h) (lines_of input)).text ≤ room →
       (hub_in s.hub ≡ (steps (hub_in h) (lines_of input)).hub) × Put buffer buffer' 0 s.at (steps (hub_in h) (lines_of input)).text
   pub past : room < length (steps (hub_in h) (lines_of input)).text → room < s.at
-  pub unopened : hub_in s.hub ≡ none → s.hub ≡ h
+  pub unopened : hub_in s.hub ≡ None → s.hub ≡ h
   pub ample : max_text * length (lines_of input) ≤ room → length (steps (hub_in h) (lines_of input)).text ≤ max_text * length (lines_of input)
 
 -- How long the text of an input is, if there is room for it; else a number past the room. Ample room is room for it.
@@ -76,8 +74,8 @@ pub record ReadsNext (input : List ℕ) (from devices : ℕ) (r : NextLine) : Ty
   pub beside : r.routine ≡ (read_as (read_line (take (r.end - from) (drop from input)))).routine
 
 abbrev pub is_accepted : Verdict → Bool
-is_accepted Accepted = true
-is_accepted (TurnedDown r) = false
+is_accepted (Ok tt) = true
+is_accepted (Err r) = false
 
 -- Does a routine abort by this call: before its answer, or by the call itself?
 abbrev pub is_abort : EventAbort → Answer → Bool

@@ -1,6 +1,5 @@
 -- A hub read as the hub of the last accepted `O`, and a line's call as one of the rules. Assumes nothing.
-use Rattle.std.specs.Prelude.{◌≡◌, [], ℕ, eqb, if◌then◌else◌}
-use Rattle.std.proofs.Math.Option.{Option, none, some}
+use Rattle.std.specs.Prelude.{◌≡◌, [], ℕ, eqb, if◌then◌else◌, Option, None, Some}
 use Rattle.rules_routine.specs.Routine.{commands_of}
 use Rattle.rules_routine.specs.declared.Routine.{Routine}
 use Rattle.rules.specs.State.{State}
@@ -14,7 +13,7 @@ use Rattle.hub.specs.declared.Hub.{Hub}
 
 -- A hub of no devices stands for none: an accepted `O` has one device at least.
 unfoldable pub hub_in : Hub → Option State
-hub_in h = if eqb (view h).devices 0 then none else some (view h)
+hub_in h = if eqb (view h).devices 0 then None else Some (view h)
 
 -- What of a line is heard by a hub of so many devices: a call before an accepted `O` is not read.
 abbrev pub heard_of : Line → ℕ → Line

@@ -1,9 +1,9 @@
 -- A reason is told exactly of the lines that print `unread`. Assumes nothing.
+use Rattle.std.proofs.Common.{Option, None, Some}
 use mathlib.Core.Path.{◌≡◌, refl, sym, ap, ◌∙◌}
 use mathlib.Core.Logic.{◌≢◌}
 use mathlib.Core.Bool.{Bool, true, false, false≢true}
 use mathlib.Core.List.{List, [], ◌∷◌}
-use mathlib.Core.Option.{Option, none, some}
 use Prim.Native.Nat.{ℕ, ◌%◌}
 use lib.Dec.{ltb, eqb}
 use lib.ListN.{length}
@@ -98,8 +98,8 @@ exactly : (h : Option State) (q : Line) (line : List ℕ) →
     (hint_by (is_opened h) q line ≢ Nothing → step h q ≡ prints_unread h) × (hint_by (is_opened h) q line ≡ Nothing → Answered h q)
 unfolding step
 exactly h (opening n k first) line = (λ e. absurd (e refl), λ e. an_opening h n k first)
-exactly (some s) (calling c) line = (λ e. absurd (e refl), λ e. a_call s c)
-exactly none (calling c) line = (λ e. refl, λ e. absurd (not_nothing {h = NoHub} (told refl) e))
+exactly (Some s) (calling c) line = (λ e. absurd (e refl), λ e. a_call s c)
+exactly None (calling c) line = (λ e. refl, λ e. absurd (not_nothing {h = NoHub} (told refl) e))
 exactly h unread line = (λ e. refl, λ e. absurd (not_nothing (why-tells line) e))
 
 pub told_exactly : (h : Option State) (line : List ℕ) → ToldExactly h line

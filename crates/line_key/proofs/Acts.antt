@@ -1,8 +1,8 @@
 -- What happens with these calls: the hub and what is told are those of the calls. Assumes nothing.
+use Rattle.std.proofs.Common.{Some}
 use mathlib.Core.Path.{◌≡◌, refl, sym, ap, ◌∙◌}
 use mathlib.Core.Bool.{false}
 use mathlib.Core.List.{List, [], ◌∷◌, ◌++◌, map, map-append}
-use mathlib.Core.Option.{some}
 use Prim.Native.Nat.{ℕ}
 use lib.IntN.{pos}
 use Rattle.rules.specs.State.{State}
@@ -31,7 +31,7 @@ calls-devices s (c ∷ cs) = calls-devices (result_of s c).state cs ∙ devices-
 
 -- with the calls of lines, what is told is what the lines tell
 pub told_same : (s : State) (ls : List (List ℕ)) → any_opens ls ≡ false → (acts : List Act) → calls_in acts ≡ calls_by ls →
-    (world_after_all (new_world s) acts).history ≡ told_by (replies_to (some s) ls)
+    (world_after_all (new_world s) acts).history ≡ told_by (replies_to (Some s) ls)
 told_same s ls n acts e = acts_told (new_world s) acts ∙ ap (told_calls [] s) e ∙ sym (calls-told [] s ls n)
 
 -- ---- the calls alone: no device takes anything

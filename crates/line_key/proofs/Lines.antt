@@ -1,9 +1,9 @@
 -- Line by line: what the program prints is the replies' text; the hub at the end and what is told are those of the calls. Assumes nothing.
+use Rattle.std.proofs.Common.{Option, None, Some}
 use mathlib.Core.Path.{◌≡◌, refl, ap, ◌∙◌}
 use mathlib.Core.Logic.{◌⊎◌, inl, inr}
 use mathlib.Core.Bool.{false}
 use mathlib.Core.List.{List, [], ◌∷◌, ◌++◌}
-use mathlib.Core.Option.{Option, none, some}
 use Prim.Native.Nat.{ℕ}
 use Rattle.rules.specs.State.{State}
 use Rattle.rules.specs.Answers.{Call}
@@ -30,8 +30,8 @@ opening_printed h (not_opened r) = refl
 reply_printed : (h : Option State) (l : Line) → (step h l).text ≡ reply_text (reply_to h l)
 unfolding step
 reply_printed h (opening n k first) = opening_printed h (open_of n k first)
-reply_printed none (calling c) = refl
-reply_printed (some s) (calling c) = refl
+reply_printed None (calling c) = refl
+reply_printed (Some s) (calling c) = refl
 reply_printed h unread = refl
 
 opening-leaves : (h : Option State) (o : Opening) → (prints_opening h o).hub ≡ hub_opened h o
@@ -41,8 +41,8 @@ opening-leaves h (not_opened r) = refl
 hub-left : (h : Option State) (l : Line) → (step h l).hub ≡ hub_left h l
 unfolding step
 hub-left h (opening n k first) = opening-leaves h (open_of n k first)
-hub-left none (calling c) = refl
-hub-left (some s) (calling c) = refl
+hub-left None (calling c) = refl
+hub-left (Some s) (calling c) = refl
 hub-left h unread = refl
 
 pub replies_printed : (h : Option State) (ls : List (List ℕ)) → (steps h ls).text ≡ replies_text (replies_to h ls)
@@ -57,7 +57,7 @@ replies_printed h (l ∷ ls) =
 -- at the last accepted opening: what was printed before it, `opened`, and what the lines behind it print on its hub
 pub opened-last : (h : Option State) {lines : List (List ℕ)} (o : LastOpening lines) →
     steps h (o.front ++ (o.line ∷ o.behind))
-    ≡ before (steps h o.front).text (before (as_line (bytes "opened")) (steps (some o.hub) o.behind))
+    ≡ before (steps h o.front).text (before (as_line (bytes "opened")) (steps (Some o.hub) o.behind))
 unfolding steps step
 opened-last h o =
     let t = (steps h o.front).hub in
@@ -69,51 +69,51 @@ opened-last h o =
 -- ---- without an accepted opening
 
 -- on no hub
-no_hub_left : (l : Line) → opens l ≡ false → hub_left none l ≡ none
+no_hub_left : (l : Line) → opens l ≡ false → hub_left None l ≡ None
 no_hub_left (opening n k first) e = go (open_of n k first) e
   where
-    go : (o : Opening) → is_opened o ≡ false → hub_opened none o ≡ none
+    go : (o : Opening) → is_opened o ≡ false → hub_opened None o ≡ None
     go (opened s) e = t≠f e
     go (not_opened r) e = refl
 no_hub_left (calling c) e = refl
 no_hub_left unread e = refl
 
-none-tells : (l : Line) (earlier : List Told) → tells (reply_to none l) earlier ≡ earlier
+none-tells : (l : Line) (earlier : List Told) → tells (reply_to None l) earlier ≡ earlier
 none-tells (opening n k first) earlier = refl
 none-tells (calling c) earlier = refl
 none-tells unread earlier = refl
 
-pub none-hub : (ls : List (List ℕ)) → any_opens ls ≡ false → (steps none ls).hub ≡ none
+pub none-hub : (ls : List (List ℕ)) → any_opens ls ≡ false → (steps None ls).hub ≡ None
 unfolding steps
 none-hub [] e = refl
 none-hub (l ∷ ls) e =
     let said = read_line l in
-    ap (λ (t : Option State). (steps t ls).hub) (hub-left none said ∙ no_hub_left said (or_left (opens said) (any_opens ls) e))
+    ap (λ (t : Option State). (steps t ls).hub) (hub-left None said ∙ no_hub_left said (or_left (opens said) (any_opens ls) e))
     ∙ none-hub ls (or_right (opens said) (any_opens ls) e)
 
-pub none_told : (earlier : List Told) (ls : List (List ℕ)) → any_opens ls ≡ false → told_behind earlier (replies_to none ls) ≡ earlier
+pub none_told : (earlier : List Told) (ls : List (List ℕ)) → any_opens ls ≡ false → told_behind earlier (replies_to None ls) ≡ earlier
 none_told earlier [] e = refl
 none_told earlier (l ∷ ls) e =
     let said = read_line l in
-    ap (λ (t : List Told). told_behind t (replies_to (hub_left none said) ls)) (none-tells said earlier)
+    ap (λ (t : List Told). told_behind t (replies_to (hub_left None said) ls)) (none-tells said earlier)
     ∙ ap (λ (t : Option State). told_behind earlier (replies_to t ls)) (no_hub_left said (or_left (opens said) (any_opens ls) e))
     ∙ none_told earlier ls (or_right (opens said) (any_opens ls) e)
 
 -- on a hub: the calls alone change it
-stays : (s : State) (o : Opening) → is_opened o ≡ false → hub_opened (some s) o ≡ some s
+stays : (s : State) (o : Opening) → is_opened o ≡ false → hub_opened (Some s) o ≡ Some s
 stays s (opened t) e = t≠f e
 stays s (not_opened r) e = refl
 
-pub calls-hub : (s : State) (ls : List (List ℕ)) → any_opens ls ≡ false → (steps (some s) ls).hub ≡ some (state_after s (calls_by ls))
+pub calls-hub : (s : State) (ls : List (List ℕ)) → any_opens ls ≡ false → (steps (Some s) ls).hub ≡ Some (state_after s (calls_by ls))
 unfolding steps
 calls-hub s [] e = refl
 calls-hub s (l ∷ ls) e =
     let said = read_line l in
-    ap (λ (t : Option State). (steps t ls).hub) (hub-left (some s) said)
+    ap (λ (t : Option State). (steps t ls).hub) (hub-left (Some s) said)
     ∙ go (λ t. calls-hub t ls (or_right (opens said) (any_opens ls) e)) said (or_left (opens said) (any_opens ls) e)
   where
-    go : ((t : State) → (steps (some t) ls).hub ≡ some (state_after t (calls_by ls))) → (said : Line) → opens said ≡ false →
-        (steps (hub_left (some s) said) ls).hub ≡ some (state_after s (call_before said (calls_by ls)))
+    go : ((t : State) → (steps (Some t) ls).hub ≡ Some (state_after t (calls_by ls))) → (said : Line) → opens said ≡ false →
+        (steps (hub_left (Some s) said) ls).hub ≡ Some (state_after s (call_before said (calls_by ls)))
     go rest (opening n k first) f = ap (λ (t : Option State). (steps t ls).hub) (stays s (open_of n k first) f) ∙ rest s
     go rest (calling c) f = rest (result_of s (as_call c)).state
     go rest unread f = rest s
@@ -123,15 +123,15 @@ abbrev pub told_calls : List Told → State → List Call → List Told
 told_calls earlier s cs = told_then earlier (calls_told s cs)
 
 pub calls-told : (earlier : List Told) (s : State) (ls : List (List ℕ)) → any_opens ls ≡ false →
-    told_behind earlier (replies_to (some s) ls) ≡ told_calls earlier s (calls_by ls)
+    told_behind earlier (replies_to (Some s) ls) ≡ told_calls earlier s (calls_by ls)
 calls-told earlier s [] e = refl
 calls-told earlier s (l ∷ ls) e =
     let said = read_line l in
     go (λ told t. calls-told told t ls (or_right (opens said) (any_opens ls) e)) said (or_left (opens said) (any_opens ls) e)
   where
-    go : ((told : List Told) (t : State) → told_behind told (replies_to (some t) ls) ≡ told_calls told t (calls_by ls)) →
+    go : ((told : List Told) (t : State) → told_behind told (replies_to (Some t) ls) ≡ told_calls told t (calls_by ls)) →
         (said : Line) → opens said ≡ false →
-        told_behind (tells (reply_to (some s) said) earlier) (replies_to (hub_left (some s) said) ls)
+        told_behind (tells (reply_to (Some s) said) earlier) (replies_to (hub_left (Some s) said) ls)
         ≡ told_calls earlier s (call_before said (calls_by ls))
     go rest (opening n k first) f =
         ap (λ (t : Option State). told_behind earlier (replies_to t ls)) (stays s (open_of n k first) f) ∙ rest earlier s

@@ -1,9 +1,9 @@
 -- The printed key and demand 3 of it, proved: the theorems of the rules, carried along the lines. Assumes nothing.
+use Rattle.std.proofs.Common.{Option, None, Some}
 use mathlib.Core.Path.{◌≡◌, refl, sym, ap, ◌∙◌, subst}
 use mathlib.Core.Logic.{◌⊎◌, inl, inr}
 use mathlib.Core.Bool.{Bool, true, false}
 use mathlib.Core.List.{List, [], ◌++◌, append_assoc, append-nil}
-use mathlib.Core.Option.{Option, none, some}
 use Prim.Native.Nat.{ℕ, zero, suc, ◌+◌, ◌<◌}
 use native.Mathlib.Omega.{arith}
 use Rattle.rules.specs.State.{State}
@@ -62,7 +62,7 @@ run_same o d =
     ∙ ap (λ (s : State). record { up = s.up d; setting = due s d }) (state_alone o.hub cs)
 
 end_same : {lines : List (List ℕ)} (o : LastOpening lines) →
-    end_text (steps (some o.hub) o.behind).hub ≡ device_lines_from (run_of (history o)) 0 o.devices
+    end_text (steps (Some o.hub) o.behind).hub ≡ device_lines_from (run_of (history o)) 0 o.devices
 unfolding end_text hub_at_end
 end_same o =
     ap end_text (calls-hub o.hub o.behind o.is_last) ∙ ap (device_lines (hub_at_end o) 0) (devices-same o)
@@ -77,13 +77,13 @@ unfolding program_text run_from
 key_of input o = record {
   last = o;
   text_is =
-      let front = replies_text (replies_to none o.front) in
+      let front = replies_text (replies_to None o.front) in
       let word = as_line (bytes "opened") in
-      let rest = steps (some o.hub) o.behind in
-      ap (λ (ls : List (List ℕ)). with_end (steps none ls)) o.lines_are ∙ ap with_end (opened-last none o)
-      ∙ ap (λ (l : List ℕ). l ++ end_text rest.hub) (sym (append_assoc (steps none o.front).text word rest.text))
-      ∙ ap (λ (l : List ℕ). l ++ word ++ rest.text ++ end_text rest.hub) (replies_printed none o.front)
-      ∙ ap (λ (l : List ℕ). front ++ word ++ l ++ end_text rest.hub) (replies_printed (some o.hub) o.behind)
+      let rest = steps (Some o.hub) o.behind in
+      ap (λ (ls : List (List ℕ)). with_end (steps None ls)) o.lines_are ∙ ap with_end (opened-last None o)
+      ∙ ap (λ (l : List ℕ). l ++ end_text rest.hub) (sym (append_assoc (steps None o.front).text word rest.text))
+      ∙ ap (λ (l : List ℕ). l ++ word ++ rest.text ++ end_text rest.hub) (replies_printed None o.front)
+      ∙ ap (λ (l : List ℕ). front ++ word ++ l ++ end_text rest.hub) (replies_printed (Some o.hub) o.behind)
       ∙ ap (λ (l : List ℕ). front ++ word ++ replies_text (replies_behind o) ++ l) (end_same o);
 }
 
@@ -93,8 +93,8 @@ no_hub_of input e = record {
   none_opens = e;
   none_told = none_told [] (lines_of input) e;
   text_is =
-      ap (λ (h : Option State). (steps none (lines_of input)).text ++ end_text h) (none-hub (lines_of input) e)
-      ∙ append-nil (steps none (lines_of input)).text ∙ replies_printed none (lines_of input);
+      ap (λ (h : Option State). (steps None (lines_of input)).text ++ end_text h) (none-hub (lines_of input) e)
+      ∙ append-nil (steps None (lines_of input)).text ∙ replies_printed None (lines_of input);
 }
 
 pub printed_key : PrintedKey
@@ -153,7 +153,7 @@ module _ {lines : List (List ℕ)} (o : LastOpening lines) where
           down-line d (run_of (history o) d) (device_in w d) down f
 
   settled_part : (before rest : List (List ℕ)) → o.behind ≡ before ++ rest →
-      Begins (order_of (told_by (replies_to (some o.hub) before))).settled (entries (order_of (history o)))
+      Begins (order_of (told_by (replies_to (Some o.hub) before))).settled (entries (order_of (history o)))
   settled_part before rest e =
       let w = new_world o.hub in
       let fits = ap alone (ap calls_by e ∙ calls-append before rest) ∙ alone_append (calls_by before) (calls_by rest) in
@@ -191,6 +191,6 @@ key_of_devices input k acts e p none_runs back =
     let o = k.last in
     let w = world_after_all (new_world o.hub) acts in
     k.text_is
-    ∙ ap (λ (l : List ℕ). replies_text (replies_to none o.front) ++ as_line (bytes "opened") ++ replies_text (replies_behind o) ++ l)
+    ∙ ap (λ (l : List ℕ). replies_text (replies_to None o.front) ++ as_line (bytes "opened") ++ replies_text (replies_behind o) ++ l)
     (lines_same o.devices (run_of (history o)) (device_in w) (λ d n. lines_tell o acts e p none_runs d n (back d n))
     0 o.devices (omega arith))

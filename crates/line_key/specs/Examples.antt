@@ -1,8 +1,7 @@
 -- Inputs by computation: document 01's listing; and one with lines before the last accepted `O`, lines that are not read, openings that are
 -- turned down, and a routine that runs at the end. The theorem is not used. Assumes nothing.
-use Rattle.std.specs.Prelude.{◌≡◌, refl, true, false, List, [], ◌∷◌, ◌++◌, ℕ, zero, suc, pos}
-use Rattle.std.proofs.Math.Option.{none}
-use Rattle.rules_routine.specs.declared.Refusal.TheVariants.{Number}
+use Rattle.rules_routine.specs.Refusals.{numbered}
+use Rattle.std.specs.Prelude.{◌≡◌, refl, true, false, List, [], ◌∷◌, ◌++◌, ℕ, zero, suc, pos, None}
 use Rattle.rules.specs.Answers.{Call, submit, turn, report, failure, restart, cancel, Answer, refused, placed, send, done, committed}
 use Rattle.rules.specs.Answers.{aborted, down, up}
 use Rattle.rules.specs.Open.{not_opened, new_hub}
@@ -123,8 +122,8 @@ running_last = record {
 pub running_replies :
     replies_behind running_last
     ≡ said (submit (must 0 (pos 7) ∷ must 1 (pos 8) ∷ [])) (placed 5 0 ∷ []) ∷ said (turn 5) (send 5 (must 0 (pos 7)) ∷ [])
-    ∷ opening_gave (not_opened (Number 1)) ∷ said (report 5 0) (done 5 ∷ []) ∷ not_read ∷ said (failure 1) (down 1 0 ∷ [])
-    ∷ said (restart 0 (pos 9)) (refused (Number 16) ∷ []) ∷ opening_gave (not_opened (Number 2)) ∷ []
+    ∷ opening_gave (not_opened (numbered 1)) ∷ said (report 5 0) (done 5 ∷ []) ∷ not_read ∷ said (failure 1) (down 1 0 ∷ [])
+    ∷ said (restart 0 (pos 9)) (refused (numbered 16) ∷ []) ∷ opening_gave (not_opened (numbered 2)) ∷ []
 unfolding calc running_last
 running_replies = refl
 
@@ -157,6 +156,6 @@ pub nothing_opened : NoHub (bytes "N 1\nO 0 0 1\nS 0 0 7\n")
 unfolding calc
 nothing_opened = record { none_opens = refl; none_told = refl; text_is = refl }
 
-pub nothing_printed : replies_text (replies_to none (lines_of (bytes "N 1\nO 0 0 1\nS 0 0 7\n"))) ≡ bytes "unread\nrefused 1\nunread\n"
+pub nothing_printed : replies_text (replies_to None (lines_of (bytes "N 1\nO 0 0 1\nS 0 0 7\n"))) ≡ bytes "unread\nrefused 1\nunread\n"
 unfolding calc
 nothing_printed = refl

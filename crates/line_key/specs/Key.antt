@@ -1,8 +1,7 @@
 -- The printed key: what the line program prints, told by calls, answers and the serial run in the hub's order. The statements are
 -- `PrintedKey`, `KeyStatement` and, of both together, `KeyOfDevices`; the proofs are `printed_key`, `key_demand_3` and `key_of_devices` of
 -- `proofs/Theorem.antt`. Assumes nothing.
-use Rattle.std.specs.Prelude.{◌≡◌, ◌⊎◌, Bool, true, false, List, [], ◌∷◌, ◌++◌, ℕ, zero, suc, ◌<◌}
-use Rattle.std.proofs.Math.Option.{Option, none, some}
+use Rattle.std.specs.Prelude.{◌≡◌, ◌⊎◌, Bool, true, false, List, [], ◌∷◌, ◌++◌, ℕ, zero, suc, ◌<◌, Option, None, Some}
 use Rattle.rules.specs.Tables.{any_of}
 use Rattle.rules.specs.State.{State}
 use Rattle.rules.specs.Answers.{Call}
@@ -30,8 +29,8 @@ pub data Reply : Type 0 where
 
 -- A call on the hub of the last accepted `O`, if there was one. "before an accepted `O`, prints `unread`"
 abbrev pub reply_to_call : Option State → Call → Reply
-reply_to_call none c = not_read
-reply_to_call (some s) c = answered (record { call = c; answers = (result_of s c).answers })
+reply_to_call None c = not_read
+reply_to_call (Some s) c = answered (record { call = c; answers = (result_of s c).answers })
 
 abbrev pub reply_to : Option State → Line → Reply
 reply_to h (opening n k first) = opening_gave (open_of n k first)
@@ -40,13 +39,13 @@ reply_to h unread = not_read
 
 -- "A later accepted `O` starts a new hub."
 abbrev pub hub_opened : Option State → Opening → Option State
-hub_opened h (opened s) = some s
+hub_opened h (opened s) = Some s
 hub_opened h (not_opened r) = h
 
 -- "each call gets the hub that the last one left, refused or not"
 abbrev pub hub_called : Option State → Call → Option State
-hub_called none c = none
-hub_called (some s) c = some (result_of s c).state
+hub_called None c = None
+hub_called (Some s) c = Some (result_of s c).state
 
 abbrev pub hub_left : Option State → Line → Option State
 hub_left h (opening n k first) = hub_opened h (open_of n k first)
@@ -131,7 +130,7 @@ pub record LastOpening (lines : List (List ℕ)) : Type 0 where
 
 -- The replies to the lines behind it, each call on the hub that the one before left.
 abbrev pub replies_behind : {lines : List (List ℕ)} → LastOpening lines → List Reply
-replies_behind o = replies_to (some o.hub) o.behind
+replies_behind o = replies_to (Some o.hub) o.behind
 
 -- The calls that these lines make, with their answers.
 abbrev pub history : {lines : List (List ℕ)} → LastOpening lines → List Told
@@ -141,7 +140,7 @@ history o = told_by (replies_behind o)
 -- they make; and a line for each device, of such a run.
 abbrev pub key_text : {lines : List (List ℕ)} → LastOpening lines → (ℕ → DeviceState) → List ℕ
 key_text o run =
-    replies_text (replies_to none o.front) ++ as_line (bytes "opened") ++ replies_text (replies_behind o)
+    replies_text (replies_to None o.front) ++ as_line (bytes "opened") ++ replies_text (replies_behind o)
     ++ device_lines_from run 0 o.devices
 
 -- What is printed if an `O` is accepted: the device lines are those of the serial run in the hub's order, built from these calls and
@@ -153,8 +152,8 @@ pub record Key (input : List ℕ) : Type 0 where
 -- What is printed if none is: of each line that it is not read, or an opening's refusal. No call is made, and there are no device lines.
 pub record NoHub (input : List ℕ) : Type 0 where
   pub none_opens : any_opens (lines_of input) ≡ false
-  pub none_told : told_by (replies_to none (lines_of input)) ≡ []
-  pub text_is : program_text input ≡ replies_text (replies_to none (lines_of input))
+  pub none_told : told_by (replies_to None (lines_of input)) ≡ []
+  pub text_is : program_text input ≡ replies_text (replies_to None (lines_of input))
 
 abbrev pub PrintedKey : Type 0
 PrintedKey = (input : List ℕ) → Key input ⊎ NoHub input
@@ -199,7 +198,7 @@ pub record KeyDemand3 {lines : List (List ℕ)} (o : LastOpening lines) : Type 0
   -- What was settled after any first part of the lines stands at the beginning of the order.
   pub settled_part :
       (before rest : List (List ℕ)) → o.behind ≡ before ++ rest →
-      Begins (order_of (told_by (replies_to (some o.hub) before))).settled (entries (order_of (history o)))
+      Begins (order_of (told_by (replies_to (Some o.hub) before))).settled (entries (order_of (history o)))
   -- "In it every done command finds its device up; every skipped one was reported failed or finds it down."
   pub commands_stand : CommandsStand (accounts_of (history o)) (entries (order_of (history o))) all_up
   -- The replay of conditions (document 02, item 4), along the whole order and of the committed routines alone.

@@ -1,9 +1,9 @@
 -- Bytes parted at their last byte 10, and what more bytes behind them change. Assumes nothing.
+use Rattle.std.proofs.Common.{Option, None}
 use mathlib.Core.Path.{◌≡◌, refl, sym, ap, subst, ◌∙◌}
 use mathlib.Core.Bool.{Bool}
 use mathlib.Core.Logic.{◌⊎◌, inl, inr, ⊎_elim}
 use mathlib.Core.List.{List, [], ◌∷◌, ◌++◌, append-nil, append_assoc}
-use mathlib.Core.Option.{Option, none}
 use Prim.Native.Nat.{ℕ, zero, suc, ◌+◌, ◌-◌, ◌≤◌}
 use native.Mathlib.Omega.{arith}
 use borrow.Author.Tests.{eqb-true, ltb-true, ltb-false}
@@ -204,8 +204,8 @@ module _ (read : List ℕ) where
       after (read ++ part) ≡ before (printed_after read) (steps (hub_after read) (lines_of (whole_lines (pending_after read ++ part))))
   unfolding after
   after_more part =
-      ap (λ (l : List ℕ). steps none (lines_of l)) (parted_more read part).0
-      ∙ in_parts none (whole_lines read) (whole_lines (unended read ++ part)) (parted_at_the_last_end read).1
+      ap (λ (l : List ℕ). steps None (lines_of l)) (parted_more read part).0
+      ∙ in_parts None (whole_lines read) (whole_lines (unended read ++ part)) (parted_at_the_last_end read).1
       ∙ ap (before (printed_after read)) (sym (whole_cut (unended read) none_pending part (hub_after read)))
 
   pub pending_more : (part : List ℕ) → pending_after (read ++ part) ≡ cut (unended (pending_after read ++ part))
@@ -224,8 +224,8 @@ module _ (read : List ℕ) where
   unfolding program_text after
   whole_text =
       let p = parted_at_the_last_end read in
-      let w : run_from none read ≡ before (printed_after read) (run_from (hub_after read) (unended read)) =
-      ap (run_from none) (sym p.0) ∙ whole_in_parts none (whole_lines read) (unended read) p.1 in
+      let w : run_from None read ≡ before (printed_after read) (run_from (hub_after read) (unended read)) =
+      ap (run_from None) (sym p.0) ∙ whole_in_parts None (whole_lines read) (unended read) p.1 in
       ap (λ (q : Printed). q.text) w ∙ ap (λ (q : Printed). printed_after read ++ q.text) (sym (run_cut (hub_after read)))
 
 -- ---- how many lines there are

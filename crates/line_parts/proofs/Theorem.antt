@@ -1,7 +1,7 @@
 -- The steps in turn print what the line program prints of the whole input: the theorem of specs/Claims.antt. Assumes nothing.
+use Rattle.std.proofs.Common.{None}
 use mathlib.Core.Path.{◌≡◌, refl, sym, ap, subst, ◌∙◌}
 use mathlib.Core.List.{List, [], ◌++◌}
-use mathlib.Core.Option.{none}
 use Prim.Native.Nat.{ℕ}
 use native.Mathlib.Omega.{arith}
 use lib.ListN.{take}
@@ -32,7 +32,7 @@ prints_the_whole read text h pending input out' long t e =
 
 -- ---- for a loop over the steps
 
-pub reached_none : {h : Hub} {input : List ℕ} → Valid h → hub_in h ≡ none → Reached h 0 input
+pub reached_none : {h : Hub} {input : List ℕ} → Valid h → hub_in h ≡ None → Reached h 0 input
 reached_none v e = record { read = []; text = []; taken = start e; valid = v; short = omega arith }
 
 -- what is read behind the pending bytes leaves them as they are

@@ -1,6 +1,5 @@
 -- The contracts of the steps over an input that comes in parts. Assumes nothing.
-use Rattle.std.specs.Prelude.{◌≡◌, List, [], ◌++◌, ℕ, suc, ◌+◌, ◌*◌, ◌≤◌, length, take, drop}
-use Rattle.std.proofs.Math.Option.{none}
+use Rattle.std.specs.Prelude.{◌≡◌, List, [], ◌++◌, ℕ, suc, ◌+◌, ◌*◌, ◌≤◌, length, take, drop, None}
 use Rattle.rules_routine.specs.Limits.{max_line}
 use Rattle.line_rules.specs.Program.{program_text}
 use Rattle.line_print.specs.Put.{max_text}
@@ -57,7 +56,7 @@ pub record TakesEnd (h : Hub) (pending : ℕ) (input out' : List ℕ) (long : �
 -- These bytes were taken part by part, from no hub on, and these texts handed out one behind the other; hub and pending bytes are what
 -- the last step left.
 pub data Taken : List ℕ → List ℕ → Hub → List ℕ → Type 0 where
-  start : {h : Hub} → hub_in h ≡ none → Taken [] [] h []
+  start : {h : Hub} → hub_in h ≡ None → Taken [] [] h []
   next : {read text : List ℕ} {h : Hub} {pending got : ℕ} {input input' out' : List ℕ} {s : AfterPart} →
       Taken read text h (take pending input) → TakesPart h pending got input input' out' s →
       Taken (read ++ part_of pending got input) (text ++ take s.length out') s.hub (take s.pending input')

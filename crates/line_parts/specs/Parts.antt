@@ -1,7 +1,6 @@
 -- The line program of an input that is still being read: what all bytes read so far print, and what is pending of the line whose end has
 -- not come. Assumes nothing.
-use Rattle.std.specs.Prelude.{List, [], ◌∷◌, ◌++◌, ℕ, ◌-◌, eqb, length, take, if◌then◌else◌}
-use Rattle.std.proofs.Math.Option.{Option, none}
+use Rattle.std.specs.Prelude.{List, [], ◌∷◌, ◌++◌, ℕ, ◌-◌, eqb, length, take, if◌then◌else◌, Option, None}
 use Rattle.rules.specs.State.{State}
 use Rattle.line_rules.specs.Text.{line_end}
 use Rattle.line_rules.specs.Pieces.{lines_of}
@@ -23,7 +22,7 @@ whole_lines read = take (length read - length (unended read)) read
 
 -- What the whole lines of all bytes read so far leave and print.
 unfoldable pub after : List ℕ → Printed
-after read = steps none (lines_of (whole_lines read))
+after read = steps None (lines_of (whole_lines read))
 
 abbrev pub hub_after : List ℕ → Option State
 hub_after read = (after read).hub

@@ -1,7 +1,6 @@
 -- What is printed of the values that the code has: an opening's verdict, the answers of an abort, the devices. Assumes nothing.
-use Rattle.std.specs.Prelude.{◌≡◌, false, List, [], ◌++◌, ℕ, zero, suc, pos, get_or}
-use Rattle.rules_routine.specs.declared.Verdict.{Verdict}
-use Rattle.rules_routine.specs.declared.Verdict.TheVariants.{Accepted, Refused}
+use Rattle.rules_routine.specs.Refusals.{Verdict}
+use Rattle.std.specs.Prelude.{◌≡◌, false, List, [], ◌++◌, ℕ, zero, suc, pos, get_or, Ok, Err}
 use Rattle.rules.specs.Answers.{Back}
 use Rattle.hub_answers.specs.View.{answer_of}
 use Rattle.hub_answers.specs.declared.Answer.{Answer}
@@ -14,8 +13,8 @@ use Rattle.line_print.specs.declared.Devices.{Devices}
 
 -- What an opening prints.
 abbrev pub opening_text : Verdict → List ℕ
-opening_text Accepted = as_line (bytes "opened")
-opening_text (Refused r) = as_line (refusal_text r)
+opening_text (Ok tt) = as_line (bytes "opened")
+opening_text (Err r) = as_line (refusal_text r)
 
 -- What is put back stands beside the abort alone: behind an abort comes an answer that puts nothing back.
 abbrev pub PutBacksOnce : EventAbort → Answer → List Back → Type 0

@@ -1,9 +1,9 @@
 -- The forms of lines by the words of a line: one law for each way out. Assumes nothing.
+use Rattle.std.proofs.Common.{Option, None, Some}
 use mathlib.Core.Path.{◌≡◌, refl, sym, ap, ap₂, ◌∙◌}
 use mathlib.Core.Logic.{◌≢◌}
 use mathlib.Core.Bool.{Bool, true, false, and-true, and-false}
 use mathlib.Core.List.{List, [], ◌∷◌}
-use mathlib.Core.Option.{Option, none, some}
 use Prim.Native.Nat.{ℕ, suc, ◌+◌, ◌≤◌, ◌<◌}
 use native.Mathlib.Omega.{arith}
 use borrow.Author.Tests.{le-ltb, eqb-true, eqb-false, ne_eqb}
@@ -49,14 +49,14 @@ module _ (line : List ℕ) (end : ℕ) where
 
 -- ---- one number
 
-one-not : (highest : ℕ) (says : Option ℕ → Said) → says none ≡ unread → (ws : List (List ℕ)) → NotFirst (number_up_to highest) ws →
+one-not : (highest : ℕ) (says : Option ℕ → Said) → says None ≡ unread → (ws : List (List ℕ)) → NotFirst (number_up_to highest) ws →
     one_number highest says ws ≡ unread
 unfolding one_number
 one-not highest says u [] e = refl
 one-not highest says u (w ∷ []) e = ap says e ∙ u
 one-not highest says u (w ∷ v ∷ ws) e = refl
 
-module _ (highest : ℕ) (says : Option ℕ → Said) (u : says none ≡ unread) (line : List ℕ) (at : ℕ) where
+module _ (highest : ℕ) (says : Option ℕ → Said) (u : says None ≡ unread) (line : List ℕ) (at : ℕ) where
   pub one_none : NotFirst (number_up_to highest) (words_from line at) → one_number highest says (words_from line at) ≡ unread
   one_none e = one-not highest says u (words_from line at) e
 
@@ -66,7 +66,7 @@ module _ (highest : ℕ) (says : Option ℕ → Said) (u : says none ≡ unread)
   one_more {n} {end} a h = rw (a.words, more_words line end h)
 
   pub one_found : {n end : ℕ} → WordSays (number_up_to highest) line at n end → length line ≤ end →
-      one_number highest says (words_from line at) ≡ says (some n)
+      one_number highest says (words_from line at) ≡ says (Some n)
   unfolding one_number
   one_found {n} {end} a h = rw (a.words, last_word line end h, a.says)
 
@@ -80,7 +80,7 @@ opens_1 (n ∷ k ∷ []) e = refl
 opens_1 (n ∷ k ∷ first ∷ []) e = rw e
 opens_1 (n ∷ k ∷ first ∷ w ∷ ws) e = refl
 
-opens_2 : (n : List ℕ) (ws : List (List ℕ)) (d : ℕ) → number_up_to highest8 n ≡ some d → NotFirst (number_up_to highest8) ws →
+opens_2 : (n : List ℕ) (ws : List (List ℕ)) (d : ℕ) → number_up_to highest8 n ≡ Some d → NotFirst (number_up_to highest8) ws →
     opening_line (n ∷ ws) ≡ unread
 unfolding opening_line
 opens_2 n [] d s e = refl
@@ -88,7 +88,7 @@ opens_2 n (k ∷ []) d s e = refl
 opens_2 n (k ∷ first ∷ []) d s e = rw (s, e)
 opens_2 n (k ∷ first ∷ w ∷ ws) d s e = refl
 
-opens_3 : (n k : List ℕ) (ws : List (List ℕ)) (d p : ℕ) → number_up_to highest8 n ≡ some d → number_up_to highest8 k ≡ some p →
+opens_3 : (n k : List ℕ) (ws : List (List ℕ)) (d p : ℕ) → number_up_to highest8 n ≡ Some d → number_up_to highest8 k ≡ Some p →
     NotFirst (number_up_to highest32) ws →
     opening_line (n ∷ k ∷ ws) ≡ unread
 unfolding opening_line
@@ -128,7 +128,7 @@ restarts_1 (d ∷ []) e = refl
 restarts_1 (d ∷ v ∷ []) e = rw e
 restarts_1 (d ∷ v ∷ w ∷ ws) e = refl
 
-restarts_2 : (w : List ℕ) (ws : List (List ℕ)) (d : ℕ) → number_up_to highest8 w ≡ some d → NotFirst setting ws →
+restarts_2 : (w : List ℕ) (ws : List (List ℕ)) (d : ℕ) → number_up_to highest8 w ≡ Some d → NotFirst setting ws →
     restart_line (w ∷ ws) ≡ unread
 unfolding restart_line
 restarts_2 w [] d s e = refl
@@ -155,42 +155,42 @@ module _ (line : List ℕ) (at : ℕ) where
 -- ---- "`S` device tag setting repeated"
 
 before-behind : (d t : ℕ) (v : ℤ) (o : Option (List Command)) →
-    command_before (some d) (some t) (some v) o ≡ command_behind (record { device = d; tag = t; setting = v }) o
-before-behind d t v none = refl
-before-behind d t v (some cs) = refl
+    command_before (Some d) (Some t) (Some v) o ≡ command_behind (record { device = d; tag = t; setting = v }) o
+before-behind d t v None = refl
+before-behind d t v (Some cs) = refl
 
-commands_1 : (w : List ℕ) (ws : List (List ℕ)) → number_up_to highest8 w ≡ none → commands (w ∷ ws) ≡ none
+commands_1 : (w : List ℕ) (ws : List (List ℕ)) → number_up_to highest8 w ≡ None → commands (w ∷ ws) ≡ None
 unfolding commands
 commands_1 w [] e = refl
 commands_1 w (t ∷ []) e = refl
 commands_1 w (t ∷ v ∷ ws) e = rw e
 
-commands_2 : (w : List ℕ) (ws : List (List ℕ)) (d : ℕ) → number_up_to highest8 w ≡ some d → NotFirst (number_up_to highest8) ws →
-    commands (w ∷ ws) ≡ none
+commands_2 : (w : List ℕ) (ws : List (List ℕ)) (d : ℕ) → number_up_to highest8 w ≡ Some d → NotFirst (number_up_to highest8) ws →
+    commands (w ∷ ws) ≡ None
 unfolding commands
 commands_2 w [] d s e = refl
 commands_2 w (t ∷ []) d s e = refl
 commands_2 w (t ∷ v ∷ ws) d s e = rw (s, e)
 
-commands_3 : (w u : List ℕ) (ws : List (List ℕ)) (d t : ℕ) → number_up_to highest8 w ≡ some d → number_up_to highest8 u ≡ some t →
+commands_3 : (w u : List ℕ) (ws : List (List ℕ)) (d t : ℕ) → number_up_to highest8 w ≡ Some d → number_up_to highest8 u ≡ Some t →
     NotFirst setting ws →
-    commands (w ∷ u ∷ ws) ≡ none
+    commands (w ∷ u ∷ ws) ≡ None
 unfolding commands
 commands_3 w u [] d t s r e = refl
 commands_3 w u (v ∷ ws) d t s r e = rw (s, r, e)
 
 module _ (line : List ℕ) (at : ℕ) where
-  pub command-none : at ≤ length line → NotFirst (number_up_to highest8) (words_from line at) → commands (words_from line at) ≡ none
+  pub command-none : at ≤ length line → NotFirst (number_up_to highest8) (words_from line at) → commands (words_from line at) ≡ None
   command-none h e =
       let words = words_first line at h in
       rw words (commands_1 (word_at line at) (words_from line (suc (word_end line at))) (rw words at e))
 
   module _ {d stop : ℕ} (a : WordSays (number_up_to highest8) line at d stop) where
-    pub command-one : NotFirst (number_up_to highest8) (words_from line (stop + 1)) → commands (words_from line at) ≡ none
+    pub command-one : NotFirst (number_up_to highest8) (words_from line (stop + 1)) → commands (words_from line at) ≡ None
     command-one e = rw a.words (commands_2 (word_at line at) (words_from line (stop + 1)) d a.says e)
 
     module _ {t end : ℕ} (b : WordSays (number_up_to highest8) line (stop + 1) t end) where
-      pub command-two : NotFirst setting (words_from line (end + 1)) → commands (words_from line at) ≡ none
+      pub command-two : NotFirst setting (words_from line (end + 1)) → commands (words_from line at) ≡ None
       command-two e =
           rw (a.words, b.words)
           (commands_3 (word_at line at) (word_at line (stop + 1)) (words_from line (end + 1)) d t a.says b.says e)
@@ -203,7 +203,7 @@ module _ (line : List ℕ) (at : ℕ) where
 
 -- what is read at a place: no command, or one and the commands behind it
 pub none_at : (line : List ℕ) (from : ℕ) (r : CommandRead) → r.found ≡ false →
-    (from ≤ length line → commands (words_from line from) ≡ none) →
+    (from ≤ length line → commands (words_from line from) ≡ None) →
     CommandAt line from r
 none_at line from r e h = record { found_one = λ t. t≠f (sym t ∙ e); found_none = λ _. h }
 
@@ -213,21 +213,21 @@ one_at line from r e h k w = record { found_one = λ _. (h, k, w); found_none = 
 
 -- a submission whose commands behind those of a routine are these
 abbrev pub submit_from : Routine → Option (List Command) → LineRead
-submit_from r none = read_as unread
-submit_from r (some cs) = record { line = Calling Submit; routine = together r cs }
+submit_from r None = read_as unread
+submit_from r (Some cs) = record { line = Calling Submit; routine = together r cs }
 
 pub submit_all : (ws : List (List ℕ)) → submit_from no_routine (commands ws) ≡ read_as (submit_line ws)
 submit_all ws = go (commands ws)
   where
     go : (o : Option (List Command)) → submit_from no_routine o ≡ read_as (submit_with o)
-    go none = refl
-    go (some cs) = refl
+    go None = refl
+    go (Some cs) = refl
 
 pub submit-more : (r : Routine) (c : Command) (o : Option (List Command)) →
     submit_from r (command_behind c o) ≡ submit_from (with_command r c) o
 unfolding together
-submit-more r c none = refl
-submit-more r c (some cs) = refl
+submit-more r c None = refl
+submit-more r c (Some cs) = refl
 
 pub submit_end : (line : List ℕ) (at : ℕ) (r : Routine) → length line < at →
     submit_from r (commands (words_from line at)) ≡ record { line = Calling Submit; routine = r }
@@ -277,8 +277,8 @@ by_id letter form =
     else unread
 
 id_says : (letter : ℕ) (o : Option ℕ) → by_id letter (λ call. call_with call o) ≡ id_call_with letter o
-id_says letter none = simp either
-id_says letter (some i) = refl
+id_says letter None = simp either
+id_says letter (Some i) = refl
 
 id_forms : (letter : ℕ) (ws : List (List ℕ)) → by_id letter (λ call. one_number highest32 (call_with call) ws) ≡ id_line letter ws
 unfolding one_number
@@ -364,10 +364,10 @@ open_routine (n ∷ k ∷ []) = refl
 open_routine (n ∷ k ∷ first ∷ []) = go (number_up_to highest8 n) (number_up_to highest8 k) (number_up_to highest32 first)
   where
     go : (n k first : Option ℕ) → (read_as (opening_with n k first)).routine ≡ no_routine
-    go none k first = refl
-    go (some n) none first = refl
-    go (some n) (some k) none = refl
-    go (some n) (some k) (some first) = refl
+    go None k first = refl
+    go (Some n) None first = refl
+    go (Some n) (Some k) None = refl
+    go (Some n) (Some k) (Some first) = refl
 open_routine (n ∷ k ∷ first ∷ w ∷ ws) = refl
 
 restart-routine : (ws : List (List ℕ)) → (read_as (restart_line ws)).routine ≡ no_routine
@@ -377,9 +377,9 @@ restart-routine (d ∷ []) = refl
 restart-routine (d ∷ v ∷ []) = go (number_up_to highest8 d) (setting v)
   where
     go : (d : Option ℕ) (v : Option ℤ) → (read_as (restart_with d v)).routine ≡ no_routine
-    go none v = refl
-    go (some d) none = refl
-    go (some d) (some v) = refl
+    go None v = refl
+    go (Some d) None = refl
+    go (Some d) (Some v) = refl
 restart-routine (d ∷ v ∷ w ∷ ws) = refl
 
 one-routine : (highest : ℕ) (says : Option ℕ → Said) → ((o : Option ℕ) → (read_as (says o)).routine ≡ no_routine) →
@@ -390,12 +390,12 @@ one-routine highest says h (w ∷ []) = h (number_up_to highest w)
 one-routine highest says h (w ∷ v ∷ ws) = refl
 
 fail_routine : (o : Option ℕ) → (read_as (call_with fails o)).routine ≡ no_routine
-fail_routine none = refl
-fail_routine (some d) = refl
+fail_routine None = refl
+fail_routine (Some d) = refl
 
 id-routine : (letter : ℕ) (o : Option ℕ) → (read_as (id_call_with letter o)).routine ≡ no_routine
-id-routine letter none = refl
-id-routine letter (some i) =
+id-routine letter None = refl
+id-routine letter (Some i) =
     by_if P (eqb letter (letter_of "N")) (λ _. refl)
     (λ _. by_if P (eqb letter (letter_of "D")) (λ _. refl)
     (λ _. by_if P (eqb letter (letter_of "B")) (λ _. refl) (λ _. by_if P (eqb letter (letter_of "C")) (λ _. refl) (λ _. refl))))

@@ -1,9 +1,9 @@
 -- Laws of words by their places, and of the numbers in them. Assumes nothing.
+use Rattle.std.proofs.Common.{Option, None, Some}
 use mathlib.Core.Path.{◌≡◌, refl, sym, ap, ◌∙◌}
 use mathlib.Core.Logic.{◌≢◌}
 use mathlib.Core.Bool.{Bool, true, false}
 use mathlib.Core.List.{List, [], ◌∷◌}
-use mathlib.Core.Option.{Option, none, some}
 use Prim.Native.Nat.{ℕ, zero, suc, ◌+◌, ◌-◌, ◌*◌, ◌≤◌, ◌<◌}
 use native.Mathlib.Numerals.{add-one}
 use native.Mathlib.Omega.{arith}
@@ -132,24 +132,24 @@ digits_more : (n b : ℕ) (bs : List ℕ) → digit0 ≤ b → b < digit0 + 10 �
 unfolding digits_from
 digits_more n b bs h k = rw (le-leb digit0 b h, lt-ltb b (digit0 + 10) k)
 
-digits_below : (n b : ℕ) (bs : List ℕ) → b < digit0 → digits_from n (b ∷ bs) ≡ none
+digits_below : (n b : ℕ) (bs : List ℕ) → b < digit0 → digits_from n (b ∷ bs) ≡ None
 unfolding digits_from
 digits_below n b bs h = rw (lt-leb digit0 b h)
 
-digits_above : (n b : ℕ) (bs : List ℕ) → digit0 + 10 ≤ b → digits_from n (b ∷ bs) ≡ none
+digits_above : (n b : ℕ) (bs : List ℕ) → digit0 + 10 ≤ b → digits_from n (b ∷ bs) ≡ None
 unfolding digits_from
 digits_above n b bs h = rw (le-leb digit0 b (omega arith), le-ltb b (digit0 + 10) h)
 
 -- a number too large gets no smaller
-pub digits_large : (highest n : ℕ) (bs : List ℕ) → highest < n → within highest (digits_from n bs) ≡ none
+pub digits_large : (highest n : ℕ) (bs : List ℕ) → highest < n → within highest (digits_from n bs) ≡ None
 unfolding digits_from
 digits_large highest n [] h = rw (lt-leb n highest h)
 digits_large highest n (b ∷ bs) h =
-    by_test (λ (t : Bool). within highest (if t then digits_from (10 * n + (b - digit0)) bs else none) ≡ none) (is_digit b)
+    by_test (λ (t : Bool). within highest (if t then digits_from (10 * n + (b - digit0)) bs else None) ≡ None) (is_digit b)
     (λ _. digits_large highest (10 * n + (b - digit0)) bs (omega arith)) (λ _. refl)
 
 -- what the digits of a word say, but for the word of no bytes
-number-none : (highest : ℕ) (word : List ℕ) → within highest (digits_from 0 word) ≡ none → number_up_to highest word ≡ none
+number-none : (highest : ℕ) (word : List ℕ) → within highest (digits_from 0 word) ≡ None → number_up_to highest word ≡ None
 unfolding number_up_to number
 number-none highest [] e = refl
 number-none highest (b ∷ bs) e = e
@@ -159,23 +159,23 @@ unfolding number_up_to number
 number_digits highest [] h = absurd (omega arith)
 number_digits highest (b ∷ bs) h = refl
 
-number_empty : (highest : ℕ) → number_up_to highest [] ≡ none
+number_empty : (highest : ℕ) → number_up_to highest [] ≡ None
 unfolding number_up_to number
 number_empty highest = refl
 
-within_some : (highest n : ℕ) → n ≤ highest → within highest (some n) ≡ some n
+within_some : (highest n : ℕ) → n ≤ highest → within highest (Some n) ≡ Some n
 within_some highest n h = rw (le-leb n highest h)
 
-within_bound : (highest : ℕ) (o : Option ℕ) (n : ℕ) → within highest o ≡ some n → n ≤ highest
-within_bound highest none n e = let z : ◌≡◌ {A = ℕ} 0 1 = cc in absurd (omega arith)
-within_bound highest (some m) n e = go (leb m highest) refl e
+within_bound : (highest : ℕ) (o : Option ℕ) (n : ℕ) → within highest o ≡ Some n → n ≤ highest
+within_bound highest None n e = let z : ◌≡◌ {A = ℕ} 0 1 = cc in absurd (omega arith)
+within_bound highest (Some m) n e = go (leb m highest) refl e
   where
-    go : (t : Bool) → leb m highest ≡ t → (if t then some m else none) ≡ some n → n ≤ highest
+    go : (t : Bool) → leb m highest ≡ t → (if t then Some m else None) ≡ Some n → n ≤ highest
     go true t f = let same : m ≡ n = cc in omega (arith, leb-true m highest t)
     go false t f = let z : ◌≡◌ {A = ℕ} 0 1 = cc in absurd (omega arith)
 
 -- one that was read to the end of its word
-read_whole : (highest : ℕ) (word : List ℕ) (value from at : ℕ) → digits_from 0 word ≡ some value → value ≤ highest →
+read_whole : (highest : ℕ) (word : List ℕ) (value from at : ℕ) → digits_from 0 word ≡ Some value → value ≤ highest →
     at ≡ from + length word →
     found_from value from at ≡ number_as (number_up_to highest word) at
 read_whole highest [] value from at d h e = rw (number_empty highest, eq-eqb from at (omega arith))
@@ -195,22 +195,22 @@ module _ (highest : ℕ) (line : List ℕ) (from : ℕ) where
   unfolding number_at digits_from
   number_ended at value left h e =
       let ends : at ≡ word_end line from = sym e.1 ∙ left.ends in
-      let digits : digits_from 0 (word_at line from) ≡ some value = sym left.digits ∙ ap (digits_from value) e.0 in
+      let digits : digits_from 0 (word_at line from) ≡ Some value = sym left.digits ∙ ap (digits_from value) e.0 in
       read_whole highest (word_at line from) value from at digits h (ends ∙ word_length line from)
       ∙ ap (number_as (number_up_to highest (word_at line from))) ends
 
   -- the digits left say that there is none
-  pub number_missing : (at value : ℕ) → Left line from at value → within highest (digits_from value (word_at line at)) ≡ none →
+  pub number_missing : (at value : ℕ) → Left line from at value → within highest (digits_from value (word_at line at)) ≡ None →
       number_at highest line from ≡ Missing
   unfolding number_at
   number_missing at value left e = rw (number-none highest (word_at line from) (ap (within highest) (sym left.digits) ∙ e))
 
 module _ (line : List ℕ) (at value : ℕ) (h : at < length line) (n : get_or line at 0 ≢ space) where
   -- no digit
-  pub left_below : get_or line at 0 < digit0 → digits_from value (word_at line at) ≡ none
+  pub left_below : get_or line at 0 < digit0 → digits_from value (word_at line at) ≡ None
   left_below k = rw (word_more line at h n).0 (digits_below value (get_or line at 0) (word_at line (suc at)) k)
 
-  pub left_above : digit0 + 10 ≤ get_or line at 0 → digits_from value (word_at line at) ≡ none
+  pub left_above : digit0 + 10 ≤ get_or line at 0 → digits_from value (word_at line at) ≡ None
   left_above k = rw (word_more line at h n).0 (digits_above value (get_or line at 0) (word_at line (suc at)) k)
 
   -- one digit more
@@ -234,12 +234,12 @@ plain_held (Found n end) = SettingFound (pos n) end
 plain_held Missing = SettingMissing
 
 minus-held : (o : Option ℕ) (end : ℕ) → setting_as (negative o) end ≡ minus_held (number_as o end)
-minus-held none end = refl
-minus-held (some n) end = refl
+minus-held None end = refl
+minus-held (Some n) end = refl
 
 plain-held : (o : Option ℕ) (end : ℕ) → setting_as (positive o) end ≡ plain_held (number_as o end)
-plain-held none end = refl
-plain-held (some n) end = refl
+plain-held None end = refl
+plain-held (Some n) end = refl
 
 word_minus : (word rest : List ℕ) → word ≡ minus ∷ rest → setting word ≡ negative (number_up_to lowest16 rest)
 unfolding setting
@@ -296,7 +296,7 @@ minus-fits (suc n) h = record { sfits = omega arith }
 
 -- It was found: the word stands within the line, and the others begin behind its end.
 pub record WordSays {A : Type 0} (reads : List ℕ → Option A) (line : List ℕ) (at : ℕ) (a : A) (end : ℕ) : Type 0 where
-  pub says : reads (word_at line at) ≡ some a
+  pub says : reads (word_at line at) ≡ Some a
   pub begins : at ≤ end
   pub ends : end ≤ length line
   pub words : words_from line at ≡ word_at line at ∷ words_from line (end + 1)
@@ -304,17 +304,17 @@ pub record WordSays {A : Type 0} (reads : List ℕ → Option A) (line : List �
 -- It was not: the first of the words, if there is one, does not say it.
 abbrev pub NotFirst : {A : Type 0} → (List ℕ → Option A) → List (List ℕ) → Type 0
 NotFirst reads [] = Unit {0}
-NotFirst reads (w ∷ ws) = reads w ≡ none
+NotFirst reads (w ∷ ws) = reads w ≡ None
 
 module _ {A : Type 0} (reads : List ℕ → Option A) (line : List ℕ) (at : ℕ) where
-  not_first : reads (word_at line at) ≡ none → NotFirst reads (words_from line at)
+  not_first : reads (word_at line at) ≡ None → NotFirst reads (words_from line at)
   not_first e = go (leb at (length line)) refl
     where
       go : (t : Bool) → leb at (length line) ≡ t → NotFirst reads (words_from line at)
       go true t = rw (words_first line at (leb-true at (length line) t)) e
       go false t = rw (words_none line at (leb-false at (length line) t)) tt
 
-  word_says : reads [] ≡ none → (a : A) (end : ℕ) → (reads (word_at line at) ≡ some a) × (word_end line at ≡ end) →
+  word_says : reads [] ≡ None → (a : A) (end : ℕ) → (reads (word_at line at) ≡ Some a) × (word_end line at ≡ end) →
       WordSays reads line at a end
   word_says none' a end e = record {
     says = e.0;
@@ -327,7 +327,7 @@ module _ {A : Type 0} (reads : List ℕ → Option A) (line : List ℕ) (at : �
       go true t = leb-true at (length line) t
       go false t =
           let past = leb-false at (length line) t in
-          let f : reads (word_at line at) ≡ none = ap reads (word_past line at (omega arith)).0 ∙ none' in
+          let f : reads (word_at line at) ≡ None = ap reads (word_past line at (omega arith)).0 ∙ none' in
           let z : ◌≡◌ {A = ℕ} 0 1 = cc in
           absurd (omega arith)
 
@@ -337,13 +337,13 @@ module _ {A : Type 0} (reads : List ℕ → Option A) (line : List ℕ) (at : �
       behind : suc (word_end line at) ≡ end + 1
       behind = omega (arith, e.1)
 
-held_none : (o : Option ℕ) (end : ℕ) → number_as o end ≡ Missing → o ≡ none
-held_none none end e = refl
-held_none (some n) end e = let z : ◌≡◌ {A = ℕ} 0 1 = cc in absurd (omega arith)
+held_none : (o : Option ℕ) (end : ℕ) → number_as o end ≡ Missing → o ≡ None
+held_none None end e = refl
+held_none (Some n) end e = let z : ◌≡◌ {A = ℕ} 0 1 = cc in absurd (omega arith)
 
-held_some : (o : Option ℕ) (end n e : ℕ) → number_as o end ≡ Found n e → (o ≡ some n) × (end ≡ e)
-held_some none end n e f = let z : ◌≡◌ {A = ℕ} 0 1 = cc in absurd (omega arith)
-held_some (some m) end n e f = (cc, cc)
+held_some : (o : Option ℕ) (end n e : ℕ) → number_as o end ≡ Found n e → (o ≡ Some n) × (end ≡ e)
+held_some None end n e f = let z : ◌≡◌ {A = ℕ} 0 1 = cc in absurd (omega arith)
+held_some (Some m) end n e f = (cc, cc)
 
 module _ (highest : ℕ) (line : List ℕ) (at : ℕ) where
   pub no_number : number_at highest line at ≡ Missing → NotFirst (number_up_to highest) (words_from line at)
@@ -361,13 +361,13 @@ module _ (highest : ℕ) (line : List ℕ) (at : ℕ) where
   unfolding number_up_to
   number_bound n end e = within_bound highest (number (word_at line at)) n (number_says n end e).says
 
-setting-none : (o : Option ℤ) (end : ℕ) → setting_as o end ≡ SettingMissing → o ≡ none
-setting-none none end e = refl
-setting-none (some v) end e = let z : ◌≡◌ {A = ℕ} 0 1 = cc in absurd (omega arith)
+setting-none : (o : Option ℤ) (end : ℕ) → setting_as o end ≡ SettingMissing → o ≡ None
+setting-none None end e = refl
+setting-none (Some v) end e = let z : ◌≡◌ {A = ℕ} 0 1 = cc in absurd (omega arith)
 
-setting_some : (o : Option ℤ) (end : ℕ) (v : ℤ) (e : ℕ) → setting_as o end ≡ SettingFound v e → (o ≡ some v) × (end ≡ e)
-setting_some none end v e f = let z : ◌≡◌ {A = ℕ} 0 1 = cc in absurd (omega arith)
-setting_some (some u) end v e f = (cc, cc)
+setting_some : (o : Option ℤ) (end : ℕ) (v : ℤ) (e : ℕ) → setting_as o end ≡ SettingFound v e → (o ≡ Some v) × (end ≡ e)
+setting_some None end v e f = let z : ◌≡◌ {A = ℕ} 0 1 = cc in absurd (omega arith)
+setting_some (Some u) end v e f = (cc, cc)
 
 module _ (line : List ℕ) (at : ℕ) where
   pub no_setting : setting_at line at ≡ SettingMissing → NotFirst setting (words_from line at)

@@ -1,6 +1,5 @@
 -- Words by their places: the words of a line from a place on. Assumes nothing.
-use Rattle.std.specs.Prelude.{◌≡◌, true, false, List, [], ◌∷◌, ℕ, ◌+◌, ◌≤◌, leb, eqb, ℤ, length, take, drop, if◌then◌else◌}
-use Rattle.std.proofs.Math.Option.{Option, none, some}
+use Rattle.std.specs.Prelude.{◌≡◌, true, false, List, [], ◌∷◌, ℕ, ◌+◌, ◌≤◌, leb, eqb, ℤ, length, take, drop, if◌then◌else◌, Option, None, Some}
 use Rattle.line_rules.specs.Text.{space}
 use Rattle.line_rules.specs.Pieces.{pieces, reach}
 use Rattle.line_rules.specs.Reading.{number_up_to, setting, commands}
@@ -28,8 +27,8 @@ words_from line at = if leb at (length line) then pieces space (drop at line) el
 
 -- A number of that word, as it is read.
 abbrev pub number_as : Option ℕ → ℕ → Number
-number_as none end = Missing
-number_as (some n) end = Found n end
+number_as None end = Missing
+number_as (Some n) end = Found n end
 
 -- One that was read to the end of its word: a word of no bytes is none.
 abbrev pub found_from : ℕ → ℕ → ℕ → Number
@@ -39,19 +38,19 @@ unfoldable pub number_at : ℕ → List ℕ → ℕ → Number
 number_at highest line at = number_as (number_up_to highest (word_at line at)) (word_end line at)
 
 abbrev pub setting_as : Option ℤ → ℕ → Setting
-setting_as none end = SettingMissing
-setting_as (some v) end = SettingFound v end
+setting_as None end = SettingMissing
+setting_as (Some v) end = SettingFound v end
 
 unfoldable pub setting_at : List ℕ → ℕ → Setting
 setting_at line at = setting_as (setting (word_at line at)) (word_end line at)
 
 abbrev pub command_behind : Command → Option (List Command) → Option (List Command)
-command_behind c none = none
-command_behind c (some cs) = some (c ∷ cs)
+command_behind c None = None
+command_behind c (Some cs) = Some (c ∷ cs)
 
 -- A command that begins at a place within a line, and the commands behind it; if there is none, the line has another shape.
 pub record CommandAt (line : List ℕ) (from : ℕ) (r : CommandRead) : Type 0 where
   pub found_one : r.found ≡ true →
       (from ≤ r.end) × (r.end ≤ length line)
       × (commands (words_from line from) ≡ command_behind r.command (commands (words_from line (r.end + 1))))
-  pub found_none : r.found ≡ false → from ≤ length line → commands (words_from line from) ≡ none
+  pub found_none : r.found ≡ false → from ≤ length line → commands (words_from line from) ≡ None

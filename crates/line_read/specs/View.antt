@@ -1,6 +1,5 @@
 -- How what a line says is read: for each case of the enums, which line of document 01 it is, and with which values. Assumes nothing.
-use Rattle.std.specs.Prelude.{List, [], ◌∷◌, ℕ, eqb, if◌then◌else◌}
-use Rattle.std.proofs.Math.Option.{Option, none, some}
+use Rattle.std.specs.Prelude.{List, [], ◌∷◌, ℕ, eqb, if◌then◌else◌, Option, None, Some}
 use Prim.Native.Char.{code}
 use Prim.Native.String.{String, [] as end, ◌∷◌ as ◌then◌}
 use Rattle.rules_routine.specs.Routine.{no_routine, with_command}
@@ -58,8 +57,8 @@ id_call letter i =
     else unread
 
 abbrev pub id_call_with : ℕ → Option ℕ → Said
-id_call_with letter none = unread
-id_call_with letter (some i) = id_call letter i
+id_call_with letter None = unread
+id_call_with letter (Some i) = id_call letter i
 
 abbrev pub id_line : ℕ → List (List ℕ) → Said
 id_line letter ws = one_number highest32 (id_call_with letter) ws

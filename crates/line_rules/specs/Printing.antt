@@ -1,7 +1,7 @@
 -- The words that the line program prints: document 01, "The line program". Assumes nothing.
+use Rattle.rules_routine.specs.Refusals.{numbered, indexed}
 use Rattle.std.specs.Prelude.{Bool, List, [], ◌∷◌, ◌++◌, ℕ, zero, suc, ℤ, length, if◌then◌else◌}
-use Rattle.rules_routine.specs.declared.Refusal.{Refusal}
-use Rattle.rules_routine.specs.declared.Refusal.TheVariants.{Number, Indexed}
+use Rattle.rules_routine.specs.declared.refusals.Refusal.{Refusal}
 use Rattle.rules.specs.State.{State}
 use Rattle.rules.specs.Due.{due}
 use Rattle.rules.specs.Answers.{Back, Answer, refused, placed, wait, send, done, skipped, held, not_held, committed, aborted, down, up}
@@ -10,8 +10,8 @@ use Rattle.line_rules.specs.Text.{line_end, bytes, decimal, signed}
 
 -- "Refusals print `refused`, the number and the index if there is one."
 unfoldable pub refusal_text : Refusal → List ℕ
-refusal_text (Number n) = bytes "refused " ++ decimal n
-refusal_text (Indexed n i) = bytes "refused " ++ decimal n ++ bytes " " ++ decimal i
+refusal_text (numbered n) = bytes "refused " ++ decimal n
+refusal_text (indexed n i) = bytes "refused " ++ decimal n ++ bytes " " ++ decimal i
 
 -- "`back` a count, then device and setting for each"
 unfoldable pub back_list : List Back → List ℕ

@@ -1,4 +1,6 @@
 -- Laws of the reading of all due settings (specs/AllDue.antt), and `exact-list` of specs/Causes.antt. Assumes nothing.
+use Rattle.std.proofs.Common.{Ok, Err}
+use Rattle.rules_routine.specs.declared.refusals.Refusal.TheVariants.{NoRoom}
 use mathlib.Core.Path.{◌≡◌, refl, sym, ap, ◌∙◌}
 use mathlib.Core.Bool.{Bool, true, false}
 use mathlib.Core.List.{List, ◌++◌}
@@ -9,10 +11,9 @@ use lib.Dec.{ltb}
 use lib.IntN.{ℤ, pos}
 use lib.ListN.{length, get_or, set, drop, length-append, length-drop}
 use lib.Seq.{sets, sets-eq, get_or-append-add, get_or-drop}
-use Rattle.rules_routine.specs.Refusals.{no_room, refusal_of, refuse◌when◌}
+use Rattle.rules_routine.specs.Refusals.{refuse◌when◌}
 use Rattle.rules_routine.specs.Causes.{itself}
-use Rattle.rules_routine.specs.declared.Refusal.{Refusal}
-use Rattle.rules_routine.specs.declared.Verdict.TheVariants.{Accepted, Refused}
+use Rattle.rules_routine.specs.declared.refusals.Refusal.{Refusal}
 use Rattle.rules_routine.proofs.Exact.{less, agree, Outcome, one, exactly}
 use Rattle.rules.specs.State.{State}
 use Rattle.rules.specs.Due.{due}
@@ -50,12 +51,12 @@ settings_end table l d n h = let e : n - d ≡ 0 = omega arith in ap (λ (k : �
 module _ (s : State) (list : List ℤ) where
   -- too short
   pub list-refused : length list < s.devices →
-      (Refused (refusal_of no_room) ≡ list_check s (length list)) × (list ≡ list_after s list)
+      (Err NoRoom ≡ list_check s (length list)) × (list ≡ list_after s list)
   unfolding list_check list_after
   list-refused h = let e = lt-ltb (length list) s.devices h in (rw e refl, rw e refl)
 
   -- long enough
-  pub list-accepted : s.devices ≤ length list → Accepted ≡ list_check s (length list)
+  pub list-accepted : s.devices ≤ length list → (Ok tt) ≡ list_check s (length list)
   unfolding list_check
   list-accepted h = rw (le-ltb (length list) s.devices h) refl
 
@@ -103,26 +104,26 @@ module _ (s : State) (list : List ℤ) where
 
 -- ---- 21 under its cause alone, and each entry
 
-list-said : {s : State} {room : ℕ} → ListCause s room no_room → room < s.devices
+list-said : {s : State} {room : ℕ} → ListCause s room NoRoom → room < s.devices
 list-said (list_is_short h) = h
 
 list-outcome : (s : State) (room : ℕ) → Outcome (ListCause s room) itself list_causes (list_check s room)
 unfolding list_check
-list-outcome s room = one (ListCause s room) itself no_room _ (agree (less room s.devices) list_is_short list-said)
+list-outcome s room = one (ListCause s room) itself NoRoom _ (agree (less room s.devices) list_is_short list-said)
 
-refused-short : (s : State) (room : ℕ) (r : Refusal) → list_check s room ≡ Refused r → room < s.devices
+refused-short : (s : State) (room : ℕ) (r : Refusal) → list_check s room ≡ Err r → room < s.devices
 unfolding list_check
 refused-short s room r e = go (ltb room s.devices) refl e
   where
-    go : (t : Bool) → ltb room s.devices ≡ t → (refuse no_room when t) ≡ Refused r → room < s.devices
+    go : (t : Bool) → ltb room s.devices ≡ t → (refuse NoRoom when t) ≡ Err r → room < s.devices
     go true h f = ltb-true room s.devices h
     go false h f = let z : ◌≡◌ {A = ℕ} 0 1 = cc in absurd (omega arith)
 
-accepted-fits : (s : State) (room : ℕ) → list_check s room ≡ Accepted → s.devices ≤ room
+accepted-fits : (s : State) (room : ℕ) → list_check s room ≡ Ok tt → s.devices ≤ room
 unfolding list_check
 accepted-fits s room e = go (ltb room s.devices) refl e
   where
-    go : (t : Bool) → ltb room s.devices ≡ t → (refuse no_room when t) ≡ Accepted → s.devices ≤ room
+    go : (t : Bool) → ltb room s.devices ≡ t → (refuse NoRoom when t) ≡ Ok tt → s.devices ≤ room
     go true h f = let z : ◌≡◌ {A = ℕ} 0 1 = cc in absurd (omega arith)
     go false h f = ltb-false room s.devices h
 

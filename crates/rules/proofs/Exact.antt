@@ -1,28 +1,22 @@
 -- Each number under its cause alone, for the opening and every call of the hub: the theorems of specs/Causes.antt. Assumes nothing.
+use Rattle.rules_routine.specs.declared.refusals.Refusal.TheVariants.{DevicesOutOfRange, PassLimitOutOfRange, FirstIdZero, CommandCount, DeviceNotBelow, SettingOutOfRange, TagOutOfRange, ConditionAlone, SequenceFull, IdsUsedUp, NotRunning, TurnInFlight, NothingInFlight, ReportCodeOutOfRange, EventDevice, FailureOfDown, RestartOfUp, RestartSetting}
+use Rattle.std.proofs.Common.{Option, None, Some, Ok, Err}
 use mathlib.Core.Path.{◌≡◌, refl, sym, ap, subst, ◌∙◌}
 use mathlib.Core.Bool.{Bool, true, false, not}
 use mathlib.Core.Logic.{◌⊎◌, inl, inr}
 use mathlib.Core.List.{List, [], ◌∷◌, ◌++◌}
-use mathlib.Core.Option.{Option, none, some}
 use Prim.Native.Nat.{ℕ, zero, suc, ◌<◌, ◌≤◌}
 use native.Mathlib.Omega.{arith}
 use lib.Dec.{leb, ltb, eqb}
 use lib.IntN.{ℤ}
 use lib.ListN.{length}
 use Rattle.rules_routine.specs.Range.{in_range}
-use Rattle.rules_routine.specs.Refusals.{devices_out_of_range, pass_limit_out_of_range, first_id_0, command_count, device_not_below}
-use Rattle.rules_routine.specs.Refusals.{setting_out_of_range}
-use Rattle.rules_routine.specs.Refusals.{tag_out_of_range, condition_alone, sequence_full, ids_used_up, not_running, turn_in_flight}
-use Rattle.rules_routine.specs.Refusals.{none_in_flight}
-use Rattle.rules_routine.specs.Refusals.{report_code_out_of_range}
-use Rattle.rules_routine.specs.Refusals.{event_device, failure_of_down, restart_of_up, restart_setting, refusal_of, refuse◌when◌, ◌and_then◌}
+use Rattle.rules_routine.specs.Refusals.{refuse◌when◌, ◌and_then◌, Verdict}
 use Rattle.rules_routine.specs.Limits.{max_commands, max_devices, highest_pass_limit, max_sequence, highest_id}
 use Rattle.rules_routine.specs.Routine.{is_condition}
 use Rattle.rules_routine.specs.Causes.{NoneOf, FirstIn, itself, OutOfRange, RoutineCause, command_causes, routine_causes}
 use Rattle.rules_routine.specs.declared.Command.{Command}
-use Rattle.rules_routine.specs.declared.Refusal.{Refusal}
-use Rattle.rules_routine.specs.declared.Verdict.{Verdict}
-use Rattle.rules_routine.specs.declared.Verdict.TheVariants.{Accepted, Refused}
+use Rattle.rules_routine.specs.declared.refusals.Refusal.{Refusal}
 use Rattle.rules_routine.proofs.Exact.{Decides, less, at_most, same, flag, either, both, agree, out_of_range, Outcome, passed, broken, one}
 use Rattle.rules_routine.proofs.Exact.{join, exactly}
 use Rattle.rules_routine.proofs.Exact.{Covers, widened, routine-outcome}
@@ -99,8 +93,8 @@ first_at_once P l x h = record { before = []; after = l; order = refl; holds = h
 -- ---- finding a routine, and its command in flight
 
 data Located (P : Member → Type 0) (l : List Member) : Option Found → Type 0 where
-  missing : NoneOf P l → Located P l none
-  located : (f : Found) → FirstIn P l f.it → Located P l (some f)
+  missing : NoneOf P l → Located P l None
+  located : (f : Found) → FirstIn P l f.it → Located P l (Some f)
 
 locate : (p : Member → Bool) (P : Member → Type 0) → ((m : Member) → Decides (p m) (P m)) → (l : List Member) → Located P l (find p l)
 locate p P d [] = missing tt
@@ -122,8 +116,8 @@ unfolding runs is_running
 runs-said i m = both _ _ (same m.id i) (turned m.committed)
 
 data Flown (l : List Step) : Option Flight → Type 0 where
-  on_ground : NoneOf InFlight l → Flown l none
-  on_way : (x : Flight) (y : Step) → FirstIn InFlight l y → Flown l (some x)
+  on_ground : NoneOf InFlight l → Flown l None
+  on_way : (x : Flight) (y : Step) → FirstIn InFlight l y → Flown l (Some x)
 
 not-flying : (x : Step) (st : Status) → x.status ≡ st → ((u : ℤ) → st ≡ in_flight u → ⊥) → ¬ (InFlight x)
 not-flying x st e n h = n h.0 (sym e ∙ h.1)
@@ -176,8 +170,8 @@ abort_fine s f = (no_refusal _ refl, tt)
 
 -- the result that a verdict on a call leaves
 abbrev Judged : Verdict → State → Result → Type 0
-Judged Accepted s result = NoneOf IsRefusal result.answers
-Judged (Refused r) s result = result ≡ turned_down r s
+Judged (Ok tt) s result = NoneOf IsRefusal result.answers
+Judged (Err r) s result = result ≡ turned_down r s
 
 -- the verdict on a call, as its tests make it, and the result under it
 record Verdicted (s : State) (c : Call) (result : Result) : Type 0 where
@@ -186,25 +180,25 @@ record Verdicted (s : State) (c : Call) (result : Result) : Type 0 where
   judged : Judged verdict s result
 
 judged_unless : (v : Verdict) (s : State) (result : Result) → NoneOf IsRefusal result.answers → Judged v s (unless_refused v s result)
-judged_unless Accepted s result n = n
-judged_unless (Refused r) s result n = refl
+judged_unless (Ok tt) s result n = n
+judged_unless (Err r) s result n = refl
 
 refusal_told : (r x : Refusal) (l : List Answer) → l ≡ refused x ∷ [] → l ≡ refused r ∷ [] → x ≡ r
 refusal_told r x l e f = let g : refused x ∷ [] ≡ refused r ∷ [] = sym e ∙ f in cc
 
 exact-call : (s : State) (c : Call) (v : Verdict) →
     Outcome (CallCause s c) itself (call_causes c) v → Judged v s (result_of s c) → ExactCall s c
-exact-call s c Accepted o j = record {
-  exact = exactly (CallCause s c) itself (call_causes c) Accepted o
-      (λ r e. absurd (none r e)) (λ r e. let z : ◌≡◌ {A = ℕ} 0 1 = cc in absurd (omega arith)) (λ _. refl) (λ _. j);
-  left_as_it_was = λ r e. absurd (none r e);
+exact-call s c (Ok tt) o j = record {
+  exact = exactly (CallCause s c) itself (call_causes c) (Ok tt) o
+      (λ r e. absurd (None r e)) (λ r e. let z : ◌≡◌ {A = ℕ} 0 1 = cc in absurd (omega arith)) (λ _. refl) (λ _. j);
+  left_as_it_was = λ r e. absurd (None r e);
 }
   where
-    none : (r : Refusal) → (result_of s c).answers ≡ refused r ∷ [] → ⊥
-    none r e = (subst (NoneOf IsRefusal) e j).0 (r, refl)
-exact-call s c (Refused x) o j = record {
-  exact = exactly (CallCause s c) itself (call_causes c) (Refused x) o
-      (λ r e. ap Refused (refusal_told r x _ (ap (λ (k : Result). k.answers) j) e))
+    None : (r : Refusal) → (result_of s c).answers ≡ refused r ∷ [] → ⊥
+    None r e = (subst (NoneOf IsRefusal) e j).0 (r, refl)
+exact-call s c (Err x) o j = record {
+  exact = exactly (CallCause s c) itself (call_causes c) (Err x) o
+      (λ r e. ap Err (refusal_told r x _ (ap (λ (k : Result). k.answers) j) e))
       (λ r e. let f : x ≡ r = cc in ap (λ (k : Result). k.answers) j ∙ ap (λ (y : Refusal). refused y ∷ []) f)
       (λ n. absurd ((subst (NoneOf IsRefusal) (ap (λ (k : Result). k.answers) j) n).0 (x, refl)))
       (λ e. let z : ◌≡◌ {A = ℕ} 0 1 = cc in absurd (omega arith));
@@ -214,31 +208,31 @@ exact-call s c (Refused x) o j = record {
 -- ---- the opening
 
 module _ (n k first : ℕ) where
-  devices-said : OpeningCause n k first devices_out_of_range → (n ≡ 0) ⊎ (max_devices < n)
+  devices-said : OpeningCause n k first DevicesOutOfRange → (n ≡ 0) ⊎ (max_devices < n)
   devices-said (devices_are_out h) = h
 
-  limit-said : OpeningCause n k first pass_limit_out_of_range → highest_pass_limit < k
+  limit-said : OpeningCause n k first PassLimitOutOfRange → highest_pass_limit < k
   limit-said (limit_is_out h) = h
 
-  id-said : OpeningCause n k first first_id_0 → first ≡ 0
+  id-said : OpeningCause n k first FirstIdZero → first ≡ 0
   id-said (id_is_0 h) = h
 
   opening-outcome : Outcome (OpeningCause n k first) itself opening_causes (open_check n k first)
   unfolding open_check
   opening-outcome =
       let H = OpeningCause n k first in
-      join H itself (one H itself devices_out_of_range _ (agree (either _ _ (same n 0) (less max_devices n)) devices_are_out devices-said))
-      (λ _. join H itself (one H itself pass_limit_out_of_range _ (agree (less highest_pass_limit k) limit_is_out limit-said))
-      (λ _. one H itself first_id_0 _ (agree (same first 0) id_is_0 id-said)))
+      join H itself (one H itself DevicesOutOfRange _ (agree (either _ _ (same n 0) (less max_devices n)) devices_are_out devices-said))
+      (λ _. join H itself (one H itself PassLimitOutOfRange _ (agree (less highest_pass_limit k) limit_is_out limit-said))
+      (λ _. one H itself FirstIdZero _ (agree (same first 0) id_is_0 id-said)))
 
 -- what the opening gives says the same as its verdict
-pub refused-opening : (v : Verdict) (s : State) (r : Refusal) → open_if v s ≡ not_opened r → v ≡ Refused r
-refused-opening Accepted s r e = let z : ◌≡◌ {A = ℕ} 0 1 = cc in absurd (omega arith)
-refused-opening (Refused x) s r e = let f : x ≡ r = cc in ap Refused f
+pub refused-opening : (v : Verdict) (s : State) (r : Refusal) → open_if v s ≡ not_opened r → v ≡ Err r
+refused-opening (Ok tt) s r e = let z : ◌≡◌ {A = ℕ} 0 1 = cc in absurd (omega arith)
+refused-opening (Err x) s r e = let f : x ≡ r = cc in ap Err f
 
-pub accepted-opening : (v : Verdict) (s t : State) → open_if v s ≡ opened t → v ≡ Accepted
-accepted-opening Accepted s t e = refl
-accepted-opening (Refused x) s t e = let z : ◌≡◌ {A = ℕ} 0 1 = cc in absurd (omega arith)
+pub accepted-opening : (v : Verdict) (s t : State) → open_if v s ≡ opened t → v ≡ Ok tt
+accepted-opening (Ok tt) s t e = refl
+accepted-opening (Err x) s t e = let z : ◌≡◌ {A = ℕ} 0 1 = cc in absurd (omega arith)
 
 -- the hub that an opening gives is the new one
 pub opened_new : (n k first : ℕ) (s : State) → open_of n k first ≡ opened s → open_of n k first ≡ opened (new_hub n k first)
@@ -258,33 +252,33 @@ exact-opening n k first =
 -- ---- submission
 
 module _ (s : State) (cs : List Command) where
-  full-said : CallCause s (submit cs) sequence_full → max_sequence ≤ length s.sequence
+  full-said : CallCause s (submit cs) SequenceFull → max_sequence ≤ length s.sequence
   full-said (is_full h) = h
   full-said (routine_is_out h) = absurd (no-routine h)
     where
-      no-routine : RoutineCause s.devices cs sequence_full → ⊥
+      no-routine : RoutineCause s.devices cs SequenceFull → ⊥
       no-routine = elim [ ]
 
-  ids_said : CallCause s (submit cs) ids_used_up → highest_id < s.next_id
+  ids_said : CallCause s (submit cs) IdsUsedUp → highest_id < s.next_id
   ids_said (ids_are_used_up h) = h
   ids_said (routine_is_out h) = absurd (no-routine h)
     where
-      no-routine : RoutineCause s.devices cs ids_used_up → ⊥
+      no-routine : RoutineCause s.devices cs IdsUsedUp → ⊥
       no-routine = elim [ ]
 
-  count-said : CallCause s (submit cs) command_count → RoutineCause s.devices cs command_count
+  count-said : CallCause s (submit cs) CommandCount → RoutineCause s.devices cs CommandCount
   count-said (routine_is_out h) = h
 
-  device-said : (i : ℕ) → CallCause s (submit cs) (device_not_below i) → RoutineCause s.devices cs (device_not_below i)
+  device-said : (i : ℕ) → CallCause s (submit cs) (DeviceNotBelow i) → RoutineCause s.devices cs (DeviceNotBelow i)
   device-said i (routine_is_out h) = h
 
-  setting-said : (i : ℕ) → CallCause s (submit cs) (setting_out_of_range i) → RoutineCause s.devices cs (setting_out_of_range i)
+  setting-said : (i : ℕ) → CallCause s (submit cs) (SettingOutOfRange i) → RoutineCause s.devices cs (SettingOutOfRange i)
   setting-said i (routine_is_out h) = h
 
-  tag_said : (i : ℕ) → CallCause s (submit cs) (tag_out_of_range i) → RoutineCause s.devices cs (tag_out_of_range i)
+  tag_said : (i : ℕ) → CallCause s (submit cs) (TagOutOfRange i) → RoutineCause s.devices cs (TagOutOfRange i)
   tag_said i (routine_is_out h) = h
 
-  alone_said : (i : ℕ) → CallCause s (submit cs) (condition_alone i) → RoutineCause s.devices cs (condition_alone i)
+  alone_said : (i : ℕ) → CallCause s (submit cs) (ConditionAlone i) → RoutineCause s.devices cs (ConditionAlone i)
   alone_said i (routine_is_out h) = h
 
   commands-said : (i n : ℕ) → Covers (RoutineCause s.devices cs) (CallCause s (submit cs)) (command_causes i n)
@@ -302,8 +296,8 @@ module _ (s : State) (cs : List Command) where
       let H = CallCause s (submit cs) in
       let R = RoutineCause s.devices cs in
       join H itself (widened R H itself (λ c h. routine_is_out h) routine-said (routine-outcome s.devices cs))
-      (λ _. join H itself (one H itself sequence_full _ (agree (at_most max_sequence (length s.sequence)) is_full full-said))
-      (λ _. one H itself ids_used_up _ (agree (less highest_id s.next_id) ids_are_used_up ids_said)))
+      (λ _. join H itself (one H itself SequenceFull _ (agree (at_most max_sequence (length s.sequence)) is_full full-said))
+      (λ _. one H itself IdsUsedUp _ (agree (less highest_id s.next_id) ids_are_used_up ids_said)))
 
 submit_judged : (s : State) (cs : List Command) → Judged (submit_check s cs) s (submit_of s cs)
 unfolding submit_of
@@ -329,29 +323,29 @@ module _ (s : State) (i : ℕ) where
       (λ _. (no_refusal _ refl, tt))))
 
   wait_fine : (f : Found) (c : Command) (o : Option ℕ) → NoneOf IsRefusal (wait_or s f c o).answers
-  wait_fine f c none = proceed_fine f c
-  wait_fine f c (some j) = (no_refusal _ refl, tt)
+  wait_fine f c None = proceed_fine f c
+  wait_fine f c (Some j) = (no_refusal _ refl, tt)
 
   next_fine : (f : Found) (o : Option Command) → NoneOf IsRefusal (turn_next s f o).answers
   unfolding commit_turn
-  next_fine f none = (no_refusal _ refl, tt)
-  next_fine f (some c) = wait_fine f c (first_holding c.device (is_condition c) f.ahead)
+  next_fine f None = (no_refusal _ refl, tt)
+  next_fine f (Some c) = wait_fine f c (first_holding c.device (is_condition c) f.ahead)
 
-  turn-none-said : CallCause s (turn i) not_running → NoneRunsUnder s i
+  turn-none-said : CallCause s (turn i) NotRunning → NoneRunsUnder s i
   turn-none-said (turn_of_none h) = h
 
-  turn_flies_said : CallCause s (turn i) turn_in_flight → OneInFlight s i
+  turn_flies_said : CallCause s (turn i) TurnInFlight → OneInFlight s i
   turn_flies_said (one_flies h) = h
 
   turn_flown : (f : Found) → FirstIn (RunsUnder i) s.sequence f.it → {o : Option Flight} → Flown f.it.steps o →
       Verdicted s (turn i) (turn_flight s f o)
   turn_flown f p (on_way x y q) = record {
-    verdict = Refused (refusal_of turn_in_flight);
+    verdict = Err (TurnInFlight);
     made = passed (λ h. some_not-none (RunsUnder i) s.sequence f.it p (turn-none-said h)) (broken (one_flies (f.it, p, y, q)));
     judged = refl;
   }
   turn_flown f p (on_ground n) = record {
-    verdict = Accepted;
+    verdict = (Ok tt);
     made = passed (λ h. some_not-none (RunsUnder i) s.sequence f.it p (turn-none-said h))
         (passed (λ h. idle (turn_flies_said h)) Made.none);
     judged = next_fine f (next f.it.steps);
@@ -363,30 +357,30 @@ module _ (s : State) (i : ℕ) where
           some_not-none InFlight h.0.steps h.2 h.3 (subst (λ (m : Member). NoneOf InFlight m.steps) (sym e) n)
 
   turn_located : {o : Option Found} → Located (RunsUnder i) s.sequence o → Verdicted s (turn i) (turn_found s o)
-  turn_located (missing n) = record { verdict = Refused (refusal_of not_running); made = broken (turn_of_none n); judged = refl }
+  turn_located (missing n) = record { verdict = Err (NotRunning); made = broken (turn_of_none n); judged = refl }
   turn_located (located f p) = turn_flown f p (see_flight f.it.steps)
 
   -- a cancel
-  cancel-none-said : CallCause s (cancel i) not_running → NoneRunsUnder s i
+  cancel-none-said : CallCause s (cancel i) NotRunning → NoneRunsUnder s i
   cancel-none-said (cancel_of_none h) = h
 
   cancel_located : {o : Option Found} → Located (RunsUnder i) s.sequence o → Verdicted s (cancel i) (cancel_found s o)
-  cancel_located (missing n) = record { verdict = Refused (refusal_of not_running); made = broken (cancel_of_none n); judged = refl }
+  cancel_located (missing n) = record { verdict = Err (NotRunning); made = broken (cancel_of_none n); judged = refl }
   cancel_located (located f p) = record {
-    verdict = Accepted;
+    verdict = (Ok tt);
     made = passed (λ h. some_not-none (RunsUnder i) s.sequence f.it p (cancel-none-said h)) Made.none;
     judged = abort_fine s f;
   }
 
   -- a report
   module _ (code : ℕ) where
-    report-none-said : CallCause s (report i code) not_running → NoneRunsUnder s i
+    report-none-said : CallCause s (report i code) NotRunning → NoneRunsUnder s i
     report-none-said (report_on_none h) = h
 
-    none_flies_said : CallCause s (report i code) none_in_flight → NoneInFlight s i
+    none_flies_said : CallCause s (report i code) NothingInFlight → NoneInFlight s i
     none_flies_said (none_flies h) = h
 
-    code_said : CallCause s (report i code) report_code_out_of_range → code_failed < code
+    code_said : CallCause s (report i code) ReportCodeOutOfRange → code_failed < code
     code_said (code_is_out h) = h
 
     reported_fine : (f : Found) (x : Flight) → NoneOf IsRefusal (reported s f x code).answers
@@ -399,16 +393,16 @@ module _ (s : State) (i : ℕ) where
     report_flown : (f : Found) → FirstIn (RunsUnder i) s.sequence f.it → {o : Option Flight} → Flown f.it.steps o →
         Verdicted s (report i code) (report_flight s f code o)
     report_flown f p (on_ground n) = record {
-      verdict = Refused (refusal_of none_in_flight);
+      verdict = Err NothingInFlight;
       made = passed (λ h. some_not-none (RunsUnder i) s.sequence f.it p (report-none-said h)) (broken (none_flies (f.it, p, n)));
       judged = refl;
     }
     report_flown f p (on_way x y q) = record {
-      verdict = refuse report_code_out_of_range when ltb code_failed code;
+      verdict = refuse ReportCodeOutOfRange when ltb code_failed code;
       made = passed (λ h. some_not-none (RunsUnder i) s.sequence f.it p (report-none-said h))
           (passed (λ h. flying (none_flies_said h))
-          (one (CallCause s (report i code)) itself report_code_out_of_range _ (agree (less code_failed code) code_is_out code_said)));
-      judged = judged_unless (refuse report_code_out_of_range when ltb code_failed code) s _ (reported_fine f x);
+          (one (CallCause s (report i code)) itself ReportCodeOutOfRange _ (agree (less code_failed code) code_is_out code_said)));
+      judged = judged_unless (refuse ReportCodeOutOfRange when ltb code_failed code) s _ (reported_fine f x);
     }
       where
         flying : NoneInFlight s i → ⊥
@@ -417,7 +411,7 @@ module _ (s : State) (i : ℕ) where
             some_not-none InFlight f.it.steps y q (subst (λ (m : Member). NoneOf InFlight m.steps) e h.2)
 
     report_located : {o : Option Found} → Located (RunsUnder i) s.sequence o → Verdicted s (report i code) (report_found s code o)
-    report_located (missing n) = record { verdict = Refused (refusal_of not_running); made = broken (report_on_none n); judged = refl }
+    report_located (missing n) = record { verdict = Err (NotRunning); made = broken (report_on_none n); judged = refl }
     report_located (located f p) = report_flown f p (see_flight f.it.steps)
 
 -- the routine that a call names
@@ -444,24 +438,24 @@ unfolding stop_halfway
 halfway_fine d s = go (find (is_halfway d) s.sequence)
   where
     go : (o : Option Found) → NoneOf IsRefusal (stop_if_any d s o).answers
-    go none = tt
-    go (some f) = by_if (λ (r : Result). NoneOf IsRefusal r.answers) (must_left d f.it) (λ _. abort_fine s f) (λ _. tt)
+    go None = tt
+    go (Some f) = by_if (λ (r : Result). NoneOf IsRefusal r.answers) (must_left d f.it) (λ _. abort_fine s f) (λ _. tt)
 
 -- the verdicts on them, as the rules have them
 abbrev failure_verdict : State → ℕ → Verdict
-failure_verdict s d = refuse event_device when leb s.devices d and_then refuse failure_of_down when not (s.up d)
+failure_verdict s d = refuse EventDevice when leb s.devices d and_then refuse FailureOfDown when not (s.up d)
 
 abbrev restart_verdict : State → ℕ → ℤ → Verdict
 restart_verdict s d v =
-    refuse event_device when leb s.devices d
-    and_then refuse restart_of_up when s.up d
-    and_then refuse restart_setting when not (in_range v)
+    refuse EventDevice when leb s.devices d
+    and_then refuse RestartOfUp when s.up d
+    and_then refuse RestartSetting when not (in_range v)
 
 module _ (s : State) (d : ℕ) where
-  failure-device-said : CallCause s (failure d) event_device → s.devices ≤ d
+  failure-device-said : CallCause s (failure d) EventDevice → s.devices ≤ d
   failure-device-said (failure_is_out h) = h
 
-  down-said : CallCause s (failure d) failure_of_down → s.up d ≡ false
+  down-said : CallCause s (failure d) FailureOfDown → s.up d ≡ false
   down-said (is_down h) = h
 
   failure_fine : NoneOf IsRefusal (failure_result s d).answers
@@ -474,17 +468,17 @@ module _ (s : State) (d : ℕ) where
   failure-outcome : Outcome (CallCause s (failure d)) itself (call_causes (failure d)) (failure_verdict s d)
   failure-outcome =
       let H = CallCause s (failure d) in
-      join H itself (one H itself event_device _ (agree (at_most s.devices d) failure_is_out failure-device-said))
-      (λ _. one H itself failure_of_down _ (agree (turned (s.up d)) is_down down-said))
+      join H itself (one H itself EventDevice _ (agree (at_most s.devices d) failure_is_out failure-device-said))
+      (λ _. one H itself FailureOfDown _ (agree (turned (s.up d)) is_down down-said))
 
   module _ (v : ℤ) where
-    restart-device-said : CallCause s (restart d v) event_device → s.devices ≤ d
+    restart-device-said : CallCause s (restart d v) EventDevice → s.devices ≤ d
     restart-device-said (restart_is_out h) = h
 
-    up-said : CallCause s (restart d v) restart_of_up → s.up d ≡ true
+    up-said : CallCause s (restart d v) RestartOfUp → s.up d ≡ true
     up-said (is_up h) = h
 
-    restart-setting-said : CallCause s (restart d v) restart_setting → OutOfRange v
+    restart-setting-said : CallCause s (restart d v) RestartSetting → OutOfRange v
     restart-setting-said (restart_setting_is_out h) = h
 
     restart_fine : NoneOf IsRefusal (restart_result s d v).answers
@@ -496,9 +490,9 @@ module _ (s : State) (d : ℕ) where
     restart-outcome : Outcome (CallCause s (restart d v)) itself (call_causes (restart d v)) (restart_verdict s d v)
     restart-outcome =
         let H = CallCause s (restart d v) in
-        join H itself (one H itself event_device _ (agree (at_most s.devices d) restart_is_out restart-device-said))
-        (λ _. join H itself (one H itself restart_of_up _ (agree (flag (s.up d)) is_up up-said))
-        (λ _. one H itself restart_setting _ (agree (out_of_range v) restart_setting_is_out restart-setting-said)))
+        join H itself (one H itself EventDevice _ (agree (at_most s.devices d) restart_is_out restart-device-said))
+        (λ _. join H itself (one H itself RestartOfUp _ (agree (flag (s.up d)) is_up up-said))
+        (λ _. one H itself RestartSetting _ (agree (out_of_range v) restart_setting_is_out restart-setting-said)))
 
 failure_judged : (s : State) (d : ℕ) → Judged (failure_verdict s d) s (failure_of s d)
 unfolding failure_of
@@ -510,10 +504,10 @@ restart_judged s d v = judged_unless (restart_verdict s d v) s (settling (restar
 
 -- ---- a new pass limit
 
-no_hub-said : (s : State) (k : ℕ) → CallCause s (limit k) devices_out_of_range → (s.devices ≡ 0) ⊎ (max_devices < s.devices)
+no_hub-said : (s : State) (k : ℕ) → CallCause s (limit k) DevicesOutOfRange → (s.devices ≡ 0) ⊎ (max_devices < s.devices)
 no_hub-said s k (no_hub_to_limit h) = h
 
-new_limit-said : (s : State) (k : ℕ) → CallCause s (limit k) pass_limit_out_of_range → highest_pass_limit < k
+new_limit-said : (s : State) (k : ℕ) → CallCause s (limit k) PassLimitOutOfRange → highest_pass_limit < k
 new_limit-said s k (new_limit_is_out h) = h
 
 limit-outcome : (s : State) (k : ℕ) → Outcome (CallCause s (limit k)) itself (call_causes (limit k)) (new_limit_check s.devices k)
@@ -521,8 +515,8 @@ limit-outcome s k =
     let H = CallCause s (limit k) in
     let n = s.devices in
     join H itself
-    (one H itself devices_out_of_range _ (agree (either _ _ (same n 0) (less max_devices n)) no_hub_to_limit (no_hub-said s k)))
-    (λ _. one H itself pass_limit_out_of_range _ (agree (less highest_pass_limit k) new_limit_is_out (new_limit-said s k)))
+    (one H itself DevicesOutOfRange _ (agree (either _ _ (same n 0) (less max_devices n)) no_hub_to_limit (no_hub-said s k)))
+    (λ _. one H itself PassLimitOutOfRange _ (agree (less highest_pass_limit k) new_limit_is_out (new_limit-said s k)))
 
 limit_judged : (s : State) (k : ℕ) → Judged (new_limit_check s.devices k) s (limit_of s k)
 unfolding limit_of
@@ -574,8 +568,8 @@ pub refused_or_not : (s : State) (c : Call) → RefusedOrNot (result_of s c).ans
 refused_or_not s c = go (judge s c)
   where
     either_way : (v : Verdict) → Judged v s (result_of s c) → RefusedOrNot (result_of s c).answers
-    either_way Accepted j = inr j
-    either_way (Refused r) j = inl (r, ap (λ (k : Result). k.answers) j)
+    either_way (Ok tt) j = inr j
+    either_way (Err r) j = inl (r, ap (λ (k : Result). k.answers) j)
 
     go : Verdicted s c (result_of s c) → RefusedOrNot (result_of s c).answers
     go v = either_way v.verdict v.judged

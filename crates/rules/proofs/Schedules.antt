@@ -1,9 +1,9 @@
 -- The waiting promise, computed: how many rounds it gives; what is no round; and schedules in which wrong rules show. That they are
 -- schedules is `is_schedule` of `RoundsExist.antt` of crate `rules_promises`. Assumes nothing.
+use Rattle.std.proofs.Common.{Option, None, Some}
 use mathlib.Core.Path.{◌≡◌, refl}
 use mathlib.Core.Bool.{Bool, true, false, not, ◌&&◌}
 use mathlib.Core.List.{List, [], ◌∷◌, ◌++◌, map}
-use mathlib.Core.Option.{Option, none, some}
 use Prim.Native.Nat.{ℕ, zero, suc, ◌+◌, ◌*◌}
 use native.Mathlib.Omega.{arith}
 use lib.Dec.{eqb}
@@ -24,8 +24,8 @@ use Rattle.rules.specs.Examples.{calc, must}
 -- ---- a round, from the state
 
 abbrev pub has_flight : Option Flight → Bool
-has_flight none = false
-has_flight (some x) = true
+has_flight None = false
+has_flight (Some x) = true
 
 unfoldable pub is_flying : Member → Bool
 is_flying m = is_running m && has_flight (flight m.steps)

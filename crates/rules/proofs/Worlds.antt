@@ -1,5 +1,6 @@
 -- The theorem is not empty: worlds of `Passages.antt` that meet the premise, end with no routine running and nothing left to put back, and
 -- pass through what is hard. Each is computed; the theorem is not used. Assumes nothing.
+use Rattle.rules_routine.specs.Refusals.{numbered}
 use mathlib.Core.Path.{◌≡◌, refl, sym, ap, ◌∙◌}
 use mathlib.Core.Logic.{inl, inr}
 use mathlib.Core.Bool.{Bool, true, false, not, ◌&&◌}
@@ -10,7 +11,6 @@ use lib.IntN.{ℤ, pos, negsuc}
 use Rattle.rules.specs.Tables.{any_of, Each}
 use Rattle.rules.specs.Answers.{Call, Answer, refused, placed, wait, send}
 use Rattle.rules.specs.Answers.{done, skipped, held, not_held, committed, aborted, down, up, limited}
-use Rattle.rules_routine.specs.declared.Refusal.TheVariants.{Number}
 use Rattle.rules.specs.Open.{opened, new_hub, open_of}
 use Rattle.rules.specs.History.{reported_done, found_held, found_not_held, Told, Account, skipped_by, sent_account, answered_account}
 use Rattle.rules.specs.History.{has_begun, note_answer, note_answers, accounts_of, working_of}
@@ -378,10 +378,10 @@ pub midways :
     × (last_answers (after 10 restarted_elsewhere).history ≡ up 0 0 ∷ [])
     × (last_answers (after 8 failed_after_change).history ≡ skipped 2 (back 0 (pos 0) ∷ []) ∷ [])
     × (last_answers (after 3 limited_anew).history ≡ placed 2 0 ∷ []) × (last_answers (after 5 limited_anew).history ≡ limited 0 ∷ [])
-    × (last_answers (after 8 limited_anew).history ≡ refused (Number 2) ∷ [])
+    × (last_answers (after 8 limited_anew).history ≡ refused (numbered 2) ∷ [])
     × (((after 3 lamp_fails).devices 0).setting ≡ pos 50) × (last_answers (after 4 lamp_fails).history ≡ down 0 1 ∷ [])
-    × (last_answers (after 5 lamp_fails).history ≡ refused (Number 12) ∷ [])
-    × (last_answers (after 10 lamp_fails).history ≡ refused (Number 10) ∷ [])
+    × (last_answers (after 5 lamp_fails).history ≡ refused (numbered 12) ∷ [])
+    × (last_answers (after 10 lamp_fails).history ≡ refused (numbered 10) ∷ [])
     × (last_answers (after 4 lamp_restarts).history ≡ up 0 1 ∷ [])
     × (last_answers (after 6 waits_for_set).history ≡ wait 2 1 ∷ []) × (last_answers (after 10 waits_for_set).history ≡ wait 2 1 ∷ [])
     × (last_answers (after 12 waits_for_set).history ≡ held 2 ∷ []) × (last_answers (after 6 holds_by_restart).history ≡ held 2 ∷ [])

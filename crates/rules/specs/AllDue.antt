@@ -1,7 +1,7 @@
 -- Document 02, item 14: all due settings in one reading, into a lent list. It is a reading: the state stays as it is. Assumes nothing.
+use Rattle.rules_routine.specs.declared.refusals.Refusal.TheVariants.{NoRoom}
 use Rattle.std.specs.Prelude.{List, [], ◌∷◌, ◌++◌, ℕ, zero, suc, ltb, ℤ, length, drop, if◌then◌else◌}
-use Rattle.rules_routine.specs.Refusals.{no_room, refuse◌when◌}
-use Rattle.rules_routine.specs.declared.Verdict.{Verdict}
+use Rattle.rules_routine.specs.Refusals.{refuse◌when◌, Verdict}
 use Rattle.rules.specs.State.{State}
 use Rattle.rules.specs.Due.{due}
 
@@ -16,7 +16,7 @@ all_due s = settings_from (due s) 0 s.devices
 
 -- "A list shorter than N gets 21"
 unfoldable pub list_check : State → ℕ → Verdict
-list_check s room = refuse no_room when ltb room s.devices
+list_check s room = refuse NoRoom when ltb room s.devices
 
 -- The lent list afterwards: the due settings over its first entries, "entries past the last device are untouched"; one that is too short
 -- "is unchanged".

@@ -1,12 +1,10 @@
 -- The calls of the hub, with any numbers and lists, and their answers as data: every value that document 01 prints, under the word that it
 -- prints, `held` and `not held` of document 02, item 4, among them; and the new pass limit of item 13, which no line makes. Assumes
 -- nothing.
-use Rattle.std.specs.Prelude.{List, [], ◌∷◌, ℕ, ℤ}
-use Rattle.rules_routine.specs.Refusals.{Cause, refusal_of}
+use Rattle.rules_routine.specs.Refusals.{Verdict}
+use Rattle.std.specs.Prelude.{List, [], ◌∷◌, ℕ, ℤ, Ok, Err}
 use Rattle.rules_routine.specs.declared.Command.{Command}
-use Rattle.rules_routine.specs.declared.Refusal.{Refusal}
-use Rattle.rules_routine.specs.declared.Verdict.{Verdict}
-use Rattle.rules_routine.specs.declared.Verdict.TheVariants.{Accepted, Refused}
+use Rattle.rules_routine.specs.declared.refusals.Refusal.{Refusal}
 use Rattle.rules.specs.State.{State}
 
 pub data Call : Type 0 where
@@ -48,10 +46,10 @@ pub record Result : Type 0 where
 abbrev pub turned_down : Refusal → State → Result
 turned_down r s = record { state = s; answers = refused r ∷ [] }
 
-abbrev pub refused_for : Cause → State → Result
-refused_for cause s = turned_down (refusal_of cause) s
+abbrev pub refused_for : Refusal → State → Result
+refused_for cause s = turned_down cause s
 
 -- The result of a call if the verdict on it lets it pass.
 abbrev pub unless_refused : Verdict → State → Result → Result
-unless_refused Accepted s result = result
-unless_refused (Refused r) s result = turned_down r s
+unless_refused (Ok tt) s result = result
+unless_refused (Err r) s result = turned_down r s

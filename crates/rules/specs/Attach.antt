@@ -1,7 +1,6 @@
 -- Events attached to a routine or to the settled part: document 01, "Failure or restart of D", "Abort of R" and "Settling". A failure
 -- changes no due setting, so that what is kept of events is the last restart of each device. Assumes nothing.
-use Rattle.std.specs.Prelude.{List, [], ◌∷◌, ℕ, eqb, ℤ, if◌then◌else◌}
-use Rattle.std.proofs.Math.Option.{Option, none, some}
+use Rattle.std.specs.Prelude.{List, [], ◌∷◌, ℕ, eqb, ℤ, if◌then◌else◌, Option, None, Some}
 use Rattle.rules.specs.Tables.{put}
 use Rattle.rules.specs.State.{Member, State}
 use Rattle.rules.specs.Due.{after_restart}
@@ -9,12 +8,12 @@ use Rattle.rules.specs.Sequence.{with_sequence, with_settled}
 
 -- One restart, of D.
 unfoldable pub one_restart : ℕ → ℤ → ℕ → Option ℤ
-one_restart d v = put (λ e. none) d (some v)
+one_restart d v = put (λ e. None) d (Some v)
 
 -- The later of two last restarts.
 abbrev pub later : Option ℤ → Option ℤ → Option ℤ
-later o none = o
-later o (some v) = some v
+later o None = o
+later o (Some v) = Some v
 
 -- Restarts attached to a routine, "behind the events already attached there".
 unfoldable pub attach_to : (ℕ → Option ℤ) → Member → Member

@@ -2,18 +2,13 @@
 -- over the state and the call; the order in which they are tested; and what `exact-opening` .. `exact-limit` (proofs/Exact.antt) say: each
 -- number under its cause alone. The same of the reading of all due settings (`exact-list`). Causes 4 to 7 and 22, and what "each under its
 -- cause alone" means, stand in `specs/Causes.antt` of crate `rules_routine`. Assumes nothing.
-use Rattle.std.specs.Prelude.{◌≡◌, true, false, ◌⊎◌, List, [], ◌∷◌, ◌++◌, ℕ, ◌<◌, ◌≤◌, ℤ, pos, length, get_or}
-use Rattle.rules_routine.specs.Refusals.{Cause, devices_out_of_range, pass_limit_out_of_range, first_id_0, sequence_full, ids_used_up}
-use Rattle.rules_routine.specs.Refusals.{not_running}
-use Rattle.rules_routine.specs.Refusals.{turn_in_flight, none_in_flight, report_code_out_of_range, event_device, failure_of_down}
-use Rattle.rules_routine.specs.Refusals.{restart_of_up}
-use Rattle.rules_routine.specs.Refusals.{restart_setting, no_room}
+use Rattle.rules_routine.specs.Refusals.{Verdict}
+use Rattle.rules_routine.specs.declared.refusals.Refusal.TheVariants.{DevicesOutOfRange, PassLimitOutOfRange, FirstIdZero, SequenceFull, IdsUsedUp, NotRunning, TurnInFlight, NothingInFlight, ReportCodeOutOfRange, EventDevice, FailureOfDown, RestartOfUp, RestartSetting, NoRoom}
+use Rattle.std.specs.Prelude.{◌≡◌, true, false, ◌⊎◌, List, [], ◌∷◌, ◌++◌, ℕ, ◌<◌, ◌≤◌, ℤ, pos, length, get_or, Ok, Err}
 use Rattle.rules_routine.specs.Limits.{max_devices, highest_pass_limit, max_sequence, highest_id}
 use Rattle.rules_routine.specs.Causes.{NoneOf, FirstIn, Exactly, itself, OutOfRange, RoutineCause, routine_causes}
 use Rattle.rules_routine.specs.declared.Command.{Command}
-use Rattle.rules_routine.specs.declared.Refusal.{Refusal}
-use Rattle.rules_routine.specs.declared.Verdict.{Verdict}
-use Rattle.rules_routine.specs.declared.Verdict.TheVariants.{Accepted, Refused}
+use Rattle.rules_routine.specs.declared.refusals.Refusal.{Refusal}
 use Rattle.rules.specs.State.{in_flight, Step, Member, State}
 use Rattle.rules.specs.Answers.{Call, submit, turn, report, failure, restart, cancel, limit, Answer, refused}
 use Rattle.rules.specs.Due.{due}
@@ -48,62 +43,62 @@ NoneInFlight s i = (m : Member) × FirstIn (RunsUnder i) s.sequence m × NoneOf 
 -- ---- the causes
 
 -- This cause holds of an opening.
-pub data OpeningCause (n k first : ℕ) : Cause → Type 0 where
+pub data OpeningCause (n k first : ℕ) : Refusal → Type 0 where
   -- 1: "N not 1 to 32"
-  devices_are_out : (n ≡ 0) ⊎ (max_devices < n) → OpeningCause n k first devices_out_of_range
+  devices_are_out : (n ≡ 0) ⊎ (max_devices < n) → OpeningCause n k first DevicesOutOfRange
   -- 2: "K above 8"
-  limit_is_out : highest_pass_limit < k → OpeningCause n k first pass_limit_out_of_range
+  limit_is_out : highest_pass_limit < k → OpeningCause n k first PassLimitOutOfRange
   -- 3: "first id 0"
-  id_is_0 : first ≡ 0 → OpeningCause n k first first_id_0
+  id_is_0 : first ≡ 0 → OpeningCause n k first FirstIdZero
 
 -- This cause holds of a call on a hub in state s.
-pub data CallCause (s : State) : Call → Cause → Type 0 where
+pub data CallCause (s : State) : Call → Refusal → Type 0 where
   -- 4 to 7 and 22, of the routine, against N
-  routine_is_out : {cs : List Command} {cause : Cause} → RoutineCause s.devices cs cause → CallCause s (submit cs) cause
+  routine_is_out : {cs : List Command} {cause : Refusal} → RoutineCause s.devices cs cause → CallCause s (submit cs) cause
   -- 8: "16 routines in the sequence"
-  is_full : {cs : List Command} → max_sequence ≤ length s.sequence → CallCause s (submit cs) sequence_full
+  is_full : {cs : List Command} → max_sequence ≤ length s.sequence → CallCause s (submit cs) SequenceFull
   -- 9: "id 4,294,967,295 already given": the next is past it
-  ids_are_used_up : {cs : List Command} → highest_id < s.next_id → CallCause s (submit cs) ids_used_up
+  ids_are_used_up : {cs : List Command} → highest_id < s.next_id → CallCause s (submit cs) IdsUsedUp
   -- 10: "no running routine has this id"
-  turn_of_none : {i : ℕ} → NoneRunsUnder s i → CallCause s (turn i) not_running
-  cancel_of_none : {i : ℕ} → NoneRunsUnder s i → CallCause s (cancel i) not_running
-  report_on_none : {i code : ℕ} → NoneRunsUnder s i → CallCause s (report i code) not_running
+  turn_of_none : {i : ℕ} → NoneRunsUnder s i → CallCause s (turn i) NotRunning
+  cancel_of_none : {i : ℕ} → NoneRunsUnder s i → CallCause s (cancel i) NotRunning
+  report_on_none : {i code : ℕ} → NoneRunsUnder s i → CallCause s (report i code) NotRunning
   -- 11: "turn with a command in flight"
-  one_flies : {i : ℕ} → OneInFlight s i → CallCause s (turn i) turn_in_flight
+  one_flies : {i : ℕ} → OneInFlight s i → CallCause s (turn i) TurnInFlight
   -- 12: "report with none in flight"
-  none_flies : {i code : ℕ} → NoneInFlight s i → CallCause s (report i code) none_in_flight
+  none_flies : {i code : ℕ} → NoneInFlight s i → CallCause s (report i code) NothingInFlight
   -- 13: "report code above 1"
-  code_is_out : {i code : ℕ} → code_failed < code → CallCause s (report i code) report_code_out_of_range
+  code_is_out : {i code : ℕ} → code_failed < code → CallCause s (report i code) ReportCodeOutOfRange
   -- 1: "N not 1 to 32", of the hub that shall have a new pass limit: where no hub was made
-  no_hub_to_limit : {k : ℕ} → (s.devices ≡ 0) ⊎ (max_devices < s.devices) → CallCause s (limit k) devices_out_of_range
+  no_hub_to_limit : {k : ℕ} → (s.devices ≡ 0) ⊎ (max_devices < s.devices) → CallCause s (limit k) DevicesOutOfRange
   -- 2: "K above 8", of a new pass limit
-  new_limit_is_out : {k : ℕ} → highest_pass_limit < k → CallCause s (limit k) pass_limit_out_of_range
+  new_limit_is_out : {k : ℕ} → highest_pass_limit < k → CallCause s (limit k) PassLimitOutOfRange
   -- 14: "failure or restart, device not below N"
-  failure_is_out : {d : ℕ} → s.devices ≤ d → CallCause s (failure d) event_device
-  restart_is_out : {d : ℕ} {v : ℤ} → s.devices ≤ d → CallCause s (restart d v) event_device
+  failure_is_out : {d : ℕ} → s.devices ≤ d → CallCause s (failure d) EventDevice
+  restart_is_out : {d : ℕ} {v : ℤ} → s.devices ≤ d → CallCause s (restart d v) EventDevice
   -- 15: "failure of a down device"
-  is_down : {d : ℕ} → s.up d ≡ false → CallCause s (failure d) failure_of_down
+  is_down : {d : ℕ} → s.up d ≡ false → CallCause s (failure d) FailureOfDown
   -- 16: "restart of an up device"
-  is_up : {d : ℕ} {v : ℤ} → s.up d ≡ true → CallCause s (restart d v) restart_of_up
+  is_up : {d : ℕ} {v : ℤ} → s.up d ≡ true → CallCause s (restart d v) RestartOfUp
   -- 17: "restart setting out of range"
-  restart_setting_is_out : {d : ℕ} {v : ℤ} → OutOfRange v → CallCause s (restart d v) restart_setting
+  restart_setting_is_out : {d : ℕ} {v : ℤ} → OutOfRange v → CallCause s (restart d v) RestartSetting
 
 -- ---- the order in which they are tested
 
 -- "Opening: 1, 2, 3."
-abbrev pub opening_causes : List Cause
-opening_causes = devices_out_of_range ∷ pass_limit_out_of_range ∷ first_id_0 ∷ []
+abbrev pub opening_causes : List Refusal
+opening_causes = DevicesOutOfRange ∷ PassLimitOutOfRange ∷ FirstIdZero ∷ []
 
 -- "Submission: 4; then the commands in turn, each 5, 6, 7", and 22 (document 02, item 4); "then 8, 9. Turn: 10, 11. Cancel: 10. Report: 10,
 -- 12, 13. Failure: 14, 15. Restart: 14, 16, 17." A new pass limit (document 02, item 13): 1, 2.
-abbrev pub call_causes : Call → List Cause
-call_causes (submit cs) = routine_causes ++ (sequence_full ∷ ids_used_up ∷ [])
-call_causes (turn i) = not_running ∷ turn_in_flight ∷ []
-call_causes (cancel i) = not_running ∷ []
-call_causes (report i code) = not_running ∷ none_in_flight ∷ report_code_out_of_range ∷ []
-call_causes (failure d) = event_device ∷ failure_of_down ∷ []
-call_causes (restart d v) = event_device ∷ restart_of_up ∷ restart_setting ∷ []
-call_causes (limit k) = devices_out_of_range ∷ pass_limit_out_of_range ∷ []
+abbrev pub call_causes : Call → List Refusal
+call_causes (submit cs) = routine_causes ++ (SequenceFull ∷ IdsUsedUp ∷ [])
+call_causes (turn i) = NotRunning ∷ TurnInFlight ∷ []
+call_causes (cancel i) = NotRunning ∷ []
+call_causes (report i code) = NotRunning ∷ NothingInFlight ∷ ReportCodeOutOfRange ∷ []
+call_causes (failure d) = EventDevice ∷ FailureOfDown ∷ []
+call_causes (restart d v) = EventDevice ∷ RestartOfUp ∷ RestartSetting ∷ []
+call_causes (limit k) = DevicesOutOfRange ∷ PassLimitOutOfRange ∷ []
 
 -- ---- each number under its cause alone
 
@@ -149,19 +144,19 @@ ExactLimit = (s : State) (k : ℕ) → ExactCall s (limit k)
 -- ---- all due settings into a lent list: document 02, item 14
 
 -- The cause of this reading, with a list of so many entries.
-pub data ListCause (s : State) (room : ℕ) : Cause → Type 0 where
+pub data ListCause (s : State) (room : ℕ) : Refusal → Type 0 where
   -- 21: "A list shorter than N"
-  list_is_short : room < s.devices → ListCause s room no_room
+  list_is_short : room < s.devices → ListCause s room NoRoom
 
-abbrev pub list_causes : List Cause
-list_causes = no_room ∷ []
+abbrev pub list_causes : List Refusal
+list_causes = NoRoom ∷ []
 
 -- The reading is turned down with r exactly if the cause holds and has r, and then the list is as it was. Else each device, up or down, has
 -- its due setting at its place in the list. The entries from N on, and how many there are, are the same in either case.
 pub record ExactList (s : State) (before after : List ℤ) (verdict : Verdict) : Type 0 where
-  pub exact : Exactly (ListCause s (length before)) itself list_causes (λ r. verdict ≡ Refused r) (verdict ≡ Accepted)
-  pub left_as_it_was : (r : Refusal) → verdict ≡ Refused r → after ≡ before
-  pub each_due : verdict ≡ Accepted → (d : ℕ) → d < s.devices → get_or after d (pos 0) ≡ due s d
+  pub exact : Exactly (ListCause s (length before)) itself list_causes (λ r. verdict ≡ Err r) (verdict ≡ Ok tt)
+  pub left_as_it_was : (r : Refusal) → verdict ≡ Err r → after ≡ before
+  pub each_due : verdict ≡ Ok tt → (d : ℕ) → d < s.devices → get_or after d (pos 0) ≡ due s d
   pub rest_untouched : (d : ℕ) → s.devices ≤ d → get_or after d (pos 0) ≡ get_or before d (pos 0)
   pub as_long : length after ≡ length before
 

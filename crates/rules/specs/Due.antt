@@ -1,7 +1,6 @@
 -- Document 01, "Abort of R": "The due setting of D is that of the last, in the hub's order, of the done commands on D and the restarts of
 -- D, running routines included; 0 if there is none." Assumes nothing.
-use Rattle.std.specs.Prelude.{◌&&◌, List, [], ◌∷◌, ℕ, ℤ, if◌then◌else◌}
-use Rattle.std.proofs.Math.Option.{Option, none, some}
+use Rattle.std.specs.Prelude.{◌&&◌, List, [], ◌∷◌, ℕ, ℤ, if◌then◌else◌, Option, None, Some}
 use Rattle.rules.specs.State.{Step, Member, State}
 use Rattle.rules.specs.Progress.{is_on, is_done}
 
@@ -12,8 +11,8 @@ after_steps d (x ∷ l) v = after_steps d l (if is_on d x && is_done x.status th
 
 -- What D is due after a restart of it, if there is one.
 abbrev pub after_restart : Option ℤ → ℤ → ℤ
-after_restart none v = v
-after_restart (some w) v = w
+after_restart None v = v
+after_restart (Some w) v = w
 
 -- What D is due after a routine and the events attached to it.
 unfoldable pub after_member : ℕ → Member → ℤ → ℤ

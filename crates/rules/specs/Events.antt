@@ -1,9 +1,9 @@
 -- Document 01, "Failure or restart of D", with document 02, item 3, "A lamp that dies after its work", and the conditions of item 4.
 -- Refusals: failure 14, 15; restart 14, 16, 17. Assumes nothing.
-use Rattle.std.specs.Prelude.{Bool, true, false, not, ◌&&◌, ◌||◌, List, [], ◌∷◌, ◌++◌, ℕ, leb, ℤ, if◌then◌else◌}
-use Rattle.std.proofs.Math.Option.{Option, none, some}
+use Rattle.rules_routine.specs.declared.refusals.Refusal.TheVariants.{EventDevice, FailureOfDown, RestartOfUp, RestartSetting}
+use Rattle.std.specs.Prelude.{Bool, true, false, not, ◌&&◌, ◌||◌, List, [], ◌∷◌, ◌++◌, ℕ, leb, ℤ, if◌then◌else◌, Option, None, Some}
 use Rattle.rules_routine.specs.Range.{in_range}
-use Rattle.rules_routine.specs.Refusals.{event_device, failure_of_down, restart_of_up, restart_setting, refuse◌when◌, ◌and_then◌}
+use Rattle.rules_routine.specs.Refusals.{refuse◌when◌, ◌and_then◌}
 use Rattle.rules.specs.Tables.{put}
 use Rattle.rules.specs.State.{was_skipped, Step, Member, State}
 use Rattle.rules.specs.Answers.{Result, down, up, unless_refused}
@@ -36,8 +36,8 @@ skip_rest d s f = change s f (with_steps f.it (skip_left d f.it.steps))
 -- "a must left on D aborts as it did"; one that "has only best-effort commands left on D does not abort", and "the event's answer doesn't
 -- name them". There is at most one such routine.
 abbrev pub stop_if_any : ℕ → State → Option Found → Result
-stop_if_any d s none = record { state = s; answers = [] }
-stop_if_any d s (some f) = if must_left d f.it then abort s f else record { state = skip_rest d s f; answers = [] }
+stop_if_any d s None = record { state = s; answers = [] }
+stop_if_any d s (Some f) = if must_left d f.it then abort s f else record { state = skip_rest d s f; answers = [] }
 
 unfoldable pub stop_halfway : ℕ → State → Result
 stop_halfway d s = stop_if_any d s (find (is_halfway d) s.sequence)
@@ -58,12 +58,12 @@ restart_result s d v =
 
 unfoldable pub failure_of : State → ℕ → Result
 failure_of s d =
-    unless_refused (refuse event_device when leb s.devices d and_then refuse failure_of_down when not (s.up d)) s
+    unless_refused (refuse EventDevice when leb s.devices d and_then refuse FailureOfDown when not (s.up d)) s
     (settling (failure_result s d))
 
 unfoldable pub restart_of : State → ℕ → ℤ → Result
 restart_of s d v =
     unless_refused
-    (refuse event_device when leb s.devices d and_then refuse restart_of_up when s.up d and_then refuse restart_setting when not
+    (refuse EventDevice when leb s.devices d and_then refuse RestartOfUp when s.up d and_then refuse RestartSetting when not
     (in_range v)) s
     (settling (restart_result s d v))

@@ -1,13 +1,10 @@
 -- Document 01, "Examples from the exam hall": those that concern the hub, each through its last settings. (The ★ examples of hub and book
 -- are one list in crate `rules_starred`.) Assumes nothing.
-use Rattle.std.specs.Prelude.{◌≡◌, refl, List, [], ◌∷◌, ◌++◌, ℕ, zero, suc, ℤ, pos, negsuc, replicate, if◌then◌else◌}
-use Rattle.std.proofs.Math.Option.{Option, none, some}
+use Rattle.rules_routine.specs.Refusals.{numbered, indexed}
+use Rattle.std.specs.Prelude.{◌≡◌, refl, List, [], ◌∷◌, ◌++◌, ℕ, zero, suc, ℤ, pos, negsuc, replicate, if◌then◌else◌, Option, None, Some, Ok, Err}
 use Rattle.rules_routine.specs.Range.{in_range}
-use Rattle.rules_routine.specs.Refusals.{refusal_of}
 use Rattle.rules_routine.specs.Routine.{command_check, stands_alone, commands_check, routine_check}
 use Rattle.rules_routine.specs.declared.Command.{Command}
-use Rattle.rules_routine.specs.declared.Refusal.TheVariants.{Number, Indexed}
-use Rattle.rules_routine.specs.declared.Verdict.TheVariants.{Accepted, Refused}
 use Rattle.rules.specs.State.{State}
 use Rattle.rules.specs.Answers.{Call, submit, turn, report, failure, restart, cancel, limit, Back, Answer, refused, placed, wait}
 use Rattle.rules.specs.Answers.{send}
@@ -31,7 +28,7 @@ use Rattle.rules.specs.Calls.{result_of, state_after}
 
 -- All that a computation with the rules opens.
 unfoldable pub calc : Unit {0}
-unfolding in_range refusal_of command_check stands_alone commands_check routine_check begun finished in_flight_on after_member due is_running runs
+unfolding in_range command_check stands_alone commands_check routine_check begun finished in_flight_on after_member due is_running runs
     join_settled
     settle attach_to settle_restarts move_marks leave is_put_back put_backs abort open_check new_hub open_of submit_check blocks pass newcomer place
     submit_of holds has_set holds_up mark_begun commit commit_turn send_turn skip_turn is_held held_turn not_held_turn turn_of done_report back_if_changed
@@ -56,7 +53,7 @@ answers_of s (c ∷ l) = (result_of s c).answers ∷ answers_of (result_of s c).
 -- The lines of the `left` devices from d on.
 abbrev pub device_lines : State → ℕ → ℕ → List (Option ℤ)
 device_lines s d zero = []
-device_lines s d (suc left) = (if s.up d then some (due s d) else none) ∷ device_lines s (suc d) left
+device_lines s d (suc left) = (if s.up d then Some (due s d) else None) ∷ device_lines s (suc d) left
 
 abbrev pub Holds : Example → Type 0
 Holds e =
@@ -89,7 +86,7 @@ listing = record {
   answers = (placed 1 0 ∷ []) ∷ (placed 2 0 ∷ []) ∷ (send 2 (must 0 (pos 70)) ∷ []) ∷ (done 2 ∷ []) ∷ (committed 2 ∷ []) ∷
       (send 1 (must 0 (pos 50)) ∷ [])
       ∷ (done 1 ∷ []) ∷ (down 0 1 ∷ []) ∷ (aborted 1 [] ∷ []) ∷ (up 0 0 ∷ []) ∷ [];
-  settings = some (pos 15) ∷ some (pos 0) ∷ some (pos 0) ∷ [];
+  settings = Some (pos 15) ∷ Some (pos 0) ∷ Some (pos 0) ∷ [];
 }
 
 -- "K = 1, three routines on device 0: 1, then 2 after 0, then 3 after 1."
@@ -100,7 +97,7 @@ passing = record {
   first_id = 1;
   calls = submit (must 0 (pos 1) ∷ []) ∷ submit (must 0 (pos 2) ∷ []) ∷ submit (must 0 (pos 3) ∷ []) ∷ [];
   answers = (placed 1 0 ∷ []) ∷ (placed 2 0 ∷ []) ∷ (placed 3 1 ∷ []) ∷ [];
-  settings = some (pos 0) ∷ [];
+  settings = Some (pos 0) ∷ [];
 }
 
 -- "K = 0, routines on devices 0 and 1; 1 and 2; 2 and 0: the first turn of 3 waits on 2."
@@ -112,7 +109,7 @@ ring = record {
   calls = submit (must 0 (pos 1) ∷ must 1 (pos 1) ∷ []) ∷ submit (must 1 (pos 2) ∷ must 2 (pos 2) ∷ []) ∷ submit
       (must 2 (pos 3) ∷ must 0 (pos 3) ∷ []) ∷ turn 3 ∷ [];
   answers = (placed 1 0 ∷ []) ∷ (placed 2 1 ∷ []) ∷ (placed 3 2 ∷ []) ∷ (wait 3 2 ∷ []) ∷ [];
-  settings = some (pos 0) ∷ some (pos 0) ∷ some (pos 0) ∷ [];
+  settings = Some (pos 0) ∷ Some (pos 0) ∷ Some (pos 0) ∷ [];
 }
 
 -- "1 did device 0 = 50 and has device 1 left; 2 follows with 70": its command c has been sent.
@@ -130,7 +127,7 @@ later_stands = record {
   first_id = 1;
   calls = followed (must 0 (pos 70)) ++ (report 2 0 ∷ turn 2 ∷ cancel 1 ∷ []);
   answers = followed_answers (must 0 (pos 70)) ++ ((done 2 ∷ []) ∷ (committed 2 ∷ []) ∷ (aborted 1 [] ∷ []) ∷ []);
-  settings = some (pos 70) ∷ some (pos 0) ∷ [];
+  settings = Some (pos 70) ∷ Some (pos 0) ∷ [];
 }
 
 -- "The same, but 2 is cancelled after its done: device 0 back to 50; then cancel 1: back to 0."
@@ -142,7 +139,7 @@ back_twice = record {
   calls = followed (must 0 (pos 70)) ++ (report 2 0 ∷ cancel 2 ∷ cancel 1 ∷ []);
   answers = followed_answers (must 0 (pos 70))
       ++ ((done 2 ∷ []) ∷ (aborted 2 (back 0 (pos 50) ∷ []) ∷ []) ∷ (aborted 1 (back 0 (pos 0) ∷ []) ∷ []) ∷ []);
-  settings = some (pos 0) ∷ some (pos 0) ∷ [];
+  settings = Some (pos 0) ∷ Some (pos 0) ∷ [];
 }
 
 -- "Once more, but 2's 70 is best-effort and in flight at the cancel of 1: `aborted 1 back 0`; then failed: `skipped 2 back 1 0 0`."
@@ -153,7 +150,7 @@ in_flight_at_cancel = record {
   first_id = 1;
   calls = followed (best 0 (pos 70)) ++ (cancel 1 ∷ report 2 1 ∷ []);
   answers = followed_answers (best 0 (pos 70)) ++ ((aborted 1 [] ∷ []) ∷ (skipped 2 (back 0 (pos 0) ∷ []) ∷ []) ∷ []);
-  settings = some (pos 0) ∷ some (pos 0) ∷ [];
+  settings = Some (pos 0) ∷ Some (pos 0) ∷ [];
 }
 
 -- "Best-effort on a down device is skipped; must aborts."
@@ -164,7 +161,7 @@ on_down = record {
   first_id = 1;
   calls = failure 0 ∷ submit (best 0 (pos 5) ∷ []) ∷ submit (must 0 (pos 6) ∷ []) ∷ turn 1 ∷ turn 2 ∷ [];
   answers = (down 0 0 ∷ []) ∷ (placed 1 0 ∷ []) ∷ (placed 2 1 ∷ []) ∷ (skipped 1 [] ∷ []) ∷ (aborted 2 [] ∷ []) ∷ [];
-  settings = none ∷ [];
+  settings = None ∷ [];
 }
 
 -- "Setting 1,000 accepted, 1,001 refused (6); −1,000 and −1,001 likewise."
@@ -175,8 +172,8 @@ limits = record {
   first_id = 1;
   calls = submit (must 0 (pos 1000) ∷ []) ∷ submit (must 0 (pos 1001) ∷ []) ∷ submit (must 0 (negsuc 999) ∷ []) ∷ submit
       (must 0 (negsuc 1000) ∷ []) ∷ [];
-  answers = (placed 1 0 ∷ []) ∷ (refused (Indexed 6 0) ∷ []) ∷ (placed 2 1 ∷ []) ∷ (refused (Indexed 6 0) ∷ []) ∷ [];
-  settings = some (pos 0) ∷ [];
+  answers = (placed 1 0 ∷ []) ∷ (refused (indexed 6 0) ∷ []) ∷ (placed 2 1 ∷ []) ∷ (refused (indexed 6 0) ∷ []) ∷ [];
+  settings = Some (pos 0) ∷ [];
 }
 
 -- The answers to n submissions in a row, from id i on, where each follows the one before.
@@ -191,8 +188,8 @@ full = record {
   pass_limit = 0;
   first_id = 1;
   calls = replicate 17 (submit (must 0 (pos 5) ∷ []));
-  answers = placed_in_row 0 16 ++ ((refused (Number 8) ∷ []) ∷ []);
-  settings = some (pos 0) ∷ [];
+  answers = placed_in_row 0 16 ++ ((refused (numbered 8) ∷ []) ∷ []);
+  settings = Some (pos 0) ∷ [];
 }
 
 -- Those with ★.
@@ -222,8 +219,8 @@ last_ids = record {
   pass_limit = 0;
   first_id = 4294967295;
   calls = submit (must 0 (pos 5) ∷ []) ∷ submit (must 0 (pos 5) ∷ []) ∷ [];
-  answers = (placed 4294967295 0 ∷ []) ∷ (refused (Number 9) ∷ []) ∷ [];
-  settings = some (pos 0) ∷ [];
+  answers = (placed 4294967295 0 ∷ []) ∷ (refused (numbered 9) ∷ []) ∷ [];
+  settings = Some (pos 0) ∷ [];
 }
 
 pub last-ids : Holds last_ids
@@ -244,9 +241,9 @@ new_limits = record {
   pass_limit = 1;
   first_id = 1;
   calls = one ∷ one ∷ limit 9 ∷ one ∷ limit 2 ∷ one ∷ limit 1 ∷ one ∷ one ∷ limit 2 ∷ one ∷ [];
-  answers = (placed 1 0 ∷ []) ∷ (placed 2 0 ∷ []) ∷ (refused (Number 2) ∷ []) ∷ (placed 3 1 ∷ []) ∷ (limited 2 ∷ []) ∷ (placed 4 0 ∷ [])
+  answers = (placed 1 0 ∷ []) ∷ (placed 2 0 ∷ []) ∷ (refused (numbered 2) ∷ []) ∷ (placed 3 1 ∷ []) ∷ (limited 2 ∷ []) ∷ (placed 4 0 ∷ [])
       ∷ (limited 1 ∷ []) ∷ (placed 5 3 ∷ []) ∷ (placed 6 3 ∷ []) ∷ (limited 2 ∷ []) ∷ (placed 7 1 ∷ []) ∷ [];
-  settings = some (pos 0) ∷ [];
+  settings = Some (pos 0) ∷ [];
 }
 
 -- Passed oftener than the K in force: 1 and 2 have been passed twice and once; with K = 1 none of them may be passed, with K = 0 nobody.
@@ -258,7 +255,7 @@ oftener = record {
   calls = one ∷ one ∷ one ∷ limit 1 ∷ one ∷ limit 0 ∷ one ∷ limit 8 ∷ one ∷ [];
   answers = (placed 1 0 ∷ []) ∷ (placed 2 0 ∷ []) ∷ (placed 3 0 ∷ []) ∷ (limited 1 ∷ []) ∷ (placed 4 1 ∷ []) ∷ (limited 0 ∷ [])
       ∷ (placed 5 4 ∷ []) ∷ (limited 8 ∷ []) ∷ (placed 6 0 ∷ []) ∷ [];
-  settings = some (pos 0) ∷ [];
+  settings = Some (pos 0) ∷ [];
 }
 
 pub new_limits_hold : Holds new_limits × Holds oftener
@@ -268,10 +265,10 @@ new_limits_hold = ((refl, refl, refl), (refl, refl, refl))
 -- ---- a lamp that dies after its work (document 02, item 3): device 0 is the lamp, device 1 the shelter
 
 abbrev pub none_flies : List Answer
-none_flies = refused (Number 12) ∷ []
+none_flies = refused (numbered 12) ∷ []
 
 abbrev pub none_runs : List Answer
-none_runs = refused (Number 10) ∷ []
+none_runs = refused (numbered 10) ∷ []
 
 -- The lamp is in flight when it fails: the routine goes on, and a turn passes over it. A late report is 12 while nothing is in flight, and
 -- 10 once the routine has ended. (Between the sends and the dones the server drops it: the hub would take it for the shelter's.)
@@ -285,7 +282,7 @@ lamp_in_flight = record {
   answers = (placed 1 0 ∷ []) ∷ (send 1 (best 0 (pos 50)) ∷ []) ∷ (down 0 1 ∷ []) ∷ none_flies ∷ none_flies
       ∷ (send 1 (must 1 (pos 20)) ∷ []) ∷ (done 1 ∷ []) ∷ none_flies ∷ (send 1 (must 1 (pos 30)) ∷ []) ∷ (done 1 ∷ [])
       ∷ (committed 1 ∷ []) ∷ none_runs ∷ none_runs ∷ [];
-  settings = none ∷ some (pos 30) ∷ [];
+  settings = None ∷ Some (pos 30) ∷ [];
 }
 
 -- The lamp was done before it failed, and its last command is skipped: behind the shelter's, the turn commits. Nothing is left on the lamp
@@ -299,7 +296,7 @@ lamp_done = record {
       ∷ restart 0 (pos 33) ∷ report 1 0 ∷ turn 1 ∷ [];
   answers = (placed 1 0 ∷ []) ∷ (send 1 (best 0 (pos 50)) ∷ []) ∷ (done 1 ∷ []) ∷ (down 0 1 ∷ []) ∷ (send 1 (must 1 (pos 20)) ∷ [])
       ∷ (up 0 1 ∷ []) ∷ (done 1 ∷ []) ∷ (committed 1 ∷ []) ∷ [];
-  settings = some (pos 33) ∷ some (pos 20) ∷ [];
+  settings = Some (pos 33) ∷ Some (pos 20) ∷ [];
 }
 
 -- A must is left on the lamp, behind a best-effort one: it aborts, and nothing is skipped.
@@ -312,7 +309,7 @@ lamp_must_behind = record {
       ∷ report 1 0 ∷ [];
   answers = (placed 1 0 ∷ []) ∷ (send 1 (must 1 (pos 20)) ∷ []) ∷ (done 1 ∷ []) ∷ (send 1 (best 0 (pos 50)) ∷ [])
       ∷ (aborted 1 (back 1 (pos 0) ∷ []) ∷ down 0 0 ∷ []) ∷ none_runs ∷ [];
-  settings = none ∷ some (pos 0) ∷ [];
+  settings = None ∷ Some (pos 0) ∷ [];
 }
 
 -- A restart skips what is left, too; a must left aborts.
@@ -325,7 +322,7 @@ lamp_restarted = record {
       ∷ turn 1 ∷ failure 0 ∷ submit (best 0 (pos 5) ∷ must 0 (pos 6) ∷ []) ∷ turn 2 ∷ restart 0 (pos 8) ∷ [];
   answers = (down 0 0 ∷ []) ∷ (placed 1 0 ∷ []) ∷ (skipped 1 [] ∷ []) ∷ (up 0 1 ∷ []) ∷ (send 1 (must 1 (pos 20)) ∷ []) ∷ (done 1 ∷ [])
       ∷ (committed 1 ∷ []) ∷ (down 0 0 ∷ []) ∷ (placed 2 0 ∷ []) ∷ (skipped 2 [] ∷ []) ∷ (aborted 2 [] ∷ up 0 0 ∷ []) ∷ [];
-  settings = some (pos 8) ∷ some (pos 20) ∷ [];
+  settings = Some (pos 8) ∷ Some (pos 20) ∷ [];
 }
 
 -- Three commands are left on the lamp with one on the shelter between them: all are skipped, and the turn passes over the first. The lamp
@@ -340,7 +337,7 @@ lamp_between = record {
   answers = (placed 1 0 ∷ []) ∷ (placed 2 1 ∷ []) ∷ (send 1 (best 0 (pos 1)) ∷ []) ∷ (done 1 ∷ []) ∷ (wait 2 1 ∷ []) ∷ (down 0 1 ∷ [])
       ∷ (up 0 1 ∷ []) ∷ (send 2 (best 0 (pos 7)) ∷ []) ∷ (send 1 (must 1 (pos 20)) ∷ []) ∷ (done 1 ∷ []) ∷ (committed 1 ∷ [])
       ∷ (done 2 ∷ []) ∷ (committed 2 ∷ []) ∷ [];
-  settings = some (pos 7) ∷ some (pos 20) ∷ [];
+  settings = Some (pos 7) ∷ Some (pos 20) ∷ [];
 }
 
 -- A routine that has not begun the lamp keeps its command on it, through a failure and a restart.
@@ -353,7 +350,7 @@ lamp_not_begun = record {
       ∷ report 1 0 ∷ turn 1 ∷ [];
   answers = (placed 1 0 ∷ []) ∷ (send 1 (must 1 (pos 20)) ∷ []) ∷ (down 0 0 ∷ []) ∷ (up 0 0 ∷ []) ∷ (done 1 ∷ [])
       ∷ (send 1 (best 0 (pos 5)) ∷ []) ∷ (done 1 ∷ []) ∷ (send 1 (best 0 (pos 6)) ∷ []) ∷ [];
-  settings = some (pos 5) ∷ some (pos 20) ∷ [];
+  settings = Some (pos 5) ∷ Some (pos 20) ∷ [];
 }
 
 pub lamps_hold : AllHold (lamp_in_flight ∷ lamp_done ∷ lamp_must_behind ∷ lamp_restarted ∷ lamp_between ∷ lamp_not_begun ∷ [])
@@ -379,7 +376,7 @@ dry_or_not = record {
       ∷ turn 3 ∷ turn 3 ∷ report 3 0 ∷ turn 3 ∷ submit (condition 0 (pos 20) ∷ must 1 (pos 5) ∷ []) ∷ turn 4 ∷ turn 4 ∷ [];
   answers = (placed 3 0 ∷ []) ∷ (not_held 3 ∷ []) ∷ none_flies ∷ (skipped 3 [] ∷ []) ∷ (held 3 ∷ []) ∷ (send 3 (must 0 (pos 20)) ∷ [])
       ∷ (done 3 ∷ []) ∷ (committed 3 ∷ []) ∷ (placed 4 0 ∷ []) ∷ (held 4 ∷ []) ∷ (send 4 (must 1 (pos 5)) ∷ []) ∷ [];
-  settings = some (pos 20) ∷ some (pos 0) ∷ [];
+  settings = Some (pos 20) ∷ Some (pos 0) ∷ [];
 }
 
 -- 1 has done device 0 and finished it: a condition on it waits until 1 has committed.
@@ -393,7 +390,7 @@ second_cause = record {
   answers = (placed 1 0 ∷ []) ∷ (send 1 (must 0 (pos 30)) ∷ []) ∷ (done 1 ∷ []) ∷ (placed 2 1 ∷ []) ∷ (wait 2 1 ∷ [])
       ∷ (send 1 (must 1 (pos 1)) ∷ []) ∷ (done 1 ∷ []) ∷ (wait 2 1 ∷ []) ∷ (committed 1 ∷ []) ∷ (held 2 ∷ [])
       ∷ (send 2 (must 2 (pos 5)) ∷ []) ∷ [];
-  settings = some (pos 30) ∷ some (pos 1) ∷ some (pos 0) ∷ [];
+  settings = Some (pos 30) ∷ Some (pos 1) ∷ Some (pos 0) ∷ [];
 }
 
 -- The first in the sequence that gives either cause: 1 has a done command on device 0, 2 has it left. The condition of 3 waits on 1, a
@@ -409,7 +406,7 @@ either_cause = record {
   answers = (placed 1 0 ∷ []) ∷ (send 1 (must 0 (pos 30)) ∷ []) ∷ (done 1 ∷ []) ∷ (placed 2 1 ∷ []) ∷ (placed 3 2 ∷ [])
       ∷ (placed 4 3 ∷ []) ∷ (wait 3 1 ∷ []) ∷ (wait 4 2 ∷ []) ∷ (aborted 1 (back 0 (pos 0) ∷ []) ∷ []) ∷ (wait 3 2 ∷ [])
       ∷ (send 2 (must 0 (pos 40)) ∷ []) ∷ (done 2 ∷ []) ∷ (wait 3 2 ∷ []) ∷ (committed 2 ∷ []) ∷ (held 3 ∷ []) ∷ [];
-  settings = some (pos 40) ∷ some (pos 0) ∷ [];
+  settings = Some (pos 40) ∷ Some (pos 0) ∷ [];
 }
 
 -- A restart at 25, attached to a routine that runs, is no cause to wait: the condition holds because of it. One that is committed and not
@@ -425,7 +422,7 @@ restart_holds = record {
   answers = (placed 1 0 ∷ []) ∷ (down 0 0 ∷ []) ∷ (skipped 1 [] ∷ []) ∷ (up 0 1 ∷ []) ∷ (placed 2 1 ∷ []) ∷ (held 2 ∷ [])
       ∷ (send 2 (must 0 (pos 7)) ∷ []) ∷ (done 2 ∷ []) ∷ (committed 2 ∷ []) ∷ (placed 3 2 ∷ []) ∷ (not_held 3 ∷ []) ∷ (skipped 3 [] ∷ [])
       ∷ [];
-  settings = some (pos 7) ∷ some (pos 0) ∷ some (pos 0) ∷ [];
+  settings = Some (pos 7) ∷ Some (pos 0) ∷ Some (pos 0) ∷ [];
 }
 
 -- Device 0 is down. The command after the condition decides: a must aborts 1; a best-effort skips the condition of 2, and is itself
@@ -439,7 +436,7 @@ asked_down = record {
       ∷ turn 2 ∷ turn 2 ∷ turn 2 ∷ [];
   answers = (down 0 0 ∷ []) ∷ (placed 1 0 ∷ []) ∷ (placed 2 1 ∷ []) ∷ (aborted 1 [] ∷ []) ∷ (skipped 2 [] ∷ []) ∷ (skipped 2 [] ∷ [])
       ∷ (committed 2 ∷ []) ∷ [];
-  settings = none ∷ some (pos 0) ∷ [];
+  settings = None ∷ Some (pos 0) ∷ [];
 }
 
 -- The condition of 1 is left on device 0, which 1 has begun, when that fails: it has the tag of the command after it. A best-effort one
@@ -455,7 +452,7 @@ asked_at_event = record {
   answers = (placed 1 0 ∷ []) ∷ (send 1 (must 0 (pos 9)) ∷ []) ∷ (done 1 ∷ []) ∷ (down 0 1 ∷ []) ∷ (skipped 1 [] ∷ [])
       ∷ (send 1 (must 1 (pos 6)) ∷ []) ∷ (done 1 ∷ []) ∷ (committed 1 ∷ []) ∷ (up 0 0 ∷ []) ∷ (placed 2 0 ∷ [])
       ∷ (send 2 (best 0 (pos 9)) ∷ []) ∷ (aborted 2 [] ∷ down 0 0 ∷ []) ∷ [];
-  settings = none ∷ some (pos 6) ∷ [];
+  settings = None ∷ Some (pos 6) ∷ [];
 }
 
 -- The command after a condition that did not hold waits as any other (2 for 1, which has begun device 1), and aborts nothing where its
@@ -469,7 +466,7 @@ skipped_waits = record {
       ∷ submit (best 0 (pos 1) ∷ []) ∷ report 1 0 ∷ failure 1 ∷ turn 2 ∷ turn 2 ∷ [];
   answers = (placed 1 0 ∷ []) ∷ (send 1 (must 1 (pos 1)) ∷ []) ∷ (placed 2 1 ∷ []) ∷ (not_held 2 ∷ []) ∷ (wait 2 1 ∷ [])
       ∷ (down 0 2 ∷ []) ∷ (placed 3 2 ∷ []) ∷ (done 1 ∷ []) ∷ (down 1 1 ∷ []) ∷ (skipped 2 [] ∷ []) ∷ (committed 2 ∷ []) ∷ [];
-  settings = none ∷ none ∷ [];
+  settings = None ∷ None ∷ [];
 }
 
 -- 5, 6, 7, 22 for each command in turn.
@@ -482,9 +479,9 @@ conditions_refused = record {
       ∷ submit (condition 2 (pos 5) ∷ []) ∷ submit (condition 0 (pos 1001) ∷ []) ∷ submit
       (record { device = 0; tag = 3; setting = pos 0 } ∷ []) ∷ submit (condition 0 (pos 5) ∷ condition 2 (pos 5) ∷ []) ∷ submit
       (condition 0 (pos 5) ∷ must 2 (pos 5) ∷ []) ∷ [];
-  answers = (refused (Indexed 22 0) ∷ []) ∷ (refused (Indexed 22 1) ∷ []) ∷ (refused (Indexed 5 0) ∷ []) ∷ (refused (Indexed 6 0) ∷ [])
-      ∷ (refused (Indexed 7 0) ∷ []) ∷ (refused (Indexed 22 0) ∷ []) ∷ (refused (Indexed 5 1) ∷ []) ∷ [];
-  settings = some (pos 0) ∷ some (pos 0) ∷ [];
+  answers = (refused (indexed 22 0) ∷ []) ∷ (refused (indexed 22 1) ∷ []) ∷ (refused (indexed 5 0) ∷ []) ∷ (refused (indexed 6 0) ∷ [])
+      ∷ (refused (indexed 7 0) ∷ []) ∷ (refused (indexed 22 0) ∷ []) ∷ (refused (indexed 5 1) ∷ []) ∷ [];
+  settings = Some (pos 0) ∷ Some (pos 0) ∷ [];
 }
 
 pub conditions_hold : AllHold (dry_or_not ∷ second_cause ∷ either_cause ∷ restart_holds ∷ asked_down ∷ asked_at_event ∷ skipped_waits
@@ -510,10 +507,10 @@ nines n = replicate n (pos 9)
 -- Longer than N, just N, one short, none.
 abbrev pub ListsHold : Type 0
 ListsHold =
-    (list_check one_down 5 ≡ Accepted) × (list_after one_down (nines 5) ≡ pos 50 ∷ pos 0 ∷ pos 0 ∷ pos 9 ∷ pos 9 ∷ [])
-    × (list_check one_down 3 ≡ Accepted) × (list_after one_down (nines 3) ≡ pos 50 ∷ pos 0 ∷ pos 0 ∷ [])
-    × (list_check one_down 2 ≡ Refused (Number 21)) × (list_after one_down (nines 2) ≡ nines 2)
-    × (list_check one_down 0 ≡ Refused (Number 21)) × (list_after one_down [] ≡ [])
+    (list_check one_down 5 ≡ Ok tt) × (list_after one_down (nines 5) ≡ pos 50 ∷ pos 0 ∷ pos 0 ∷ pos 9 ∷ pos 9 ∷ [])
+    × (list_check one_down 3 ≡ Ok tt) × (list_after one_down (nines 3) ≡ pos 50 ∷ pos 0 ∷ pos 0 ∷ [])
+    × (list_check one_down 2 ≡ Err (numbered 21)) × (list_after one_down (nines 2) ≡ nines 2)
+    × (list_check one_down 0 ≡ Err (numbered 21)) × (list_after one_down [] ≡ [])
 
 pub lists_hold : ListsHold
 unfolding calc all_due list_check list_after

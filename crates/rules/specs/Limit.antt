@@ -1,7 +1,6 @@
 -- Document 02, item 13, "New pass limit without a stop". Refusals: 1, 2. Assumes nothing.
 use Rattle.std.specs.Prelude.{[], ◌∷◌, ℕ}
-use Rattle.rules_routine.specs.Refusals.{◌and_then◌}
-use Rattle.rules_routine.specs.declared.Verdict.{Verdict}
+use Rattle.rules_routine.specs.Refusals.{◌and_then◌, Verdict}
 use Rattle.rules.specs.State.{State}
 use Rattle.rules.specs.Answers.{Result, limited, unless_refused}
 use Rattle.rules.specs.Settle.{settling}

@@ -1,7 +1,6 @@
 -- Document 01, "The steps": how far a routine is with its commands and with a device; conditions: document 02, item 4. A condition "uses
 -- its device like a command". Assumes nothing.
-use Rattle.std.specs.Prelude.{Bool, true, false, not, ◌&&◌, List, [], ◌∷◌, map, ℕ, eqb, ℤ, if◌then◌else◌}
-use Rattle.std.proofs.Math.Option.{Option, none, some}
+use Rattle.std.specs.Prelude.{Bool, true, false, not, ◌&&◌, List, [], ◌∷◌, map, ℕ, eqb, ℤ, if◌then◌else◌, Option, None, Some}
 use Rattle.rules_routine.specs.Routine.{must_tag, is_condition}
 use Rattle.rules_routine.specs.declared.Command.{Command}
 use Rattle.rules.specs.Tables.{any_of}
@@ -65,8 +64,8 @@ in_flight_on d m = any_of (λ x. is_on d x && is_in_flight x.status) m.steps
 
 -- The next command: the first that is neither sent nor skipped, anywhere in the routine.
 abbrev pub next : List Step → Option Command
-next [] = none
-next (x ∷ l) = if is_to_do x.status then some x.command else next l
+next [] = None
+next (x ∷ l) = if is_to_do x.status then Some x.command else next l
 
 -- ---- conditions
 
@@ -110,7 +109,7 @@ pub record Flight : Type 0 where
 
 abbrev pub flight_or : Step → Status → Option Flight → Option Flight
 flight_or x to-do other = other
-flight_or x (in_flight u) other = some (record { command = x.command; due_then = u })
+flight_or x (in_flight u) other = Some (record { command = x.command; due_then = u })
 flight_or x was_done other = other
 flight_or x was_skipped other = other
 flight_or x was_held other = other
@@ -118,7 +117,7 @@ flight_or x was_not_held other = other
 
 -- The command in flight.
 abbrev pub flight : List Step → Option Flight
-flight [] = none
+flight [] = None
 flight (x ∷ l) = flight_or x x.status (flight l)
 
 abbrev pub with_status : Status → Step → Step

@@ -1,7 +1,7 @@
 -- Document 01, "Report on R". Refusals: 10, 12, 13. Assumes nothing.
-use Rattle.std.specs.Prelude.{List, [], ◌∷◌, ℕ, ltb, eqb, ℤ, if◌then◌else◌}
-use Rattle.std.proofs.Math.Option.{Option, none, some}
-use Rattle.rules_routine.specs.Refusals.{not_running, none_in_flight, report_code_out_of_range, refuse◌when◌}
+use Rattle.rules_routine.specs.declared.refusals.Refusal.TheVariants.{NotRunning, NothingInFlight, ReportCodeOutOfRange}
+use Rattle.std.specs.Prelude.{List, [], ◌∷◌, ℕ, ltb, eqb, ℤ, if◌then◌else◌, Option, None, Some}
+use Rattle.rules_routine.specs.Refusals.{refuse◌when◌}
 use Rattle.rules.specs.Tables.{same_setting}
 use Rattle.rules.specs.State.{was_done, was_skipped, State}
 use Rattle.rules.specs.Answers.{Back, Result, done, skipped, refused_for, unless_refused}
@@ -44,12 +44,12 @@ reported s f x code =
     else settling (skip_report s f x)
 
 abbrev pub report_flight : State → Found → ℕ → Option Flight → Result
-report_flight s f code none = refused_for none_in_flight s
-report_flight s f code (some x) = unless_refused (refuse report_code_out_of_range when ltb code_failed code) s (reported s f x code)
+report_flight s f code None = refused_for NothingInFlight s
+report_flight s f code (Some x) = unless_refused (refuse ReportCodeOutOfRange when ltb code_failed code) s (reported s f x code)
 
 abbrev pub report_found : State → ℕ → Option Found → Result
-report_found s code none = refused_for not_running s
-report_found s code (some f) = report_flight s f code (flight f.it.steps)
+report_found s code None = refused_for NotRunning s
+report_found s code (Some f) = report_flight s f code (flight f.it.steps)
 
 unfoldable pub report_of : State → ℕ → ℕ → Result
 report_of s i code = report_found s code (find (runs i) s.sequence)

@@ -1,6 +1,5 @@
 -- The sequence: finding a routine in it, and changes of the state. Assumes nothing.
-use Rattle.std.specs.Prelude.{Bool, not, ◌&&◌, List, [], ◌∷◌, ◌++◌, ℕ, eqb, ℤ, if◌then◌else◌}
-use Rattle.std.proofs.Math.Option.{Option, none, some}
+use Rattle.std.specs.Prelude.{Bool, not, ◌&&◌, List, [], ◌∷◌, ◌++◌, ℕ, eqb, ℤ, if◌then◌else◌, Option, None, Some}
 use Rattle.rules.specs.State.{Member, State}
 
 -- A routine of the sequence, with those ahead of it and those behind it.
@@ -10,13 +9,13 @@ pub record Found : Type 0 where
   pub behind : List Member
 
 abbrev pub onto : Member → Option Found → Option Found
-onto m none = none
-onto m (some f) = some (record { ahead = m ∷ f.ahead; it = f.it; behind = f.behind })
+onto m None = None
+onto m (Some f) = Some (record { ahead = m ∷ f.ahead; it = f.it; behind = f.behind })
 
 -- The first that passes the test.
 abbrev pub find : (Member → Bool) → List Member → Option Found
-find p [] = none
-find p (m ∷ l) = if p m then some (record { ahead = []; it = m; behind = l }) else onto m (find p l)
+find p [] = None
+find p (m ∷ l) = if p m then Some (record { ahead = []; it = m; behind = l }) else onto m (find p l)
 
 -- "a routine runs until committed or aborted": in the sequence, until committed.
 unfoldable pub is_running : Member → Bool

@@ -1,6 +1,5 @@
 -- Document 01, "Things and ranges" and "The steps": the hub's state. Assumes nothing.
-use Rattle.std.specs.Prelude.{Bool, List, ℕ, ℤ}
-use Rattle.std.proofs.Math.Option.{Option}
+use Rattle.std.specs.Prelude.{Bool, List, ℕ, ℤ, Option}
 use Rattle.rules_routine.specs.declared.Command.{Command}
 
 -- Where a command of a routine in the sequence stands. One in flight keeps its device's due setting "when the command was sent".

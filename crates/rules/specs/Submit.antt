@@ -1,10 +1,9 @@
 -- Document 01, "Submit". Refusals: 4; then the commands in turn, each 5, 6, 7 and 22 (document 02, item 4); then 8, 9. Assumes nothing.
-use Rattle.std.specs.Prelude.{Bool, false, ◌&&◌, ◌||◌, List, [], ◌∷◌, ◌++◌, map, ℕ, suc, leb, ltb, eqb, length, if◌then◌else◌}
-use Rattle.std.proofs.Math.Option.{none}
-use Rattle.rules_routine.specs.Refusals.{sequence_full, ids_used_up, refuse◌when◌, ◌and_then◌}
+use Rattle.rules_routine.specs.declared.refusals.Refusal.TheVariants.{SequenceFull, IdsUsedUp}
+use Rattle.std.specs.Prelude.{Bool, false, ◌&&◌, ◌||◌, List, [], ◌∷◌, ◌++◌, map, ℕ, suc, leb, ltb, eqb, length, if◌then◌else◌, None}
+use Rattle.rules_routine.specs.Refusals.{refuse◌when◌, ◌and_then◌, Verdict}
 use Rattle.rules_routine.specs.Routine.{routine_check}
 use Rattle.rules_routine.specs.declared.Command.{Command}
-use Rattle.rules_routine.specs.declared.Verdict.{Verdict}
 use Rattle.rules.specs.Tables.{any_of}
 use Rattle.rules_routine.specs.Limits.{max_sequence, highest_id}
 use Rattle.rules.specs.State.{to-do, Step, Member, State}
@@ -15,8 +14,8 @@ use Rattle.rules.specs.Settle.{settling}
 unfoldable pub submit_check : State → List Command → Verdict
 submit_check s cs =
     routine_check s.devices cs
-    and_then refuse sequence_full when leb max_sequence (length s.sequence)
-    and_then refuse ids_used_up when ltb highest_id s.next_id
+    and_then refuse SequenceFull when leb max_sequence (length s.sequence)
+    and_then refuse IdsUsedUp when ltb highest_id s.next_id
 
 -- What the newcomer must follow: "the marks of its devices; every running routine that has been passed K times"; with another K than that
 -- of the opening, "passed as often as the K then in force, or oftener" (document 02, item 13)
@@ -48,7 +47,7 @@ abbrev pub step_of : Command → Step
 step_of c = record { command = c; status = to-do }
 
 unfoldable pub newcomer : ℕ → List Command → Member
-newcomer i cs = record { id = i; steps = map step_of cs; passed = 0; committed = false; restarts = λ d. none }
+newcomer i cs = record { id = i; steps = map step_of cs; passed = 0; committed = false; restarts = λ d. None }
 
 -- "It gets the next id"
 unfoldable pub place : State → List Command → State

@@ -1,8 +1,7 @@
 -- Document 01, "Mark" and "Turn of R", with the conditions of document 02, item 4. Refusals: 10, 11. Assumes nothing.
-use Rattle.std.specs.Prelude.{Bool, true, false, not, ◌&&◌, ◌||◌, List, [], ◌∷◌, ℕ, if◌then◌else◌}
-use Rattle.std.proofs.Math.Option.{Option, none, some}
+use Rattle.rules_routine.specs.declared.refusals.Refusal.TheVariants.{NotRunning, TurnInFlight}
+use Rattle.std.specs.Prelude.{Bool, true, false, not, ◌&&◌, ◌||◌, List, [], ◌∷◌, ℕ, if◌then◌else◌, Option, None, Some}
 use Rattle.std.specs.Int.Signed.{lt_z}
-use Rattle.rules_routine.specs.Refusals.{not_running, turn_in_flight}
 use Rattle.rules_routine.specs.Routine.{is_condition}
 use Rattle.rules_routine.specs.declared.Command.{Command}
 use Rattle.rules.specs.Tables.{any_of, put}
@@ -30,8 +29,8 @@ holds_up d condition m = holds d m || (condition && has_set d m)
 -- "the first such id in the sequence", and for a condition "the first in the sequence that gives either cause to wait": the wait search,
 -- through the routines ahead.
 abbrev pub first_holding : ℕ → Bool → List Member → Option ℕ
-first_holding d condition [] = none
-first_holding d condition (m ∷ l) = if holds_up d condition m then some m.id else first_holding d condition l
+first_holding d condition [] = None
+first_holding d condition (m ∷ l) = if holds_up d condition m then Some m.id else first_holding d condition l
 
 -- Mark (document 01, The steps): "It becomes R when R begins the device."
 unfoldable pub mark_begun : Member → ℕ → (ℕ → ℕ) → ℕ → ℕ
@@ -85,21 +84,21 @@ proceed s f c =
 
 -- "the answer is wait, with the first such id in the sequence, and no change"
 abbrev pub wait_or : State → Found → Command → Option ℕ → Result
-wait_or s f c (some j) = record { state = s; answers = wait f.it.id j ∷ [] }
-wait_or s f c none = proceed s f c
+wait_or s f c (Some j) = record { state = s; answers = wait f.it.id j ∷ [] }
+wait_or s f c None = proceed s f c
 
 -- "No command left: committed. Otherwise let D be the next command's device."
 abbrev pub turn_next : State → Found → Option Command → Result
-turn_next s f none = settling (commit_turn s f)
-turn_next s f (some c) = wait_or s f c (first_holding c.device (is_condition c) f.ahead)
+turn_next s f None = settling (commit_turn s f)
+turn_next s f (Some c) = wait_or s f c (first_holding c.device (is_condition c) f.ahead)
 
 abbrev pub turn_flight : State → Found → Option Flight → Result
-turn_flight s f (some x) = refused_for turn_in_flight s
-turn_flight s f none = turn_next s f (next f.it.steps)
+turn_flight s f (Some x) = refused_for TurnInFlight s
+turn_flight s f None = turn_next s f (next f.it.steps)
 
 abbrev pub turn_found : State → Option Found → Result
-turn_found s none = refused_for not_running s
-turn_found s (some f) = turn_flight s f (flight f.it.steps)
+turn_found s None = refused_for NotRunning s
+turn_found s (Some f) = turn_flight s f (flight f.it.steps)
 
 unfoldable pub turn_of : State → ℕ → Result
 turn_of s i = turn_found s (find (runs i) s.sequence)

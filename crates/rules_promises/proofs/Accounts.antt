@@ -1,10 +1,11 @@
 -- What the calls and answers tell is what the hub holds: of each routine, of the ids not given yet, and of which devices are up. Assumes
 -- nothing.
+use Rattle.rules_routine.proofs.Options.{none-ne-some, some-injective}
+use Rattle.std.proofs.Common.{Option, None, Some}
 use mathlib.Core.Path.{◌≡◌, refl, sym, ap, ap₂, ◌∙◌, subst, fun_ext}
 use mathlib.Core.Logic.{◌≢◌}
 use mathlib.Core.Bool.{Bool, true, false, not, ◌&&◌, ◌||◌}
 use mathlib.Core.List.{List, [], ◌∷◌, ◌++◌}
-use mathlib.Core.Option.{Option, none, some, none-ne-some, some-injective}
 use Prim.Native.Nat.{ℕ, ◌<◌, ◌≤◌}
 use native.Mathlib.Omega.{arith}
 use borrow.Author.Tests.{eqb-true, eqb-false, not-true, not-false}
@@ -90,7 +91,7 @@ module _ (s : State) (a : ℕ → Account) (x : Account) (ga : List Group) (g : 
 record TellsOf (x : Account) (h : Group) : Type 0 where
   runs : x.running ≡ not h.member.committed
   flies : x.flying ≡ has_flight (flight h.member.steps)
-  sent : (y : Flight) → flight h.member.steps ≡ some y → x.last_sent ≡ y.command
+  sent : (y : Flight) → flight h.member.steps ≡ Some y → x.last_sent ≡ y.command
   agree : AllAgree x.commands h.member.steps
 
 own_tells : (a : ℕ → Account) (i : ℕ) (x : Account) (h : Group) → h.member.id ≡ i → TellsOf x h → AccountTells (put a i x) h
@@ -107,12 +108,12 @@ own_tells a i x h same t = record {
 -- ---- answered commands
 
 -- a command in flight that is none
-no_sent : (c : Command) (h : Group) → flight h.member.steps ≡ none → (y : Flight) → flight h.member.steps ≡ some y → c ≡ y.command
+no_sent : (c : Command) (h : Group) → flight h.member.steps ≡ None → (y : Flight) → flight h.member.steps ≡ Some y → c ≡ y.command
 no_sent c h e y q = absurd (none-ne-some y (sym e ∙ q))
 
 -- the first command that is left is answered: g becomes h
 answered-tells : (a : ℕ → Account) (g h : Group) (o : Outcome) → h.member.id ≡ g.member.id →
-    h.member.committed ≡ g.member.committed → flight h.member.steps ≡ none →
+    h.member.committed ≡ g.member.committed → flight h.member.steps ≡ None →
     AllAgree (note_first o (a g.member.id).commands) h.member.steps → AccountTells a g →
     AccountTells (put a g.member.id (answered_account o (a g.member.id))) h
 answered-tells a g h o same same-committed grounded agree t =
@@ -138,8 +139,8 @@ flying_on a g d w t = go (flight g.member.steps) refl
     x = a g.member.id
 
     go : (o : Option Flight) → flight g.member.steps ≡ o → (x.flying && is_for d x.last_sent) ≡ in_flight_on d g.member
-    go none e = ap (λ b. b && is_for d x.last_sent) (t.flies_is ∙ ap has_flight e) ∙ sym (grounded g.member d e)
-    go (some y) e =
+    go None e = ap (λ b. b && is_for d x.last_sent) (t.flies_is ∙ ap has_flight e) ∙ sym (grounded g.member d e)
+    go (Some y) e =
         ap₂ (λ b (c : Command). b && is_for d c) (t.flies_is ∙ ap has_flight e) (t.sent_is y e)
         ∙ sym ((done-step g.member w y e).flew d)
 
@@ -267,16 +268,16 @@ loses_tells s d a ga g gb h t = record {
     k : LeftSkipped d g.member n
     k = skip_steps d g.member (in-turn s ga g gb h)
 
-    no_flight : (o : Option Flight) → flight n.steps ≡ o → ((z : Flight) → flight n.steps ≡ some z → ⊥) → has_flight o ≡ false
-    no_flight none e f = refl
-    no_flight (some z) e f = absurd (f z e)
+    no_flight : (o : Option Flight) → flight n.steps ≡ o → ((z : Flight) → flight n.steps ≡ Some z → ⊥) → has_flight o ≡ false
+    no_flight None e f = refl
+    no_flight (Some z) e f = absurd (f z e)
 
     flies : (o : Option Flight) → flight g.member.steps ≡ o →
         (x.flying && not (is_for d x.last_sent)) ≡ has_flight (flight n.steps)
-    flies none e =
+    flies None e =
         ap (λ b. b && not (is_for d x.last_sent)) (t.flies_is ∙ ap has_flight e)
         ∙ sym (no_flight (flight n.steps) refl (λ z f. absurd (none-ne-some z (sym e ∙ (k.flight_was z f).0))))
-    flies (some z) e =
+    flies (Some z) e =
         ap₂ (λ b (c : Command). b && not (is_for d c)) (t.flies_is ∙ ap has_flight e) (t.sent_is z e)
         ∙ go (is_for d z.command) refl
       where

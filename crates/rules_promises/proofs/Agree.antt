@@ -1,9 +1,10 @@
 -- What is told of a routine's commands is what the hub has of them: laws of that, and that every change of the commands keeps it. Assumes
 -- nothing.
+use Rattle.rules_routine.proofs.Options.{none-ne-some, some-ne-none}
+use Rattle.std.proofs.Common.{None, Some}
 use mathlib.Core.Path.{◌≡◌, refl, sym, ap, ◌∙◌}
 use mathlib.Core.Bool.{Bool, true, false, not, ◌&&◌, ◌||◌}
 use mathlib.Core.List.{List, [], ◌∷◌, map}
-use mathlib.Core.Option.{none, some, none-ne-some, some-ne-none}
 use Prim.Native.Nat.{ℕ}
 use lib.IntN.{ℤ}
 use Rattle.std.specs.Prelude.{if◌then◌else◌}
@@ -75,7 +76,7 @@ agree_new [] = no_command
 agree_new (c ∷ cs) = one_more c agree_to_do (agree_new cs)
 
 -- the next command comes to a status
-pub agree_next : (o : Outcome) (s : Status) → Agree s o → {l : List Noted} {k : List Step} → AllAgree l k → flight k ≡ none →
+pub agree_next : (o : Outcome) (s : Status) → Agree s o → {l : List Noted} {k : List Step} → AllAgree l k → flight k ≡ None →
     AllAgree (note_first o l) (advance s k)
 agree_next o s q no_command f = no_command
 agree_next o s q (one_more c agree_to_do h) f = one_more c q h
@@ -101,7 +102,7 @@ agree_sent u (one_more c agree_not_held h) = one_more c agree_not_held (agree_se
 
 -- the command in flight is answered
 pub agree_flight : (o : Outcome) (s : Status) → Agree s o → (x : Flight) {l : List Noted} {k : List Step} → AllAgree l k → InTurn k →
-    flight k ≡ some x → AllAgree (note_first o l) (answer_flight s k)
+    flight k ≡ Some x → AllAgree (note_first o l) (answer_flight s k)
 agree_flight o s q x no_command t f = absurd (none-ne-some x f)
 agree_flight o s q x (one_more c {k = k} agree_to_do h) t f = absurd (none-ne-some x (sym (behind_grounded k t) ∙ f))
 agree_flight o s q x (one_more c agree_in_flight h) t f = one_more c q h

@@ -1,10 +1,11 @@
 -- Conditions, of the hub: a running routine ahead of one that found a condition on d has no done command on d, nor will it have one; and
 -- what is in flight is no condition. Every call keeps both. Assumes nothing.
+use Rattle.rules_routine.proofs.Options.{none-ne-some, some-injective}
+use Rattle.std.proofs.Common.{None, Some}
 use mathlib.Core.Path.{◌≡◌, refl, sym, ap, ◌∙◌, subst}
 use mathlib.Core.Logic.{◌≢◌}
 use mathlib.Core.Bool.{Bool, true, false, not, ◌&&◌, ◌||◌, and-true, and-false}
 use mathlib.Core.List.{List, [], ◌∷◌, ◌++◌}
-use mathlib.Core.Option.{none, some, none-ne-some, some-injective}
 use Prim.Native.Nat.{ℕ}
 use borrow.Author.Tests.{ne_eqb}
 use Rattle.std.specs.Prelude.{if◌then◌else◌}
@@ -272,7 +273,7 @@ spares_moves s l h w (restarts d v r lead k n u g) =
 -- ---- what is in flight is no condition, nor one that a condition skips
 
 pub record FlightIsPlain (g : Group) : Type 0 where
-  pub plain : (x : Flight) → flight g.member.steps ≡ some x → is_condition x.command ≡ false
+  pub plain : (x : Flight) → flight g.member.steps ≡ Some x → is_condition x.command ≡ false
   pub unskipped : flight_is_skipped false g.member.steps ≡ false
 
 same_plain : (g h : Group) → Same g h → FlightIsPlain g → FlightIsPlain h
@@ -281,7 +282,7 @@ same_plain g h s p = record {
   unskipped = ap (flight_is_skipped false) s.same-steps ∙ p.unskipped;
 }
 
-grounded_plain : (g : Group) → flight g.member.steps ≡ none → FlightIsPlain g
+grounded_plain : (g : Group) → flight g.member.steps ≡ None → FlightIsPlain g
 grounded_plain g e =
     record { plain = λ x f. absurd (none-ne-some x (sym e ∙ f)); unskipped = grounded_skipped g.member.steps e }
 

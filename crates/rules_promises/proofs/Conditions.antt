@@ -1,9 +1,9 @@
 -- The replay of conditions is kept by every call: device by device, along the order. Assumes nothing.
+use Rattle.std.proofs.Common.{None, Some}
 use mathlib.Core.Path.{◌≡◌, refl, sym, ap, ap₂, ◌∙◌, subst}
 use mathlib.Core.Logic.{◌≢◌, ◌⊎◌, inl, inr}
 use mathlib.Core.Bool.{Bool, true, false, cond, not, ◌&&◌, ◌||◌, and-false}
 use mathlib.Core.List.{List, [], ◌∷◌, ◌++◌, map, append_assoc}
-use mathlib.Core.Option.{none, some}
 use Prim.Native.Nat.{ℕ}
 use native.Mathlib.Omega.{arith}
 use borrow.Author.Tests.{eqb-true, ne_eqb, not-true, not-false}
@@ -184,7 +184,7 @@ module _ (s : State) (a : ℕ → Account) (l : List Group) (h : HubOk s l) (run
 
   -- the one in flight
   flight_tagged : (x : List Group) (g : Group) (y : List Group) → l ≡ x ++ (g ∷ y) → (o : Outcome) (v : Flight) →
-      flight g.member.steps ≡ some v →
+      flight g.member.steps ≡ Some v →
       (is_condition v.command ≡ false → flight_is_skipped false g.member.steps ≡ false →
       Tagged (flight_is_skipped false g.member.steps) v.command o) →
       TaggedAll (put a g.member.id (answered_account o (a g.member.id)))
@@ -293,11 +293,11 @@ agree_found d (one_more c agree_not_held h) = ap (λ b. (is_for d c && true) || 
 
 behind_unasked : (d : ℕ) (k : List Step) → AllBehind k → asked_on d k ≡ false
 behind_unasked d =
-    behind_over (asked_on d) (λ c l. ap (λ b. b || asked_on d l) (none (is_for d c))) (λ c l. ap (λ b. b || asked_on d l) (none (is_for d c)))
+    behind_over (asked_on d) (λ c l. ap (λ b. b || asked_on d l) (None (is_for d c))) (λ c l. ap (λ b. b || asked_on d l) (None (is_for d c)))
   where
-    none : (b : Bool) → (b && false) ≡ false
-    none true = refl
-    none false = refl
+    None : (b : Bool) → (b && false) ≡ false
+    None true = refl
+    None false = refl
 
 -- what is said of the first command that is left, if it is on d, and of d's setting there
 abbrev FirstOn : ℕ → (Command → ℤ → Type 0) → List Noted → ℤ → Type 0
@@ -329,13 +329,13 @@ first_any d P p (x ∷ l) v = go (first_any d P p l (set_by d x.command x.outcom
 
 -- the next command stands behind all that are done
 first_next : (d : ℕ) (P : Command → ℤ → Type 0) (c : Command) (v : ℤ) {l : List Noted} {k : List Step} → AllAgree l k → InTurn k →
-    flight k ≡ none → next k ≡ some c → (is_for d c ≡ true → P c (set_commands d (done_steps k) v)) → FirstOn d P l v
+    flight k ≡ None → next k ≡ Some c → (is_for d c ≡ true → P c (set_commands d (done_steps k) v)) → FirstOn d P l v
 first_next d P c v no_command t f e p = tt
 first_next d P c v (one_more b {k = k} agree_to_do a) t f e p =
     subst (λ (x : Command). is_for d x ≡ true → P x v) (sym (some_same b c e))
     (λ q. subst (λ l. P c (set_commands d l v)) (behind_over done_steps (λ c l. refl) (λ c l. refl) k t) (p q))
   where
-    some_same : (b c : Command) → some b ≡ some c → b ≡ c
+    some_same : (b c : Command) → Some b ≡ Some c → b ≡ c
     some_same b c e = cc
 first_next d P c v (one_more b agree_in_flight a) t f e p = let z : ◌≡◌ {A = ℕ} 0 1 = cc in absurd (omega arith)
 first_next d P c v (one_more b agree_done a) t f e p = first_next d P c (if is_for d b then b.setting else v) a t f e p
@@ -557,7 +557,7 @@ module _ (s : State) (o : Order) (a : ℕ → Account) (x : List Group) (g : Gro
       ∙ set_flat d y v events ∙ not-begun_members d y v events c.behind-not-begun)
 
   -- the next command is answered without being sent
-  replays_passes : (c : Command) (st : Status) → Passes s g c st → flight g.member.steps ≡ none → next g.member.steps ≡ some c →
+  replays_passes : (c : Command) (st : Status) → Passes s g c st → flight g.member.steps ≡ None → next g.member.steps ≡ Some c →
       ClearOfDevice c.device x g y → done_steps (passed_member st g).steps ≡ done_steps g.member.steps →
       ReplaysOn (put a i (answered_account (pass_outcome st) (a i))) (o.settled ++ flat (x ++ (with g (passed_member st g) ∷ y)))
   unfolding is_held
@@ -588,7 +588,7 @@ module _ (s : State) (o : Order) (a : ℕ → Account) (x : List Group) (g : Gro
           NotHeld d = (up_here d ≡ true) × (lt_z (set_commands d (done_steps g.member.steps) (set_here d)) c.setting ≡ true)
 
   -- the command in flight is done
-  replays_dones : (v : Flight) → flight g.member.steps ≡ some v →
+  replays_dones : (v : Flight) → flight g.member.steps ≡ Some v →
       ReplaysOn (put a i (answered_account reported_done (a i))) (o.settled ++ flat (x ++ (with g (done_member g) ∷ y)))
   replays_dones v e =
       replays_changes (done_member g) (answered_account reported_done (a i)) refl

@@ -1,10 +1,10 @@
 -- An abort, at a call of the routine's own or ahead of a failure or restart, and such an event: each device still comes to its due setting.
 -- Assumes nothing.
+use Rattle.std.proofs.Common.{Option, None, Some}
 use mathlib.Core.Path.{◌≡◌, refl, sym, ap, ◌∙◌, subst}
 use mathlib.Core.Logic.{◌≢◌}
 use mathlib.Core.Bool.{Bool, true, false, not, ◌&&◌, ◌||◌, or-true}
 use mathlib.Core.List.{List, [], ◌∷◌, ◌++◌}
-use mathlib.Core.Option.{Option, none, some}
 use Prim.Native.Nat.{ℕ, zero, suc, ◌+◌, ◌<◌, ◌≤◌}
 use native.Mathlib.Omega.{arith}
 use borrow.Author.Tests.{eqb-true, eq-eqb, ne_eqb}
@@ -367,7 +367,7 @@ attached_after : (d : ℕ) (f : ℕ → Option ℤ) (m : Member) (v : ℤ) → a
 unfolding after_member attach_to
 attached_after d f m v = restart-later (m.restarts d) (f d) _
 
-at_other : (d i : ℕ) (f : ℕ → Option ℤ) → f d ≡ none → (l : List Member) (v : ℤ) → after_members d (attach_at i f l) v ≡ after_members d l v
+at_other : (d i : ℕ) (f : ℕ → Option ℤ) → f d ≡ None → (l : List Member) (v : ℤ) → after_members d (attach_at i f l) v ≡ after_members d l v
 at_other d i f n [] v = refl
 at_other d i f n (m ∷ l) v =
     by_if (λ k. after_members d k v ≡ after_members d (m ∷ l) v) (eqb m.id i)
@@ -375,7 +375,7 @@ at_other d i f n (m ∷ l) v =
     (λ _. at_other d i f n l (after_member d m v))
 
 -- restarts of other devices change nothing of d
-due_other : (d i : ℕ) (f : ℕ → Option ℤ) (s : State) → f d ≡ none → due (attach i f s) d ≡ due s d
+due_other : (d i : ℕ) (f : ℕ → Option ℤ) (s : State) → f d ≡ None → due (attach i f s) d ≡ due s d
 unfolding attach due settle_restarts
 due_other d i f s n = go (eqb i 0)
   where
@@ -386,7 +386,7 @@ due_other d i f s n = go (eqb i 0)
     go false = at_other d i f n s.sequence (s.settled_at d)
 
 -- a restart of e at a routine behind which everyone is quiet
-at_this : (e i : ℕ) (f : ℕ → Option ℤ) (w : ℤ) → f e ≡ some w → (x : List Group) (g : Group) (y : List Group) → NotIn i (ids x) →
+at_this : (e i : ℕ) (f : ℕ → Option ℤ) (w : ℤ) → f e ≡ Some w → (x : List Group) (g : Group) (y : List Group) → NotIn i (ids x) →
     g.member.id ≡ i → Each EventsOk y → Each (NotBegun e) y →
     (v : ℤ) → after_members e (attach_at i f (members (x ++ (g ∷ y)))) v ≡ w
 at_this e i f w p [] g y n j k q v =

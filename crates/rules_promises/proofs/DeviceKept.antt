@@ -1,7 +1,7 @@
 -- Every call keeps what holds of each device. Assumes nothing.
+use Rattle.std.proofs.Common.{Some}
 use mathlib.Core.Path.{◌≡◌, refl, sym, ◌∙◌, subst}
 use mathlib.Core.List.{List, ◌∷◌, ◌++◌}
-use mathlib.Core.Option.{some}
 use Prim.Native.Nat.{ℕ, ◌<◌}
 use lib.Dec.{eqb}
 use lib.IntN.{ℤ}
@@ -26,7 +26,7 @@ use Rattle.rules_promises.proofs.DeviceAborts.{device_aborts, device-fails, devi
 
 -- what the premise says of the command in flight
 reported-took : (a : ℕ → Account) (ds : ℕ → Device) (i code : ℕ) (g : Group) (x : Flight) → AccountTells a g →
-    PremiseOnCall a ds (report i code) → g.member.id ≡ i → flight g.member.steps ≡ some x →
+    PremiseOnCall a ds (report i code) → g.member.id ≡ i → flight g.member.steps ≡ Some x →
     took_last a g.member.id (ds x.command.device) ≡ eqb code code_done
 reported-took a ds i code g x t p e f =
     subst (λ (c : Command). took_last a g.member.id (ds c.device) ≡ eqb code code_done) (t.sent_is x f)

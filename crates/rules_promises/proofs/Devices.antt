@@ -1,9 +1,9 @@
 -- A placing, a turn and a report that do not abort: each device still comes to its due setting. Assumes nothing.
+use Rattle.std.proofs.Common.{None, Some}
 use mathlib.Core.Path.{◌≡◌, refl, sym, ap, ◌∙◌, subst}
 use mathlib.Core.Logic.{◌≢◌}
 use mathlib.Core.Bool.{true, false}
 use mathlib.Core.List.{List, [], ◌∷◌, ◌++◌, map}
-use mathlib.Core.Option.{none, some}
 use Prim.Native.Nat.{ℕ, suc, ◌<◌}
 use native.Mathlib.Omega.{arith}
 use borrow.Author.Tests.{eq-eqb, ne_eqb}
@@ -67,7 +67,7 @@ module _ (s : State) (a : ℕ → Account) (p : List Group) (g : Group) (q : Lis
   steps_ok : InTurn g.member.steps
   steps_ok = in-turn s p g q h
 
-  idle_no_flight_on : (d : ℕ) → flight g.member.steps ≡ none → NoFlightOn d g
+  idle_no_flight_on : (d : ℕ) → flight g.member.steps ≡ None → NoFlightOn d g
   idle_no_flight_on d f = record { no_flight_on = grounded g.member d f }
 
   pub due-steps : (d : ℕ) (l : List Step) → ((u : ℤ) → after_steps d l u ≡ after_steps d g.member.steps u) →
@@ -89,7 +89,7 @@ module _ (s : State) (a : ℕ → Account) (p : List Group) (g : Group) (q : Lis
       (ok_alike d s g.member.id a b (p ++ q) (ds d) u y (other_ids s.next_id p g q h.ids_ok)
       (ok_drop d s a p g q (ds d) steps_ok n k)))
 
-  pub device_commits : (d j : ℕ) → flight g.member.steps ≡ none → Keeps d (turn j) (commit_turn s (found_at p g q)) (commit g.member)
+  pub device_commits : (d j : ℕ) → flight g.member.steps ≡ None → Keeps d (turn j) (commit_turn s (found_at p g q)) (commit g.member)
   unfolding commit_turn commit in_flight_on after_member
   device_commits d j f k =
       let n = idle_no_flight_on d f in
@@ -97,8 +97,8 @@ module _ (s : State) (a : ℕ → Account) (p : List Group) (g : Group) (q : Lis
       (record { no_flight_on = n.no_flight_on }) refl
       (due_swap s d p g q (commit g.member) h.sequence_is (λ u. refl)) (alike_ended g.member.id a (ds d)) k
 
-  pub device_passes : (d j : ℕ) (c : Command) (st : Status) → Passing st → next g.member.steps ≡ some c →
-      flight g.member.steps ≡ none → Keeps d (turn j) (pass_turn s (found_at p g q) c st) (passed_member st g)
+  pub device_passes : (d j : ℕ) (c : Command) (st : Status) → Passing st → next g.member.steps ≡ Some c →
+      flight g.member.steps ≡ None → Keeps d (turn j) (pass_turn s (found_at p g q) c st) (passed_member st g)
   unfolding due
   device_passes d j c st w e f k =
       let r = skip_step g.member steps_ok c st w e f in
@@ -111,7 +111,7 @@ module _ (s : State) (a : ℕ → Account) (p : List Group) (g : Group) (q : Lis
       (record { no_flight_on = r.flies d }) refl
       (due-steps d _ (r.same_after d)) (alike_answered (pass_outcome st) g.member.id a (ds d)) k))
 
-  sends_other : (d j : ℕ) (c : Command) → next g.member.steps ≡ some c → flight g.member.steps ≡ none → c.device ≢ d →
+  sends_other : (d j : ℕ) (c : Command) → next g.member.steps ≡ Some c → flight g.member.steps ≡ None → c.device ≢ d →
       Keeps d (turn j) (send_turn s (found_at p g q) c) (sent_member s g c)
   unfolding send_turn due
   sends_other d j c e f n k =
@@ -124,8 +124,8 @@ module _ (s : State) (a : ℕ → Account) (p : List Group) (g : Group) (q : Lis
       (record { no_flight_on = r.flies d ∙ ne_eqb c.device d n }) refl
       (due-steps d _ (r.same_after d)) (alike_put g.member.id a y (omega arith) (ds d)) k)
 
-  sends-here : (j : ℕ) (c : Command) → next g.member.steps ≡ some c → flight g.member.steps ≡ none →
-      first_holding c.device (is_condition c) (members p) ≡ none → s.up c.device ≡ true →
+  sends-here : (j : ℕ) (c : Command) → next g.member.steps ≡ Some c → flight g.member.steps ≡ None →
+      first_holding c.device (is_condition c) (members p) ≡ None → s.up c.device ≡ true →
       Keeps c.device (turn j) (send_turn s (found_at p g q) c) (sent_member s g c)
   unfolding send_turn
   sends-here j c e f n y k =
@@ -182,15 +182,15 @@ module _ (s : State) (a : ℕ → Account) (p : List Group) (g : Group) (q : Lis
           t≠f (sym (one_any d a w (p ++ (g ∷ q)) h.turns o)
           ∙ no_flights_on_any d (p ++ (g ∷ q)) (each_++ (NoFlightOn d) p (g ∷ q) ahead (idle_no_flight_on d f, behind)))
 
-  pub device-sends : (d j : ℕ) (c : Command) → next g.member.steps ≡ some c → flight g.member.steps ≡ none →
-      first_holding c.device (is_condition c) (members p) ≡ none → s.up c.device ≡ true →
+  pub device-sends : (d j : ℕ) (c : Command) → next g.member.steps ≡ Some c → flight g.member.steps ≡ None →
+      first_holding c.device (is_condition c) (members p) ≡ None → s.up c.device ≡ true →
       Keeps d (turn j) (send_turn s (found_at p g q) c) (sent_member s g c)
   device-sends d j c e f n y =
       this_or_other (λ d. Keeps d (turn j) (send_turn s (found_at p g q) c) (sent_member s g c)) c.device d
       (sends-here j c e f n y) (sends_other d j c e f)
 
   -- the command in flight is answered
-  module _ (x : Flight) (e : flight g.member.steps ≡ some x) where
+  module _ (x : Flight) (e : flight g.member.steps ≡ Some x) where
     flew_elsewhere : (d : ℕ) → x.command.device ≢ d → NoFlightOn d g
     flew_elsewhere d n = record { no_flight_on = (done-step g.member steps_ok x e).flew d ∙ ne_eqb x.command.device d n }
 

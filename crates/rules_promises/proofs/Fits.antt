@@ -1,10 +1,11 @@
 -- The grounds of a routine's commands that no event behind it gives: whether its device is up, the condition before it, the tag that
 -- counts. Every change of its commands keeps them. Assumes nothing.
+use Rattle.rules_routine.proofs.Options.{none-ne-some, some-ne-none, some-injective}
+use Rattle.std.proofs.Common.{None, Some}
 use mathlib.Core.Path.{◌≡◌, refl, sym, ap, ap₂, ◌∙◌, subst}
 use mathlib.Core.Logic.{◌≢◌, ◌⊎◌, inl, inr}
 use mathlib.Core.Bool.{Bool, true, false, cond, not, ◌&&◌, ◌||◌, and-true, and-false}
 use mathlib.Core.List.{List, [], ◌∷◌, map}
-use mathlib.Core.Option.{none, some, none-ne-some, some-ne-none, some-injective}
 use Prim.Native.Nat.{ℕ}
 use borrow.Author.Tests.{eqb-false}
 use Rattle.std.specs.Prelude.{if◌then◌else◌}
@@ -134,7 +135,7 @@ fit_first u o skipping (x ∷ l) h k = go (fit_first u o (skips_following x) l h
 
 -- it is the next, or the one in flight
 module _ (P : Command → Bool → Bool → Type 0) where
-  pub at_next : (skipping : Bool) (c : Command) {l : List Noted} {k : List Step} → AllAgree l k → flight k ≡ none → next k ≡ some c →
+  pub at_next : (skipping : Bool) (c : Command) {l : List Noted} {k : List Step} → AllAgree l k → flight k ≡ None → next k ≡ Some c →
       P c (next_is_skipped skipping k) (next_counts_as_must k) → AtFirst P skipping l
   at_next skipping c no_command f e p = tt
   at_next skipping c (one_more b {l = l} agree_to_do h) f e p =
@@ -148,7 +149,7 @@ module _ (P : Command → Bool → Bool → Type 0) where
   at_next skipping c (one_more b agree_held h) f e p = at_next (is_condition b && false) c h f e p
   at_next skipping c (one_more b agree_not_held h) f e p = at_next (is_condition b && true) c h f e p
 
-  pub at_flight : (skipping : Bool) (x : Flight) {l : List Noted} {k : List Step} → AllAgree l k → InTurn k → flight k ≡ some x →
+  pub at_flight : (skipping : Bool) (x : Flight) {l : List Noted} {k : List Step} → AllAgree l k → InTurn k → flight k ≡ Some x →
       ((must : Bool) → P x.command (flight_is_skipped skipping k) must) → AtFirst P skipping l
   at_flight skipping x no_command t f p = tt
   at_flight skipping x (one_more b {k = k} agree_to_do h) t f p = absurd (none-ne-some x (sym (behind_grounded k t) ∙ f))
@@ -161,13 +162,13 @@ module _ (P : Command → Bool → Bool → Type 0) where
   at_flight skipping x (one_more b agree_held h) t f p = at_flight (is_condition b && false) x h t f p
   at_flight skipping x (one_more b agree_not_held h) t f p = at_flight (is_condition b && true) x h t f p
 
-pub fit_next : (u : ℕ → Bool) (o : Outcome) (c : Command) {l : List Noted} {k : List Step} → AllAgree l k → flight k ≡ none →
-    next k ≡ some c → FindsUp (u c.device) (next_is_skipped false k) (next_counts_as_must k) o → Fit u false l → Fit u false (note_first o l)
+pub fit_next : (u : ℕ → Bool) (o : Outcome) (c : Command) {l : List Noted} {k : List Step} → AllAgree l k → flight k ≡ None →
+    next k ≡ Some c → FindsUp (u c.device) (next_is_skipped false k) (next_counts_as_must k) o → Fit u false l → Fit u false (note_first o l)
 fit_next u o c {l = l} a f e p h =
     fit_first u o false l h (at_next (λ c skipping must. FindsUp (u c.device) skipping must o) false c a f e p)
 
 pub fit_flight : (u : ℕ → Bool) (o : Outcome) (x : Flight) {l : List Noted} {k : List Step} → AllAgree l k → InTurn k →
-    flight k ≡ some x → ((skipping must : Bool) → FindsUp (u x.command.device) skipping must o) → Fit u false l →
+    flight k ≡ Some x → ((skipping must : Bool) → FindsUp (u x.command.device) skipping must o) → Fit u false l →
     Fit u false (note_first o l)
 fit_flight u o x {l = l} a t f p h =
     fit_first u o false l h (at_flight (λ c skipping must. FindsUp (u c.device) skipping must o) false x a t f (p _))

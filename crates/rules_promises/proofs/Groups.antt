@@ -1,9 +1,9 @@
 -- Each routine of the sequence together with all events attached to it: the hub's sequence and the order behind the bar are read off this
 -- list, which only the proofs keep. What the calls do to the list, and what is then read off it. Assumes nothing.
+use Rattle.std.proofs.Common.{Option, None}
 use mathlib.Core.Path.{◌≡◌, refl, sym, ap, ◌∙◌, subst}
 use mathlib.Core.Bool.{Bool, false}
 use mathlib.Core.List.{List, [], ◌∷◌, ◌++◌, map, append_assoc, append-nil, map-append}
-use mathlib.Core.Option.{Option, none}
 use mathlib.Core.Logic.{inl, inr}
 use Prim.Native.Nat.{ℕ}
 use borrow.Author.Tests.{eq-eqb, ne_eqb}
@@ -44,7 +44,7 @@ entry_ids (event e ∷ l) = entry_ids l
 
 -- the last restart of d
 abbrev pub last_restart : ℕ → List Event → Option ℤ
-last_restart d [] = none
+last_restart d [] = None
 last_restart d (failure_event e ∷ l) = last_restart d l
 last_restart d (restart_event e v ∷ l) = later (one_restart e v d) (last_restart d l)
 

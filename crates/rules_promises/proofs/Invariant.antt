@@ -1,8 +1,8 @@
 -- What holds between calls, of the hub, its order, the accounts and each device. Assumes nothing.
+use Rattle.std.proofs.Common.{Some}
 use mathlib.Core.Path.{◌≡◌}
 use mathlib.Core.Bool.{Bool, true, false, not}
 use mathlib.Core.List.{List, [], ◌∷◌, ◌++◌, map}
-use mathlib.Core.Option.{some}
 use Prim.Native.Nat.{ℕ, ◌<◌, ◌≤◌}
 use lib.Dec.{eqb}
 use lib.IntN.{ℤ, pos}
@@ -125,7 +125,7 @@ pub record OrderOk (s : State) (o : Order) (lead : List Event) (l : List Group) 
 pub record AccountTells (a : ℕ → Account) (g : Group) : Type 0 where
   pub runs : (a g.member.id).running ≡ not g.member.committed
   pub flies_is : (a g.member.id).flying ≡ has_flight (flight g.member.steps)
-  pub sent_is : (x : Flight) → flight g.member.steps ≡ some x → (a g.member.id).last_sent ≡ x.command
+  pub sent_is : (x : Flight) → flight g.member.steps ≡ Some x → (a g.member.id).last_sent ≡ x.command
   pub agrees : AllAgree (a g.member.id).commands g.member.steps
 
 -- ---- devices
@@ -164,7 +164,7 @@ pub record NoFlightOn (d : ℕ) (g : Group) : Type 0 where
 
 -- one routine of the list has a command in flight on d, and it flies so
 pub data OneFlightOn (d : ℕ) (a : ℕ → Account) (w : Device) : List Group → Type 0 where
-  first_has_it : {g : Group} {l : List Group} (x : Flight) → flight g.member.steps ≡ some x → x.command.device ≡ d →
+  first_has_it : {g : Group} {l : List Group} (x : Flight) → flight g.member.steps ≡ Some x → x.command.device ≡ d →
       OnItsWay a g.member.id x w → Each (NoFlightOn d) l → OneFlightOn d a w (g ∷ l)
   later_has_it : {g : Group} {l : List Group} → NoFlightOn d g → OneFlightOn d a w l → OneFlightOn d a w (g ∷ l)
 

@@ -4,10 +4,11 @@
 --
 -- In the lemmas k is the pass limit and x the next id; a row has n routines, with ids from i or j on, each passed p or q times; b are the
 -- settled settings and f the marks; T and N are numbers of rounds.
+use Rattle.rules_routine.specs.declared.refusals.Refusal.TheVariants.{PassLimitOutOfRange, SequenceFull, IdsUsedUp}
+use Rattle.std.proofs.Common.{Option, None, Some, Ok}
 use mathlib.Core.Path.{◌≡◌, refl, ap, ◌∙◌, subst}
 use mathlib.Core.Bool.{Bool, true, false, not, ◌&&◌, ◌||◌}
 use mathlib.Core.List.{List, [], ◌∷◌, ◌++◌, map}
-use mathlib.Core.Option.{Option, none, some}
 use Prim.Native.Nat.{ℕ, zero, suc, ◌+◌, ◌-◌, ◌*◌, ◌<◌, ◌≤◌}
 use native.Mathlib.Omega.{arith}
 use borrow.Author.Tests.{eq-eqb, ne_eqb, eqb-true, eqb-false, le-ltb, lt-leb}
@@ -18,9 +19,7 @@ use lib.ListN.{replicate, length}
 use Rattle.std.specs.Prelude.{if◌then◌else◌}
 use Rattle.rules_routine.specs.Limits.{max_commands, highest_id, highest_pass_limit, max_sequence}
 use Rattle.rules_routine.specs.declared.Command.{Command}
-use Rattle.rules_routine.specs.declared.Verdict.{Verdict}
-use Rattle.rules_routine.specs.declared.Verdict.TheVariants.{Accepted}
-use Rattle.rules_routine.specs.Refusals.{pass_limit_out_of_range, sequence_full, ids_used_up, refuse◌when◌, ◌and_then◌}
+use Rattle.rules_routine.specs.Refusals.{refuse◌when◌, ◌and_then◌, Verdict}
 use Rattle.rules_promises.proofs.RoundsExist.{state_on, sitting_limit}
 use Rattle.rules.specs.Open.{opened, limit_check, open_of}
 use Rattle.rules.specs.Limit.{with_pass_limit}
@@ -120,11 +119,11 @@ part_on : (a : ℕ) (r : List Step) → part a (ended ∷ r) ≡ part (suc a) r
 part_on zero r = refl
 part_on (suc a) r = ap (λ l. ended ∷ l) (part_on a r)
 
-part_next : (a : ℕ) (r : List Step) → next (part a (to_do ∷ r)) ≡ some sets
+part_next : (a : ℕ) (r : List Step) → next (part a (to_do ∷ r)) ≡ Some sets
 part_next zero r = refl
 part_next (suc a) r = part_next a r
 
-part_end : (a : ℕ) → next (part a []) ≡ none
+part_end : (a : ℕ) → next (part a []) ≡ None
 part_end zero = refl
 part_end (suc a) = part_end a
 
@@ -132,11 +131,11 @@ part_goes : (a : ℕ) (r : List Step) → next_is_skipped false (part a (to_do �
 part_goes zero r = refl
 part_goes (suc a) r = part_goes a r
 
-left_quiet : (k : ℕ) → flight (left k) ≡ none
+left_quiet : (k : ℕ) → flight (left k) ≡ None
 left_quiet zero = refl
 left_quiet (suc k) = left_quiet k
 
-part_quiet : (a k : ℕ) → flight (part a (left k)) ≡ none
+part_quiet : (a k : ℕ) → flight (part a (left k)) ≡ None
 part_quiet zero k = left_quiet k
 part_quiet (suc a) k = part_quiet a k
 
@@ -148,7 +147,7 @@ part_sends : (a : ℕ) (st : Status) (r : List Step) → advance st (part a (to_
 part_sends zero st r = refl
 part_sends (suc a) st r = ap (λ l. ended ∷ l) (part_sends a st r)
 
-part_flies : (a : ℕ) (u : ℤ) (r : List Step) → flight (part a (flies u ∷ r)) ≡ some (record { command = sets; due_then = u })
+part_flies : (a : ℕ) (u : ℤ) (r : List Step) → flight (part a (flies u ∷ r)) ≡ Some (record { command = sets; due_then = u })
 part_flies zero u r = refl
 part_flies (suc a) u r = part_flies a u r
 
@@ -163,7 +162,7 @@ part_none (suc a) = part_none a
 -- ---- routines in a row, none of them begun
 
 abbrev member : ℕ → ℕ → List Step → Member
-member p i l = record { id = i; steps = l; passed = p; committed = false; restarts = λ d. none }
+member p i l = record { id = i; steps = l; passed = p; committed = false; restarts = λ d. None }
 
 abbrev pub waiter : ℕ → ℕ → Member
 waiter p i = member p i (asked_step to-do ∷ left (max_commands - 1))
@@ -196,11 +195,11 @@ row_settles s p i zero = refl
 row_settles s p i (suc n) = refl
 
 find-here : (m : Member) (l : List Member) (i : ℕ) → runs i m ≡ true →
-    find (runs i) (m ∷ l) ≡ some (record { ahead = []; it = m; behind = l })
-find-here m l i e = ap (λ (t : Bool). if t then some (record { ahead = []; it = m; behind = l }) else onto m (find (runs i) l)) e
+    find (runs i) (m ∷ l) ≡ Some (record { ahead = []; it = m; behind = l })
+find-here m l i e = ap (λ (t : Bool). if t then Some (record { ahead = []; it = m; behind = l }) else onto m (find (runs i) l)) e
 
 find-later : (m : Member) (l : List Member) (i : ℕ) → runs i m ≡ false → find (runs i) (m ∷ l) ≡ onto m (find (runs i) l)
-find-later m l i e = ap (λ (t : Bool). if t then some (record { ahead = []; it = m; behind = l }) else onto m (find (runs i) l)) e
+find-later m l i e = ap (λ (t : Bool). if t then Some (record { ahead = []; it = m; behind = l }) else onto m (find (runs i) l)) e
 
 runs-it : (m : Member) → m.committed ≡ false → runs m.id m ≡ true
 unfolding calc_rounds
@@ -213,7 +212,7 @@ runs-not m i e = ap (λ (t : Bool). t && not m.committed) e
 -- it is found in the row
 abbrev InRow : ℕ → ℕ → ℕ → ℕ → Type 0
 InRow p j n i =
-    (a b : List Member) × (find (runs i) (row p j n) ≡ some (record { ahead = a; it = waiter p i; behind = b }))
+    (a b : List Member) × (find (runs i) (row p j n) ≡ Some (record { ahead = a; it = waiter p i; behind = b }))
 
 row_step : (p j n i : ℕ) (t : Bool) → eqb j i ≡ t → (eqb j i ≡ false → InRow p (suc j) n i) → InRow p j (suc n) i
 row_step p j n i true e later =
@@ -251,7 +250,7 @@ module _ (k x : ℕ) (m : Member) (p j n : ℕ) (b : ℕ → ℤ) (f : ℕ → �
       let r = row_finds p j n i y z in
       let g : Found = record { ahead = m ∷ r.0; it = waiter p i; behind = r.1 } in
       ap (λ o. (turn_found s o).state) (find-later m (row p j n) i (runs-not m i (apart i y z)) ∙ ap (onto m) r.2)
-      ∙ ap (λ (t : Bool). (wait_or s g condition (if t then some m.id else first_holding 0 true r.0)).state) holding
+      ∙ ap (λ (t : Bool). (wait_or s g condition (if t then Some m.id else first_holding 0 true r.0)).state) holding
 
   all_wait : (i c : ℕ) → j ≤ i → i + c ≤ j + n →
       state_after (hub k x (m ∷ row p j n) b f) (map turn (ids_from i c)) ≡ hub k x (m ∷ row p j n) b f
@@ -270,7 +269,7 @@ state_both s (i ∷ a) b = state_both (result_of s (turn i)).state a b
 
 -- the half with the turns, and that with the reports
 late-turns : (k x : ℕ) (m : Member) (p j n : ℕ) (b : ℕ → ℤ) (f : ℕ → ℕ) → ((i : ℕ) → j ≤ i → i < j + n → eqb m.id i ≡ false) →
-    holds_up 0 true m ≡ true → m.committed ≡ false → flight m.steps ≡ none →
+    holds_up 0 true m ≡ true → m.committed ≡ false → flight m.steps ≡ None →
     let s = hub k x (m ∷ row p j n) b f in
     state_after s (late_turns s) ≡ (turn_next s (record { ahead = []; it = m; behind = row p j n }) (next m.steps)).state
 unfolding calc_rounds
@@ -285,7 +284,7 @@ late-turns k x m p j n b f apart holding running quiet =
     ∙ ap (λ o. (turn_flight s g o).state) quiet
 
 module _ (k x : ℕ) (m : Member) (p j n : ℕ) (b : ℕ → ℤ) (f : ℕ → ℕ) (running : m.committed ≡ false) where
-  no_report : flight m.steps ≡ none →
+  no_report : flight m.steps ≡ None →
       let u = hub k x (m ∷ row p j n) b f in
       state_after u (reports_at all_done u) ≡ u
   unfolding calc_rounds
@@ -296,7 +295,7 @@ module _ (k x : ℕ) (m : Member) (p j n : ℕ) (b : ℕ → ℤ) (f : ℕ → �
       ∙ ap (λ (t : Option Flight). state_after u (map (λ i. report i 0) (if has_flight t then m.id ∷ ids else ids))) quiet
       ∙ ap (λ l. state_after u (map (λ i. report i 0) l)) (row_still p j n)
 
-  one-report : (y : Flight) → flight m.steps ≡ some y →
+  one-report : (y : Flight) → flight m.steps ≡ Some y →
       let u = hub k x (m ∷ row p j n) b f in
       state_after u (reports_at all_done u)
       ≡ (let l = with_steps m (answer_flight was_done m.steps) ∷ row p j n in settle_from (hub k x l b f) l)
@@ -505,14 +504,14 @@ module _ (k x p : ℕ) (b : ℕ → ℤ) (f : ℕ → ℕ) (mark-0 : f 0 ≡ 0) 
   goes_first i n y z w =
       let l = row p i n in
       let s = hub k x l b f in
-      let none = none-blocks l i n y in
-      let check : submit_check s asking ≡ Accepted =
-      ap (λ c. refuse sequence_full when leb max_sequence c and_then refuse ids_used_up when ltb highest_id x) (row_length p i n)
-      ∙ ap (λ (t : Bool). refuse sequence_full when t and_then refuse ids_used_up when ltb highest_id x) (lt-leb max_sequence n z)
-      ∙ ap (λ (t : Bool). refuse ids_used_up when t) (le-ltb highest_id x w) in
+      let None = none-blocks l i n y in
+      let check : submit_check s asking ≡ (Ok tt) =
+      ap (λ c. refuse SequenceFull when leb max_sequence c and_then refuse IdsUsedUp when ltb highest_id x) (row_length p i n)
+      ∙ ap (λ (t : Bool). refuse SequenceFull when t and_then refuse IdsUsedUp when ltb highest_id x) (lt-leb max_sequence n z)
+      ∙ ap (λ (t : Bool). refuse IdsUsedUp when t) (le-ltb highest_id x w) in
       let at : place s asking ≡ hub k (suc x) (waiter 0 x ∷ row (suc p) i n) b f =
-      ap (λ a. hub k (suc x) (a ++ (waiter 0 x ∷ map pass (past_last (blocks s asking) l))) b f) (free-up_to (blocks s asking) l none)
-      ∙ ap (λ a. hub k (suc x) (waiter 0 x ∷ map pass a) b f) (free-past (blocks s asking) l none)
+      ap (λ a. hub k (suc x) (a ++ (waiter 0 x ∷ map pass (past_last (blocks s asking) l))) b f) (free-up_to (blocks s asking) l None)
+      ∙ ap (λ a. hub k (suc x) (waiter 0 x ∷ map pass a) b f) (free-past (blocks s asking) l None)
       ∙ ap (λ a. hub k (suc x) (waiter 0 x ∷ a) b f) (row_passed p i n) in
       ap (λ (v : Verdict). (unless_refused v s
       (settling (record { state = place s asking; answers = placed x (last_id_or 0 (up_to_last (blocks s asking) l)) ∷ [] }))).state) check
@@ -559,9 +558,9 @@ raised_row k = (result_of (placed_state in_row) (limit k)).state
 abbrev pub last_rounds : ℕ
 last_rounds = (max_commands + 1) * (max_sequence - 1) - 1
 
-pub limit_ok : (k : ℕ) → k ≤ highest_pass_limit → limit_check k ≡ Accepted
+pub limit_ok : (k : ℕ) → k ≤ highest_pass_limit → limit_check k ≡ Ok tt
 unfolding calc_rounds
-limit_ok k y = ap (λ (t : Bool). refuse pass_limit_out_of_range when t) (le-ltb highest_pass_limit k y)
+limit_ok k y = ap (λ (t : Bool). refuse PassLimitOutOfRange when t) (le-ltb highest_pass_limit k y)
 
 pub in_row_opens : open_of 1 in_row.pass_limit 1 ≡ opened (opens_at in_row)
 unfolding calc_rounds

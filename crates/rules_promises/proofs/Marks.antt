@@ -1,10 +1,11 @@
 -- Where the routines stand to a device's mark: those ahead of it have finished the device, those behind it have not begun it. By that a
 -- turn and a report keep the hub's invariant. Assumes nothing.
+use Rattle.rules_routine.proofs.Options.{none-ne-some}
+use Rattle.std.proofs.Common.{None, Some}
 use mathlib.Core.Path.{◌≡◌, refl, sym, ap, ◌∙◌, subst}
 use mathlib.Core.Logic.{◌≢◌, inl, inr}
 use mathlib.Core.Bool.{Bool, true, false, not, ◌&&◌}
 use mathlib.Core.List.{List, [], ◌∷◌, ◌++◌}
-use mathlib.Core.Option.{none, some, none-ne-some}
 use Prim.Native.Nat.{ℕ}
 use native.Mathlib.Omega.{arith}
 use borrow.Author.Tests.{not-true, not-false}
@@ -127,7 +128,7 @@ nothing_left_finished-it d g s f = record { finished-it = go g.member.committed 
     go true e = left_finished g.member d (s.nothing_left e)
     go false e = f e
 
-pub flight-runs : (g : Group) (x : Flight) → CommittedHasNothingLeft g → flight g.member.steps ≡ some x → g.member.committed ≡ false
+pub flight-runs : (g : Group) (x : Flight) → CommittedHasNothingLeft g → flight g.member.steps ≡ Some x → g.member.committed ≡ false
 flight-runs g x s f = go g.member.committed refl
   where
     go : (t : Bool) → g.member.committed ≡ t → t ≡ false
@@ -140,13 +141,13 @@ unfolding holds is_running finished
 unheld d g s h = nothing_left_finished-it d g s (λ e. not-false (finished d g.member) (rw e at h))
 
 -- the wait search finds nobody
-pub none-held-up : (d : ℕ) (condition : Bool) (a : List Group) → first_holding d condition (members a) ≡ none →
+pub none-held-up : (d : ℕ) (condition : Bool) (a : List Group) → first_holding d condition (members a) ≡ None →
     Each (λ g. holds_up d condition g.member ≡ false) a
 none-held-up d condition [] e = tt
 none-held-up d condition (g ∷ a) e = go (none-held-up d condition a) (holds_up d condition g.member) refl e
   where
-    go : (first_holding d condition (members a) ≡ none → Each (λ g. holds_up d condition g.member ≡ false) a) → (t : Bool) →
-        holds_up d condition g.member ≡ t → (if t then some g.member.id else first_holding d condition (members a)) ≡ none →
+    go : (first_holding d condition (members a) ≡ None → Each (λ g. holds_up d condition g.member ≡ false) a) → (t : Bool) →
+        holds_up d condition g.member ≡ t → (if t then Some g.member.id else first_holding d condition (members a)) ≡ None →
         (holds_up d condition g.member ≡ false) × Each (λ g. holds_up d condition g.member ≡ false) a
     go ih true q e = let z : ◌≡◌ {A = ℕ} 0 1 = cc in absurd (omega arith)
     go ih false q e = (q, ih e)
@@ -168,7 +169,7 @@ ids_at s a g b h = subst (IdsOk s.next_id) (ids_++ a (g ∷ b)) h.ids_ok
 
 -- the device of the next command, when nobody ahead holds it
 pub turn_clear : (s : State) (a : List Group) (g : Group) (b : List Group) (c : Command) → HubOk s (a ++ (g ∷ b)) →
-    next g.member.steps ≡ some c → flight g.member.steps ≡ none → first_holding c.device (is_condition c) (members a) ≡ none →
+    next g.member.steps ≡ Some c → flight g.member.steps ≡ None → first_holding c.device (is_condition c) (members a) ≡ None →
     ClearOfDevice c.device a g b
 turn_clear s a g b c h e f n =
     not_behind c.device (s.mark c.device) a g b
@@ -178,7 +179,7 @@ turn_clear s a g b c h e f n =
 
 -- the device of the command in flight
 pub flight_clear : (s : State) (a : List Group) (g : Group) (b : List Group) (x : Flight) → HubOk s (a ++ (g ∷ b)) →
-    flight g.member.steps ≡ some x → ClearOfDevice x.command.device a g b
+    flight g.member.steps ≡ Some x → ClearOfDevice x.command.device a g b
 flight_clear s a g b x h e =
     let y = done-step g.member (in-turn s a g b h) x e in
     (at_mark x.command.device (s.mark x.command.device) a g b y.had_begun y.unfinished (h.marks x.command.device)).0
@@ -297,8 +298,8 @@ module _ (s : State) (a : List Group) (g : Group) (b : List Group) (h : HubOk s 
       other q = swap_mark d (s.mark d) a g b n i (o d q) (f d) (h.marks d)
 
 -- the five changes of a turn or a report keep the hub's invariant
-pub hub_commits : (s : State) (a : List Group) (g : Group) (b : List Group) → HubOk s (a ++ (g ∷ b)) → flight g.member.steps ≡ none →
-    next g.member.steps ≡ none →
+pub hub_commits : (s : State) (a : List Group) (g : Group) (b : List Group) → HubOk s (a ++ (g ∷ b)) → flight g.member.steps ≡ None →
+    next g.member.steps ≡ None →
     HubOk (commit_turn s (found_at a g b)).state (a ++ (with g (commit g.member) ∷ b))
 unfolding commit_turn commit begun finished
 hub_commits s a g b h f e =
@@ -307,7 +308,7 @@ hub_commits s a g b h f e =
 
 pub hub-sends : (s : State) (a : List Group) (g : Group) (b : List Group) (c : Command) → HubOk s (a ++ (g ∷ b)) →
     g.member.committed ≡ false →
-    flight g.member.steps ≡ none → next g.member.steps ≡ some c → first_holding c.device (is_condition c) (members a) ≡ none →
+    flight g.member.steps ≡ None → next g.member.steps ≡ Some c → first_holding c.device (is_condition c) (members a) ≡ None →
     HubOk (send_turn s (found_at a g b) c).state (a ++ (with g (sent_member s g c) ∷ b))
 unfolding send_turn
 hub-sends s a g b c h r f e n =
@@ -319,7 +320,7 @@ hub-sends s a g b c h r f e n =
 
 pub hub_passes : (s : State) (a : List Group) (g : Group) (b : List Group) (c : Command) (st : Status) → Passing st →
     HubOk s (a ++ (g ∷ b)) → g.member.committed ≡ false →
-    flight g.member.steps ≡ none → next g.member.steps ≡ some c → first_holding c.device (is_condition c) (members a) ≡ none →
+    flight g.member.steps ≡ None → next g.member.steps ≡ Some c → first_holding c.device (is_condition c) (members a) ≡ None →
     HubOk (pass_turn s (found_at a g b) c st).state (a ++ (with g (passed_member st g) ∷ b))
 hub_passes s a g b c st p h r f e n =
     let x = skip_step g.member (in-turn s a g b h) c st p e f in
@@ -338,13 +339,13 @@ hub-answers s a g b c n h i r x =
 
 pub hub_dones : (s : State) (a : List Group) (g : Group) (b : List Group) (x : Flight) → HubOk s (a ++ (g ∷ b)) →
     g.member.committed ≡ false →
-    flight g.member.steps ≡ some x → HubOk (done_report s (found_at a g b)).state (a ++ (with g (done_member g) ∷ b))
+    flight g.member.steps ≡ Some x → HubOk (done_report s (found_at a g b)).state (a ++ (with g (done_member g) ∷ b))
 unfolding done_report
 hub_dones s a g b x h r e = hub-answers s a g b x.command (done_member g) h refl r (done-step g.member (in-turn s a g b h) x e)
 
 pub hub_misses : (s : State) (a : List Group) (g : Group) (b : List Group) (x : Flight) → HubOk s (a ++ (g ∷ b)) →
     g.member.committed ≡ false →
-    flight g.member.steps ≡ some x → HubOk (skip_report s (found_at a g b) x).state (a ++ (with g (failed_member g) ∷ b))
+    flight g.member.steps ≡ Some x → HubOk (skip_report s (found_at a g b) x).state (a ++ (with g (failed_member g) ∷ b))
 unfolding skip_report skipped_state
 hub_misses s a g b x h r e = hub-answers s a g b x.command (failed_member g) h refl r (fail_step g.member (in-turn s a g b h) x e)
 

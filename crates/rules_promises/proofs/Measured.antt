@@ -1,10 +1,10 @@
 -- What a call does to the measure of `Measure.antt`: no submission, turn or report raises it; a turn of the first of the sequence, or a
 -- report on it, makes it fall or sends a command of the first. Assumes nothing.
+use Rattle.std.proofs.Common.{Some}
 use mathlib.Core.Path.{◌≡◌, refl, sym, ap, ◌∙◌, subst}
 use mathlib.Core.Logic.{◌≢◌}
 use mathlib.Core.Bool.{Bool, true, false, ◌||◌, or-true}
 use mathlib.Core.List.{List, [], ◌∷◌, ◌++◌}
-use mathlib.Core.Option.{some}
 use Prim.Native.Nat.{ℕ, suc, ◌<◌, ◌≤◌}
 use native.Mathlib.Omega.{arith}
 use lib.ListN.{length}
@@ -202,7 +202,7 @@ condition_of_schedule j (limit k) h = h
 
 -- a command of these is in flight
 abbrev pub Flies : List Step → Type 0
-Flies steps = (x : Flight) × (flight steps ≡ some x)
+Flies steps = (x : Flight) × (flight steps ≡ Some x)
 
 -- every measure falls; or, by a turn, a command of the first is now in flight
 pub data Own (k j : ℕ) (c : Call) (l m : List Group) : Type 0 where

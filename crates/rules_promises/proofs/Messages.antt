@@ -1,10 +1,11 @@
 -- What was sent to a device, and who is in flight on it: on what its invariant depends, and that it is kept when the device takes one, when
 -- routines settle, and when an account changes or a message is dropped. Assumes nothing.
+use Rattle.rules_routine.proofs.Options.{some-injective}
+use Rattle.std.proofs.Common.{Some}
 use mathlib.Core.Path.{◌≡◌, refl, sym, ap, ◌∙◌, subst}
 use mathlib.Core.Logic.{◌≢◌, inl, inr}
 use mathlib.Core.Bool.{Bool, true, false, ◌&&◌}
 use mathlib.Core.List.{List, [], ◌∷◌, ◌++◌, head-eq_of_cons-eq, tail-eq_of_cons-eq, nil≢cons}
-use mathlib.Core.Option.{some, some-injective}
 use Prim.Native.Nat.{ℕ, zero, suc, ◌<◌, ◌≤◌}
 use native.Mathlib.Omega.{arith}
 use borrow.Author.Tests.{eqb-true, eq-eqb, ne_eqb}
@@ -166,7 +167,7 @@ ok_same d s a l k w p = ok_list d s a l k w (no_flights_on_same d p) (one_same d
 
 -- ---- the one that flies, and a routine of the list
 
-pub flies_there : (d : ℕ) (g : Group) → InTurn g.member.steps → (x : Flight) → flight g.member.steps ≡ some x →
+pub flies_there : (d : ℕ) (g : Group) → InTurn g.member.steps → (x : Flight) → flight g.member.steps ≡ Some x →
     x.command.device ≡ d → in_flight_on d g.member ≡ true
 flies_there d g t x e c = (done-step g.member t x e).flew d ∙ eq-eqb x.command.device d c
 
@@ -187,7 +188,7 @@ module _ (d : ℕ) (a : ℕ → Account) (w : Device) where
   one_any (g ∷ l) t (later_has_it s o) = rw s.no_flight_on (one_any l t.1 o)
 
   -- it is g
-  pub one_this : (p : List Group) (g : Group) (q : List Group) (x : Flight) → flight g.member.steps ≡ some x →
+  pub one_this : (p : List Group) (g : Group) (q : List Group) (x : Flight) → flight g.member.steps ≡ Some x →
       in_flight_on d g.member ≡ true → OneFlightOn d a w (p ++ (g ∷ q)) →
       Each (NoFlightOn d) p × OnItsWay a g.member.id x w × Each (NoFlightOn d) q
   one_this [] g q x e f (first_has_it y k c h s) =

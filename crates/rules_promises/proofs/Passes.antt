@@ -1,4 +1,5 @@
 -- Who is passed; and no routine is passed oftener than the highest pass limit, whatever the limit becomes. Assumes nothing.
+use Rattle.rules_routine.specs.declared.refusals.Refusal.TheVariants.{PassLimitOutOfRange}
 use mathlib.Core.Path.{◌≡◌, refl, sym, ap, ◌∙◌, subst}
 use mathlib.Core.Bool.{Bool, true, false, not, ◌&&◌}
 use mathlib.Core.List.{List, [], ◌∷◌, ◌++◌}
@@ -7,7 +8,6 @@ use native.Mathlib.Omega.{arith}
 use borrow.Author.Tests.{ltb-false, leb-false}
 use lib.Dec.{leb, ltb, eqb}
 use Rattle.std.specs.Prelude.{if◌then◌else◌}
-use Rattle.rules_routine.specs.Refusals.{pass_limit_out_of_range}
 use Rattle.rules_routine.specs.declared.Command.{Command}
 use Rattle.rules_routine.proofs.RoutineLaws.{both_accept, not-refused}
 use Rattle.rules.specs.Tables.{any_of, Each}
@@ -133,7 +133,7 @@ low_seen s l y (limits k e) =
       record {
         hub = hub-settles new l (hub-limit s k l y.hub);
         limit_low = subst (λ n. n ≤ highest_pass_limit) (sym (ap (λ (x : Fixed). x.pass_limit) (settle_fixed new)))
-            (ltb-false highest_pass_limit k (not-refused pass_limit_out_of_range (ltb highest_pass_limit k) low));
+            (ltb-false highest_pass_limit k (not-refused PassLimitOutOfRange (ltb highest_pass_limit k) low));
         counts_low = each_held LowCount l y.counts_low;
       },
     )

@@ -1,4 +1,6 @@
 -- What holds between calls of the hub and of what was told: the ground of the waiting promise. It is kept by every call. Assumes nothing.
+use Rattle.std.proofs.Common.{Ok}
+use Rattle.rules_routine.specs.declared.refusals.Refusal.TheVariants.{SequenceFull}
 use mathlib.Core.Path.{◌≡◌, refl, sym, ap, ◌∙◌, subst}
 use mathlib.Core.List.{List, [], ◌∷◌, ◌++◌}
 use Prim.Native.Nat.{ℕ, suc, ◌<◌, ◌≤◌}
@@ -6,11 +8,10 @@ use native.Mathlib.Omega.{arith}
 use borrow.Author.Tests.{leb-false}
 use lib.Dec.{leb}
 use lib.ListN.{length}
-use Rattle.rules_routine.specs.Refusals.{sequence_full, refuse◌when◌}
+use Rattle.rules_routine.specs.Refusals.{refuse◌when◌}
 use Rattle.rules_routine.specs.Limits.{max_commands, max_sequence}
 use Rattle.rules_routine.specs.Routine.{routine_check}
 use Rattle.rules_routine.specs.declared.Command.{Command}
-use Rattle.rules_routine.specs.declared.Verdict.TheVariants.{Accepted}
 use Rattle.rules_routine.proofs.RoutineLaws.{both_accept, not-refused, check_accepted}
 use Rattle.rules.specs.Tables.{Each}
 use Rattle.rules.specs.State.{State}
@@ -79,7 +80,7 @@ few_left_gone s d l h (loses a g b e q m) =
     each_swap FewLeft a g (with g (skipped_left d g)) b w
     (record { few_left = subst (λ l. length l ≤ max_commands) (sym (skip-left d g.member.steps)) (omega arith) })
 
-pub new_few_left : (s : State) (cs : List Command) → submit_check s cs ≡ Accepted → FewLeft (alone (newcomer s.next_id cs))
+pub new_few_left : (s : State) (cs : List Command) → submit_check s cs ≡ Ok tt → FewLeft (alone (newcomer s.next_id cs))
 unfolding submit_check
 new_few_left s cs e =
     let a = check_accepted s.devices cs (both_accept (routine_check s.devices cs) _ e).0 in
@@ -150,13 +151,13 @@ held_at_most n [] h = h
 held_at_most n (g ∷ l) h = by_if (λ k. length k ≤ n) g.member.committed (λ _. held_at_most n l (omega arith)) (λ _. h)
 
 -- there was room for the newcomer
-room_for_one : (s : State) (cs : List Command) (l : List Group) → submit_check s cs ≡ Accepted → s.sequence ≡ members l →
+room_for_one : (s : State) (cs : List Command) (l : List Group) → submit_check s cs ≡ Ok tt → s.sequence ≡ members l →
     length l < max_sequence
 unfolding submit_check
 room_for_one s cs l e q =
     let f = (both_accept (routine_check s.devices cs) _ e).1 in
-    let g = not-refused sequence_full (leb max_sequence (length s.sequence))
-    (both_accept (refuse sequence_full when leb max_sequence (length s.sequence)) _ f).0 in
+    let g = not-refused SequenceFull (leb max_sequence (length s.sequence))
+    (both_accept (refuse SequenceFull when leb max_sequence (length s.sequence)) _ f).0 in
     let n = leb-false max_sequence (length s.sequence) g in
     let m : length s.sequence ≡ length l = ap length q ∙ length_members l in
     omega arith

@@ -1,10 +1,10 @@
 -- What is told is what the hub holds; rounds exist after every list of calls, and so a schedule can always go on; the computed schedules of
 -- `Schedules.antt` are schedules. Assumes nothing.
+use Rattle.std.proofs.Common.{Option, None, Some, Ok}
 use mathlib.Core.Path.{◌≡◌, refl, sym, ap, ◌∙◌, subst}
 use mathlib.Core.Logic.{◌≢◌}
 use mathlib.Core.Bool.{Bool, true, false, not, ◌&&◌, ◌||◌, and_assoc}
 use mathlib.Core.List.{List, [], ◌∷◌, ◌++◌, map, append_assoc}
-use mathlib.Core.Option.{Option, none, some}
 use Prim.Native.Nat.{ℕ, zero, suc, ◌+◌, ◌≤◌}
 use native.Mathlib.Omega.{arith}
 use borrow.Author.Tests.{eqb-true, eqb-false, eq-eqb, ne_eqb, le-ltb, not-true}
@@ -14,7 +14,6 @@ use Rattle.rules_routine.specs.Routine.{is_condition}
 use Rattle.rules_routine.specs.declared.Command.{Command}
 use Rattle.rules_routine.proofs.RoutineLaws.{by_test}
 use Rattle.rules.specs.Tables.{any_of, put}
-use Rattle.rules_routine.specs.declared.Verdict.TheVariants.{Accepted}
 use Rattle.rules.specs.State.{Status, to-do, in_flight, was_done, was_skipped, was_held, was_not_held, Step, Member, State}
 use Rattle.rules.specs.Answers.{Call, submit, turn, report, limit, placed, limited, Result}
 use Rattle.rules.specs.Progress.{is_must, next_counts_as_must, next_is_skipped, is_in_flight, next, Flight, flight_or, flight}
@@ -83,9 +82,9 @@ idle_any n (g ∷ l) d i = go (eqb g.member.id i) refl (idle_any n l d.3 i)
         (((t && is_running g.member) || any_of (has is_running i) l) && not ((t && is_flying g.member) || any_of (has is_flying i) l))
         ≡ ((t && is_idle g.member) || any_of (has is_idle i) l)
     go true e h =
-        let none : (q : Member → Bool) → any_of (has q i) l ≡ false =
+        let None : (q : Member → Bool) → any_of (has q i) l ≡ false =
         λ q. none_has q i l (subst (λ j. NotIn j (ids l)) (eqb-true g.member.id i e) d.2) in
-        rw (none is_running, none is_flying, none is_idle) (own (is_running g.member) (has_flight (flight g.member.steps)))
+        rw (None is_running, None is_flying, None is_idle) (own (is_running g.member) (has_flight (flight g.member.steps)))
     go false e h = h
 
 idle-told : (s : State) (h : List Told) (l : List Group) → Ready s h l → Tells is_idle (idle_of h) l
@@ -149,22 +148,22 @@ located q i (g ∷ l) e = go (eqb g.member.id i) refl (q g.member) refl e (locat
     go false e b f z h = let r = h z in (g ∷ r.0, r.1, r.2, ap (λ k. g ∷ k) r.3, r.4, r.5)
 
 find-it : (a : List Group) (g : Group) (b : List Group) → NotIn g.member.id (ids a) → is_running g.member ≡ true →
-    find (runs g.member.id) (members (a ++ (g ∷ b))) ≡ some (found_at a g b)
+    find (runs g.member.id) (members (a ++ (g ∷ b))) ≡ Some (found_at a g b)
 unfolding runs
 find-it [] g b n r = rw (eq-eqb g.member.id g.member.id refl, r) refl
 find-it (x ∷ a) g b n r = rw (ne_eqb x.member.id g.member.id n.0, find-it a g b n.1 r) refl
 
 -- whoever has the flight
-no_flight-is : (o : Option Flight) → has_flight o ≡ false → o ≡ none
-no_flight-is none e = refl
-no_flight-is (some x) e = t≠f e
+no_flight-is : (o : Option Flight) → has_flight o ≡ false → o ≡ None
+no_flight-is None e = refl
+no_flight-is (Some x) e = t≠f e
 
-flight_is : (o : Option Flight) → has_flight o ≡ true → (x : Flight) × (o ≡ some x)
-flight_is none e = t≠f (sym e)
-flight_is (some x) e = (x, refl)
+flight_is : (o : Option Flight) → has_flight o ≡ true → (x : Flight) × (o ≡ Some x)
+flight_is None e = t≠f (sym e)
+flight_is (Some x) e = (x, refl)
 
 -- a turn of a running routine with nothing in flight
-turn-taken : (s : State) (f : Found) → flight f.it.steps ≡ none → is_accepted (turn_found s (some f)).answers ≡ true
+turn-taken : (s : State) (f : Found) → flight f.it.steps ≡ None → is_accepted (turn_found s (Some f)).answers ≡ true
 unfolding commit_turn send_turn skip_turn held_turn not_held_turn abort
 turn-taken s f e = rw e (command (next f.it.steps))
   where
@@ -172,20 +171,20 @@ turn-taken s f e = rw e (command (next f.it.steps))
     Taken r = is_accepted r.answers ≡ true
 
     search : (c : Command) (o : Option ℕ) → is_accepted (wait_or s f c o).answers ≡ true
-    search c (some j) = refl
-    search c none =
+    search c (Some j) = refl
+    search c None =
         by_if Taken (next_is_skipped false f.it.steps) (λ _. refl)
         (λ _. by_if Taken (s.up c.device)
         (λ _. by_if Taken (is_condition c) (λ _. by_if Taken (is_held s c) (λ _. refl) (λ _. refl)) (λ _. refl))
         (λ _. by_if Taken (next_counts_as_must f.it.steps) (λ _. refl) (λ _. refl)))
 
     command : (o : Option Command) → is_accepted (turn_next s f o).answers ≡ true
-    command none = refl
-    command (some c) = search c (first_holding c.device (is_condition c) f.ahead)
+    command None = refl
+    command (Some c) = search c (first_holding c.device (is_condition c) f.ahead)
 
 -- a report on a command in flight
-report-taken : (s : State) (f : Found) (code : ℕ) (x : Flight) → flight f.it.steps ≡ some x → code ≤ code_failed →
-    is_accepted (report_found s code (some f)).answers ≡ true
+report-taken : (s : State) (f : Found) (code : ℕ) (x : Flight) → flight f.it.steps ≡ Some x → code ≤ code_failed →
+    is_accepted (report_found s code (Some f)).answers ≡ true
 unfolding done_report skip_report abort
 report-taken s f code x e c =
     rw (e, le-ltb code_failed code c)
@@ -195,7 +194,7 @@ report-taken s f code x e c =
 -- the routine with id i is found
 found : (q : Member → Bool) (i : ℕ) (s : State) (h : List Told) (l : List Group) → Ready s h l → any_of (has q i) l ≡ true →
     ((m : Member) → q m ≡ true → is_running m ≡ true) →
-    (f : Found) × (find (runs i) s.sequence ≡ some f) × (q f.it ≡ true)
+    (f : Found) × (find (runs i) s.sequence ≡ Some f) × (q f.it ≡ true)
 found q i s h l y e f =
     let r = located q i l e in
     let a = r.0 in
@@ -427,8 +426,8 @@ devices-after : (s : State) (later : List Call) → (state_after s later).device
 devices-after s [] = refl
 devices-after s (c ∷ later) = devices-after (result_of s c).state later ∙ devices-kept s c
 
-pub sitting_check : (x : Sitting) (later : List Call) (k : ℕ) → limit_check k ≡ Accepted →
-    new_limit_check (state_after (placed_state x) later).devices k ≡ Accepted
+pub sitting_check : (x : Sitting) (later : List Call) (k : ℕ) → limit_check k ≡ Ok tt →
+    new_limit_check (state_after (placed_state x) later).devices k ≡ Ok tt
 unfolding new_hub
 sitting_check x later k a =
     ap (λ n. new_limit_check n k) (devices-after (placed_state x) later ∙ devices-after (opens_at x) (placing x)) ∙ a
@@ -441,7 +440,7 @@ module _ (x : Sitting) (e : open_of 1 x.pass_limit 1 ≡ opened (opens_at x)) wh
       ready_calls (placed_state x) (told_after x []) r.0 r.1 later
 
   -- K alone changes
-  pub sitting_limit : (later : List Call) (k : ℕ) → limit_check k ≡ Accepted →
+  pub sitting_limit : (later : List Call) (k : ℕ) → limit_check k ≡ Ok tt →
       (result_of (state_after (placed_state x) later) (limit k)).state ≡ with_pass_limit (state_after (placed_state x) later) k
   sitting_limit later k a =
       let s = state_after (placed_state x) later in

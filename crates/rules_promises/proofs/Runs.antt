@@ -1,8 +1,8 @@
 -- What entries, events and groups do to one device: the setting that they leave it at, and whether it is up. Assumes nothing.
+use Rattle.std.proofs.Common.{Option, None, Some}
 use mathlib.Core.Path.{◌≡◌, refl, sym, ap, ◌∙◌, subst}
 use mathlib.Core.Bool.{Bool, true, false, ◌&&◌, and-true, and-false}
 use mathlib.Core.List.{List, [], ◌∷◌, ◌++◌, map, append-nil}
-use mathlib.Core.Option.{Option, none, some}
 use Prim.Native.Nat.{ℕ}
 use borrow.Author.Tests.{eq-eqb}
 use lib.Dec.{eqb}
@@ -39,16 +39,16 @@ up_++ d (event e ∷ a) b u = up_++ d a b (up_event d e u)
 -- ---- events
 
 pub restart-later : (x y : Option ℤ) (v : ℤ) → after_restart (later x y) v ≡ after_restart y (after_restart x v)
-restart-later x none v = refl
-restart-later x (some w) v = refl
+restart-later x None v = refl
+restart-later x (Some w) v = refl
 
 later_assoc : (x y z : Option ℤ) → later x (later y z) ≡ later (later x y) z
-later_assoc x y none = refl
-later_assoc x y (some v) = refl
+later_assoc x y None = refl
+later_assoc x y (Some v) = refl
 
-later-none : (x : Option ℤ) → later none x ≡ x
-later-none none = refl
-later-none (some v) = refl
+later-none : (x : Option ℤ) → later None x ≡ x
+later-none None = refl
+later-none (Some v) = refl
 
 last_restart_++ : (d : ℕ) (a b : List Event) → last_restart d (a ++ b) ≡ later (last_restart d a) (last_restart d b)
 last_restart_++ d [] b = sym (later-none (last_restart d b))
@@ -60,7 +60,7 @@ set-one : (d e : ℕ) (w v : ℤ) → set_event d (restart_event e w) v ≡ afte
 unfolding one_restart
 set-one d e w v = ap (λ t. if t then w else v) (eqb_sym e d) ∙ go (eqb d e)
   where
-    go : (t : Bool) → (if t then w else v) ≡ after_restart (if t then some w else none) v
+    go : (t : Bool) → (if t then w else v) ≡ after_restart (if t then Some w else None) v
     go true = refl
     go false = refl
 
@@ -73,15 +73,15 @@ set_events d (restart_event e w ∷ l) v =
     ∙ sym (restart-later (one_restart e w d) (last_restart d l) v)
 
 -- one restart, of its own device and of others
-pub one-here : (e : ℕ) (w : ℤ) → one_restart e w e ≡ some w
+pub one-here : (e : ℕ) (w : ℤ) → one_restart e w e ≡ Some w
 unfolding one_restart
-one-here e w = ap (λ t. if t then some w else none) (eq-eqb e e refl)
+one-here e w = ap (λ t. if t then Some w else None) (eq-eqb e e refl)
 
-pub one_other : (d e : ℕ) (w : ℤ) → eqb d e ≡ false → one_restart e w d ≡ none
+pub one_other : (d e : ℕ) (w : ℤ) → eqb d e ≡ false → one_restart e w d ≡ None
 unfolding one_restart
-one_other d e w n = ap (λ t. if t then some w else none) n
+one_other d e w n = ap (λ t. if t then Some w else None) n
 
-pub last_restart_not-begun : (d : ℕ) (l : List Event) → any_of (is_of d) l ≡ false → last_restart d l ≡ none
+pub last_restart_not-begun : (d : ℕ) (l : List Event) → any_of (is_of d) l ≡ false → last_restart d l ≡ None
 last_restart_not-begun d [] n = refl
 last_restart_not-begun d (failure_event e ∷ l) n = last_restart_not-begun d l (or_right (eqb e d) (any_of (is_of d) l) n)
 last_restart_not-begun d (restart_event e w ∷ l) n =

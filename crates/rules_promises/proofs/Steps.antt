@@ -1,10 +1,11 @@
 -- The commands of a routine: they are answered in turn, but for those that an event skips; at most one is in flight, and those behind it
 -- are to do or were skipped so. Assumes nothing.
+use Rattle.rules_routine.proofs.Options.{none-ne-some, some-ne-none, some-injective}
+use Rattle.std.proofs.Common.{None, Some}
 use mathlib.Core.Path.{◌≡◌, refl, sym, ap, ◌∙◌, subst}
 use mathlib.Core.Logic.{◌≢◌}
 use mathlib.Core.Bool.{Bool, true, false, not, ◌&&◌, ◌||◌, and-true, and-false, or-true, or-false}
 use mathlib.Core.List.{List, [], ◌∷◌, ◌++◌, map, append-nil, cons≢nil}
-use mathlib.Core.Option.{none, some, none-ne-some, some-ne-none, some-injective}
 use Prim.Native.Nat.{ℕ}
 use borrow.Author.Tests.{eqb-true, eq-eqb, ne_eqb, not-true, not-false}
 use lib.Dec.{eqb}
@@ -90,7 +91,7 @@ pub record Sent (c : Command) (u : ℤ) (m n : Member) : Type 0 where
   pub begins : begun c.device n ≡ true
   pub other_begun : (d : ℕ) → c.device ≢ d → begun d n ≡ begun d m
   pub flies : (d : ℕ) → in_flight_on d n ≡ eqb c.device d
-  pub flight_is : flight n.steps ≡ some (record { command = c; due_then = u })
+  pub flight_is : flight n.steps ≡ Some (record { command = c; due_then = u })
   pub same_after : (d : ℕ) (v : ℤ) → after_steps d n.steps v ≡ after_steps d m.steps v
   pub same-done : done_steps n.steps ≡ done_steps m.steps
   pub same_left : left_steps n.steps ≡ left_steps m.steps
@@ -112,7 +113,7 @@ pub record Skipped (c : Command) (s : Status) (m n : Member) : Type 0 where
   pub begins : begun c.device n ≡ true
   pub other_begun : (d : ℕ) → c.device ≢ d → begun d n ≡ begun d m
   pub flies : (d : ℕ) → in_flight_on d n ≡ false
-  pub flight_is : flight n.steps ≡ none
+  pub flight_is : flight n.steps ≡ None
   pub same_after : (d : ℕ) (v : ℤ) → after_steps d n.steps v ≡ after_steps d m.steps v
   pub same-done : done_steps n.steps ≡ done_steps m.steps
   pub left_is : left_steps m.steps ≡ c ∷ left_steps n.steps
@@ -128,7 +129,7 @@ pub record AnsweredOne (c : Command) (m n : Member) : Type 0 where
   pub finishes : (d : ℕ) → finished d m ≡ true → finished d n ≡ true
   pub same-begun : (d : ℕ) → begun d n ≡ begun d m
   pub flies : (d : ℕ) → in_flight_on d n ≡ false
-  pub flight_is : flight n.steps ≡ none
+  pub flight_is : flight n.steps ≡ None
   pub left_is : left_steps m.steps ≡ c ∷ left_steps n.steps
   pub same_asked : (d : ℕ) → asked_on d n.steps ≡ asked_on d m.steps
 
@@ -139,8 +140,8 @@ pub record LeftSkipped (d : ℕ) (m n : Member) : Type 0 where
   pub finishes : (e : ℕ) → finished e m ≡ true → finished e n ≡ true
   pub same-begun : begun d m ≡ true → (e : ℕ) → begun e n ≡ begun e m
   pub other_flies : (e : ℕ) → d ≢ e → in_flight_on e n ≡ in_flight_on e m
-  pub flight_was : (x : Flight) → flight n.steps ≡ some x → (flight m.steps ≡ some x) × (x.command.device ≢ d)
-  pub flight_stays : (x : Flight) → flight m.steps ≡ some x → x.command.device ≢ d → flight n.steps ≡ some x
+  pub flight_was : (x : Flight) → flight n.steps ≡ Some x → (flight m.steps ≡ Some x) × (x.command.device ≢ d)
+  pub flight_stays : (x : Flight) → flight m.steps ≡ Some x → x.command.device ≢ d → flight n.steps ≡ Some x
   pub same_after : (e : ℕ) (v : ℤ) → after_steps e n.steps v ≡ after_steps e m.steps v
   pub same-done : done_steps n.steps ≡ done_steps m.steps
   pub left_is : left_steps n.steps ≡ not_on d (left_steps m.steps)
@@ -239,7 +240,7 @@ behind-turn =
     by_status (λ q. AllBehind q → InTurn q) (λ w. tt) (λ c l h w. w.1) (λ c u l h w. t≠f (sym w.0)) (λ c l h w. t≠f (sym w.0))
     (λ c l h w. h w.1) (λ c l h w. t≠f (sym w.0)) (λ c l h w. t≠f (sym w.0))
 
-pub behind_grounded : (q : List Step) → AllBehind q → flight q ≡ none
+pub behind_grounded : (q : List Step) → AllBehind q → flight q ≡ None
 behind_grounded = behind_over flight (λ b l. refl) (λ b l. refl)
 
 new-behind : (cs : List Command) → AllBehind (map step_of cs)
@@ -310,7 +311,7 @@ undone_after d (x ∷ l) v e =
     rw (or_left (on d is_done x) (any_of (on d is_done) l) e) (undone_after d l v (or_right (on d is_done x) (any_of (on d is_done) l) e))
 
 -- what an answered status is not
-landed : (s : Status) → is_answered s ≡ true → (is_in_flight s ≡ false) × (is_to_do s ≡ false) × ((x : Step) → flight_or x s none ≡ none)
+landed : (s : Status) → is_answered s ≡ true → (is_in_flight s ≡ false) × (is_to_do s ≡ false) × ((x : Step) → flight_or x s None ≡ None)
 landed to-do e = t≠f (sym e)
 landed (in_flight u) e = t≠f (sym e)
 landed was_done e = (refl, refl, λ x. refl)
@@ -331,9 +332,9 @@ module _ (p : List Step) (a : AllAnswered p) (c : Command) (q : List Step) (w : 
       go was_held = behind-turn q w
       go was_not_held = behind-turn q w
 
-  flight-at : (s : Status) → flight (at p c q s) ≡ flight_or (step c s) s none
+  flight-at : (s : Status) → flight (at p c q s) ≡ flight_or (step c s) s None
   flight-at s =
-      over (λ p k. flight k ≡ flight_or (step c s) s none) (step c s ∷ q)
+      over (λ p k. flight k ≡ flight_or (step c s) s None) (step c s ∷ q)
       (ap (λ o. flight_or (step c s) s o) (behind_over flight (λ b l. refl) (λ b l. refl) q w))
       (λ b p k e. e) (λ b p k e. e) (λ b p k e. e) (λ b p k e. e) p a
 
@@ -441,13 +442,13 @@ module _ (p : List Step) (a : AllAnswered p) (c : Command) (q : List Step) (w : 
 
 -- the next command is sent or skipped
 at_next : (P : List Step → List Step → Type 0) (c : Command) (s : Status) → Goes c to-do s P →
-    (l : List Step) → Parts l → next l ≡ some c → flight l ≡ none → P l (advance s l)
+    (l : List Step) → Parts l → next l ≡ Some c → flight l ≡ None → P l (advance s l)
 at_next P c s h _ (ends p a) e f =
-    absurd (none-ne-some c (sym (all_over (λ k. next k ≡ none) refl (λ b k n. n) (λ b k n. n) (λ b k n. n) (λ b k n. n) p a) ∙ e))
+    absurd (none-ne-some c (sym (all_over (λ k. next k ≡ None) refl (λ b k n. n) (λ b k n. n) (λ b k n. n) (λ b k n. n) p a) ∙ e))
 at_next P c s h _ (rests p a b q w) e f =
     let same : b ≡ c =
     some-injective b c
-    (sym (over (λ p k. next k ≡ some b) (step b to-do ∷ q) refl (λ b p k n. n) (λ b p k n. n) (λ b p k n. n) (λ b p k n. n) p a)
+    (sym (over (λ p k. next k ≡ Some b) (step b to-do ∷ q) refl (λ b p k n. n) (λ b p k n. n) (λ b p k n. n) (λ b p k n. n) p a)
     ∙ e) in
     subst (λ k. P (at p b q to-do) k)
     (sym (over (λ p k. advance s k ≡ p ++ (step b s ∷ q)) (step b to-do ∷ q) refl (λ b p k. ap (λ n. step b was_done ∷ n))
@@ -458,9 +459,9 @@ at_next P c s h _ (flies p a b u q w) e f =
 
 -- the command in flight is answered
 at_flight : (P : List Step → List Step → Type 0) (x : Flight) (s : Status) → Goes x.command (in_flight x.due_then) s P →
-    (l : List Step) → Parts l → flight l ≡ some x → P l (answer_flight s l)
+    (l : List Step) → Parts l → flight l ≡ Some x → P l (answer_flight s l)
 at_flight P x s h _ (ends p a) e =
-    absurd (none-ne-some x (sym (all_over (λ k. flight k ≡ none) refl (λ b k n. n) (λ b k n. n) (λ b k n. n) (λ b k n. n) p a) ∙ e))
+    absurd (none-ne-some x (sym (all_over (λ k. flight k ≡ None) refl (λ b k n. n) (λ b k n. n) (λ b k n. n) (λ b k n. n) p a) ∙ e))
 at_flight P x s h _ (rests p a c q w) e = absurd (none-ne-some x (sym (flight-at p a c q w to-do) ∙ e))
 at_flight P x s h _ (flies p a c u q w) e =
     let same : record { command = c; due_then = u } ≡ x =
@@ -471,62 +472,62 @@ at_flight P x s h _ (flies p a c u q w) e =
     (subst (λ y. P (at p y.command q (in_flight y.due_then)) (at p y.command q s)) (sym same) (h p a q w))
 
 module _ (m : Member) (t : InTurn m.steps) where
-  pub send-step : (c : Command) (u : ℤ) → next m.steps ≡ some c → flight m.steps ≡ none →
+  pub send-step : (c : Command) (u : ℤ) → next m.steps ≡ Some c → flight m.steps ≡ None →
       Sent c u m (with_steps m (advance (in_flight u) m.steps))
   send-step c u e f =
       at_next (λ k l. Sent c u (with_steps m k) (with_steps m l)) c (in_flight u) (λ p a q w. sent_at p a c q w m u) m.steps
       (apart m.steps t) e f
 
-  pub skip_step : (c : Command) (s : Status) → Passing s → next m.steps ≡ some c → flight m.steps ≡ none →
+  pub skip_step : (c : Command) (s : Status) → Passing s → next m.steps ≡ Some c → flight m.steps ≡ None →
       Skipped c s m (with_steps m (advance s m.steps))
   skip_step c s h e f =
       at_next (λ k l. Skipped c s (with_steps m k) (with_steps m l)) c s (λ p a q w. skipped-at p a c q w m s h) m.steps
       (apart m.steps t) e f
 
   answers : (P : List Step → List Step → Type 0) (x : Flight) (s : Status) → Goes x.command (in_flight x.due_then) s P →
-      flight m.steps ≡ some x → P m.steps (answer_flight s m.steps)
+      flight m.steps ≡ Some x → P m.steps (answer_flight s m.steps)
   answers P x s h = at_flight P x s h m.steps (apart m.steps t)
 
-  pub done-step : (x : Flight) → flight m.steps ≡ some x → AnsweredOne x.command m (with_steps m (answer_flight was_done m.steps))
+  pub done-step : (x : Flight) → flight m.steps ≡ Some x → AnsweredOne x.command m (with_steps m (answer_flight was_done m.steps))
   done-step x e =
       answers (λ k l. AnsweredOne x.command (with_steps m k) (with_steps m l)) x was_done
       (λ p a q w. answer_at p a x.command q w m x.due_then was_done refl refl) e
 
-  pub done-after : (x : Flight) → flight m.steps ≡ some x → (d : ℕ) (v : ℤ) →
+  pub done-after : (x : Flight) → flight m.steps ≡ Some x → (d : ℕ) (v : ℤ) →
       after_steps d (answer_flight was_done m.steps) v ≡
       (if eqb x.command.device d then x.command.setting else after_steps d m.steps v)
   done-after x e d v =
       answers (λ k l. after_steps d l v ≡ (if eqb x.command.device d then x.command.setting else after_steps d k v)) x was_done
       (λ p a q w. done-after_at p a x.command q w x.due_then d v) e
 
-  pub done-gains : (x : Flight) → flight m.steps ≡ some x → done_steps (answer_flight was_done m.steps) ≡ done_steps m.steps
+  pub done-gains : (x : Flight) → flight m.steps ≡ Some x → done_steps (answer_flight was_done m.steps) ≡ done_steps m.steps
       ++ (x.command ∷ [])
   done-gains x e =
       answers (λ k l. done_steps l ≡ done_steps k ++ (x.command ∷ [])) x was_done
       (λ p a q w. done-gains_at p a x.command q w x.due_then) e
 
-  pub fail_step : (x : Flight) → flight m.steps ≡ some x → AnsweredOne x.command m (with_steps m (answer_flight was_skipped m.steps))
+  pub fail_step : (x : Flight) → flight m.steps ≡ Some x → AnsweredOne x.command m (with_steps m (answer_flight was_skipped m.steps))
   fail_step x e =
       answers (λ k l. AnsweredOne x.command (with_steps m k) (with_steps m l)) x was_skipped
       (λ p a q w. answer_at p a x.command q w m x.due_then was_skipped refl refl) e
 
-  pub fail_after : (x : Flight) → flight m.steps ≡ some x → (d : ℕ) (v : ℤ) →
+  pub fail_after : (x : Flight) → flight m.steps ≡ Some x → (d : ℕ) (v : ℤ) →
       after_steps d (answer_flight was_skipped m.steps) v ≡ after_steps d m.steps v
   fail_after x e d v =
       answers (λ k l. after_steps d l v ≡ after_steps d k v) x was_skipped
       (λ p a q w. after_at p a x.command q w d v was_skipped ∙ sym (after_at p a x.command q w d v (in_flight x.due_then))) e
 
-  pub fail_done : (x : Flight) → flight m.steps ≡ some x → done_steps (answer_flight was_skipped m.steps) ≡ done_steps m.steps
+  pub fail_done : (x : Flight) → flight m.steps ≡ Some x → done_steps (answer_flight was_skipped m.steps) ≡ done_steps m.steps
   fail_done x e =
       answers (λ k l. done_steps l ≡ done_steps k) x was_skipped
       (λ p a q w. done_at p a x.command q w was_skipped ∙ sym (done_at p a x.command q w (in_flight x.due_then))) e
 
   -- a command in flight on d is the one in flight
-  pub flight_on : (d : ℕ) → in_flight_on d m ≡ true → (x : Flight) × (flight m.steps ≡ some x) × (x.command.device ≡ d)
+  pub flight_on : (d : ℕ) → in_flight_on d m ≡ true → (x : Flight) × (flight m.steps ≡ Some x) × (x.command.device ≡ d)
   unfolding in_flight_on
   flight_on d e = go m.steps (apart m.steps t) e
     where
-      go : (l : List Step) → Parts l → any_of (on d is_in_flight) l ≡ true → (x : Flight) × (flight l ≡ some x) × (x.command.device ≡ d)
+      go : (l : List Step) → Parts l → any_of (on d is_in_flight) l ≡ true → (x : Flight) × (flight l ≡ Some x) × (x.command.device ≡ d)
       go _ (ends p a) h =
           t≠f (sym h ∙ ap (any_of (on d is_in_flight)) (sym (append-nil p)) ∙ past_flies d [] p a)
       go _ (rests p a c q w) h = t≠f (sym h ∙ flies-at p a c q w d to-do ∙ unpassed d is_in_flight (step c to-do) refl)
@@ -540,15 +541,15 @@ module _ (m : Member) (t : InTurn m.steps) where
 -- ---- laws of one routine
 
 -- nothing is left: all is answered
-pub none_left : (m : Member) → next m.steps ≡ none → flight m.steps ≡ none → left_steps m.steps ≡ []
+pub none_left : (m : Member) → next m.steps ≡ None → flight m.steps ≡ None → left_steps m.steps ≡ []
 none_left m e f =
-    by_status (λ l. next l ≡ none → flight l ≡ none → left_steps l ≡ []) (λ e f. refl)
+    by_status (λ l. next l ≡ None → flight l ≡ None → left_steps l ≡ []) (λ e f. refl)
     (λ c l h e f. absurd (some-ne-none c e)) (λ c u l h e f. absurd (some-ne-none (record { command = c; due_then = u }) f))
     (λ c l h. h) (λ c l h. h) (λ c l h. h) (λ c l h. h) m.steps e f
 
-no_flight : (l : List Step) → flight l ≡ none → any_of (λ x. is_in_flight x.status) l ≡ false
+no_flight : (l : List Step) → flight l ≡ None → any_of (λ x. is_in_flight x.status) l ≡ false
 no_flight =
-    by_status (λ l. flight l ≡ none → any_of (λ x. is_in_flight x.status) l ≡ false) (λ e. refl)
+    by_status (λ l. flight l ≡ None → any_of (λ x. is_in_flight x.status) l ≡ false) (λ e. refl)
     (λ c l h. h) (λ c u l h e. absurd (some-ne-none (record { command = c; due_then = u }) e)) (λ c l h. h) (λ c l h. h)
     (λ c l h. h) (λ c l h. h)
 
@@ -561,12 +562,12 @@ pub left_finished : (m : Member) (d : ℕ) → left_steps m.steps ≡ [] → fin
 unfolding finished
 left_finished m d e = ap not (fewer (λ x. is_open x.status) (on d is_open) (unpassed d is_open) m.steps (left_answered m.steps e))
 
-pub left_grounded : (m : Member) → left_steps m.steps ≡ [] → flight m.steps ≡ none
+pub left_grounded : (m : Member) → left_steps m.steps ≡ [] → flight m.steps ≡ None
 left_grounded m e =
-    by_status (λ l. left_steps l ≡ [] → flight l ≡ none) (λ e. refl) (λ c l h e. absurd (cons≢nil e)) (λ c u l h e. absurd (cons≢nil e))
+    by_status (λ l. left_steps l ≡ [] → flight l ≡ None) (λ e. refl) (λ c l h e. absurd (cons≢nil e)) (λ c u l h e. absurd (cons≢nil e))
     (λ c l h. h) (λ c l h. h) (λ c l h. h) (λ c l h. h) m.steps e
 
-pub grounded : (m : Member) (d : ℕ) → flight m.steps ≡ none → in_flight_on d m ≡ false
+pub grounded : (m : Member) (d : ℕ) → flight m.steps ≡ None → in_flight_on d m ≡ false
 unfolding in_flight_on
 grounded m d e = fewer (λ x. is_in_flight x.status) (on d is_in_flight) (unpassed d is_in_flight) m.steps (no_flight m.steps e)
 
@@ -753,19 +754,19 @@ module _ (d : ℕ) where
       stays c was_not_held l t h = h
 
   -- the command in flight, if it is on another device, stays in flight
-  skip_flight_was : (x : Flight) (l : List Step) → InTurn l → flight (skip_left d l) ≡ some x →
-      (flight l ≡ some x) × (x.command.device ≢ d)
+  skip_flight_was : (x : Flight) (l : List Step) → InTurn l → flight (skip_left d l) ≡ Some x →
+      (flight l ≡ Some x) × (x.command.device ≢ d)
   skip_flight_was x =
-      by_skip d (λ l m. InTurn l → flight m ≡ some x → (flight l ≡ some x) × (x.command.device ≢ d))
+      by_skip d (λ l m. InTurn l → flight m ≡ Some x → (flight l ≡ Some x) × (x.command.device ≢ d))
       (λ w e. absurd (none-ne-some x e)) stays goes
     where
-      none-behind : (l : List Step) → AllBehind l → flight (skip_left d l) ≡ none
+      none-behind : (l : List Step) → AllBehind l → flight (skip_left d l) ≡ None
       none-behind l w = behind_over flight (λ b l. refl) (λ b l. refl) (skip_left d l) (skip_behind l w)
 
       stays : (c : Command) (s : Status) (l : List Step) → (eqb c.device d && is_open s) ≡ false →
-          (InTurn l → flight (skip_left d l) ≡ some x → (flight l ≡ some x) × (x.command.device ≢ d)) →
-          InTurnAt s l (InTurn l) → flight (step c s ∷ skip_left d l) ≡ some x →
-          (flight (step c s ∷ l) ≡ some x) × (x.command.device ≢ d)
+          (InTurn l → flight (skip_left d l) ≡ Some x → (flight l ≡ Some x) × (x.command.device ≢ d)) →
+          InTurnAt s l (InTurn l) → flight (step c s ∷ skip_left d l) ≡ Some x →
+          (flight (step c s ∷ l) ≡ Some x) × (x.command.device ≢ d)
       stays c to-do l t h w e = absurd (none-ne-some x (sym (none-behind l w) ∙ e))
       stays c (in_flight u) l t h w e =
           let y : record { command = c; due_then = u } ≡ x = some-injective (record { command = c; due_then = u }) x e in (
@@ -779,9 +780,9 @@ module _ (d : ℕ) where
       stays c was_not_held l t h w e = h w e
 
       goes : (c : Command) (s : Status) (l : List Step) → c.device ≡ d → is_answered s ≡ false →
-          (InTurn l → flight (skip_left d l) ≡ some x → (flight l ≡ some x) × (x.command.device ≢ d)) →
-          InTurnAt s l (InTurn l) → flight (skip_left d l) ≡ some x →
-          (flight (step c s ∷ l) ≡ some x) × (x.command.device ≢ d)
+          (InTurn l → flight (skip_left d l) ≡ Some x → (flight l ≡ Some x) × (x.command.device ≢ d)) →
+          InTurnAt s l (InTurn l) → flight (skip_left d l) ≡ Some x →
+          (flight (step c s ∷ l) ≡ Some x) × (x.command.device ≢ d)
       goes c to-do l t u h w e = absurd (none-ne-some x (sym (none-behind l w) ∙ e))
       goes c (in_flight v) l t u h w e = absurd (none-ne-some x (sym (none-behind l w) ∙ e))
       goes c was_done l t u h w e = t≠f u
@@ -789,13 +790,13 @@ module _ (d : ℕ) where
       goes c was_held l t u h w e = t≠f u
       goes c was_not_held l t u h w e = t≠f u
 
-  skip_flight_stays : (x : Flight) (l : List Step) → flight l ≡ some x → x.command.device ≢ d → flight (skip_left d l) ≡ some x
+  skip_flight_stays : (x : Flight) (l : List Step) → flight l ≡ Some x → x.command.device ≢ d → flight (skip_left d l) ≡ Some x
   skip_flight_stays x =
-      by_skip d (λ l m. flight l ≡ some x → x.command.device ≢ d → flight m ≡ some x) (λ e n. e) stays goes
+      by_skip d (λ l m. flight l ≡ Some x → x.command.device ≢ d → flight m ≡ Some x) (λ e n. e) stays goes
     where
       stays : (c : Command) (s : Status) (l : List Step) → (eqb c.device d && is_open s) ≡ false →
-          (flight l ≡ some x → x.command.device ≢ d → flight (skip_left d l) ≡ some x) →
-          flight (step c s ∷ l) ≡ some x → x.command.device ≢ d → flight (step c s ∷ skip_left d l) ≡ some x
+          (flight l ≡ Some x → x.command.device ≢ d → flight (skip_left d l) ≡ Some x) →
+          flight (step c s ∷ l) ≡ Some x → x.command.device ≢ d → flight (step c s ∷ skip_left d l) ≡ Some x
       stays c to-do l t h e n = h e n
       stays c (in_flight u) l t h e n = e
       stays c was_done l t h e n = h e n
@@ -804,8 +805,8 @@ module _ (d : ℕ) where
       stays c was_not_held l t h e n = h e n
 
       goes : (c : Command) (s : Status) (l : List Step) → c.device ≡ d → is_answered s ≡ false →
-          (flight l ≡ some x → x.command.device ≢ d → flight (skip_left d l) ≡ some x) →
-          flight (step c s ∷ l) ≡ some x → x.command.device ≢ d → flight (skip_left d l) ≡ some x
+          (flight l ≡ Some x → x.command.device ≢ d → flight (skip_left d l) ≡ Some x) →
+          flight (step c s ∷ l) ≡ Some x → x.command.device ≢ d → flight (skip_left d l) ≡ Some x
       goes c to-do l t u h e n = h e n
       goes c (in_flight v) l t u h e n =
           absurd (n (ap (λ (f : Flight). f.command.device) (sym (some-injective (record { command = c; due_then = v }) x e)) ∙ t))
@@ -837,21 +838,21 @@ skip_steps d m t = record {
 -- ---- the command in flight, behind its condition
 
 -- one that is sent is skipped if it was before
-pub sent-skipped : (u : ℤ) (before : Bool) (l : List Step) → flight l ≡ none → next_is_skipped before l ≡ false →
+pub sent-skipped : (u : ℤ) (before : Bool) (l : List Step) → flight l ≡ None → next_is_skipped before l ≡ false →
     flight_is_skipped before (advance (in_flight u) l) ≡ false
 sent-skipped u before l =
-    by_status (λ l. (before : Bool) → flight l ≡ none → next_is_skipped before l ≡ false →
+    by_status (λ l. (before : Bool) → flight l ≡ None → next_is_skipped before l ≡ false →
     flight_is_skipped before (advance (in_flight u) l) ≡ false) (λ b f e. refl) (λ c l h b f e. e)
     (λ c v l h b f. absurd (some-ne-none (record { command = c; due_then = v }) f)) (λ c l h b. h _) (λ c l h b. h _)
     (λ c l h b. h _) (λ c l h b. h _) l before
 
-none-skipped : (l : List Step) (before : Bool) → flight l ≡ none → flight_is_skipped before l ≡ false
+none-skipped : (l : List Step) (before : Bool) → flight l ≡ None → flight_is_skipped before l ≡ false
 none-skipped =
-    by_status (λ l. (before : Bool) → flight l ≡ none → flight_is_skipped before l ≡ false) (λ b f. refl) (λ c l h b. h _)
+    by_status (λ l. (before : Bool) → flight l ≡ None → flight_is_skipped before l ≡ false) (λ b f. refl) (λ c l h b. h _)
     (λ c v l h b f. absurd (some-ne-none (record { command = c; due_then = v }) f)) (λ c l h b. h _) (λ c l h b. h _)
     (λ c l h b. h _) (λ c l h b. h _)
 
-pub grounded_skipped : (l : List Step) → flight l ≡ none → flight_is_skipped false l ≡ false
+pub grounded_skipped : (l : List Step) → flight l ≡ None → flight_is_skipped false l ≡ false
 grounded_skipped l = none-skipped l false
 
 -- an event of d skips what is left; what stands ahead of the command in flight is answered
@@ -887,7 +888,7 @@ left_skipped d = by_skip d (λ l m. InTurn l → (before : Bool) → flight_is_s
 pub record Fresh (cs : List Command) (m : Member) : Type 0 where
   pub in-turn : InTurn m.steps
   pub unbegun : (d : ℕ) → begun d m ≡ false
-  pub flight_is : flight m.steps ≡ none
+  pub flight_is : flight m.steps ≡ None
   pub done-is : done_steps m.steps ≡ []
   pub left_is : left_steps m.steps ≡ cs
 

@@ -1,5 +1,7 @@
 -- Demand 3, proved: what holds at the opening is kept by every call and by every step of a device, and gives the three parts. Assumes
 -- nothing.
+use Rattle.std.proofs.Common.{Ok, Err}
+use Rattle.rules_routine.specs.declared.refusals.Refusal.TheVariants.{PassLimitOutOfRange, FirstIdZero}
 use mathlib.Core.Path.{◌≡◌, refl, sym, ap, ◌∙◌, subst}
 use mathlib.Core.Logic.{◌≢◌}
 use mathlib.Core.Bool.{Bool, true, false, not, or-true}
@@ -9,9 +11,7 @@ use native.Mathlib.Omega.{arith}
 use borrow.Author.Tests.{ltb-false, le-ltb, eqb-true, eqb-false}
 use lib.Dec.{ltb, eqb}
 use lib.IntN.{ℤ, pos}
-use Rattle.rules_routine.specs.Refusals.{pass_limit_out_of_range, first_id_0, refuse◌when◌, ◌and_then◌}
-use Rattle.rules_routine.specs.declared.Verdict.{Verdict}
-use Rattle.rules_routine.specs.declared.Verdict.TheVariants.{Accepted, Refused}
+use Rattle.rules_routine.specs.Refusals.{refuse◌when◌, ◌and_then◌, Verdict}
 use Rattle.rules_routine.proofs.RoutineLaws.{both_accept, not-refused}
 use Rattle.rules.specs.Tables.{any_of, Each}
 use Rattle.rules_routine.specs.Limits.{highest_pass_limit}
@@ -66,7 +66,7 @@ use Rattle.rules_routine.specs.Causes.{NoneOf}
 use Rattle.rules.specs.Causes.{IdsDiffer}
 use Rattle.rules.specs.NewLimit.{NothingTold, LimitTellsNothing, NothingToSettle, LimitChangesK}
 use Rattle.rules.specs.Sequence.{with_sequence}
-use Rattle.rules_routine.specs.declared.Refusal.{Refusal}
+use Rattle.rules_routine.specs.declared.refusals.Refusal.{Refusal}
 use Rattle.rules.proofs.Lists.{NotIn, IdsOk, ids_other}
 use Rattle.rules_promises.proofs.Groups.{ids}
 
@@ -342,7 +342,7 @@ acts_hold P w (x ∷ l) h =
 
 -- the hub of an accepted opening
 pub opening : (n k first : ℕ) (s : State) → open_of n k first ≡ opened s →
-    (new_hub n k first ≡ s) × (0 < first) × (k ≤ highest_pass_limit) × (devices_check n ≡ Accepted)
+    (new_hub n k first ≡ s) × (0 < first) × (k ≤ highest_pass_limit) × (devices_check n ≡ Ok tt)
 unfolding open_check open_of
 opening n k first s e = go (open_check n k first) refl e
   where
@@ -350,16 +350,16 @@ opening n k first s e = go (open_check n k first) refl e
     positive i z = omega arith
 
     go : (v : Verdict) → open_check n k first ≡ v → open_if v (new_hub n k first) ≡ opened s →
-        (new_hub n k first ≡ s) × (0 < first) × (k ≤ highest_pass_limit) × (devices_check n ≡ Accepted)
-    go Accepted q f =
+        (new_hub n k first ≡ s) × (0 < first) × (k ≤ highest_pass_limit) × (devices_check n ≡ Ok tt)
+    go (Ok tt) q f =
         let p = both_accept (devices_check n) _ q in
         let r = both_accept (limit_check k) _ p.1 in (
           cc,
-          positive first (eqb-false first 0 (not-refused first_id_0 (eqb first 0) r.1)),
-          ltb-false highest_pass_limit k (not-refused pass_limit_out_of_range (ltb highest_pass_limit k) r.0),
+          positive first (eqb-false first 0 (not-refused FirstIdZero (eqb first 0) r.1)),
+          ltb-false highest_pass_limit k (not-refused PassLimitOutOfRange (ltb highest_pass_limit k) r.0),
           p.0,
         )
-    go (Refused r) q f = let z : ◌≡◌ {A = ℕ} 0 1 = cc in absurd (omega arith)
+    go (Err r) q f = let z : ◌≡◌ {A = ℕ} 0 1 = cc in absurd (omega arith)
 
 new_holds : (n k first : ℕ) → 0 < first → Holds (Unit {0}) (new_world (new_hub n k first))
 unfolding new_hub due
@@ -576,8 +576,8 @@ limit-tells_nothing n k first s e acts new v =
 
     by_verdict : (P : Result → Type 0) (x : Verdict) {r : Result} → P r → ((y : Refusal) → P (turned_down y w.state)) →
         P (unless_refused x w.state r)
-    by_verdict P Accepted a b = a
-    by_verdict P (Refused y) a b = b y
+    by_verdict P (Ok tt) a b = a
+    by_verdict P (Err y) a b = b y
 
 pub nothing_to_settle : NothingToSettle
 nothing_to_settle n k first s e acts =
@@ -591,9 +591,9 @@ limit_changes_k n k first s e acts new low =
     let w = world_after_all (new_world s) acts in
     let h = acts_hold (Unit {0}) (new_world s) acts (started n k first s e) in
     let o = opening n k first s e in
-    let fine : devices_check w.state.devices ≡ Accepted =
-    subst (λ d. devices_check d ≡ Accepted) (sym (h.same_devices ∙ sym (ap (λ (t : State). t.devices) o.0))) o.3 in
+    let fine : devices_check w.state.devices ≡ (Ok tt) =
+    subst (λ d. devices_check d ≡ Ok tt) (sym (h.same_devices ∙ sym (ap (λ (t : State). t.devices) o.0))) o.3 in
     limit_passes w.state new (ap (λ (v : Verdict). v and_then limit_check new) fine
-    ∙ ap (λ b. refuse pass_limit_out_of_range when b) (le-ltb highest_pass_limit new low))
+    ∙ ap (λ b. refuse PassLimitOutOfRange when b) (le-ltb highest_pass_limit new low))
     ∙ ap (λ (t : State). record { state = t; answers = limited new ∷ [] })
     (settle-none (with_pass_limit w.state new) h.next.groups h.next.known.hub.sequence_is h.next.known.first)

@@ -1,8 +1,8 @@
 -- Which routines have a command in flight, told by the answers, is what the hub holds. Assumes nothing.
+use Rattle.std.proofs.Common.{None}
 use mathlib.Core.Path.{◌≡◌, refl, sym, ap, ◌∙◌, subst}
 use mathlib.Core.Bool.{Bool, false, and-false}
 use mathlib.Core.List.{List, [], ◌∷◌, ◌++◌}
-use mathlib.Core.Option.{none}
 use Prim.Native.Nat.{ℕ}
 use Rattle.rules.specs.Tables.{put, Each}
 use Rattle.rules.specs.State.{Member, State}
@@ -44,7 +44,7 @@ same-flying : (g h : Group) → Same g h → is_flying h.member ≡ is_flying g.
 unfolding is_flying is_running
 same-flying g h e = rw (e.same-committed, e.same-steps) refl
 
-grounded_flying : (m : Member) → flight m.steps ≡ none → is_flying m ≡ false
+grounded_flying : (m : Member) → flight m.steps ≡ None → is_flying m ≡ false
 unfolding is_flying
 grounded_flying m e = rw e (and-false (is_running m))
 
@@ -58,7 +58,7 @@ module _ (s : State) (a : ℕ → Account) (ga : List Group) (g : Group) (gb : L
       ∙ tells-put is_flying (flying_in a) x.flying ga g h gb (other_ids s.next_id ga g gb w.ids_ok) same is t i
 
   -- the first command that is left is answered
-  lands : (o : Outcome) (h : Group) → h.member.id ≡ g.member.id → flight h.member.steps ≡ none →
+  lands : (o : Outcome) (h : Group) → h.member.id ≡ g.member.id → flight h.member.steps ≡ None →
       FliesTold (put a g.member.id (answered_account o (a g.member.id))) (ga ++ (h ∷ gb))
   lands o h same e = now_flies (answered_account o (a g.member.id)) h same (grounded_flying h.member e)
 

@@ -1,21 +1,20 @@
 -- Every call, seen once: it changes nothing; or it changes the pass limit, or does one of nine things to the state and the groups, and
 -- settles. Assumes nothing.
+use Rattle.rules_routine.specs.declared.refusals.Refusal.TheVariants.{FailureOfDown, RestartOfUp, RestartSetting}
+use Rattle.std.proofs.Common.{Option, None, Some, Ok, Err}
 use mathlib.Core.Path.{◌≡◌, refl, sym, ap, ◌∙◌, subst}
 use mathlib.Core.Bool.{Bool, true, false, not}
 use mathlib.Core.List.{List, [], ◌∷◌, ◌++◌}
-use mathlib.Core.Option.{Option, none, some}
 use Prim.Native.Nat.{ℕ}
 use native.Mathlib.Omega.{arith}
 use borrow.Author.Tests.{eqb-true, eqb-false, ltb-false, not-true, not-false}
 use lib.Dec.{leb, ltb, eqb}
 use lib.IntN.{ℤ}
 use Rattle.rules_routine.specs.Range.{in_range}
-use Rattle.rules_routine.specs.Refusals.{failure_of_down, restart_of_up, restart_setting, refuse◌when◌, ◌and_then◌}
+use Rattle.rules_routine.specs.Refusals.{refuse◌when◌, ◌and_then◌, Verdict}
 use Rattle.rules_routine.specs.Routine.{is_condition}
 use Rattle.rules_routine.specs.declared.Command.{Command}
-use Rattle.rules_routine.specs.declared.Refusal.{Refusal}
-use Rattle.rules_routine.specs.declared.Verdict.{Verdict}
-use Rattle.rules_routine.specs.declared.Verdict.TheVariants.{Accepted, Refused}
+use Rattle.rules_routine.specs.declared.refusals.Refusal.{Refusal}
 use Rattle.rules.specs.Tables.{any_of, put, Each}
 use Rattle.rules.specs.State.{Status, to-do, in_flight, was_done, was_skipped, was_held, was_not_held, Member, State}
 use Rattle.rules.specs.Answers.{Call, submit, turn, report, failure, restart, cancel, limit, Answer, refused, placed, wait, skipped}
@@ -96,8 +95,8 @@ passing (does_not u k h) = record { answers-it = refl; not_done = refl }
 
 -- why a routine aborts at a call of its own
 pub data Aborts (g : Group) : Call → Type 0 where
-  by_turn : (i : ℕ) → g.member.id ≡ i → flight g.member.steps ≡ none → Aborts g (turn i)
-  by_report : (i code : ℕ) (x : Flight) → g.member.id ≡ i → flight g.member.steps ≡ some x → eqb code code_done ≡ false →
+  by_turn : (i : ℕ) → g.member.id ≡ i → flight g.member.steps ≡ None → Aborts g (turn i)
+  by_report : (i code : ℕ) (x : Flight) → g.member.id ≡ i → flight g.member.steps ≡ Some x → eqb code code_done ≡ false →
       Aborts g (report i code)
   by_cancel : (i : ℕ) → g.member.id ≡ i → Aborts g (cancel i)
 
@@ -112,32 +111,32 @@ pub data Gone (s : State) (d : ℕ) (l : List Group) : Result → List Event →
 
 -- a call that changes something, before it settles: the result, the events attached to 0, the groups
 pub data Moves (s : State) (l : List Group) : Call → Result → List Event → List Group → Type 0 where
-  places : (cs : List Command) (a b : List Group) → submit_check s cs ≡ Accepted → l ≡ a ++ b →
+  places : (cs : List Command) (a b : List Group) → submit_check s cs ≡ Ok tt → l ≡ a ++ b →
       up_to_last (blocks s cs) s.sequence ≡ members a → past_last (blocks s cs) s.sequence ≡ members b →
       any_of (blocks s cs) (members b) ≡ false →
       Moves s l (submit cs)
       (record { state = place s cs; answers = placed s.next_id (last_id_or 0 (up_to_last (blocks s cs) s.sequence)) ∷ [] }) []
       (a ++ (alone (newcomer s.next_id cs) ∷ pass_all b))
   commits : (i : ℕ) (a : List Group) (g : Group) (b : List Group) → l ≡ a ++ (g ∷ b) → g.member.id ≡ i → g.member.committed ≡ false →
-      flight g.member.steps ≡ none → next g.member.steps ≡ none →
+      flight g.member.steps ≡ None → next g.member.steps ≡ None →
       Moves s l (turn i) (commit_turn s (found_at a g b)) [] (a ++ (with g (commit g.member) ∷ b))
   sends : (i : ℕ) (a : List Group) (g : Group) (b : List Group) (c : Command) → l ≡ a ++ (g ∷ b) → g.member.id ≡ i →
       g.member.committed ≡ false →
-      flight g.member.steps ≡ none → next g.member.steps ≡ some c → first_holding c.device (is_condition c) (members a) ≡ none →
+      flight g.member.steps ≡ None → next g.member.steps ≡ Some c → first_holding c.device (is_condition c) (members a) ≡ None →
       s.up c.device ≡ true → is_condition c ≡ false → next_is_skipped false g.member.steps ≡ false →
       Moves s l (turn i) (send_turn s (found_at a g b) c) [] (a ++ (with g (sent_member s g c) ∷ b))
   passes : (i : ℕ) (a : List Group) (g : Group) (b : List Group) (c : Command) → l ≡ a ++ (g ∷ b) → g.member.id ≡ i →
       g.member.committed ≡ false →
-      flight g.member.steps ≡ none → next g.member.steps ≡ some c → first_holding c.device (is_condition c) (members a) ≡ none →
+      flight g.member.steps ≡ None → next g.member.steps ≡ Some c → first_holding c.device (is_condition c) (members a) ≡ None →
       (st : Status) → Passes s g c st →
       Moves s l (turn i) (pass_turn s (found_at a g b) c st) [] (a ++ (with g (passed_member st g) ∷ b))
   dones : (i code : ℕ) (a : List Group) (g : Group) (b : List Group) (x : Flight) → l ≡ a ++ (g ∷ b) → g.member.id ≡ i →
       g.member.committed ≡ false →
-      flight g.member.steps ≡ some x → eqb code code_done ≡ true →
+      flight g.member.steps ≡ Some x → eqb code code_done ≡ true →
       Moves s l (report i code) (done_report s (found_at a g b)) [] (a ++ (with g (done_member g) ∷ b))
   misses : (i : ℕ) (a : List Group) (g : Group) (b : List Group) (x : Flight) → l ≡ a ++ (g ∷ b) → g.member.id ≡ i →
       g.member.committed ≡ false →
-      flight g.member.steps ≡ some x →
+      flight g.member.steps ≡ Some x →
       Moves s l (report i code_failed) (skip_report s (found_at a g b) x) [] (a ++ (with g (failed_member g) ∷ b))
   aborts : (c : Call) (a : List Group) (g : Group) (b : List Group) → l ≡ a ++ (g ∷ b) → g.member.committed ≡ false → Aborts g c →
       Moves s l c (abort s (found_at a g b)) (lead_of a g) (leaving a g b)
@@ -156,17 +155,17 @@ pub data Moves (s : State) (l : List Group) : Call → Result → List Event →
 pub data Seen (s : State) (l : List Group) : Call → Result → Type 0 where
   is-refused : {c : Call} (r : Refusal) → Seen s l c (record { state = s; answers = refused r ∷ [] })
   waits : (i : ℕ) (a : List Group) (g : Group) (b : List Group) (d : ℕ) (condition : Bool) (j : ℕ) → l ≡ a ++ (g ∷ b) →
-      g.member.id ≡ i → first_holding d condition (members a) ≡ some j →
+      g.member.id ≡ i → first_holding d condition (members a) ≡ Some j →
       Seen s l (turn i) (record { state = s; answers = wait g.member.id j ∷ [] })
-  limits : (k : ℕ) → new_limit_check s.devices k ≡ Accepted → Seen s l (limit k) (in_force s k)
+  limits : (k : ℕ) → new_limit_check s.devices k ≡ Ok tt → Seen s l (limit k) (in_force s k)
   moves : {c : Call} {r : Result} {lead : List Event} {k : List Group} → Moves s l c r lead k → Seen s l c (settling r)
 
 -- ---- the groups that a call is about
 
 -- what a search of the sequence finds: nobody, or one of the groups
 data Finding (p : Member → Bool) (l : List Group) : Option Found → Type 0 where
-  missing : Each (λ g. p g.member ≡ false) l → Finding p l none
-  located : (a : List Group) (g : Group) (b : List Group) → l ≡ a ++ (g ∷ b) → p g.member ≡ true → Finding p l (some (found_at a g b))
+  missing : Each (λ g. p g.member ≡ false) l → Finding p l None
+  located : (a : List Group) (g : Group) (b : List Group) → l ≡ a ++ (g ∷ b) → p g.member ≡ true → Finding p l (Some (found_at a g b))
 
 find_members : (p : Member → Bool) (l : List Group) → Finding p l (find p (members l))
 find_members p [] = missing tt
@@ -180,9 +179,9 @@ find_group : (p : Member → Bool) (s : State) (l : List Group) → s.sequence �
 find_group p s l e = subst (λ q. Finding p l (find p q)) (sym e) (find_members p l)
 
 -- the running routine with an id, should there be one
-running : (i : ℕ) (s : State) (l : List Group) → s.sequence ≡ members l → (P : Option Found → Type 0) → P none →
+running : (i : ℕ) (s : State) (l : List Group) → s.sequence ≡ members l → (P : Option Found → Type 0) → P None →
     ((a : List Group) (g : Group) (b : List Group) → l ≡ a ++ (g ∷ b) → g.member.id ≡ i → g.member.committed ≡ false →
-    P (some (found_at a g b))) →
+    P (Some (found_at a g b))) →
     P (find (runs i) s.sequence)
 unfolding runs is_running
 running i s l e P otherwise found = go (find_group (runs i) s l e)
@@ -235,26 +234,26 @@ gone d s l e = go (find_group (is_halfway d) s l e)
 -- ---- the calls
 
 -- a call is refused, or its checks accept it
-unless : (s : State) (l : List Group) (c : Call) (v : Verdict) {r : Result} → (v ≡ Accepted → Seen s l c r) →
+unless : (s : State) (l : List Group) (c : Call) (v : Verdict) {r : Result} → (v ≡ Ok tt → Seen s l c r) →
     Seen s l c (unless_refused v s r)
-unless s l c Accepted f = f refl
-unless s l c (Refused x) f = is-refused x
+unless s l c (Ok tt) f = f refl
+unless s l c (Err x) f = is-refused x
 
 -- a turn of the running routine g, and a report on it
 module _ (s : State) {l : List Group} (i : ℕ) (a : List Group) (g : Group) (b : List Group) (w : l ≡ a ++ (g ∷ b)) (n : g.member.id ≡ i)
     (u : g.member.committed ≡ false) where
-  idle : flight g.member.steps ≡ none → (o : Option Command) → next g.member.steps ≡ o →
+  idle : flight g.member.steps ≡ None → (o : Option Command) → next g.member.steps ≡ o →
       Seen s l (turn i) (turn_next s (found_at a g b) o)
   unfolding skip_turn held_turn not_held_turn
-  idle f none e = moves (commits i a g b w n u f e)
-  idle f (some c) e = unheld (first_holding c.device (is_condition c) (members a)) refl
+  idle f None e = moves (commits i a g b w n u f e)
+  idle f (Some c) e = unheld (first_holding c.device (is_condition c) (members a)) refl
     where
       Turned : Result → Type 0
       Turned = Seen s l (turn i)
 
       unheld : (o : Option ℕ) → first_holding c.device (is_condition c) (members a) ≡ o → Turned (wait_or s (found_at a g b) c o)
-      unheld (some j) h = waits i a g b c.device (is_condition c) j w n h
-      unheld none h =
+      unheld (Some j) h = waits i a g b c.device (is_condition c) j w n h
+      unheld None h =
           by_if Turned (next_is_skipped false g.member.steps) (λ t. moves (passes i a g b c w n u f e h was_skipped (is_off t)))
           (λ z. by_if Turned (s.up c.device)
           (λ t. by_if Turned (is_condition c)
@@ -265,12 +264,12 @@ module _ (s : State) {l : List Group} (i : ℕ) (a : List Group) (g : Group) (b 
           (λ m. moves (passes i a g b c w n u f e h was_skipped (is_down t m)))))
 
   turned : (o : Option Flight) → flight g.member.steps ≡ o → Seen s l (turn i) (turn_flight s (found_at a g b) o)
-  turned (some x) f = is-refused _
-  turned none f = idle f (next g.member.steps) refl
+  turned (Some x) f = is-refused _
+  turned None f = idle f (next g.member.steps) refl
 
   told : (code : ℕ) (o : Option Flight) → flight g.member.steps ≡ o → Seen s l (report i code) (report_flight s (found_at a g b) code o)
-  told code none e = is-refused _
-  told code (some x) e =
+  told code None e = is-refused _
+  told code (Some x) e =
       by_if (λ v. Seen s l (report i code) (unless_refused v s (reported s (found_at a g b) x code))) (ltb code_failed code) (λ _. is-refused _)
       (λ k. by_if (Seen s l (report i code)) (eqb code code_done) (λ t. moves (dones i code a g b x w n u e t))
       (λ t. by_if (Seen s l (report i code)) (is_must x.command) (λ _. moves (aborts (report i code) a g b w u (by_report i code x n e t)))
@@ -308,7 +307,7 @@ module _ (s : State) (l : List Group) (e : s.sequence ≡ members l) where
   unfolding failure_of failure_result
   see_failure d =
       let h = gone d (with_up s (put s.up d false)) l e in
-      by_if (λ v. Checked (v and_then refuse failure_of_down when not (s.up d))) (leb s.devices d) (λ _. is-refused _)
+      by_if (λ v. Checked (v and_then refuse FailureOfDown when not (s.up d))) (leb s.devices d) (λ _. is-refused _)
       (λ t. by_if Checked (not (s.up d)) (λ _. is-refused _) (λ u. moves (fails d _ h.0 h.1 t (not-false _ u) h.2)))
     where
       Checked : Verdict → Type 0
@@ -318,8 +317,8 @@ module _ (s : State) (l : List Group) (e : s.sequence ≡ members l) where
   unfolding restart_of restart_result
   see_restart d v =
       let h = gone d s l e in
-      let setting = refuse restart_setting when not (in_range v) in
-      by_if (λ x. Checked (x and_then refuse restart_of_up when s.up d and_then setting)) (leb s.devices d) (λ _. is-refused _)
+      let setting = refuse RestartSetting when not (in_range v) in
+      by_if (λ x. Checked (x and_then refuse RestartOfUp when s.up d and_then setting)) (leb s.devices d) (λ _. is-refused _)
       (λ t. by_if (λ x. Checked (x and_then setting)) (s.up d) (λ _. is-refused _)
       (λ u. unless s l (restart d v) setting (λ _. moves (restarts d v _ h.0 h.1 t u h.2))))
     where

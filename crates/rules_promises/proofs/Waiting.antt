@@ -1,10 +1,11 @@
 -- The waiting promise, proved: in each round the first of the sequence has one command more answered, or ends, and so the measure of
 -- `Measure.antt` falls; nothing else raises it. Assumes nothing.
+use Rattle.rules_routine.proofs.Options.{none-ne-some}
+use Rattle.std.proofs.Common.{Option, None, Some}
 use mathlib.Core.Path.{◌≡◌, refl, sym, ap, ◌∙◌, subst}
 use mathlib.Core.Logic.{◌≢◌}
 use mathlib.Core.Bool.{Bool, true, false, not, ◌&&◌}
 use mathlib.Core.List.{List, [], ◌∷◌, ◌++◌, map, nil≢cons, cons≢nil, head-eq_of_cons-eq, tail-eq_of_cons-eq}
-use mathlib.Core.Option.{Option, none, some, none-ne-some}
 use Prim.Native.Nat.{ℕ, suc, ◌-◌, ◌<◌, ◌≤◌}
 use native.Mathlib.Omega.{arith}
 use borrow.Author.Tests.{eqb-true, eqb-false}
@@ -304,8 +305,8 @@ turns_begin k i m s h (g ∷ l) y ids once o = (g.member.id, go (flight g.member
         ∙ ap not (head_flies k s h (g ∷ l) y f g.member.steps hd ∙ ap has_flight e)
 
     go : (x : Option Flight) → flight g.member.steps ≡ x → Stage k i m f Flies (g ∷ l) ids
-    go none e = not_yet g.member.steps hd (once f ∙ ap (λ b. if b then 1 else 0) (idle none e)) o
-    go (some x) e = was-asked g.member.steps hd (x, e) (once f ∙ ap (λ b. if b then 1 else 0) (idle (some x) e)) o
+    go None e = not_yet g.member.steps hd (once f ∙ ap (λ b. if b then 1 else 0) (idle None e)) o
+    go (Some x) e = was-asked g.member.steps hd (x, e) (once f ∙ ap (λ b. if b then 1 else 0) (idle (Some x) e)) o
 
 -- between turns and reports: the first has its command in flight
 reports_begin : (k i m : ℕ) (s : State) (h : List Told) (l : List Group) → Ready s h l → (f : ℕ) (ids : List ℕ) →
@@ -523,9 +524,9 @@ ended_in_time n k first s e before cs i j p later rounds schedule enough =
     (λ _. subst (λ x. Counted i x start 0) (sym (state-calls s [] first_part))
     (submitted i j s [] [] (ready_opened n k first s e) before cs p)) in
     let m : limit_told k now ≡ c.limit_then = limit_is k s now z (told_by_calls s [] tt all) ∙ c.now.in-force in
-    let none : enough_rounds c.limit_then - rounds ≤ 0 = omega arith in
+    let None : enough_rounds c.limit_then - rounds ≤ 0 = omega arith in
     bounded_ended c.limit_then i (state_at s now) now c.now
-    (bounded_more c.limit_then i (enough_rounds c.limit_then - rounds) 0 c.now.groups none c.bounded)
+    (bounded_more c.limit_then i (enough_rounds c.limit_then - rounds) 0 c.now.groups None c.bounded)
 
 -- Where no change happens.
 pub ended_in_time_at_one-limit : EndedInTimeAtOneLimit

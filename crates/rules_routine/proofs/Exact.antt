@@ -1,5 +1,7 @@
 -- Tests in turn, and what comes of them: how `Exactly` (specs/Causes.antt) is proved of a call; and `exact-routine`, `numbers_differ`.
 -- Assumes nothing.
+use Rattle.std.proofs.Common.{Ok, Err, Option, None, Some}
+use Rattle.rules_routine.specs.declared.refusals.Refusal.TheVariants.{DevicesOutOfRange, PassLimitOutOfRange, FirstIdZero, CommandCount, DeviceNotBelow, SettingOutOfRange, TagOutOfRange, SequenceFull, IdsUsedUp, NotRunning, TurnInFlight, NothingInFlight, ReportCodeOutOfRange, EventDevice, FailureOfDown, RestartOfUp, RestartSetting, BookCutShort, BookMisplaced, BookLength, NoRoom, ConditionAlone}
 use Prim.Native.Nat.{ℕ, zero, suc, ◌+◌, ◌≤◌, ◌<◌}
 use mathlib.Core.Path.{◌≡◌, refl, sym, ap, subst, ◌∙◌}
 use mathlib.Core.Bool.{Bool, true, false, not, ◌&&◌, ◌||◌}
@@ -13,15 +15,7 @@ use lib.Signed.{◌<ℤ◌, le_z}
 use lib.ListN.{length}
 use Rattle.rules_routine.specs.Limits.{lowest_setting, highest_setting, max_commands}
 use Rattle.rules_routine.specs.Range.{in_range}
-use Rattle.std.specs.Prelude.{if◌then◌else◌}
-use Rattle.rules_routine.specs.Refusals.{Cause, devices_out_of_range, pass_limit_out_of_range, first_id_0, command_count}
-use Rattle.rules_routine.specs.Refusals.{device_not_below}
-use Rattle.rules_routine.specs.Refusals.{setting_out_of_range, tag_out_of_range, sequence_full, ids_used_up, not_running}
-use Rattle.rules_routine.specs.Refusals.{turn_in_flight}
-use Rattle.rules_routine.specs.Refusals.{none_in_flight, report_code_out_of_range, event_device, failure_of_down, restart_of_up}
-use Rattle.rules_routine.specs.Refusals.{restart_setting}
-use Rattle.rules_routine.specs.Refusals.{book_cut_short, book_misplaced, book_length, no_room, condition_alone, refusal_of}
-use Rattle.rules_routine.specs.Refusals.{refuse◌when◌, ◌and_then◌}
+use Rattle.rules_routine.specs.Refusals.{number_of, index_of, refuse◌when◌, ◌and_then◌, numbered, indexed, Verdict}
 use Rattle.rules_routine.specs.Routine.{condition_tag, highest_tag, command_check, stands_alone, commands_check, routine_check}
 use Rattle.rules_routine.specs.Causes.{NoneOf, FirstIn, Exactly, itself, NumbersDiffer, OutOfRange, command_no, command_causes}
 use Rattle.rules_routine.specs.Causes.{routine_causes}
@@ -29,10 +23,7 @@ use Rattle.rules_routine.specs.Causes.{ExactRoutine}
 use Rattle.rules_routine.specs.Causes.{RoutineCause, count_is_out, device_is_out, setting_is_out, tag_is_out, condition_is_last}
 use Rattle.rules_routine.specs.Causes.{conditions_follow}
 use Rattle.rules_routine.specs.declared.Command.{Command}
-use Rattle.rules_routine.specs.declared.Refusal.{Refusal}
-use Rattle.rules_routine.specs.declared.Refusal.TheVariants.{Number, Indexed}
-use Rattle.rules_routine.specs.declared.Verdict.{Verdict}
-use Rattle.rules_routine.specs.declared.Verdict.TheVariants.{Accepted, Refused}
+use Rattle.rules_routine.specs.declared.refusals.Refusal.{Refusal}
 
 -- ---- Boolean tests and what they decide
 
@@ -107,38 +98,38 @@ out_of_range z =
 -- ---- tests in turn, and what comes of them
 
 -- Made in turn, these tests come to this verdict: that of the first whose cause is there, or acceptance.
-pub data Outcome {T : Type 0} (Holds : T → Type 0) (cause_of : T → Cause) : List T → Verdict → Type 0 where
-  none : Outcome Holds cause_of [] Accepted
+pub data Outcome {T : Type 0} (Holds : T → Type 0) (cause_of : T → Refusal) : List T → Verdict → Type 0 where
+  none : Outcome Holds cause_of [] (Ok tt)
   passed : {t : T} {ts : List T} {v : Verdict} → ¬ (Holds t) → Outcome Holds cause_of ts v → Outcome Holds cause_of (t ∷ ts) v
-  broken : {t : T} {ts : List T} → Holds t → Outcome Holds cause_of (t ∷ ts) (Refused (refusal_of (cause_of t)))
+  broken : {t : T} {ts : List T} → Holds t → Outcome Holds cause_of (t ∷ ts) (Err (cause_of t))
 
-module _ {T : Type 0} (Holds : T → Type 0) (cause_of : T → Cause) where
+module _ {T : Type 0} (Holds : T → Type 0) (cause_of : T → Refusal) where
   -- one test, made by a Boolean test that decides whether its cause is there
   pub one : (t : T) (test : Bool) → Decides test (Holds t) → Outcome Holds cause_of (t ∷ []) (refuse cause_of t when test)
   one t true d = broken (d.met refl)
   one t false d = passed (d.unmet refl) none
 
   -- tests behind others are made where those accept
-  pub join : {ts us : List T} {v w : Verdict} → Outcome Holds cause_of ts v → (v ≡ Accepted → Outcome Holds cause_of us w) →
+  pub join : {ts us : List T} {v w : Verdict} → Outcome Holds cause_of ts v → (v ≡ Ok tt → Outcome Holds cause_of us w) →
       Outcome Holds cause_of (ts ++ us) (v and_then w)
   join none o = o refl
   join (passed p q) o = passed p (join q o)
   join (broken x) o = broken x
 
   -- accepted exactly if no cause is there
-  pub accepted_passes : {ts : List T} {v : Verdict} → Outcome Holds cause_of ts v → v ≡ Accepted → NoneOf Holds ts
+  pub accepted_passes : {ts : List T} {v : Verdict} → Outcome Holds cause_of ts v → v ≡ Ok tt → NoneOf Holds ts
   accepted_passes none e = tt
   accepted_passes (passed p q) e = (p, accepted_passes q e)
   accepted_passes (broken x) e = let z : ◌≡◌ {A = ℕ} 0 1 = cc in absurd (omega arith)
 
-  passes_accepted : {ts : List T} {v : Verdict} → Outcome Holds cause_of ts v → NoneOf Holds ts → v ≡ Accepted
+  passes_accepted : {ts : List T} {v : Verdict} → Outcome Holds cause_of ts v → NoneOf Holds ts → v ≡ Ok tt
   passes_accepted none h = refl
   passes_accepted (passed p q) h = passes_accepted q h.1
   passes_accepted (broken x) h = absurd (h.0 x)
 
   -- refused with r exactly if the first whose cause is there turns down with r
-  refused-first : (r : Refusal) {ts : List T} {v : Verdict} → Outcome Holds cause_of ts v → v ≡ Refused r →
-      (t : T) × FirstIn Holds ts t × (refusal_of (cause_of t) ≡ r)
+  refused-first : (r : Refusal) {ts : List T} {v : Verdict} → Outcome Holds cause_of ts v → v ≡ Err r →
+      (t : T) × FirstIn Holds ts t × (cause_of t ≡ r)
   refused-first r none e = let z : ◌≡◌ {A = ℕ} 0 1 = cc in absurd (omega arith)
   refused-first r (passed {t = t} p q) e =
       let f = refused-first r q e in (
@@ -155,7 +146,7 @@ module _ {T : Type 0} (Holds : T → Type 0) (cause_of : T → Cause) where
   refused-first r (broken {t = t} {ts = ts} x) e = (t, record { before = []; after = ts; order = refl; holds = x; earlier = tt }, cc)
 
   first-refused : (t : T) (after before : List T) (v : Verdict) →
-      Outcome Holds cause_of (before ++ (t ∷ after)) v → NoneOf Holds before → Holds t → v ≡ Refused (refusal_of (cause_of t))
+      Outcome Holds cause_of (before ++ (t ∷ after)) v → NoneOf Holds before → Holds t → v ≡ Err (cause_of t)
   first-refused t after [] v (passed p q) h x = absurd (p x)
   first-refused t after [] v (broken y) h x = refl
   first-refused t after (u ∷ before) v (passed p q) h x = first-refused t after before v q h.1 x
@@ -164,21 +155,21 @@ module _ {T : Type 0} (Holds : T → Type 0) (cause_of : T → Cause) where
   -- So a verdict that these tests come to is exact; and with it whatever says the same as the verdict.
   pub exactly : (ts : List T) (v : Verdict) → Outcome Holds cause_of ts v →
       {RefusedWith : Refusal → Type 0} {IsAccepted : Type 0} →
-      ((r : Refusal) → RefusedWith r → v ≡ Refused r) → ((r : Refusal) → v ≡ Refused r → RefusedWith r) →
-      (IsAccepted → v ≡ Accepted) → (v ≡ Accepted → IsAccepted) → Exactly Holds cause_of ts RefusedWith IsAccepted
+      ((r : Refusal) → RefusedWith r → v ≡ Err r) → ((r : Refusal) → v ≡ Err r → RefusedWith r) →
+      (IsAccepted → v ≡ Ok tt) → (v ≡ Ok tt → IsAccepted) → Exactly Holds cause_of ts RefusedWith IsAccepted
   exactly ts v o from to from-accepted to-accepted =
       record {
         refused_exactly = λ r. (
           λ x. refused-first r o (from r x),
           λ f. let g = f.1 in
               let split = subst (λ (l : List T). Outcome Holds cause_of l v) g.order o in
-              to r (first-refused f.0 g.after g.before v split g.earlier g.holds ∙ ap Refused f.2),
+              to r (first-refused f.0 g.after g.before v split g.earlier g.holds ∙ ap Err f.2),
         );
         accepted_exactly = (λ x. accepted_passes o (from-accepted x), λ n. to-accepted (passes_accepted o n));
       }
 
 -- The same said in other words.
-pub reworded : {T : Type 0} {Holds : T → Type 0} {cause_of : T → Cause} {ts : List T} {R S : Refusal → Type 0} {A B : Type 0} →
+pub reworded : {T : Type 0} {Holds : T → Type 0} {cause_of : T → Refusal} {ts : List T} {R S : Refusal → Type 0} {A B : Type 0} →
     Exactly Holds cause_of ts R A → ((r : Refusal) → R r → S r) → ((r : Refusal) → S r → R r) → (A → B) → (B → A) →
     Exactly Holds cause_of ts S B
 reworded x to from to-accepted from-accepted = record {
@@ -193,51 +184,51 @@ abbrev pub Covers : {T : Type 0} → (T → Type 0) → (T → Type 0) → List 
 Covers Holds More [] = Unit {0}
 Covers Holds More (t ∷ ts) = (More t → Holds t) × Covers Holds More ts
 
-pub widened : {T : Type 0} (Holds More : T → Type 0) (cause_of : T → Cause) → ((t : T) → Holds t → More t) →
+pub widened : {T : Type 0} (Holds More : T → Type 0) (cause_of : T → Refusal) → ((t : T) → Holds t → More t) →
     {ts : List T} {v : Verdict} → Covers Holds More ts → Outcome Holds cause_of ts v → Outcome More cause_of ts v
 widened Holds More cause_of up c none = none
 widened Holds More cause_of up c (passed p q) = passed (λ x. p (c.0 x)) (widened Holds More cause_of up c.1 q)
 widened Holds More cause_of up c (broken x) = broken (up _ x)
 
 -- causes as tests of another kind
-pub renamed : {T : Type 0} (Holds : Cause → Type 0) (More : T → Type 0) (cause_of : T → Cause) (f : Cause → T) →
-    ((c : Cause) → cause_of (f c) ≡ c) → ((c : Cause) → Holds c → More (f c)) → ((c : Cause) → More (f c) → Holds c) →
-    {ts : List Cause} {v : Verdict} → Outcome Holds itself ts v → Outcome More cause_of (map f ts) v
+pub renamed : {T : Type 0} (Holds : Refusal → Type 0) (More : T → Type 0) (cause_of : T → Refusal) (f : Refusal → T) →
+    ((c : Refusal) → cause_of (f c) ≡ c) → ((c : Refusal) → Holds c → More (f c)) → ((c : Refusal) → More (f c) → Holds c) →
+    {ts : List Refusal} {v : Verdict} → Outcome Holds itself ts v → Outcome More cause_of (map f ts) v
 renamed Holds More cause_of f e up down none = none
 renamed Holds More cause_of f e up down (passed {t = t} p q) = passed (λ x. p (down t x)) (renamed Holds More cause_of f e up down q)
 renamed Holds More cause_of f e up down (broken {t = t} {ts = ts} x) =
-    subst (λ (c : Cause). Outcome More cause_of (f t ∷ map f ts) (Refused (refusal_of c))) (e t) (broken (up t x))
+    subst (λ (c : Refusal). Outcome More cause_of (f t ∷ map f ts) (Err c)) (e t) (broken (up t x))
 
 -- ---- a routine
 
 module _ (devices : ℕ) (cs : List Command) where
   -- what stands behind a cause of a routine
-  count-said : RoutineCause devices cs command_count → (length cs ≡ 0) ⊎ (max_commands < length cs)
+  count-said : RoutineCause devices cs CommandCount → (length cs ≡ 0) ⊎ (max_commands < length cs)
   count-said (count_is_out h) = h
 
-  device-said : {i : ℕ} → RoutineCause devices cs (device_not_below i) → (i < length cs) × (devices ≤ (command_no i cs).device)
+  device-said : {i : ℕ} → RoutineCause devices cs (DeviceNotBelow i) → (i < length cs) × (devices ≤ (command_no i cs).device)
   device-said (device_is_out h k) = (h, k)
 
-  setting-said : {i : ℕ} → RoutineCause devices cs (setting_out_of_range i) → (i < length cs) × OutOfRange (command_no i cs).setting
+  setting-said : {i : ℕ} → RoutineCause devices cs (SettingOutOfRange i) → (i < length cs) × OutOfRange (command_no i cs).setting
   setting-said (setting_is_out h k) = (h, k)
 
-  tag_said : {i : ℕ} → RoutineCause devices cs (tag_out_of_range i) → (i < length cs) × (highest_tag < (command_no i cs).tag)
+  tag_said : {i : ℕ} → RoutineCause devices cs (TagOutOfRange i) → (i < length cs) × (highest_tag < (command_no i cs).tag)
   tag_said (tag_is_out h k) = (h, k)
 
-  alone_said : {i : ℕ} → RoutineCause devices cs (condition_alone i) →
+  alone_said : {i : ℕ} → RoutineCause devices cs (ConditionAlone i) →
       (i < length cs) × ((command_no i cs).tag ≡ condition_tag) × ((suc i ≡ length cs) ⊎ ((command_no (suc i) cs).tag ≡ condition_tag))
   alone_said (condition_is_last h t) = (omega arith, t, inl h)
   alone_said (conditions_follow h t u) = (omega arith, t, inr u)
 
   -- commands that are not there are no cause
-  commands-past : (n i : ℕ) → length cs ≤ i → Outcome (RoutineCause devices cs) itself (command_causes i n) Accepted
+  commands-past : (n i : ℕ) → length cs ≤ i → Outcome (RoutineCause devices cs) itself (command_causes i n) (Ok tt)
   unfolding command_causes
   commands-past zero i h = none
   commands-past (suc n) i h =
-      passed {t = device_not_below i} (λ x. let y = (device-said x).0 in omega arith)
-      (passed {t = setting_out_of_range i} (λ x. let y = (setting-said x).0 in omega arith)
-      (passed {t = tag_out_of_range i} (λ x. let y = (tag_said x).0 in omega arith)
-      (passed {t = condition_alone i} (λ x. let y = (alone_said x).0 in omega arith)
+      passed {t = DeviceNotBelow i} (λ x. let y = (device-said x).0 in omega arith)
+      (passed {t = SettingOutOfRange i} (λ x. let y = (setting-said x).0 in omega arith)
+      (passed {t = TagOutOfRange i} (λ x. let y = (tag_said x).0 in omega arith)
+      (passed {t = ConditionAlone i} (λ x. let y = (alone_said x).0 in omega arith)
       (commands-past n (suc i) (omega arith)))))
 
   -- the commands from index i on
@@ -257,7 +248,7 @@ module _ (devices : ℕ) (cs : List Command) where
 
   -- whether the first of them is a condition that stands alone: it is last, or another follows
   alone : (i : ℕ) (c : Command) (rest : List Command) → Rest i (c ∷ rest) →
-      Decides (stands_alone c rest) (RoutineCause devices cs (condition_alone i))
+      Decides (stands_alone c rest) (RoutineCause devices cs (ConditionAlone i))
   unfolding stands_alone
   alone i c [] r =
       let last : suc i ≡ length cs = let e = r.counted in omega arith in
@@ -280,19 +271,19 @@ module _ (devices : ℕ) (cs : List Command) where
       let H = RoutineCause devices cs in
       let there : i < length cs = let e = r.counted in omega arith in
       let at = first_rest r in
-      let device = one H itself (device_not_below i) (leb devices c.device)
+      let device = one H itself (DeviceNotBelow i) (leb devices c.device)
       (agree (at_most devices c.device)
       (λ x. device_is_out there (subst (λ (k : Command). devices ≤ k.device) (sym at) x))
       (λ y. subst (λ (k : Command). devices ≤ k.device) at (device-said y).1)) in
-      let setting = one H itself (setting_out_of_range i) (not (in_range c.setting))
+      let setting = one H itself (SettingOutOfRange i) (not (in_range c.setting))
       (agree (out_of_range c.setting)
       (λ x. setting_is_out there (subst (λ (k : Command). OutOfRange k.setting) (sym at) x))
       (λ y. subst (λ (k : Command). OutOfRange k.setting) at (setting-said y).1)) in
-      let tag = one H itself (tag_out_of_range i) (ltb highest_tag c.tag)
+      let tag = one H itself (TagOutOfRange i) (ltb highest_tag c.tag)
       (agree (less highest_tag c.tag)
       (λ x. tag_is_out there (subst (λ (k : Command). highest_tag < k.tag) (sym at) x))
       (λ y. subst (λ (k : Command). highest_tag < k.tag) at (tag_said y).1)) in
-      let behind = one H itself (condition_alone i) (stands_alone c rest) (alone i c rest r) in
+      let behind = one H itself (ConditionAlone i) (stands_alone c rest) (alone i c rest r) in
       join H itself (join H itself device (λ _. join H itself setting (λ _. tag)))
       (λ _. join H itself behind (λ _. commands-outcome n (suc i) rest (next-rest r) (omega arith)))
 
@@ -305,10 +296,10 @@ module _ (devices : ℕ) (cs : List Command) where
   routine-outcome =
       let H = RoutineCause devices cs in
       let bad = either _ _ (same (length cs) 0) (less max_commands (length cs)) in
-      join H itself (one H itself command_count _ (agree bad count_is_out count-said))
+      join H itself (one H itself CommandCount _ (agree bad count_is_out count-said))
       (λ fine.
       let few : ¬ (max_commands < length cs) = λ h.
-      (accepted_passes H itself (one H itself command_count _ (agree bad count_is_out count-said)) fine).0 (count_is_out (inr h)) in
+      (accepted_passes H itself (one H itself CommandCount _ (agree bad count_is_out count-said)) fine).0 (count_is_out (inr h)) in
       commands-outcome max_commands 0 cs whole (omega arith))
 
 -- the check of a routine is exact
@@ -319,80 +310,43 @@ exact-routine devices cs =
 
 -- ---- a refusal tells its cause
 
-abbrev number_in : Refusal → ℕ
-number_in (Number n) = n
-number_in (Indexed n i) = n
+-- the cause that a number and an index tell
+abbrev told : ℕ → Option ℕ → Refusal
+told n None = numbered n
+told n (Some i) = indexed n i
 
--- is n the number of this cause?
-abbrev is_of : ℕ → Cause → Bool
-is_of n cause = eqb n (number_in (refusal_of cause))
-
--- the cause that has a number, and the one that has a number and an index
-abbrev numbered : ℕ → Cause
-numbered n =
-    if is_of n devices_out_of_range then devices_out_of_range
-    else if is_of n pass_limit_out_of_range then pass_limit_out_of_range
-    else if is_of n first_id_0 then first_id_0
-    else if is_of n command_count then command_count
-    else if is_of n sequence_full then sequence_full
-    else if is_of n ids_used_up then ids_used_up
-    else if is_of n not_running then not_running
-    else if is_of n turn_in_flight then turn_in_flight
-    else if is_of n none_in_flight then none_in_flight
-    else if is_of n report_code_out_of_range then report_code_out_of_range
-    else if is_of n event_device then event_device
-    else if is_of n failure_of_down then failure_of_down
-    else if is_of n restart_of_up then restart_of_up
-    else if is_of n restart_setting then restart_setting
-    else if is_of n book_cut_short then book_cut_short
-    else if is_of n book_misplaced then book_misplaced
-    else no_room
-
-abbrev indexed : ℕ → ℕ → Cause
-indexed n i =
-    if is_of n (device_not_below i) then device_not_below i
-    else if is_of n (setting_out_of_range i) then setting_out_of_range i
-    else if is_of n (tag_out_of_range i) then tag_out_of_range i
-    else if is_of n (book_length i) then book_length i
-    else condition_alone i
-
-abbrev told : Refusal → Cause
-told (Number n) = numbered n
-told (Indexed n i) = indexed n i
-
-told_is : (c : Cause) → told (refusal_of c) ≡ c
-unfolding refusal_of
-told_is devices_out_of_range = refl
-told_is pass_limit_out_of_range = refl
-told_is first_id_0 = refl
-told_is command_count = refl
-told_is (device_not_below i) = refl
-told_is (setting_out_of_range i) = refl
-told_is (tag_out_of_range i) = refl
-told_is sequence_full = refl
-told_is ids_used_up = refl
-told_is not_running = refl
-told_is turn_in_flight = refl
-told_is none_in_flight = refl
-told_is report_code_out_of_range = refl
-told_is event_device = refl
-told_is failure_of_down = refl
-told_is restart_of_up = refl
-told_is restart_setting = refl
-told_is book_cut_short = refl
-told_is book_misplaced = refl
-told_is (book_length i) = refl
-told_is no_room = refl
-told_is (condition_alone i) = refl
+told_is : (c : Refusal) → told (number_of c) (index_of c) ≡ c
+told_is DevicesOutOfRange = refl
+told_is PassLimitOutOfRange = refl
+told_is FirstIdZero = refl
+told_is CommandCount = refl
+told_is (DeviceNotBelow i) = refl
+told_is (SettingOutOfRange i) = refl
+told_is (TagOutOfRange i) = refl
+told_is SequenceFull = refl
+told_is IdsUsedUp = refl
+told_is NotRunning = refl
+told_is TurnInFlight = refl
+told_is NothingInFlight = refl
+told_is ReportCodeOutOfRange = refl
+told_is EventDevice = refl
+told_is FailureOfDown = refl
+told_is RestartOfUp = refl
+told_is RestartSetting = refl
+told_is BookCutShort = refl
+told_is BookMisplaced = refl
+told_is (BookLength i) = refl
+told_is NoRoom = refl
+told_is (ConditionAlone i) = refl
 
 pub numbers_differ : NumbersDiffer
-numbers_differ c d e = sym (told_is c) ∙ ap told e ∙ told_is d
+numbers_differ c d e f = sym (told_is c) ∙ (λ i. told (e i) (f i)) ∙ told_is d
 
 -- So, where the tests are the causes themselves: a call is refused with a cause's number and index exactly if that cause is the first
 -- that holds.
-pub under_its_cause : {Holds : Cause → Type 0} {causes : List Cause} {RefusedWith : Refusal → Type 0} {IsAccepted : Type 0} →
-    Exactly Holds itself causes RefusedWith IsAccepted → (cause : Cause) → RefusedWith (refusal_of cause) ↔ FirstIn Holds causes cause
+pub under_its_cause : {Holds : Refusal → Type 0} {causes : List Refusal} {RefusedWith : Refusal → Type 0} {IsAccepted : Type 0} →
+    Exactly Holds itself causes RefusedWith IsAccepted → (cause : Refusal) → RefusedWith cause ↔ FirstIn Holds causes cause
 under_its_cause {Holds = Holds} {causes = causes} x cause = (
-  λ r. let f = (x.refused_exactly (refusal_of cause)).0 r in subst (FirstIn Holds causes) (numbers_differ f.0 cause f.2) f.1,
-  λ f. (x.refused_exactly (refusal_of cause)).1 (cause, f, refl),
+  λ r. let f = (x.refused_exactly cause).0 r in subst (FirstIn Holds causes) f.2 f.1,
+  λ f. (x.refused_exactly cause).1 (cause, f, refl),
 )

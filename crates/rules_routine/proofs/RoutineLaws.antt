@@ -1,4 +1,6 @@
 -- Laws of the definitions that callers cite, so that no caller opens them. Assumes nothing.
+use Rattle.std.proofs.Common.{Ok, Err}
+use Rattle.rules_routine.specs.declared.refusals.Refusal.TheVariants.{CommandCount, DeviceNotBelow, SettingOutOfRange, TagOutOfRange, ConditionAlone}
 use Prim.Native.Nat.{ℕ, zero, suc, ◌+◌, ◌-◌, ◌≤◌, ◌<◌, ◌^◌}
 use mathlib.Core.Path.{◌≡◌, refl, sym, ap, ◌∙◌}
 use mathlib.Core.Bool.{Bool, true, false, not, ◌&&◌, ◌||◌}
@@ -15,29 +17,25 @@ use lib.Seq.{sets, set_at, take-append_seam, slice, slice-cons, slice_empty, tak
 use Rattle.std.specs.Prelude.{if◌then◌else◌}
 use Rattle.rules_routine.specs.Limits.{lowest_setting, highest_setting, max_commands}
 use Rattle.rules_routine.specs.Range.{in_range}
-use Rattle.rules_routine.specs.Refusals.{Cause, command_count, device_not_below, setting_out_of_range, tag_out_of_range}
-use Rattle.rules_routine.specs.Refusals.{condition_alone}
-use Rattle.rules_routine.specs.Refusals.{refusal_of, refuse◌when◌, ◌and_then◌}
+use Rattle.rules_routine.specs.Refusals.{refuse◌when◌, ◌and_then◌, Verdict}
 use Rattle.rules_routine.specs.Routine.{condition_tag, highest_tag, zero_command, commands_of, routine_of, with_command}
 use Rattle.rules_routine.specs.Routine.{command_check, stands_alone, commands_check, routine_check}
 use Rattle.rules_routine.specs.declared.Command.{Command}
-use Rattle.rules_routine.specs.declared.Refusal.{Refusal}
+use Rattle.rules_routine.specs.declared.refusals.Refusal.{Refusal}
 use Rattle.rules_routine.specs.declared.Routine.{Routine}
-use Rattle.rules_routine.specs.declared.Verdict.{Verdict}
-use Rattle.rules_routine.specs.declared.Verdict.TheVariants.{Accepted, Refused}
 
 -- ---- verdicts and tests
 
 -- both of two verdicts in turn accept
-pub both_accept : (v w : Verdict) → v and_then w ≡ Accepted → (v ≡ Accepted) × (w ≡ Accepted)
-both_accept Accepted w e = (refl, e)
-both_accept (Refused r) w e = let z : ◌≡◌ {A = ℕ} 0 1 = cc in absurd (omega arith)
+pub both_accept : (v w : Verdict) → v and_then w ≡ Ok tt → (v ≡ Ok tt) × (w ≡ Ok tt)
+both_accept (Ok tt) w e = (refl, e)
+both_accept (Err r) w e = let z : ◌≡◌ {A = ℕ} 0 1 = cc in absurd (omega arith)
 
-pub accept_both : (v w : Verdict) → v ≡ Accepted → w ≡ Accepted → v and_then w ≡ Accepted
+pub accept_both : (v w : Verdict) → v ≡ Ok tt → w ≡ Ok tt → v and_then w ≡ Ok tt
 accept_both v w e f = rw (e, f)
 
 -- a test that accepts was not met
-pub not-refused : (cause : Cause) (t : Bool) → refuse cause when t ≡ Accepted → t ≡ false
+pub not-refused : (cause : Refusal) (t : Bool) → refuse cause when t ≡ Ok tt → t ≡ false
 not-refused cause true e = let z : ◌≡◌ {A = ℕ} 0 1 = cc in absurd (omega arith)
 not-refused cause false e = refl
 
@@ -132,33 +130,33 @@ with_more cs c h = λ i. record { commands = commands i; count = counts i }
 -- ---- the check of a command, by its tests
 
 module _ (devices i : ℕ) (c : Command) where
-  pub command_device : devices ≤ c.device → command_check devices i c ≡ Refused (refusal_of (device_not_below i))
+  pub command_device : devices ≤ c.device → command_check devices i c ≡ Err (DeviceNotBelow i)
   unfolding command_check
   command_device h = simp (le-leb devices c.device h)
 
   pub command_setting : c.device < devices → in_range c.setting ≡ false →
-      command_check devices i c ≡ Refused (refusal_of (setting_out_of_range i))
+      command_check devices i c ≡ Err (SettingOutOfRange i)
   unfolding command_check
   command_setting h e = simp (lt-leb devices c.device h, e)
 
   pub command_tag : c.device < devices → in_range c.setting ≡ true → highest_tag < c.tag →
-      command_check devices i c ≡ Refused (refusal_of (tag_out_of_range i))
+      command_check devices i c ≡ Err (TagOutOfRange i)
   unfolding command_check
   command_tag h e t = simp (lt-leb devices c.device h, e, lt-ltb highest_tag c.tag t)
 
-  pub command_fine : c.device < devices → in_range c.setting ≡ true → c.tag ≤ highest_tag → command_check devices i c ≡ Accepted
+  pub command_fine : c.device < devices → in_range c.setting ≡ true → c.tag ≤ highest_tag → command_check devices i c ≡ Ok tt
   unfolding command_check
   command_fine h e t = simp (lt-leb devices c.device h, e, le-ltb highest_tag c.tag t)
 
   -- the other way round
-  pub command-accepted : command_check devices i c ≡ Accepted → (c.device < devices) × (in_range c.setting ≡ true) × (c.tag ≤ highest_tag)
+  pub command-accepted : command_check devices i c ≡ Ok tt → (c.device < devices) × (in_range c.setting ≡ true) × (c.tag ≤ highest_tag)
   unfolding command_check
   command-accepted e =
-      let x = both_accept (refuse (device_not_below i) when leb devices c.device) _ e in
-      let y = both_accept (refuse (setting_out_of_range i) when not (in_range c.setting)) _ x.1 in (
-        leb-false devices c.device (not-refused (device_not_below i) _ x.0),
-        not-false _ (not-refused (setting_out_of_range i) _ y.0),
-        ltb-false highest_tag c.tag (not-refused (tag_out_of_range i) _ y.1),
+      let x = both_accept (refuse (DeviceNotBelow i) when leb devices c.device) _ e in
+      let y = both_accept (refuse (SettingOutOfRange i) when not (in_range c.setting)) _ x.1 in (
+        leb-false devices c.device (not-refused (DeviceNotBelow i) _ x.0),
+        not-false _ (not-refused (SettingOutOfRange i) _ y.0),
+        ltb-false highest_tag c.tag (not-refused (TagOutOfRange i) _ y.1),
       )
 
 -- ---- the check of a routine
@@ -168,21 +166,21 @@ pub check_counted : (devices : ℕ) (cs : List Command) → 0 < length cs → le
 unfolding routine_check
 check_counted devices cs h k = simp (ne_eqb (length cs) 0 (λ e. omega arith), le-ltb max_commands (length cs) k)
 
-pub check_empty : (devices : ℕ) (cs : List Command) → length cs ≡ 0 → routine_check devices cs ≡ Refused (refusal_of command_count)
+pub check_empty : (devices : ℕ) (cs : List Command) → length cs ≡ 0 → routine_check devices cs ≡ Err CommandCount
 unfolding routine_check
 check_empty devices cs h = simp (eq-eqb (length cs) 0 h)
 
-pub check_long : (devices : ℕ) (cs : List Command) → max_commands < length cs → routine_check devices cs ≡ Refused (refusal_of command_count)
+pub check_long : (devices : ℕ) (cs : List Command) → max_commands < length cs → routine_check devices cs ≡ Err CommandCount
 unfolding routine_check
 check_long devices cs h = simp (ne_eqb (length cs) 0 (λ e. omega arith), lt-ltb max_commands (length cs) h)
 
 -- the other way round
-pub check_accepted : (devices : ℕ) (cs : List Command) → routine_check devices cs ≡ Accepted →
-    (0 < length cs) × (length cs ≤ max_commands) × (commands_check devices 0 cs ≡ Accepted)
+pub check_accepted : (devices : ℕ) (cs : List Command) → routine_check devices cs ≡ Ok tt →
+    (0 < length cs) × (length cs ≤ max_commands) × (commands_check devices 0 cs ≡ Ok tt)
 unfolding routine_check
 check_accepted devices cs e =
-    let a = both_accept (refuse command_count when (eqb (length cs) 0 || ltb max_commands (length cs))) _ e in
-    let t = or-false _ _ (not-refused command_count _ a.0) in
+    let a = both_accept (refuse CommandCount when (eqb (length cs) 0 || ltb max_commands (length cs))) _ e in
+    let t = or-false _ _ (not-refused CommandCount _ a.0) in
     let n = eqb-false (length cs) 0 t.0 in
     (omega arith, ltb-false max_commands (length cs) t.1, a.1)
 
@@ -215,32 +213,32 @@ module _ (c : Command) (cs : List Command) (i n : ℕ) (t : c.tag ≡ condition_
 -- ---- the commands in turn: what is left from index i
 
 module _ (devices : ℕ) (cs : List Command) (i n : ℕ) (h : i < n) (k : n ≤ length cs) where
-  pub commands-more : command_check devices i (get_or cs i zero_command) ≡ Accepted →
+  pub commands-more : command_check devices i (get_or cs i zero_command) ≡ Ok tt →
       stands_alone (get_or cs i zero_command) (slice (i + 1) n cs) ≡ false →
       commands_check devices i (slice i n cs) ≡ commands_check devices (i + 1) (slice (i + 1) n cs)
   unfolding commands_check
   commands-more e a = let b = rw (add-one i) at a in rw (slice-cons i n cs zero_command h k, e, add-one i, b)
 
-  pub commands-refused : (r : Refusal) → command_check devices i (get_or cs i zero_command) ≡ Refused r →
-      commands_check devices i (slice i n cs) ≡ Refused r
+  pub commands-refused : (r : Refusal) → command_check devices i (get_or cs i zero_command) ≡ Err r →
+      commands_check devices i (slice i n cs) ≡ Err r
   unfolding commands_check
   commands-refused r e = rw (slice-cons i n cs zero_command h k, e)
 
-  pub commands_alone : command_check devices i (get_or cs i zero_command) ≡ Accepted →
+  pub commands_alone : command_check devices i (get_or cs i zero_command) ≡ Ok tt →
       stands_alone (get_or cs i zero_command) (slice (i + 1) n cs) ≡ true →
-      commands_check devices i (slice i n cs) ≡ Refused (refusal_of (condition_alone i))
+      commands_check devices i (slice i n cs) ≡ Err (ConditionAlone i)
   unfolding commands_check
   commands_alone e a = let b = rw (add-one i) at a in rw (slice-cons i n cs zero_command h k, e, b)
 
-pub commands_end : (devices : ℕ) (cs : List Command) (i n : ℕ) → i ≤ n → n ≤ i → commands_check devices i (slice i n cs) ≡ Accepted
+pub commands_end : (devices : ℕ) (cs : List Command) (i n : ℕ) → i ≤ n → n ≤ i → commands_check devices i (slice i n cs) ≡ Ok tt
 unfolding commands_check
 commands_end devices cs i n h k = let e : i ≡ n = omega arith in rw (e, slice_empty n cs)
 
 -- the other way round: so callers open no check of commands
-pub commands-accepted : (devices i : ℕ) (c : Command) (cs : List Command) → commands_check devices i (c ∷ cs) ≡ Accepted →
-    (command_check devices i c ≡ Accepted) × (stands_alone c cs ≡ false) × (commands_check devices (suc i) cs ≡ Accepted)
+pub commands-accepted : (devices i : ℕ) (c : Command) (cs : List Command) → commands_check devices i (c ∷ cs) ≡ Ok tt →
+    (command_check devices i c ≡ Ok tt) × (stands_alone c cs ≡ false) × (commands_check devices (suc i) cs ≡ Ok tt)
 unfolding commands_check
 commands-accepted devices i c cs e =
     let a = both_accept (command_check devices i c) _ e in
-    let b = both_accept (refuse (condition_alone i) when stands_alone c cs) _ a.1 in
-    (a.0, not-refused (condition_alone i) _ b.0, b.1)
+    let b = both_accept (refuse (ConditionAlone i) when stands_alone c cs) _ a.1 in
+    (a.0, not-refused (ConditionAlone i) _ b.0, b.1)

@@ -1,15 +1,13 @@
 -- Document 01, "Things and ranges": a routine is 1 to 8 commands, each with a device, a tag and a setting; and what turns one down, with
 -- the conditions of document 02, item 4.
 -- Assumes nothing.
-use Rattle.std.specs.Prelude.{Bool, not, ◌&&◌, ◌||◌, List, [], ◌∷◌, ◌++◌, ℕ, suc, ◌+◌, ◌-◌, ◌^◌, leb, ltb, eqb, pos, length, take, set, replicate, if◌then◌else◌}
+use Rattle.rules_routine.specs.declared.refusals.Refusal.TheVariants.{CommandCount, DeviceNotBelow, SettingOutOfRange, TagOutOfRange, ConditionAlone}
+use Rattle.std.specs.Prelude.{Bool, not, ◌&&◌, ◌||◌, List, [], ◌∷◌, ◌++◌, ℕ, suc, ◌+◌, ◌-◌, ◌^◌, leb, ltb, eqb, pos, length, take, set, replicate, if◌then◌else◌, Ok}
 use Rattle.rules_routine.specs.Limits.{max_commands}
 use Rattle.rules_routine.specs.Range.{in_range}
-use Rattle.rules_routine.specs.Refusals.{command_count, device_not_below, setting_out_of_range, tag_out_of_range, condition_alone}
-use Rattle.rules_routine.specs.Refusals.{refuse◌when◌, ◌and_then◌}
+use Rattle.rules_routine.specs.Refusals.{refuse◌when◌, ◌and_then◌, Verdict}
 use Rattle.rules_routine.specs.declared.Command.{Command}
 use Rattle.rules_routine.specs.declared.Routine.{Routine}
-use Rattle.rules_routine.specs.declared.Verdict.{Verdict}
-use Rattle.rules_routine.specs.declared.Verdict.TheVariants.{Accepted}
 
 -- "tag (0 must, 1 best-effort)"; document 02, item 4: "Tag 2 is a condition".
 abbrev pub must_tag : ℕ
@@ -51,9 +49,9 @@ with_command r c = record {
 -- A command, the one at index i of its routine, against a number of devices: 5, 6, 7.
 unfoldable pub command_check : ℕ → ℕ → Command → Verdict
 command_check devices i c =
-    refuse (device_not_below i) when leb devices c.device
-    and_then refuse (setting_out_of_range i) when not (in_range c.setting)
-    and_then refuse (tag_out_of_range i) when ltb highest_tag c.tag
+    refuse (DeviceNotBelow i) when leb devices c.device
+    and_then refuse (SettingOutOfRange i) when not (in_range c.setting)
+    and_then refuse (TagOutOfRange i) when ltb highest_tag c.tag
 
 -- A condition that is "last in its routine or is followed by another condition"; `rest`: the commands behind it.
 unfoldable pub stands_alone : Command → List Command → Bool
@@ -62,14 +60,14 @@ stands_alone c (d ∷ rest) = is_condition c && is_condition d
 
 -- Commands in turn, the first of them at index i: 5, 6, 7, then 22 "for each command after its 7".
 unfoldable pub commands_check : ℕ → ℕ → List Command → Verdict
-commands_check devices i [] = Accepted
+commands_check devices i [] = Ok tt
 commands_check devices i (c ∷ cs) =
     command_check devices i c
-    and_then refuse (condition_alone i) when stands_alone c cs
+    and_then refuse (ConditionAlone i) when stands_alone c cs
     and_then commands_check devices (suc i) cs
 
 -- A routine against a number of devices, N in the hub and 32 in a book: 4; then the commands in turn, each 5, 6, 7, 22.
 unfoldable pub routine_check : ℕ → List Command → Verdict
 routine_check devices cs =
-    refuse command_count when (eqb (length cs) 0 || ltb max_commands (length cs))
+    refuse CommandCount when (eqb (length cs) 0 || ltb max_commands (length cs))
     and_then commands_check devices 0 cs

@@ -16,7 +16,7 @@ ghost use Rattle.rules_routine.specs.Routine.{stands_alone};
 ghost use Rattle.rules_routine.specs.Routine.{routine_check};
 
 use limits::{HIGHEST_SETTING, LOWEST_SETTING, MAX_COMMANDS};
-use refusals::{COMMAND_COUNT, CONDITION_ALONE, DEVICE, SETTING, TAG};
+pub use refusals::Refusal;
 use tags::{CONDITION, HIGHEST_TAG};
 
 #[derive(Clone, Copy)]
@@ -31,19 +31,6 @@ pub struct Command {
 pub struct Routine {
     pub commands: [Command; MAX_COMMANDS],
     pub count: usize,
-}
-
-// What a refusal returns: its number in the table, some with an index.
-#[derive(Clone, Copy)]
-pub enum Refusal {
-    Number(u8),
-    Indexed(u8, usize),
-}
-
-#[derive(Clone, Copy)]
-pub enum Verdict {
-    Accepted,
-    Refused(Refusal),
 }
 
 // A routine of no commands.
@@ -83,20 +70,19 @@ pub fn in_range(setting: i16) -> bool
 }
 
 // A command against a number of devices: 5, 6, 7, with the command's index.
-fn check_command(command: Command, devices: u8, index: usize) -> Verdict
+fn check_command(command: Command, devices: u8, index: usize) -> Result<(), Refusal>
     ensures { result ≡ command_check devices index command }
 {
     if devices <= command.device {
-        return Verdict::Refused(Refusal::Indexed(DEVICE, index));
+        return Err(Refusal::DeviceNotBelow(index));
     }
-    let setting = command.setting;
-    if !in_range(setting) {
-        return Verdict::Refused(Refusal::Indexed(SETTING, index));
+    if !in_range(command.setting) {
+        return Err(Refusal::SettingOutOfRange(index));
     }
     if HIGHEST_TAG < command.tag {
-        return Verdict::Refused(Refusal::Indexed(TAG, index));
+        return Err(Refusal::TagOutOfRange(index));
     }
-    Verdict::Accepted
+    Ok(())
 }
 
 // Is the command at an index a condition that is last or is followed by another?
@@ -118,27 +104,21 @@ fn stands_alone(routine: Routine, index: usize) -> bool
 }
 
 // A routine against a number of devices (N in the hub, 32 in a book): 4, then the commands in turn.
-pub fn check(routine: Routine, devices: u8) -> Verdict
+pub fn check(routine: Routine, devices: u8) -> Result<(), Refusal>
     ensures { result ≡ routine_check devices (commands_of routine) }
 {
     let count = routine.count;
     if count == 0 {
-        return Verdict::Refused(Refusal::Number(COMMAND_COUNT));
+        return Err(Refusal::CommandCount);
     }
     if MAX_COMMANDS < count {
-        return Verdict::Refused(Refusal::Number(COMMAND_COUNT));
+        return Err(Refusal::CommandCount);
     }
-    let mut i = 0;
-    while i < count {
-        let command = routine.commands[i];
-        let verdict = check_command(command, devices, i);
-        let Verdict::Accepted = verdict else {
-            return verdict;
-        };
+    for i in 0..count {
+        check_command(routine.commands[i], devices, i)?;
         if stands_alone(routine, i) {
-            return Verdict::Refused(Refusal::Indexed(CONDITION_ALONE, i));
+            return Err(Refusal::ConditionAlone(i));
         }
-        i += 1;
     }
-    Verdict::Accepted
+    Ok(())
 }

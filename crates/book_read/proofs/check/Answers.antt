@@ -2,7 +2,6 @@
 use Prim.Native.Nat.{ℕ}
 use mathlib.Core.Path.{◌≡◌, sym, ap, ◌∙◌}
 use native.Mathlib.Omega.{arith}
-use Rattle.rules_routine.specs.Refusals.{refusal_of}
 use Rattle.book_layout.specs.Layout.{pairs_end, count-of}
 use Rattle.book_layout.specs.Reading.{placed_checks}
 use Rattle.book_layout.proofs.LayoutLaws.{head-count, head_many, head_pairs, head_fine, book-refused, book-placed}
@@ -15,15 +14,12 @@ unfolding count-of
 count c = c.two_at-count.ensures.0
 
 pub returns-then-book-lt-COUNT_SIZE : goal.returns-then-book-lt-COUNT_SIZE
-unfolding refusal_of
 returns-then-book-lt-COUNT_SIZE c = sym (book-refused _ _ (head-count _ c.if-book-lt-COUNT_SIZE.true))
 
 pub returns-then-count-gt-MAX_ROUTINES : goal.returns-then-count-gt-MAX_ROUTINES
-unfolding refusal_of
 returns-then-count-gt-MAX_ROUTINES c = let e = count (goal.at.returns-then-count-gt-MAX_ROUTINES c).After-two_at-count in sym (book-refused _ _ (head_many _ c.if-book-lt-COUNT_SIZE.false (omega arith)))
 
 pub returns-then-book-count : goal.returns-then-book-count
-unfolding refusal_of
 returns-then-book-count c = let e = count (goal.at.returns-then-book-count c).After-two_at-count in
     sym (book-refused _ _ (head_pairs _ c.if-book-lt-COUNT_SIZE.false (omega arith) (omega arith)))
 

@@ -1,6 +1,6 @@
 -- `book_read::next` meets its contract. Assumes nothing.
+use Rattle.std.proofs.Common.{Ok}
 use Rattle.rules_routine.specs.declared.Routine.{Routine}
-use Rattle.rules_routine.specs.declared.Verdict.TheVariants.{Accepted}
 use Rattle.book_layout.specs.declared.Item.TheVariants.{Refused as RefusedBook}
 use mathlib.Core.Path.{◌≡◌, sym, ap, ◌∙◌}
 use Rattle.book_layout.specs.Reading.{book_check, next_of}
@@ -9,7 +9,7 @@ use Rattle.book_read.proofs.next.Goals.{In-Accepted}
 use Rattle.book_read.proofs.next.Goals as goal
 
 -- the whole book is accepted
-accepted : (c : In-Accepted) → book_check c.args.book.now ≡ Accepted
+accepted : (c : In-Accepted) → book_check c.args.book.now ≡ Ok tt
 accepted c = sym c.check-verdict.ensures ∙ c.in-Accepted.is
 
 pub next_pair-requires : goal.next_pair-requires

@@ -1,10 +1,9 @@
 -- `book_write::write` meets its contract: each way out is one of the laws of `write_check`. Assumes nothing.
+use Rattle.std.proofs.Common.{Ok}
 use mathlib.Core.Path.{◌≡◌, sym, ◌∙◌}
 use Prim.Native.Nat.{◌*◌, ◌≤◌}
 use native.Mathlib.Omega.{arith}
 use lib.ListN.{length}
-use Rattle.rules_routine.specs.Refusals.{refusal_of}
-use Rattle.rules_routine.specs.declared.Verdict.TheVariants.{Accepted}
 use Rattle.book_layout.specs.Layout.{book_bytes}
 use Rattle.book_layout.specs.Writing.{routines_lent, routines_check}
 use Rattle.book_write.proofs.Row.{commands-few, length-routines, length-book}
@@ -16,7 +15,7 @@ use Rattle.book_write.proofs.write.Goals as goal
 -- the routines pass
 accepted : (c : In_default) →
     let a = c.args in
-    routines_check (routines_lent a.counts.now a.devices.now a.tags.now a.settings.now) ≡ Accepted
+    routines_check (routines_lent a.counts.now a.devices.now a.tags.now a.settings.now) ≡ Ok tt
 accepted c = sym c.check_routines-verdict.ensures ∙ c.in_default.is
 
 -- how many commands there can be
@@ -31,7 +30,6 @@ returns-in-Refused c = let a = c.args in
     let t = turned-down rs a.out.now _ (write_refused rs _ _ (sym c.check_routines-verdict.ensures ∙ c.in-Refused.is)) in record { answers = t.0; leaves = t.1 }
 
 pub returns-then-counts-gt-MAX_ROUTINES : goal.returns-then-counts-gt-MAX_ROUTINES
-unfolding refusal_of
 returns-then-counts-gt-MAX_ROUTINES c = let a = c.args in
     let rs = routines_lent a.counts.now a.devices.now a.tags.now a.settings.now in
     let n = length-routines a.devices.now a.tags.now a.settings.now 0 a.counts.now in
@@ -44,7 +42,6 @@ pub overflow_add-size-2 : goal.overflow_add-size-2
 overflow_add-size-2 c = let f = few (goal.at.overflow_add-size-2 c).After-count_commands-commands in search rules
 
 pub returns-then-out-size : goal.returns-then-out-size
-unfolding refusal_of
 returns-then-out-size c = let a = c.args in
     let rs = routines_lent a.counts.now a.devices.now a.tags.now a.settings.now in
     let n = length-routines a.devices.now a.tags.now a.settings.now 0 a.counts.now in

@@ -1,9 +1,9 @@
 -- `hub_due::due_on` meets its contract. The loop's invariant: the slots that are left, from the last of them on, leave the device as all
 -- slots do. Assumes nothing.
+use Rattle.std.proofs.Common.{None}
 use borrow.Author.Rules.{rules}
 use native.Mathlib.Omega.{arith}
 use mathlib.Core.Path.{◌≡◌, ◌∙◌}
-use mathlib.Core.Option.{none}
 use Prim.Native.Nat.{◌+◌, ◌*◌, ◌-◌, ◌≤◌}
 use lib.IntN.{pos}
 use lib.ListN.{length, get_or}
@@ -51,7 +51,7 @@ whole c = due-lent c.args.state c.requires.0 _ _ _ _ c.requires.1 c.requires.2 c
 -- the slot has no restart of the device
 absent : (c : Joined-d-lt-MAX_DEVICES) → length c.args.state.restarts ≡ max_sequence * max_devices →
     restarts_at c.args.state.restarts
-    c.loop-i.i c.args.wanted ≡ none
+    c.loop-i.i c.args.wanted ≡ None
 absent c fits = let r = get_or c.args.state.restarts (c.loop-i.i * max_devices + c.args.wanted) (pos 0) in
     elim c.if-d-lt-MAX_DEVICES.branch [
       | then-d-lt-MAX_DEVICES+else-restart-ne-NO_RESTART w ↦

@@ -9,7 +9,6 @@ use lib.ListN.{get_or, set, length-set}
 use lib.Seq.{sets}
 use mir.Val.{to_z, of_z}
 use mir.Syntax.{w16}
-use Rattle.rules_routine.specs.Refusals.{refusal_of}
 use Rattle.rules_routine.specs.Limits.{max_devices}
 use Rattle.rules.specs.AllDue.{settings_from}
 use Rattle.rules.proofs.AllDue.{settings-next, settings_end, list-refused, list-accepted, list_stored}
@@ -17,7 +16,7 @@ use Rattle.hub_state.specs.View.{settings_of, state_of}
 use Rattle.hub_due_list.proofs.put_settings.Goals as goal
 
 pub returns-then-list-count : goal.returns-then-list-count
-unfolding state_of refusal_of
+unfolding state_of
 returns-then-list-count c = let p = list-refused (state_of c.args.state) c.args.list.now c.if-list-count.true in record { answers = p.0; leaves = p.1 }
 
 pub loop-d-init : goal.loop-d-init

@@ -3,7 +3,6 @@ use mathlib.Core.Path.{sym, ◌∙◌}
 use Prim.Native.Nat.{◌≤◌, ◌<◌}
 use native.Mathlib.Omega.{arith}
 use lib.ListN.{length}
-use Rattle.rules_routine.specs.Refusals.{refusal_of}
 use Rattle.rules_routine.specs.Limits.{max_sequence}
 use Rattle.hub_state.specs.View.{state_of}
 use Rattle.hub_submit.proofs.SubmitLaws.{check_routine, check_full, check_ids, check_fine, taken_is}
@@ -16,7 +15,7 @@ returns-in_default c = let e = c.in_default.is in
     e ∙ sym (check_routine (state_of c.args.state) _ _ (sym c.check-verdict.ensures ∙ e))
 
 pub returns-then-links-ge-MAX_SEQUENCE : goal.returns-then-links-ge-MAX_SEQUENCE
-unfolding state_of refusal_of
+unfolding state_of
 returns-then-links-ge-MAX_SEQUENCE c = let h = c.args.state in
     let i : max_sequence ≤ length (state_of h).sequence = let n = taken_is h c.requires in omega (arith, n, c.if-links-ge-MAX_SEQUENCE.true) in
     sym (check_full (state_of h) _ (sym c.check-verdict.ensures ∙ c.in-Accepted.is) i)
@@ -28,7 +27,7 @@ room c =
     omega (arith, n, c.if-links-ge-MAX_SEQUENCE.false)
 
 pub returns-then-state-gt-HIGHEST_ID : goal.returns-then-state-gt-HIGHEST_ID
-unfolding state_of refusal_of
+unfolding state_of
 returns-then-state-gt-HIGHEST_ID c = sym (check_ids (state_of c.args.state) _ (sym c.check-verdict.ensures ∙ c.in-Accepted.is) (room (goal.at.returns-then-state-gt-HIGHEST_ID c).Else-links-ge-MAX_SEQUENCE) c.if-state-gt-HIGHEST_ID.true)
 
 pub returns : goal.returns

@@ -1,7 +1,7 @@
 -- `line::plot_hub_run` meets its contract: the program runs on no hub. Assumes nothing.
+use Rattle.std.proofs.Common.{Option, None}
 use mathlib.Core.Path.{◌≡◌, ap, ◌∙◌}
 use mathlib.Core.List.{List}
-use mathlib.Core.Option.{Option, none}
 use Prim.Native.Nat.{ℕ}
 use lib.ListN.{length}
 use mir.Syntax.{w64}
@@ -13,7 +13,7 @@ use borrow.Author.Rules.{rules}
 use Rattle.line.proofs.plot_hub_run.Goals as goal
 
 -- what a program prints that begins with no hub
-from_none : (h : Option State) (input : List ℕ) → h ≡ none → (run_from h input).text ≡ program_text input
+from_none : (h : Option State) (input : List ℕ) → h ≡ None → (run_from h input).text ≡ program_text input
 unfolding program_text
 from_none h input e = ap (λ (z : Option State). (run_from z input).text) e
 

@@ -4,7 +4,8 @@ use borrow.Author.Rules.{rules}
 use native.Mathlib.Omega.{arith}
 use mathlib.Core.Path.{◌≡◌, refl, sym, ◌∙◌}
 use lib.ListN.{length, take}
-use Rattle.rules_routine.specs.Refusals.{refusal_of}
+use Rattle.std.proofs.Common.{Err, ap}
+use Rattle.std.proofs.lemmas.Result.{err_from_is_err_and}
 use Rattle.rules_routine.specs.Limits.{max_commands}
 use Rattle.rules_routine.specs.Routine.{commands_of, commands_check, routine_check}
 use Rattle.rules_routine.proofs.RoutineLaws.{length-commands_of, length_mapped, check_empty, check_long, check_held, commands-more}
@@ -23,39 +24,32 @@ whole : (c : Else-count-gt-MAX_COMMANDS) →
 whole c = check_held _ _ (long c) (omega arith) c.if-count-gt-MAX_COMMANDS.false
 
 pub returns-then-count-eq0 : goal.returns-then-count-eq0
-unfolding refusal_of
 returns-then-count-eq0 c = sym (check_empty _ _ (length-commands_of c.args.routine ∙ c.if-count-eq0.true))
 
 pub returns-then-count-gt-MAX_COMMANDS : goal.returns-then-count-gt-MAX_COMMANDS
-unfolding refusal_of
 returns-then-count-gt-MAX_COMMANDS c = sym (check_long _ _ (rw (length-commands_of c.args.routine) c.if-count-gt-MAX_COMMANDS.true))
 
 pub loop-i-init : goal.loop-i-init
-loop-i-init c = (search rules, refl)
+loop-i-init c = refl
 
-pub returns-in_default : goal.returns-in_default
-returns-in_default c = let n = long (goal.at.returns-in_default c).Else-count-gt-MAX_COMMANDS in
-    c.in_default.is
-    ∙ sym (commands-refused _ _ _ _ c.loop-i-test.true (omega arith) _ (sym c.check_command-verdict.ensures
-    ∙ c.in_default.is))
-    ∙ c.loop-i.invariant.1
-    ∙ sym (whole (goal.at.returns-in_default c).Else-count-gt-MAX_COMMANDS)
+pub returns-in_err-check_command : goal.returns-in_err-check_command
+returns-in_err-check_command c = let n = long (goal.at.returns-in_err-check_command c).Else-count-gt-MAX_COMMANDS in
+    let p = err_from_is_err_and c.from_residual.result c.from_residual.ensures.1 in
+    p.1 ∙ ap Err p.2 ∙ sym (commands-refused _ _ _ _ c.loop-i-test.true (omega arith) _ (sym c.check_command.ensures
+    ∙ c.in_err-check_command.was))
+    ∙ c.loop-i.invariant ∙ sym (whole (goal.at.returns-in_err-check_command c).Else-count-gt-MAX_COMMANDS)
 
 pub returns-then-stands_alone : goal.returns-then-stands_alone
-unfolding refusal_of
 returns-then-stands_alone c = let n = long (goal.at.returns-then-stands_alone c).Else-count-gt-MAX_COMMANDS in
-    sym (whole (goal.at.returns-then-stands_alone c).Else-count-gt-MAX_COMMANDS ∙ sym c.loop-i.invariant.1
-    ∙ commands_alone _ _ _ _ c.loop-i-test.true (omega arith) (sym c.check_command-verdict.ensures ∙ c.in-Accepted.is)
+    sym (whole (goal.at.returns-then-stands_alone c).Else-count-gt-MAX_COMMANDS ∙ sym c.loop-i.invariant
+    ∙ commands_alone _ _ _ _ c.loop-i-test.true (omega arith) (sym c.check_command.ensures ∙ c.in_ok-check_command.was)
     (sym c.stands_alone.ensures ∙ c.if-stands_alone.true))
 
 pub loop-i-preserved : goal.loop-i-preserved
-loop-i-preserved c = let n = long (goal.at.loop-i-preserved c).Else-count-gt-MAX_COMMANDS in (
-  search rules,
-  sym (commands-more _ _ _ _ c.loop-i-test.true (omega arith) (sym c.check_command-verdict.ensures
-      ∙ c.in-Accepted.is) (sym c.stands_alone.ensures ∙ c.if-stands_alone.false)) ∙ c.loop-i.invariant.1,
-)
+loop-i-preserved c = let n = long (goal.at.loop-i-preserved c).Else-count-gt-MAX_COMMANDS in
+    sym (commands-more _ _ _ _ c.loop-i-test.true (omega arith) (sym c.check_command.ensures
+    ∙ c.in_ok-check_command.was) (sym c.stands_alone.ensures ∙ c.if-stands_alone.false)) ∙ c.loop-i.invariant
 
 pub returns : goal.returns
-unfolding refusal_of
-returns c = sym (whole (goal.at.returns c).Else-count-gt-MAX_COMMANDS ∙ sym c.loop-i.invariant.1
-    ∙ commands_end _ _ _ _ c.loop-i.invariant.0 c.loop-i-test.false)
+returns c = sym (whole (goal.at.returns c).Else-count-gt-MAX_COMMANDS ∙ sym c.loop-i.invariant
+    ∙ commands_end _ _ _ _ (omega arith) c.loop-i-test.false)

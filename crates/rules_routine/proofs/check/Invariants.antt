@@ -1,6 +1,5 @@
 -- `rules_routine::check` meets its contract. The loop's invariant: the check of the commands from the i-th on is the check of all of them.
 -- Assumes nothing.
-use Prim.Native.Nat.{◌-◌, ◌≤◌}
 use mathlib.Core.Path.{◌≡◌}
 use lib.ListN.{take}
 use lib.Seq.{slice}
@@ -8,8 +7,4 @@ use Rattle.rules_routine.specs.Routine.{commands_check}
 use Rattle.rules_routine.proofs.check.Given as goal
 
 abbrev pub invariant-loop-i : goal.invariant-loop-i
-invariant-loop-i l = (l.i ≤ l.count)
-    × (commands_check l.devices l.i (slice l.i l.count l.routine.commands) ≡ commands_check l.devices 0 (take l.count l.routine.commands))
-
-abbrev pub decreases-loop-i : goal.decreases-loop-i
-decreases-loop-i l = l.count - l.i
+invariant-loop-i l = commands_check l.devices l.i (slice l.i l.count l.routine.commands) ≡ commands_check l.devices 0 (take l.count l.routine.commands)

@@ -5,7 +5,6 @@ use Prim.Native.Nat.{ℕ, ◌+◌, ◌-◌, ◌≤◌}
 use mathlib.Core.Path.{◌≡◌, sym, ap, ◌∙◌}
 use native.Mathlib.Omega.{arith}
 use lib.ListN.{length}
-use Rattle.rules_routine.specs.Refusals.{refusal_of}
 use Rattle.book_layout.specs.Layout.{pairs_end, length_at}
 use Rattle.book_layout.specs.Reading.{placed_checks}
 use Rattle.book_layout.proofs.LayoutLaws.{placed, checks_more, checks_refused, checks_left_over, checks_end}
@@ -59,7 +58,6 @@ loop-i-preserved c = let a = c.args in
     )
 
 pub returns-then-at-book : goal.returns-then-at-book
-unfolding refusal_of
 returns-then-at-book c = sym (checks_left_over _ _ _ c.if-at-book.true) ∙ all (goal.at.returns-then-at-book c).After-loop-i
 
 pub returns : goal.returns

@@ -3,7 +3,6 @@ use Prim.Native.Nat.{ℕ, ◌/◌}
 use mathlib.Core.Bool.{true}
 use mathlib.Core.Path.{◌≡◌, sym, ap, ◌∙◌}
 use native.Mathlib.Omega.{arith}
-use Rattle.rules_routine.specs.Refusals.{refusal_of}
 use Rattle.rules_routine.specs.Routine.{commands_of, routine_of, routine_check}
 use Rattle.rules_routine.specs.declared.Routine.{Routine}
 use Rattle.rules_routine.proofs.RoutineLaws.{check_counted, routine_of-commands}
@@ -38,15 +37,12 @@ unfolding offset_at
 offset c = c.four_at.ensures.0
 
 pub returns-then-not-length_fits : goal.returns-then-not-length_fits
-unfolding refusal_of
 returns-then-not-length_fits c = sym (placed-length _ _ _ (fits (goal.at.returns-then-not-length_fits c).After-length_fits ∙ c.if-not-length_fits.true))
 
 pub returns-then-four_at-at : goal.returns-then-four_at-at
-unfolding refusal_of
 returns-then-four_at-at c = sym (placed_offset _ _ _ (good (goal.at.returns-then-four_at-at c).After-length_fits c.if-not-length_fits.false) (λ e. c.if-four_at-at.true (offset (goal.at.returns-then-four_at-at c).After-four_at ∙ e)))
 
 pub returns-then-book-at : goal.returns-then-book-at
-unfolding refusal_of
 returns-then-book-at c = let e = size (goal.at.returns-then-book-at c).After-length_fits in
     let o = sym (offset (goal.at.returns-then-book-at c).After-four_at) ∙ c.if-four_at-at.false in
     sym (placed_end _ _ _ (good (goal.at.returns-then-book-at c).After-length_fits c.if-not-length_fits.false) o (omega arith))

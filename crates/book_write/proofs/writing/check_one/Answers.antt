@@ -1,7 +1,6 @@
 -- `book_write::writing::check_one` meets its contract. Assumes nothing.
 use mathlib.Core.Path.{sym, ap, ◌∙◌}
 use native.Mathlib.Omega.{arith}
-use Rattle.rules_routine.specs.Refusals.{refusal_of}
 use Rattle.rules_routine.specs.Routine.{commands_of, routine_check}
 use Rattle.rules_routine.specs.declared.Routine.{Routine}
 use Rattle.rules_routine.proofs.RoutineLaws.{check_long, routine_of-commands}
@@ -11,7 +10,6 @@ use Rattle.book_layout.proofs.Lending.{length-lent}
 use Rattle.book_write.proofs.writing.check_one.Goals as goal
 
 pub returns-then-count-gt-MAX_COMMANDS : goal.returns-then-count-gt-MAX_COMMANDS
-unfolding refusal_of
 returns-then-count-gt-MAX_COMMANDS c = let a = c.args in
     let n = length-lent a.devices.now a.tags.now a.settings.now a.at a.count in
     sym (check_long _ _ (omega arith))

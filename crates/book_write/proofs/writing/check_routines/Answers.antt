@@ -1,5 +1,6 @@
 -- `book_write::writing::check_routines` meets its contract. The loop's invariant: the check of the routines from the i-th on, which begin
 -- at `at` in the row, is the check of all of them. Assumes nothing.
+use Rattle.std.proofs.Common.{Ok}
 use borrow.Author.Rules.{rules}
 use borrow.Author.Rules.{rules}
 use Prim.Native.Nat.{◌+◌, ◌≤◌}
@@ -8,7 +9,6 @@ use mathlib.Core.List.{◌∷◌}
 use native.Mathlib.Omega.{arith}
 use lib.ListN.{length, drop, get_or}
 use Rattle.rules_routine.specs.Routine.{routine_check}
-use Rattle.rules_routine.specs.declared.Verdict.TheVariants.{Accepted}
 use Rattle.book_layout.specs.Layout.{book_devices}
 use Rattle.book_layout.specs.Writing.{commands_lent, routines_from, routines_check}
 use Rattle.book_write.proofs.Row.{routine-there, routines-more, routines_end, check_none, check_more, check_stops}
@@ -43,7 +43,7 @@ returns-in_default c = let a = c.args in
 accepted : (c : In-Accepted) →
     let a = c.args in
     let count = get_or a.counts.now c.loop-i.i 0 in
-    routine_check book_devices (commands_lent a.devices.now a.tags.now a.settings.now c.loop-i.at count) ≡ Accepted
+    routine_check book_devices (commands_lent a.devices.now a.tags.now a.settings.now c.loop-i.at count) ≡ Ok tt
 accepted c = sym c.check_one-verdict.ensures ∙ c.in-Accepted.is
 
 there : (c : In-Accepted) →

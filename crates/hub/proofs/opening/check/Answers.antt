@@ -1,7 +1,6 @@
 -- `hub::opening::check` meets its contract. Assumes nothing.
 use native.Mathlib.Omega.{arith}
 use mathlib.Core.Path.{sym, ◌∙◌}
-use Rattle.rules_routine.specs.Refusals.{refusal_of}
 use Rattle.hub.proofs.OpenLaws.{open_out, open_first-id, open_fine}
 use Rattle.hub.proofs.opening.check.Goals as goal
 
@@ -10,7 +9,6 @@ returns-in_default c = let e = c.in_default.is in
     e ∙ sym (open_out _ _ _ _ (sym c.check-ranges.ensures ∙ e))
 
 pub returns-then-first_id-eq0 : goal.returns-then-first_id-eq0
-unfolding refusal_of
 returns-then-first_id-eq0 c = sym (open_first-id _ _ _ (sym c.check-ranges.ensures ∙ c.in-Accepted.is) c.if-first_id-eq0.true)
 
 pub returns : goal.returns
