@@ -23,7 +23,6 @@ use Rattle.book_layout.specs.Reading.{book_check, next_of}
 use Rattle.book_layout.specs.Writing.{routines_lent, row_of, counts_of, routines_check, write_check, written_with, written_of, buffer_with}
 use Rattle.book_layout.specs.Writing.{buffer_after}
 use Rattle.book_layout.specs.declared.Item.TheVariants.{Handed}
-use Rattle.book_layout.specs.declared.Written.TheVariants.{Refused as NotWritten}
 use Rattle.book_layout.proofs.Lending.{first-there, rest-there}
 use Rattle.book_layout.proofs.RoundTrip.{Makes, hands_make}
 use Rattle.book_layout.proofs.Theorems.{read_then_write, lent_again}
@@ -199,7 +198,7 @@ module _ (b : List ℕ) (rs : List (List Command)) (accepted : book_check b ≡ 
 
 -- a book that is turned down
 pub refused_copied : (b buffer : List ℕ) (x : Refusal) → book_check b ≡ Err x →
-    (NotWritten x ≡ copied_of b (length buffer)) × (buffer ≡ copy_after b buffer)
+    (Err x ≡ copied_of b (length buffer)) × (buffer ≡ copy_after b buffer)
 unfolding copied_of copy_after copy_check
 refused_copied b buffer x e = (rw e, rw e)
 

@@ -10,8 +10,7 @@ ghost use Rattle.book_layout.specs.Writing.{routines_lent, written_of, buffer_af
 ghost use Rattle.book_copy.specs.Rows.{RowsOfBook};
 ghost use Rattle.book_copy.specs.Copy.{copied_of, copy_after};
 
-use book_layout::Written;
-use rules_routine::Verdict;
+use rules_routine::Refusal;
 use rules_routine::limits::{MAX_COMMANDS, MAX_ROUTINES};
 
 // The most commands that a book has.
@@ -28,34 +27,16 @@ pub struct Rows {
     pub commands: usize,
 }
 
-// The rows of a book, or no rows and why it is turned down.
-#[derive(Clone, Copy)]
-pub struct RowsRead {
-    pub verdict: Verdict,
-    pub rows: Rows,
-}
-
-// The rows of a book's routines.
-pub fn rows_of(book: &[u8]) -> RowsRead
+// The rows of a book's routines, or why it is turned down.
+pub fn rows_of(book: &[u8]) -> Result<Rows, Refusal>
     ensures { RowsOfBook book.now result }
 {
-    let verdict = book_read::check(book);
-    let Verdict::Accepted = verdict else {
-        let none = reading::empty();
-        return RowsRead {
-            verdict,
-            rows: none,
-        };
-    };
-    let read = reading::read_all(book);
-    RowsRead {
-        verdict,
-        rows: read,
-    }
+    book_read::check(book)?;
+    Ok(reading::read_all(book))
 }
 
 // Rows written as a book. The rows of commands are lent whole: what stands behind the last routine belongs to none.
-fn write_rows(rows: Rows, out: &mut [u8]) -> Written
+fn write_rows(rows: Rows, out: &mut [u8]) -> Result<usize, Refusal>
     requires { rows.routines ≤ max_routines }
     ensures answers { result ≡ written_of
         (routines_lent (take rows.routines rows.counts) rows.devices rows.tags rows.settings)
@@ -73,15 +54,10 @@ fn write_rows(rows: Rows, out: &mut [u8]) -> Written
 }
 
 // A book read, and what was read written into a lent buffer: the same bytes, or 21 if it is too short; of a refused book its refusal.
-pub fn copied(book: &[u8], out: &mut [u8]) -> Written
+pub fn copied(book: &[u8], out: &mut [u8]) -> Result<usize, Refusal>
     ensures answers { result ≡ copied_of book.now (length out.old) }
     ensures leaves { out.new ≡ copy_after book.now out.old }
 {
-    let read = rows_of(book);
-    let verdict = read.verdict;
-    if let Verdict::Refused(refusal) = verdict {
-        return Written::Refused(refusal);
-    }
-    let rows = read.rows;
+    let rows = rows_of(book)?;
     write_rows(rows, out)
 }

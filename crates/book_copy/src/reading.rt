@@ -2,12 +2,10 @@
 ghost use Rattle.std.specs.Prelude.{◌≡◌, [], ◌≤◌};
 ghost use Rattle.rules_routine.specs.Limits.{max_commands};
 ghost use Rattle.rules_routine.specs.Routine.{commands_of};
-ghost use Rattle.rules_routine.specs.declared.Verdict.TheVariants.{Accepted};
 ghost use Rattle.book_layout.specs.Reading.{book_check};
 ghost use Rattle.book_copy.specs.Rows.{rows_of, RowsHanded, with_command, with_commands, with_count, with_routine};
 
 use crate::{MOST_COMMANDS, Rows};
-use book_layout::Item;
 use rules_routine::limits::MAX_ROUTINES;
 use rules_routine::{Command, Routine};
 
@@ -86,7 +84,7 @@ fn with_routine(rows: Rows, routine: Routine) -> Rows
 
 // The rows of what an accepted book hands out, step by step.
 pub fn read_all(book: &[u8]) -> Rows
-    requires { book_check book.now ≡ Accepted }
+    requires { book_check book.now ≡ Ok tt }
     ensures { RowsHanded book.now result }
 {
     let mut rows = empty();
@@ -94,11 +92,9 @@ pub fn read_all(book: &[u8]) -> Rows
     let mut i = 0;
     while i < MAX_ROUTINES {
         let next = book_read::next(book, position);
-        let item = next.item;
-        let Item::Handed = item else {
+        let Ok(Some(routine)) = next.item else {
             return rows;
         };
-        let routine = next.routine;
         rows = with_routine(rows, routine);
         position = next.position;
         i += 1;

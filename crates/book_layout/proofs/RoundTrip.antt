@@ -26,7 +26,6 @@ use Rattle.book_layout.specs.Writing.{routines_check, write_check, written_with,
 use Rattle.book_layout.specs.Claims.{Hands, ends, hands, Bytes, WriteThenRead, ReadThenWrite}
 use Rattle.book_layout.specs.declared.Item.TheVariants.{Handed, End, Refused as RefusedBook}
 use Rattle.book_layout.specs.declared.Next.{Next}
-use Rattle.book_layout.specs.declared.Written.TheVariants.{Length}
 use Rattle.book_layout.proofs.LayoutLaws.{InFours, fits_in_fours, in_fours_fits, placed-commands, Placed, placed}
 use Rattle.book_layout.proofs.LayoutLaws.{head_fine, book-placed, pair_handed, pair-past, next-first, next-later}
 use Rattle.book_layout.proofs.LayoutLaws.{length-four_bytes, length-commands_bytes, length-pairs_bytes, length-commands_at}
@@ -281,7 +280,7 @@ hands_make b bytes rs h =
     subst (λ (qs : List (List Command)). Makes qs b) (hands-same b 0 w.0 rs (book-read w.0 b w.1) h) w.1
 
 -- A length is answered only for a writing that is accepted, and is the book's;
-pub written-accepted : (v : Verdict) (book : List ℕ) (n : ℕ) → written_with v book ≡ Length n → (v ≡ Ok tt) × (length book ≡ n)
+pub written-accepted : (v : Verdict) (book : List ℕ) (n : ℕ) → written_with v book ≡ Ok n → (v ≡ Ok tt) × (length book ≡ n)
 written-accepted (Ok tt) book n e = (refl, cc)
 written-accepted (Err r) book n e = let z : ◌≡◌ {A = ℕ} 0 1 = cc in absurd (omega arith)
 
@@ -300,12 +299,12 @@ write_fits rs b room w l =
 
 -- and give their book.
 write_again : (rs : List (List Command)) (b buffer : List ℕ) → Makes rs b → length b ≤ length buffer →
-    (written_of rs (length buffer) ≡ Length (length b)) × (take (length b) (buffer_after rs buffer) ≡ b)
+    (written_of rs (length buffer) ≡ Ok (length b)) × (take (length b) (buffer_after rs buffer) ≡ b)
 unfolding written_of
 write_again rs b buffer w l =
     let a = write_fits rs b (length buffer) w l in
     let e = ap length w.book in
-    (rw a (ap Length e), ap (λ (m : ℕ). take m (buffer_after rs buffer)) (sym e) ∙ first-bytes rs buffer a ∙ w.book)
+    (rw a (ap Ok e), ap (λ (m : ℕ). take m (buffer_after rs buffer)) (sym e) ∙ first-bytes rs buffer a ∙ w.book)
 
 -- (a)
 pub write_then_read : WriteThenRead

@@ -16,7 +16,6 @@ use Rattle.book_layout.specs.Writing.{routines_check, write_check, written_with,
 use Rattle.book_layout.specs.WritingCauses.{of_routine, of_room, write_cause_of, routine_no, WritingCause, routines_tests}
 use Rattle.book_layout.specs.WritingCauses.{write_tests}
 use Rattle.book_layout.specs.WritingCauses.{ExactWriting}
-use Rattle.book_layout.specs.declared.Written.TheVariants.{Length, Refused as NotWritten}
 
 module _ (rs : List (List Command)) (room : ℕ) where
   -- the routines from the j-th on
@@ -61,11 +60,11 @@ module _ (rs : List (List Command)) (room : ℕ) where
       (λ _. one H write_cause_of of_room _ (either _ _ (less max_routines (length rs)) (less room (length (book_bytes rs)))))
 
 -- the answer says the same as the verdict
-refused-written : (v : Verdict) (book : List ℕ) (r : Refusal) → written_with v book ≡ NotWritten r → v ≡ Err r
+refused-written : (v : Verdict) (book : List ℕ) (r : Refusal) → written_with v book ≡ Err r → v ≡ Err r
 refused-written (Ok tt) book r e = let z : ◌≡◌ {A = ℕ} 0 1 = cc in absurd (omega arith)
 refused-written (Err x) book r e = let f : x ≡ r = cc in ap Err f
 
-accepted-written : (v : Verdict) (book : List ℕ) → written_with v book ≡ Length (length book) → v ≡ Ok tt
+accepted-written : (v : Verdict) (book : List ℕ) → written_with v book ≡ Ok (length book) → v ≡ Ok tt
 accepted-written (Ok tt) book e = refl
 accepted-written (Err x) book e = let z : ◌≡◌ {A = ℕ} 0 1 = cc in absurd (omega arith)
 

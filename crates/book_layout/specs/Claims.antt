@@ -12,7 +12,6 @@ use Rattle.book_layout.specs.Layout.{count_size, command_size, book_devices, pai
 use Rattle.book_layout.specs.Reading.{book_check, next_of}
 use Rattle.book_layout.specs.Writing.{routines_lent, row_of, counts_of, devices_of, tags_of, settings_of, written_of, buffer_after}
 use Rattle.book_layout.specs.declared.Item.TheVariants.{Handed, End}
-use Rattle.book_layout.specs.declared.Written.TheVariants.{Length}
 
 -- ---- what is read
 
@@ -29,7 +28,7 @@ Bytes b = (i : ℕ) → byte_at b i < 256
 -- (a) Whatever list of routines is written, reading what was written gives the same routines.
 abbrev pub WriteThenRead : Type 0
 WriteThenRead =
-    (rs : List (List Command)) (buffer : List ℕ) (n : ℕ) → written_of rs (length buffer) ≡ Length n →
+    (rs : List (List Command)) (buffer : List ℕ) (n : ℕ) → written_of rs (length buffer) ≡ Ok n →
     Hands (take n (buffer_after rs buffer)) 0 rs
 
 -- (b) An accepted book is read to its end; and whatever was read of a book, written into any buffer that has the room, gives the same
@@ -39,7 +38,7 @@ ReadThenWrite =
     (b : List ℕ) → Bytes b →
     (book_check b ≡ Ok tt → (rs : List (List Command)) × Hands b 0 rs)
     × ((rs : List (List Command)) → Hands b 0 rs → (buffer : List ℕ) → length b ≤ length buffer →
-    (written_of rs (length buffer) ≡ Length (length b)) × (take (length b) (buffer_after rs buffer) ≡ b))
+    (written_of rs (length buffer) ≡ Ok (length b)) × (take (length b) (buffer_after rs buffer) ≡ b))
 
 -- ---- how routines are lent
 
@@ -56,7 +55,7 @@ WrittenWhole =
     let rs = routines_lent ns ds ts ss in
     let all = length (row_of rs) in
     (counts_of rs ≡ ns)
-    × ((room n : ℕ) → written_of rs room ≡ Length n →
+    × ((room n : ℕ) → written_of rs room ≡ Ok n →
     (devices_of rs ≡ take all ds) × (tags_of rs ≡ take all ts) × (settings_of rs ≡ take all ss))
 
 -- ---- when a book is turned down

@@ -1,6 +1,7 @@
 -- Worked books, by computation. The first two are document 01's ★ examples. Assumes nothing.
+use Rattle.rules_routine.specs.declared.refusals.Refusal.{Refusal}
 use Rattle.rules_routine.specs.Refusals.{numbered, indexed, Verdict}
-use Rattle.std.specs.Prelude.{◌≡◌, refl, List, [], ◌∷◌, ◌++◌, ℕ, suc, ℤ, pos, negsuc, take, Ok, Err}
+use Rattle.std.specs.Prelude.{◌≡◌, refl, List, [], ◌∷◌, ◌++◌, ℕ, suc, ℤ, pos, negsuc, take, Ok, Err, Result}
 use Rattle.rules_routine.specs.Limits.{first_bytes}
 use Rattle.rules_routine.specs.Range.{in_range}
 use Rattle.rules_routine.specs.Routine.{routine_of, command_check, stands_alone, commands_check, routine_check}
@@ -12,8 +13,6 @@ use Rattle.book_layout.specs.Claims.{longest_book}
 use Rattle.book_layout.specs.Writing.{routines_lent, routines_check, write_check, written_of, buffer_after}
 use Rattle.book_layout.specs.declared.Item.{Item}
 use Rattle.book_layout.specs.declared.Item.TheVariants.{Handed, End, Refused as NotRead}
-use Rattle.book_layout.specs.declared.Written.{Written}
-use Rattle.book_layout.specs.declared.Written.TheVariants.{Length, Refused as NotWritten}
 
 -- All that a computation opens.
 abbrev calc : Unit {0}
@@ -62,7 +61,7 @@ two = (command 0 0 (pos 50) ∷ command 31 1 (negsuc 999) ∷ []) ∷ (command 0
 abbrev bytes : List ℕ
 bytes = 2 ∷ 0 ∷ 18 ∷ 0 ∷ 0 ∷ 0 ∷ 8 ∷ 0 ∷ 0 ∷ 0 ∷ 26 ∷ 0 ∷ 0 ∷ 0 ∷ 4 ∷ 0 ∷ 0 ∷ 0 ∷ 0 ∷ 0 ∷ 50 ∷ 0 ∷ 31 ∷ 1 ∷ 24 ∷ 252 ∷ 0 ∷ 0 ∷ 70 ∷ 0 ∷ []
 
-pub written : (book_bytes two ≡ bytes) × (written_of two 30 ≡ Length 30) × (written_of two 29 ≡ NotWritten (numbered 21))
+pub written : (book_bytes two ≡ bytes) × (written_of two 30 ≡ Ok 30) × (written_of two 29 ≡ Err (numbered 21))
 unfolding calc
 written = (refl, refl, refl)
 
@@ -107,30 +106,30 @@ signs_back = (refl, refl, refl, refl, refl, refl)
 -- ---- routines lent
 
 -- What writing answers for routines that are lent, where there is room.
-abbrev answered : List ℕ → List ℕ → List ℕ → List ℤ → Written
+abbrev answered : List ℕ → List ℕ → List ℕ → List ℤ → Result ℕ Refusal
 answered ns ds ts ss = written_of (routines_lent ns ds ts ss) 100
 
 abbrev eight : {A : Type 0} → A → List A
 eight x = x ∷ x ∷ x ∷ x ∷ x ∷ x ∷ x ∷ x ∷ []
 
 -- A count is the caller's word: 9 with eight commands lent, and 0, are refused with 4; eight with eight lent is written.
-pub counted : (answered (9 ∷ []) (eight 0) (eight 0) (eight (pos 0)) ≡ NotWritten (numbered 4))
-    × (answered (0 ∷ []) (eight 0) (eight 0) (eight (pos 0)) ≡ NotWritten (numbered 4))
-    × (answered (8 ∷ []) (eight 0) (eight 0) (eight (pos 0)) ≡ Length 42)
+pub counted : (answered (9 ∷ []) (eight 0) (eight 0) (eight (pos 0)) ≡ Err (numbered 4))
+    × (answered (0 ∷ []) (eight 0) (eight 0) (eight (pos 0)) ≡ Err (numbered 4))
+    × (answered (8 ∷ []) (eight 0) (eight 0) (eight (pos 0)) ≡ Ok 42)
 unfolding calc
 counted = (refl, refl, refl)
 
 -- Three commands with one lent: the second is not there. Of two commands, the second without its device, its setting, its tag.
-pub not_all_there : (answered (3 ∷ []) (0 ∷ []) (0 ∷ []) (pos 0 ∷ []) ≡ NotWritten (indexed 5 1))
-    × (answered (2 ∷ []) (0 ∷ []) (0 ∷ 0 ∷ []) (pos 0 ∷ pos 0 ∷ []) ≡ NotWritten (indexed 5 1))
-    × (answered (2 ∷ []) (0 ∷ 0 ∷ []) (0 ∷ 0 ∷ []) (pos 0 ∷ []) ≡ NotWritten (indexed 6 1))
-    × (answered (2 ∷ []) (0 ∷ 0 ∷ []) (0 ∷ []) (pos 0 ∷ pos 0 ∷ []) ≡ NotWritten (indexed 7 1))
+pub not_all_there : (answered (3 ∷ []) (0 ∷ []) (0 ∷ []) (pos 0 ∷ []) ≡ Err (indexed 5 1))
+    × (answered (2 ∷ []) (0 ∷ []) (0 ∷ 0 ∷ []) (pos 0 ∷ pos 0 ∷ []) ≡ Err (indexed 5 1))
+    × (answered (2 ∷ []) (0 ∷ 0 ∷ []) (0 ∷ 0 ∷ []) (pos 0 ∷ []) ≡ Err (indexed 6 1))
+    × (answered (2 ∷ []) (0 ∷ 0 ∷ []) (0 ∷ []) (pos 0 ∷ pos 0 ∷ []) ≡ Err (indexed 7 1))
 unfolding calc
 not_all_there = (refl, refl, refl, refl)
 
 -- Commands left over, whole and in part, bad ones too, belong to no routine.
-pub left_over : (answered (1 ∷ []) (0 ∷ 255 ∷ []) (0 ∷ 9 ∷ 9 ∷ []) (pos 0 ∷ []) ≡ Length 14)
-    × (answered [] (0 ∷ []) (0 ∷ []) (pos 0 ∷ []) ≡ Length 2)
+pub left_over : (answered (1 ∷ []) (0 ∷ 255 ∷ []) (0 ∷ 9 ∷ 9 ∷ []) (pos 0 ∷ []) ≡ Ok 14)
+    × (answered [] (0 ∷ []) (0 ∷ []) (pos 0 ∷ []) ≡ Ok 2)
 unfolding calc
 left_over = (refl, refl)
 
@@ -150,7 +149,7 @@ pub conditions : (book_check (one_routine 8 (3 ∷ 2 ∷ 20 ∷ 0 ∷ 4 ∷ 0 �
     × (book_check (one_routine 4 (3 ∷ 3 ∷ 20 ∷ 0 ∷ [])) ≡ Err (indexed 7 0))
     × (book_check (one_routine 8 (3 ∷ 2 ∷ 20 ∷ 0 ∷ 32 ∷ 2 ∷ 70 ∷ 0 ∷ [])) ≡ Err (indexed 22 0))
     × (book_check (one_routine 8 (3 ∷ 2 ∷ 20 ∷ 0 ∷ 32 ∷ 0 ∷ 70 ∷ 0 ∷ [])) ≡ Err (indexed 5 1))
-    × (written_of ((command 4 0 (pos 70) ∷ command 3 2 (pos 20) ∷ []) ∷ []) 100 ≡ NotWritten (indexed 22 1))
+    × (written_of ((command 4 0 (pos 70) ∷ command 3 2 (pos 20) ∷ []) ∷ []) 100 ≡ Err (indexed 22 1))
 unfolding calc
 conditions = (refl, refl, refl, refl, refl, refl, refl, refl, refl)
 

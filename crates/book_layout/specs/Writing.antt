@@ -1,14 +1,13 @@
 -- Writing a book: document 01, "The routine book" and "When a call is turned down" ("Writing: the routines in turn (4, then commands), then
 -- 21"). Assumes nothing.
+use Rattle.rules_routine.specs.declared.refusals.Refusal.{Refusal}
 use Rattle.rules_routine.specs.declared.refusals.Refusal.TheVariants.{NoRoom}
-use Rattle.std.specs.Prelude.{◌||◌, List, [], ◌∷◌, ◌++◌, map, ℕ, zero, suc, ◌+◌, ltb, ℤ, pos, length, drop, get_or, Ok, Err}
+use Rattle.std.specs.Prelude.{◌||◌, List, [], ◌∷◌, ◌++◌, map, ℕ, zero, suc, ◌+◌, ltb, ℤ, pos, length, drop, get_or, Ok, Err, Result}
 use Rattle.rules_routine.specs.Refusals.{refuse◌when◌, ◌and_then◌, Verdict}
 use Rattle.rules_routine.specs.Routine.{routine_check}
 use Rattle.rules_routine.specs.declared.Command.{Command}
 use Rattle.rules_routine.specs.Limits.{max_routines}
 use Rattle.book_layout.specs.Layout.{book_devices, book_bytes}
-use Rattle.book_layout.specs.declared.Written.{Written}
-use Rattle.book_layout.specs.declared.Written.TheVariants.{Length, Refused as NotWritten}
 
 -- ---- the routines to write, as they are lent
 
@@ -72,12 +71,12 @@ write_check rs room =
     routines_check rs
     and_then refuse NoRoom when (ltb max_routines (length rs) || ltb room (length (book_bytes rs)))
 
-abbrev pub written_with : Verdict → List ℕ → Written
-written_with (Ok tt) book = Length (length book)
-written_with (Err r) book = NotWritten r
+abbrev pub written_with : Verdict → List ℕ → Result ℕ Refusal
+written_with (Ok tt) book = Ok (length book)
+written_with (Err r) book = Err r
 
 -- The answer: the book's length, or the refusal.
-unfoldable pub written_of : List (List Command) → ℕ → Written
+unfoldable pub written_of : List (List Command) → ℕ → Result ℕ Refusal
 written_of rs room = written_with (write_check rs room) (book_bytes rs)
 
 abbrev pub buffer_with : Verdict → List ℕ → List ℕ → List ℕ

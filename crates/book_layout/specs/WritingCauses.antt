@@ -3,15 +3,13 @@
 -- Causes 4 to 7 and 22, and what "each under its cause alone" means, stand in `specs/Causes.antt` of crate `rules_routine`. Assumes
 -- nothing.
 use Rattle.rules_routine.specs.declared.refusals.Refusal.TheVariants.{NoRoom}
-use Rattle.std.specs.Prelude.{◌≡◌, ◌⊎◌, List, [], ◌∷◌, ◌++◌, map, ℕ, zero, suc, ◌<◌, length, get_or}
+use Rattle.std.specs.Prelude.{◌≡◌, ◌⊎◌, List, [], ◌∷◌, ◌++◌, map, ℕ, zero, suc, ◌<◌, length, get_or, Result, Ok, Err}
 use Rattle.rules_routine.specs.Causes.{Exactly, RoutineCause, routine_causes}
 use Rattle.rules_routine.specs.declared.Command.{Command}
 use Rattle.rules_routine.specs.declared.refusals.Refusal.{Refusal}
 use Rattle.rules_routine.specs.Limits.{max_routines}
 use Rattle.book_layout.specs.Layout.{book_devices, book_bytes}
 use Rattle.book_layout.specs.Writing.{written_of, buffer_after}
-use Rattle.book_layout.specs.declared.Written.{Written}
-use Rattle.book_layout.specs.declared.Written.TheVariants.{Length, Refused as NotWritten}
 
 -- The tests of writing: of routine j for a cause of a routine (4 to 7, 22), and of the room.
 pub data WriteTest : Type 0 where
@@ -42,14 +40,14 @@ write_tests rs = routines_tests 0 (length rs) ++ (of_room ∷ [])
 
 -- Writing these routines is answered with the refusal r exactly if the first cause that holds has r, and with the book's length exactly
 -- if none holds. After a refusal the buffer is as it was.
-pub record ExactWrite (rs : List (List Command)) (before after : List ℕ) (answer : Written) : Type 0 where
+pub record ExactWrite (rs : List (List Command)) (before after : List ℕ) (answer : Result ℕ Refusal) : Type 0 where
   pub exact :
       Exactly (WritingCause rs (length before)) write_cause_of (write_tests rs)
-      (λ r. answer ≡ NotWritten r) (answer ≡ Length (length (book_bytes rs)))
-  pub left_as_it_was : (r : Refusal) → answer ≡ NotWritten r → after ≡ before
+      (λ r. answer ≡ Err r) (answer ≡ Ok (length (book_bytes rs)))
+  pub left_as_it_was : (r : Refusal) → answer ≡ Err r → after ≡ before
 
 -- So for every answer and every buffer that the contract of `book_write::write` gives.
 abbrev pub ExactWriting : Type 0
 ExactWriting =
-    (rs : List (List Command)) (before after : List ℕ) (answer : Written) →
+    (rs : List (List Command)) (before after : List ℕ) (answer : Result ℕ Refusal) →
     answer ≡ written_of rs (length before) → after ≡ buffer_after rs before → ExactWrite rs before after answer

@@ -21,28 +21,12 @@ pub const COMMAND_SIZE: usize = 4;
 // "Device 0 to 31 is accepted in a book."
 pub const BOOK_DEVICES: u8 = MAX_DEVICES as u8;
 
-// What a step of reading gives: a routine is handed out, or the end is reached, or the book is turned down.
-#[derive(Clone, Copy)]
-pub enum Item {
-    Handed,
-    End,
-    Refused(Refusal),
-}
-
-// The routine stands beside the item, since an enum holds no array. Position 0 is that of a reading not begun, and of a book that is turned
-// down; any other is the place in the book of the next pair.
+// A step of reading: a routine is handed out, or the end is reached, or the book is turned down; and where the next step goes on. Position 0
+// is that of a reading not begun, and of a book that is turned down; any other is the place in the book of the next pair.
 #[derive(Clone, Copy)]
 pub struct Next {
-    pub item: Item,
-    pub routine: Routine,
+    pub item: Result<Option<Routine>, Refusal>,
     pub position: usize,
-}
-
-// What writing gives: the length of the book written, or why nothing was.
-#[derive(Clone, Copy)]
-pub enum Written {
-    Length(usize),
-    Refused(Refusal),
 }
 
 // The setting of two bytes, the lower one first: document 02, item 2. Upper byte

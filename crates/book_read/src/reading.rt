@@ -3,14 +3,12 @@ ghost use Rattle.std.specs.Prelude.{◌≡◌, ◌+◌, ◌*◌, ◌<◌, ◌≤
 ghost use Rattle.rules_routine.specs.Limits.{max_commands, max_routines};
 ghost use Rattle.rules_routine.specs.Routine.{routine_of};
 ghost use Rattle.book_layout.specs.Layout.{command_size, pairs_end, command_at, commands_at};
-ghost use Rattle.rules_routine.specs.declared.Verdict.TheVariants.{Accepted};
 ghost use Rattle.book_layout.specs.Reading.{length_fits, placed_check, placed_checks, book_check, end_at, pair_next};
 
 use crate::bytes::{byte_at, four_at, two_at};
-use book_layout::{BOOK_DEVICES, COMMAND_SIZE, COUNT_SIZE, Item, Next, OFFSET_SIZE, PAIR_SIZE};
+use book_layout::{BOOK_DEVICES, COMMAND_SIZE, COUNT_SIZE, Next, OFFSET_SIZE, PAIR_SIZE};
 use rules_routine::limits::MAX_COMMANDS;
-use rules_routine::refusals::{LENGTH, MISPLACED};
-use rules_routine::{Command, Refusal, Routine, Verdict};
+use rules_routine::{Command, Refusal, Routine};
 
 // The command whose first byte is at a place.
 fn command_at(book: &[u8], at: usize) -> Command
@@ -31,11 +29,8 @@ fn routine_at(book: &[u8], at: usize, count: usize) -> Routine
     ensures { result ≡ routine_of (commands_at book.now at count) }
 {
     let mut routine = rules_routine::empty();
-    let mut i = 0;
-    while i < count {
-        let command = command_at(book, at + COMMAND_SIZE * i);
-        routine = rules_routine::with_command(routine, command);
-        i += 1;
+    for i in 0..count {
+        routine = rules_routine::with_command(routine, command_at(book, at + COMMAND_SIZE * i));
     }
     routine
 }
@@ -54,60 +49,53 @@ fn length_fits(length: usize) -> bool
 }
 
 // Routine i, which the layout puts at a place: 20, 19, then its commands. No sum of an offset and a length is made.
-fn check_placed(book: &[u8], i: usize, at: usize) -> Verdict
+fn check_placed(book: &[u8], i: usize, at: usize) -> Result<(), Refusal>
     requires { (i < max_routines) × (at ≤ length book.now) }
     ensures { result ≡ placed_check book.now i at }
 {
     let pair = COUNT_SIZE + PAIR_SIZE * i;
     let size = four_at(book, pair + OFFSET_SIZE);
     if !length_fits(size) {
-        return Verdict::Refused(Refusal::Indexed(LENGTH, i));
+        return Err(Refusal::BookLength(i));
     }
     if four_at(book, pair) != at {
-        return Verdict::Refused(Refusal::Number(MISPLACED));
+        return Err(Refusal::BookMisplaced);
     }
     if book.len() - at < size {
-        return Verdict::Refused(Refusal::Number(MISPLACED));
+        return Err(Refusal::BookMisplaced);
     }
     let routine = routine_at(book, at, size / COMMAND_SIZE);
     rules_routine::check(routine, BOOK_DEVICES)
 }
 
 // All routines of a book, each next where the one before ends; then bytes left over.
-pub fn check_all(book: &[u8], count: usize) -> Verdict
+pub fn check_all(book: &[u8], count: usize) -> Result<(), Refusal>
     requires { (count ≤ max_routines) × (pairs_end count ≤ length book.now) }
     ensures { result ≡ placed_checks book.now 0 count (pairs_end count) }
 {
     let mut at = COUNT_SIZE + PAIR_SIZE * count;
-    let mut i = 0;
-    while i < count {
-        let verdict = check_placed(book, i, at);
-        let Verdict::Accepted = verdict else {
-            return verdict;
-        };
+    for i in 0..count {
+        check_placed(book, i, at)?;
         at += four_at(book, COUNT_SIZE + PAIR_SIZE * i + OFFSET_SIZE);
-        i += 1;
     }
     if at < book.len() {
-        return Verdict::Refused(Refusal::Number(MISPLACED));
+        return Err(Refusal::BookMisplaced);
     }
-    Verdict::Accepted
+    Ok(())
 }
 
 fn ended(position: usize) -> Next
     ensures { result ≡ end_at position }
 {
-    let none = rules_routine::empty();
     Next {
-        item: Item::End,
-        routine: none,
+        item: Ok(None),
         position,
     }
 }
 
 // The routine of the pair of an accepted book that begins at a position, or the end.
 pub fn next_pair(book: &[u8], position: usize) -> Next
-    requires { book_check book.now ≡ Accepted }
+    requires { book_check book.now ≡ Ok tt }
     ensures { result ≡ pair_next book.now position }
 {
     let pairs_end = COUNT_SIZE + PAIR_SIZE * two_at(book, 0);
@@ -121,8 +109,7 @@ pub fn next_pair(book: &[u8], position: usize) -> Next
     let size = four_at(book, position + OFFSET_SIZE);
     let routine = routine_at(book, from, size / COMMAND_SIZE);
     Next {
-        item: Item::Handed,
-        routine,
+        item: Ok(Some(routine)),
         position: position + PAIR_SIZE,
     }
 }

@@ -21,7 +21,6 @@ use Rattle.book_layout.specs.Layout.{command_bytes, commands_bytes, pairs_bytes,
 use Rattle.book_layout.specs.Numbers.{two_bytes, four_bytes}
 use Rattle.book_layout.specs.Writing.{command_lent, commands_lent, routines_from, routines_lent}
 use Rattle.book_layout.specs.Writing.{routines_check, write_check, written_of, buffer_after}
-use Rattle.book_layout.specs.declared.Written.TheVariants.{Length, Refused as NotWritten}
 use Rattle.book_layout.proofs.Lending.{length-lent, routine_whole}
 use Rattle.book_layout.proofs.LayoutLaws.{length-two_bytes, length-four_bytes, length-command_bytes, length-commands_bytes, length-pairs_bytes}
 use Rattle.book_write.specs.Count.{commands_counted, pairs_counted}
@@ -234,14 +233,14 @@ module _ (rs : List (List Command)) (room : ℕ) where
 
 module _ (rs : List (List Command)) (out : List ℕ) where
   pub turned-down : (x : Refusal) → write_check rs (length out) ≡ Err x →
-      (NotWritten x ≡ written_of rs (length out)) × (out ≡ buffer_after rs out)
+      (Err x ≡ written_of rs (length out)) × (out ≡ buffer_after rs out)
   unfolding written_of buffer_after
   turned-down x e = (rw e, rw e)
 
   pub written : write_check rs (length out) ≡ Ok tt → length (book_bytes rs) ≤ length out → (n : ℕ) (o : List ℕ) →
       n ≡ length (book_bytes rs) → o ≡ sets out 0 (book_bytes rs) →
-      (Length n ≡ written_of rs (length out)) × (o ≡ buffer_after rs out)
+      (Ok n ≡ written_of rs (length out)) × (o ≡ buffer_after rs out)
   unfolding written_of buffer_after
   written e h n o m w =
       let z : 0 + length (book_bytes rs) ≡ length (book_bytes rs) = omega arith in
-      (rw e (ap Length m), rw e (w ∙ sets-eq (book_bytes rs) out 0 (omega arith) ∙ ap (λ (k : ℕ). book_bytes rs ++ drop k out) z))
+      (rw e (ap Ok m), rw e (w ∙ sets-eq (book_bytes rs) out 0 (omega arith) ∙ ap (λ (k : ℕ). book_bytes rs ++ drop k out) z))

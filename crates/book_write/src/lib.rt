@@ -6,10 +6,9 @@ mod writing;
 ghost use Rattle.std.specs.Prelude.{◌≡◌, length};
 ghost use Rattle.book_layout.specs.Writing.{routines_lent, written_of, buffer_after};
 
-use book_layout::{COMMAND_SIZE, COUNT_SIZE, PAIR_SIZE, Written};
+use book_layout::{COMMAND_SIZE, COUNT_SIZE, PAIR_SIZE};
 use rules_routine::limits::MAX_ROUTINES;
-use rules_routine::refusals::NO_ROOM;
-use rules_routine::{Refusal, Verdict};
+use rules_routine::Refusal;
 
 // Routines written into a lent buffer: the routines in turn (4, then commands), then 21. `counts` has a number of commands for each
 // routine; the three other slices hold the parts of all commands in a row. Each routine has as many of the next as its count says: one that
@@ -20,7 +19,7 @@ pub fn write(
     tags: &[u8],
     settings: &[i16],
     out: &mut [u8],
-) -> Written
+) -> Result<usize, Refusal>
     ensures answers { result ≡ written_of
         (routines_lent counts.now devices.now tags.now settings.now)
         (length out.old) }
@@ -28,18 +27,15 @@ pub fn write(
         (routines_lent counts.now devices.now tags.now settings.now)
         out.old }
 {
-    let verdict = writing::check_routines(counts, devices, tags, settings);
-    if let Verdict::Refused(refusal) = verdict {
-        return Written::Refused(refusal);
-    }
+    writing::check_routines(counts, devices, tags, settings)?;
     if MAX_ROUTINES < counts.len() {
-        return Written::Refused(Refusal::Number(NO_ROOM));
+        return Err(Refusal::NoRoom);
     }
     let commands = writing::count_commands(counts);
     let size = COUNT_SIZE + PAIR_SIZE * counts.len() + COMMAND_SIZE * commands;
     if out.len() < size {
-        return Written::Refused(Refusal::Number(NO_ROOM));
+        return Err(Refusal::NoRoom);
     }
     writing::put_book(counts, devices, tags, settings, commands, out);
-    Written::Length(size)
+    Ok(size)
 }

@@ -11,8 +11,7 @@ ghost use Rattle.book_write.specs.Count.{commands_counted, pairs_counted};
 
 use book_layout::{BOOK_DEVICES, COMMAND_SIZE, COUNT_SIZE, OFFSET_SIZE, PAIR_SIZE};
 use rules_routine::limits::MAX_COMMANDS;
-use rules_routine::refusals::COMMAND_COUNT;
-use rules_routine::{Command, Refusal, Routine, Verdict};
+use rules_routine::{Command, Refusal, Routine};
 
 // What a part of a command reads as that is not lent: numbers that no command has.
 const MISSING_DEVICE: u8 = 255;
@@ -68,35 +67,29 @@ fn routine_in(devices: &[u8], tags: &[u8], settings: &[i16], at: usize, count: u
 }
 
 // One routine of the row: 4, whatever is lent; then its commands.
-fn check_one(devices: &[u8], tags: &[u8], settings: &[i16], at: usize, count: usize) -> Verdict
+fn check_one(devices: &[u8], tags: &[u8], settings: &[i16], at: usize, count: usize) -> Result<(), Refusal>
     requires { at ≤ length devices.now }
     ensures { result ≡ routine_check book_devices
         (commands_lent devices.now tags.now settings.now at count) }
 {
     if MAX_COMMANDS < count {
-        return Verdict::Refused(Refusal::Number(COMMAND_COUNT));
+        return Err(Refusal::CommandCount);
     }
     let routine = routine_in(devices, tags, settings, at, count);
     rules_routine::check(routine, BOOK_DEVICES)
 }
 
 // The routines in turn. Where one is accepted all its commands are there, so that the next begins inside the row or at its end.
-pub fn check_routines(counts: &[u8], devices: &[u8], tags: &[u8], settings: &[i16]) -> Verdict
+pub fn check_routines(counts: &[u8], devices: &[u8], tags: &[u8], settings: &[i16]) -> Result<(), Refusal>
     ensures { result ≡ routines_check
         (routines_lent counts.now devices.now tags.now settings.now) }
 {
     let mut at = 0;
-    let mut i = 0;
-    while i < counts.len() {
-        let count = counts[i] as usize;
-        let verdict = check_one(devices, tags, settings, at, count);
-        let Verdict::Accepted = verdict else {
-            return verdict;
-        };
-        at += count;
-        i += 1;
+    for count in counts {
+        check_one(devices, tags, settings, at, *count as usize)?;
+        at += *count as usize;
     }
-    Verdict::Accepted
+    Ok(())
 }
 
 // How many commands the routines have together.

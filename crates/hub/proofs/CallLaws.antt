@@ -20,13 +20,13 @@ use Rattle.rules.proofs.Lists.{t≠f}
 use Rattle.hub_sequence.specs.Links.{StandsOrNone}
 use Rattle.hub_answers.specs.View.{one_of, event_abort_of, answer_of, put_backs_of, put_backs_in, PutBacksOk, changes_nothing}
 use Rattle.hub_answers.specs.declared.PutBacks.{PutBacks}
-use Rattle.hub_state.specs.View.{state_of, first_committed}
+use Rattle.hub_state.specs.View.{found_at, state_of, first_committed}
 use Rattle.hub_state.specs.Valid.{StateOk}
 use Rattle.hub_state.specs.Unmoved.{Unmoved, InPlace, OnlyLeave}
 use Rattle.hub_apply.specs.Contract.{Places}
 use Rattle.hub_apply.proofs.PlaceLaws.{places_unmoved, places_run}
 use Rattle.hub_abort.specs.PutBacks.{down_if}
-use Rattle.hub_state.specs.Contract.{halfway_in, put_backs_stopped, down_with, applied_to, put_backs_by, ChangeOk, put_backs_of_decision, told_by}
+use Rattle.hub_state.specs.Contract.{put_backs_stopped, down_with, applied_to, put_backs_by, ChangeOk, put_backs_of_decision, told_by}
 use Rattle.hub_state.specs.Contract.{settled_unless_nothing, result_by, Decides}
 use Rattle.hub_state.specs.declared.HubState.{HubState}
 use Rattle.hub_state.specs.declared.Change.{Change}
@@ -184,8 +184,8 @@ down_is : (s : State) (d : ℕ) → d < max_devices → down_if s d ≡ down_wit
 down_is s d h = ap (λ (t : Bool). if t then down_with s d else s) (lt-ltb d max_devices h)
 
 pub backs_down : (h : HubState) (d : Decision) {x y : ℕ} {l : List Back} → d.change ≡ Fail x y → x < max_devices →
-    l ≡ put_backs_stopped x (down_if (state_of h) x) (halfway_in h y) → l ≡ put_backs_of_decision h d
-backs_down h d {x} {y} e i f = backs_as h d e (f ∙ ap (λ (s : State). put_backs_stopped x s (halfway_in h y)) (down_is (state_of h) x i))
+    l ≡ put_backs_stopped x (down_if (state_of h) x) (found_at h y) → l ≡ put_backs_of_decision h d
+backs_down h d {x} {y} e i f = backs_as h d e (f ∙ ap (λ (s : State). put_backs_stopped x s (found_at h y)) (down_is (state_of h) x i))
 
 -- nobody is moved where some may leave and nobody joins, and where nobody does either
 pub leave_moves : (h r : HubState) → OnlyLeave h r → MovesNobody h r

@@ -1,4 +1,5 @@
 -- Each number under its cause alone, of the running hub: the theorems of the rules, carried over by the contracts. Assumes nothing.
+use Rattle.std.proofs.Common.{Option, None, Some}
 use Rattle.rules_routine.specs.Refusals.{Verdict}
 use mathlib.Core.Path.{◌≡◌, sym, ap, subst, ◌∙◌}
 use mathlib.Core.Logic.{inl, inr}
@@ -18,8 +19,6 @@ use Rattle.hub_answers.specs.declared.Answer.{Answer}
 use Rattle.hub_answers.specs.declared.Answer.TheVariants.{Refused, Placed, Wait, Sent, Done, Skipped, Committed, Aborted, Down, Up}
 use Rattle.hub_answers.specs.declared.Answer.TheVariants.{Limited}
 use Rattle.hub_answers.specs.declared.Answer.TheVariants.{Held, NotHeld}
-use Rattle.hub_answers.specs.declared.EventAbort.{EventAbort}
-use Rattle.hub_answers.specs.declared.EventAbort.TheVariants.{NoAbort, Abort}
 use Rattle.hub.specs.View.{view, answers_in}
 use Rattle.hub.specs.Demand3.{HubCall, call_of, Meets}
 use Rattle.hub.specs.Exact.{HubOpeningExact, NotRefused, HubCallsExact}
@@ -57,16 +56,16 @@ refusal_read (Held i) l r e = let z : ◌≡◌ {A = ℕ} 0 1 = cc in absurd (om
 refusal_read (NotHeld i) l r e = let z : ◌≡◌ {A = ℕ} 0 1 = cc in absurd (omega arith)
 
 -- so if a refusal is all that the rules read, it is the answer
-alone_read : (first : EventAbort) (a : Answer) (l : List Back) (r : Refusal) →
+alone_read : (first : Option ℕ) (a : Answer) (l : List Back) (r : Refusal) →
     event_abort_of first l ++ (answer_of a l ∷ []) ≡ refused r ∷ [] → a ≡ Refused r
-alone_read NoAbort a l r e = refusal_read a l r (let f : answer_of a l ≡ refused r = cc in f)
-alone_read (Abort i) a l r e = let z : ◌≡◌ {A = ℕ} 0 1 = cc in absurd (omega arith)
+alone_read None a l r e = refusal_read a l r (let f : answer_of a l ≡ refused r = cc in f)
+alone_read (Some i) a l r e = let z : ◌≡◌ {A = ℕ} 0 1 = cc in absurd (omega arith)
 
 -- and if no refusal is among what they read, it is not
-none_read : (first : EventAbort) (a : Answer) (l : List Back) (r : Refusal) →
+none_read : (first : Option ℕ) (a : Answer) (l : List Back) (r : Refusal) →
     NoneOf IsRefusal (event_abort_of first l ++ (answer_of a l ∷ [])) → ¬ (a ≡ Refused r)
-none_read NoAbort a l r n e = n.0 (r, ap (λ (x : Answer). answer_of x l) e)
-none_read (Abort i) a l r n e = n.1.0 (r, ap (λ (x : Answer). answer_of x l) e)
+none_read None a l r n e = n.0 (r, ap (λ (x : Answer). answer_of x l) e)
+none_read (Some i) a l r n e = n.1.0 (r, ap (λ (x : Answer). answer_of x l) e)
 
 module _ (h : Hub) (c : HubCall) (o : Outcome) (m : Meets h c o) where
   answers_are : answers_in o ≡ (result_of (view h) (call_of c)).answers

@@ -1,5 +1,5 @@
 -- A new pass limit gives what its contract says. Assumes nothing.
-use Rattle.std.proofs.Common.{Ok, Err}
+use Rattle.std.proofs.Common.{Ok, Err, None}
 use Rattle.rules_routine.specs.Refusals.{Verdict}
 use mathlib.Core.Path.{◌≡◌, sym, ap, ◌∙◌}
 use mathlib.Core.Bool.{false}
@@ -11,7 +11,6 @@ use Rattle.rules.specs.Answers.{Back, Result, limited, unless_refused}
 use Rattle.rules.specs.Settle.{settling}
 use Rattle.rules.specs.Limit.{new_limit_check, with_pass_limit, limit_of}
 use Rattle.hub_answers.specs.View.{answer_of, put_backs_of, put_backs_in}
-use Rattle.hub_answers.specs.declared.EventAbort.TheVariants.{NoAbort}
 use Rattle.hub_answers.specs.declared.PutBacks.{PutBacks}
 use Rattle.hub_state.specs.View.{first_committed, state_of}
 use Rattle.hub_state.specs.declared.HubState.{HubState}
@@ -37,7 +36,7 @@ limit_rests s k f = go (new_limit_check s.devices k)
 
 pub limits-hub : (h : Hub) (k : ℕ) (l : NewLimit) (b : PutBacks) → Valid h → Limits h.state k l → b.count ≡ 0 →
     put_backs_of b ≡ [] →
-    Limited h k (record { hub = record { state = l.state }; first = NoAbort; answer = l.answer; put_backs = b })
+    Limited h k (record { hub = record { state = l.state }; first = None; answer = l.answer; put_backs = b })
 limits-hub h k l b v g n e = record {
   valid = rests_as _ g.valid (ap (λ (r : Result). r.state) g.gives) (limit_rests (view h) k v.at_rest);
   gives = ap (λ (m : List Back). record { state = state_of l.state; answers = answer_of l.answer m ∷ [] }) e ∙ g.gives;

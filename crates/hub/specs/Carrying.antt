@@ -4,7 +4,7 @@ use Rattle.rules_routine.specs.Limits.{max_devices}
 use Rattle.rules_routine.specs.declared.Command.{Command}
 use Rattle.hub_sequence.specs.Links.{Stands}
 use Rattle.hub_state.specs.View.{is_restart}
-use Rattle.hub_state.specs.Contract.{applied_to, StandsOrPast}
+use Rattle.hub_state.specs.Contract.{applied_to, StandsIfAny}
 use Rattle.hub_state.specs.Unmoved.{Unmoved, OnlyLeave, LeftCommitted, JoinedRun}
 use Rattle.hub_state.specs.declared.HubState.{HubState}
 use Rattle.hub_state.specs.declared.Change.{Change}
@@ -20,8 +20,8 @@ LeavingOk h (Stage c) = Unit {0}
 LeavingOk h (Commit x) = Unit {0}
 LeavingOk h (Join after) = Unit {0}
 LeavingOk h (Abort x) = Stands h.links x
-LeavingOk h (Fail d x) = (d < max_devices) × StandsOrPast h x
-LeavingOk h (Restart d v x) = (d < max_devices) × (is_restart v ≡ true) × StandsOrPast h x
+LeavingOk h (Fail d x) = (d < max_devices) × StandsIfAny h x
+LeavingOk h (Restart d v x) = (d < max_devices) × (is_restart v ≡ true) × StandsIfAny h x
 
 -- A change moves nobody; and who has joined by it runs, so that settling does not take it in the same call.
 pub record MovesNobody (h r : HubState) : Type 0 where

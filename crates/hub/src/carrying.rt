@@ -13,10 +13,6 @@ use crate::{Hub, Outcome};
 use hub_answers::PutBacks;
 use hub_state::{Change, Decision, HubState};
 use rules_routine::Routine;
-use rules_routine::limits::MAX_DEVICES;
-
-// No device fails.
-const NO_DEVICE: u8 = MAX_DEVICES as u8;
 
 // What a decision puts back. What an abort does is read off the rows as they are.
 pub fn put_backs_of(state: HubState, decision: Decision) -> PutBacks
@@ -30,11 +26,9 @@ pub fn put_backs_of(state: HubState, decision: Decision) -> PutBacks
         Change::Stage(_) => hub_answers::at_most_one(back),
         Change::Commit(_) => hub_answers::at_most_one(back),
         Change::Join(_) => hub_answers::at_most_one(back),
-        Change::Abort(at) => hub_abort::put_backs_of(state, at, NO_DEVICE),
-        Change::Fail(device, slot) => hub_events::put_backs_if(state, slot, device, device),
-        Change::Restart(device, _, slot) => hub_events::put_backs_if(
-            state, slot, device, NO_DEVICE,
-        ),
+        Change::Abort(at) => hub_abort::put_backs_of(state, at, None),
+        Change::Fail(device, slot) => hub_events::put_backs_if(state, slot, device, Some(device)),
+        Change::Restart(device, _, slot) => hub_events::put_backs_if(state, slot, device, None),
     }
 }
 

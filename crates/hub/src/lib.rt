@@ -21,8 +21,8 @@ ghost use Rattle.rules.specs.Submit.{submit_of};
 ghost use Rattle.rules.specs.Turn.{turn_of};
 ghost use Rattle.rules.specs.Calls.{StaysClosed};
 ghost use Rattle.hub_answers.specs.View.{put_backs_of, PutBacksOk};
-ghost use Rattle.hub_state.specs.View.{there, first_committed};
-ghost use Rattle.hub_state.specs.Contract.{staged, committed_at, joined_behind, halfway_in, stopped_by, down_with, up_with};
+ghost use Rattle.hub_state.specs.View.{found_at, there, first_committed};
+ghost use Rattle.hub_state.specs.Contract.{staged, committed_at, joined_behind, stopped_by, down_with, up_with};
 ghost use Rattle.hub_state.specs.Contract.{Decides, put_backs_of_decision};
 ghost use Rattle.hub_state.specs.declared.Change.TheVariants.{Stage, Commit, Join, Abort, Fail, Restart};
 ghost use Rattle.hub.specs.View.{view};
@@ -31,9 +31,9 @@ ghost use Rattle.hub.specs.Contract.{Opens, Submitted, Turned, Reported, Cancell
 ghost use Rattle.hub.specs.Carrying.{MovesNobody, OnlySettle};
 ghost use Rattle.hub.specs.Decided.{Decided, WasDecidedOn, WasDecided};
 
-use hub_answers::{Answer, EventAbort, PutBacks};
+use hub_answers::{Answer, PutBacks};
 use hub_state::{Decision, HubState, Staged, readers};
-use rules_routine::{Routine, Verdict};
+use rules_routine::{Refusal, Routine};
 
 // A hub. Others hold it and hand it on; nobody else can make one, look into it or change it.
 #[derive(Clone, Copy)]
@@ -45,7 +45,7 @@ pub struct Hub {
 // a refusal too: the one of no devices.
 #[derive(Clone, Copy)]
 pub struct Opened {
-    pub verdict: Verdict,
+    pub verdict: Result<(), Refusal>,
     pub hub: Hub,
 }
 
@@ -54,13 +54,13 @@ pub struct Opened {
 #[derive(Clone, Copy)]
 pub struct Outcome {
     pub hub: Hub,
-    pub first: EventAbort,
+    pub first: Option<u32>,
     pub answer: Answer,
     pub put_backs: PutBacks,
 }
 
 // Is an opening accepted? A caller who has to print the refusal alone makes no hub for that.
-pub fn check_opening(devices: u8, pass_limit: u8, first_id: u32) -> Verdict
+pub fn check_opening(devices: u8, pass_limit: u8, first_id: u32) -> Result<(), Refusal>
     ensures { result ≡ open_check devices pass_limit first_id }
 {
     opening::check(devices, pass_limit, first_id)
@@ -71,11 +71,10 @@ pub fn open(devices: u8, pass_limit: u8, first_id: u32) -> Opened
     ensures { Opens devices pass_limit first_id result }
 {
     let verdict = opening::check(devices, pass_limit, first_id);
-    let Verdict::Accepted = verdict else {
-        let hub = closed();
-        return Opened { verdict, hub };
+    let hub = match verdict {
+        Ok(()) => opening::new_hub(devices, pass_limit, first_id),
+        Err(_) => closed(),
     };
-    let hub = opening::new_hub(devices, pass_limit, first_id);
     Opened { verdict, hub }
 }
 
@@ -143,16 +142,20 @@ pub fn limit(hub: Hub, pass_limit: u8) -> Outcome
     requires { Valid hub }
     ensures { Limited hub pass_limit result }
 {
-    let state = hub.state;
-    let changed = hub_limit::set_limit(state, pass_limit);
-    let next = changed.state;
-    let answer = changed.answer;
-    let backs = hub_answers::no_put_backs();
-    Outcome {
-        hub: Hub { state: next },
-        first: EventAbort::NoAbort,
-        answer,
-        put_backs: backs,
+    let put_backs = hub_answers::no_put_backs();
+    match hub_limit::set_limit(hub.state, pass_limit) {
+        Ok(state) => Outcome {
+            hub: Hub { state },
+            first: None,
+            answer: Answer::Limited(pass_limit),
+            put_backs,
+        },
+        Err(refusal) => Outcome {
+            hub,
+            first: None,
+            answer: Answer::Refused(refusal),
+            put_backs,
+        },
     }
 }
 
@@ -186,7 +189,7 @@ pub fn due_setting(hub: Hub, device: u8) -> i16
 
 // The due settings of all devices, up or down, into a lent list, from one pass along the sequence: document 02, item 14. Entries past the
 // last device are untouched; a list shorter than N is turned down (21) and unchanged.
-pub fn due_settings(hub: Hub, list: &mut [i16]) -> Verdict
+pub fn due_settings(hub: Hub, list: &mut [i16]) -> Result<(), Refusal>
     requires { Valid hub }
     ensures answers { result ≡ list_check (view hub) (length list.old) }
     ensures leaves { list.new ≡ list_after (view hub) list.old }
@@ -302,9 +305,9 @@ pub fn with_abort(hub: Hub, at: usize) -> Hub
 }
 
 // A device fails; the routine in a slot, if there is one, aborts by that or loses what is left there.
-pub fn with_failure(hub: Hub, device: u8, slot: usize) -> Hub
+pub fn with_failure(hub: Hub, device: u8, slot: Option<usize>) -> Hub
     requires { (Valid hub) × (WasDecided hub (Fail device slot)) }
-    ensures { (InOrder result) × (view result ≡ stopped_by device (down_with (view hub) device) (halfway_in hub.state slot))
+    ensures { (InOrder result) × (view result ≡ stopped_by device (down_with (view hub) device) (found_at hub.state slot))
         × (MovesNobody hub.state result.state) }
 {
     let state = hub.state;
@@ -313,9 +316,9 @@ pub fn with_failure(hub: Hub, device: u8, slot: usize) -> Hub
 }
 
 // A device restarts; the routine in a slot, if there is one, aborts by that or loses what is left there.
-pub fn with_restart(hub: Hub, device: u8, setting: i16, slot: usize) -> Hub
+pub fn with_restart(hub: Hub, device: u8, setting: i16, slot: Option<usize>) -> Hub
     requires { (Valid hub) × (WasDecided hub (Restart device setting slot)) }
-    ensures { (InOrder result) × (view result ≡ up_with (stopped_by device (view hub) (halfway_in hub.state slot)) device setting)
+    ensures { (InOrder result) × (view result ≡ up_with (stopped_by device (view hub) (found_at hub.state slot)) device setting)
         × (MovesNobody hub.state result.state) }
 {
     let state = hub.state;

@@ -9,21 +9,17 @@ use crate::Hub;
 use hub_sequence::order;
 use hub_state::{HubState, RESTARTS, STEPS};
 use rules_routine::limits::{MAX_DEVICES, MAX_SEQUENCE};
-use rules_routine::refusals::FIRST_ID_0;
-use rules_routine::{Refusal, Verdict};
+use rules_routine::Refusal;
 
 // 1, 2, 3.
-pub fn check(devices: u8, pass_limit: u8, first_id: u32) -> Verdict
+pub fn check(devices: u8, pass_limit: u8, first_id: u32) -> Result<(), Refusal>
     ensures { result ≡ open_check devices pass_limit first_id }
 {
-    let ranges = hub_limit::check(devices, pass_limit);
-    let Verdict::Accepted = ranges else {
-        return ranges;
-    };
+    hub_limit::check(devices, pass_limit)?;
     if first_id == 0 {
-        return Verdict::Refused(Refusal::Number(FIRST_ID_0));
+        return Err(Refusal::FirstIdZero);
     }
-    Verdict::Accepted
+    Ok(())
 }
 
 // "At the opening all are up at 0."

@@ -1,6 +1,6 @@
 -- Laws that the proofs of this crate, and those above it, cite. Assumes nothing.
 use Rattle.rules_routine.specs.Refusals.{numbered}
-use Rattle.std.proofs.Common.{None}
+use Rattle.std.proofs.Common.{None, Option, Some}
 use mathlib.Core.Path.{◌≡◌, refl, sym, ap, ◌∙◌, subst, fun_ext}
 use mathlib.Core.Bool.{Bool, true, false, not, ◌&&◌, ◌||◌, or-true, or-false}
 use mathlib.Core.List.{List, [], ◌∷◌, ◌++◌, append_assoc, append-nil}
@@ -36,8 +36,6 @@ use Rattle.hub_state.specs.Contract.{put_backs_left, down_with, plainly, Decides
 use Rattle.hub_state.specs.declared.HubState.{HubState}
 use Rattle.hub_state.specs.declared.Unanswered.{Unanswered}
 use Rattle.hub_state.specs.declared.Unanswered.TheVariants.{Nothing, ToDo, InFlight}
-use Rattle.hub_state.specs.declared.Place.{Place}
-use Rattle.hub_state.specs.declared.Place.TheVariants.{At, Nowhere}
 use Rattle.hub_state.specs.declared.Change.TheVariants.{Nothing as NoChange, Abort}
 use Rattle.hub_state.specs.declared.Decision.{Decision}
 use Rattle.hub_state.proofs.Steps.{flies, flights_none, flights_some}
@@ -216,16 +214,16 @@ refused_as h cs n r result k e = subst (λ (d : Decision). Decides h cs d result
 
 -- ---- the ways out of a cancel
 
-module _ (h : HubState) (i : ℕ) (p : Place) (f : Finds h (runs i) p) where
-  pub cancel_nowhere : (r : Decision) → r ≡ plainly (Refused (numbered 10)) NoChange → p ≡ Nowhere → Decides h [] r (cancel_of (state_of h) i)
+module _ (h : HubState) (i : ℕ) (p : Option ℕ) (f : Finds h (runs i) p) where
+  pub cancel_nowhere : (r : Decision) → r ≡ plainly (Refused (numbered 10)) NoChange → p ≡ None → Decides h [] r (cancel_of (state_of h) i)
  unfolding cancel_of
   cancel_nowhere r k e =
-      refused_as h [] 10 r (cancel_of (state_of h) i) k (sym (ap (cancel_found (state_of h)) (found_as h (runs i) p f Nowhere e)))
+      refused_as h [] 10 r (cancel_of (state_of h) i) k (sym (ap (cancel_found (state_of h)) (found_as h (runs i) p f None e)))
 
-  pub cancel_aborts : (x : ℕ) (r : Decision) → r ≡ plainly (Aborted i) (Abort x) → p ≡ At x → Decides h [] r (cancel_of (state_of h) i)
+  pub cancel_aborts : (x : ℕ) (r : Decision) → r ≡ plainly (Aborted i) (Abort x) → p ≡ Some x → Decides h [] r (cancel_of (state_of h) i)
   unfolding cancel_of
   cancel_aborts x r k e =
-      let g = found_as h (runs i) p f (At x) e in
+      let g = found_as h (runs i) p f (Some x) e in
       subst (λ (d : Decision). Decides h [] d (cancel_of (state_of h) i)) (sym k)
       (abort-decides h [] (cancel_of (state_of h) i) i x (stands_at h (runs i) p f x e)
       (found-id h i p f x e ∙ sym (ap (λ (m : Member). m.id) (there-it h x))) (sym (ap (cancel_found (state_of h)) g)))

@@ -1,5 +1,5 @@
 -- The put-backs of an abort, read off tables. Assumes nothing.
-use Rattle.std.specs.Prelude.{◌≡◌, Bool, not, ◌&&◌, ◌||◌, List, [], ◌∷◌, ℕ, zero, suc, ltb, ℤ, if◌then◌else◌}
+use Rattle.std.specs.Prelude.{◌≡◌, Bool, not, ◌&&◌, ◌||◌, List, [], ◌∷◌, ℕ, zero, suc, ltb, ℤ, if◌then◌else◌, Option, None, Some}
 use Rattle.rules_routine.specs.Limits.{max_devices}
 use Rattle.rules.specs.Tables.{any_of, same_setting}
 use Rattle.rules.specs.Answers.{Back}
@@ -24,12 +24,13 @@ put_backs_from p setting d zero = []
 put_backs_from p setting d (suc left) = if p d then record { device = d; setting = setting d } ∷ put_backs_from p setting (suc d) left
     else put_backs_from p setting (suc d) left
 
--- The state while a device fails; a number past the devices is none.
-abbrev pub down_if : State → ℕ → State
-down_if s d = if ltb d max_devices then down_with s d else s
+-- The state while a device fails, if one does; a number past the devices is none.
+abbrev pub down_if : State → Option ℕ → State
+down_if s None = s
+down_if s (Some d) = if ltb d max_devices then down_with s d else s
 
 -- The tables of an abort of the routine in a slot, while a device fails.
-pub record TablesAre (h : HubState) (x down : ℕ) (t : Tables) : Type 0 where
+pub record TablesAre (h : HubState) (x : ℕ) (down : Option ℕ) (t : Tables) : Type 0 where
   pub up_is : up_of t.up ≡ (down_if (state_of h) down).up
   pub others_are : flags_of t.others ≡ (λ d. any_of (in_flight_on d) (leave (state_of h) (there h x)).sequence)
   pub own_are : flags_of t.own ≡ (λ d. in_flight_on d (member_at h x))

@@ -6,17 +6,16 @@ ghost use Rattle.hub_state.specs.Valid.{StateOk};
 ghost use Rattle.hub_state.specs.Contract.{Decides};
 
 use hub_answers::Answer;
-use hub_state::{Change, Decision, HubState, Place, decisions};
-use rules_routine::refusals::NOT_RUNNING;
+use hub_state::{Change, Decision, HubState, decisions};
+use rules_routine::Refusal;
 
 // What a cancel comes to. "Cancel: 10."
 pub fn decide(state: HubState, id: u32) -> Decision
     requires { StateOk state }
     ensures { Decides state [] result (cancel_of (state_of state) id) }
 {
-    let place = hub_search::running(state, id);
-    let Place::At(at) = place else {
-        return decisions::refused(NOT_RUNNING);
+    let Some(at) = hub_search::running(state, id) else {
+        return decisions::refused(Refusal::NotRunning);
     };
     decisions::plain(Answer::Aborted(id), Change::Abort(at))
 }

@@ -91,9 +91,9 @@ fn own_flights(state: HubState, at: usize) -> [bool; MAX_DEVICES]
     own
 }
 
-// The tables of an abort of the routine in a slot, while the device `down` fails; a number past the devices is none. They are read off the
-// rows as they are: the routine's commands are left out.
-fn tables_of(state: HubState, at: usize, down: u8) -> Tables
+// The tables of an abort of the routine in a slot, while a device fails, if one does. They are read off the rows as they are: the routine's
+// commands are left out.
+fn tables_of(state: HubState, at: usize, down: Option<u8>) -> Tables
     requires { (StateOk state) × (Stands state.links at) }
     ensures { TablesAre state at down result }
 {
@@ -102,9 +102,10 @@ fn tables_of(state: HubState, at: usize, down: u8) -> Tables
     let others = hub_due::in_flight_without(state, at);
     let own = own_flights(state, at);
     let mut up = state.up;
-    let d = down as usize;
-    if d < MAX_DEVICES {
-        up[d] = false;
+    if let Some(device) = down {
+        if (device as usize) < MAX_DEVICES {
+            up[device as usize] = false;
+        }
     }
     Tables {
         up,
@@ -115,8 +116,8 @@ fn tables_of(state: HubState, at: usize, down: u8) -> Tables
     }
 }
 
-// What the abort of the routine in a slot puts back, while the device `down` fails.
-pub fn put_backs_of(state: HubState, at: usize, down: u8) -> PutBacks
+// What the abort of the routine in a slot puts back, while a device fails, if one does.
+pub fn put_backs_of(state: HubState, at: usize, down: Option<u8>) -> PutBacks
     requires { (StateOk state) × (Stands state.links at) }
     ensures { (PutBacksOk result) × (put_backs_of result ≡ put_backs_left (down_if (state_of state) down) (there state at)) }
 {

@@ -1,17 +1,13 @@
 -- Answers by value read as answers of the rules. For each case of each enum it is set out here which answer of document 01 it is, and with
 -- which values. (For `Refusal` that is `refusal_of` of crate `rules_routine`: for each cause of the table its case, number and index.)
 -- Assumes nothing.
-use Rattle.std.specs.Prelude.{Bool, true, false, List, [], ◌∷◌, ◌++◌, map, ◌≤◌, take}
+use Rattle.std.specs.Prelude.{Bool, true, false, List, [], ◌∷◌, ◌++◌, map, ◌≤◌, take, Option, ℕ, None, Some}
 use Rattle.rules_routine.specs.Limits.{max_devices}
 use Rattle.rules.specs.Answers.{Back, Answer as Told, refused, placed, wait, send, done, skipped, held, not_held, committed, aborted, down}
 use Rattle.rules.specs.Answers.{up, limited}
 use Rattle.hub_answers.specs.declared.Answer.{Answer}
 use Rattle.hub_answers.specs.declared.Answer.TheVariants.{Refused, Placed, Wait, Sent, Done, Skipped, Committed, Aborted, Down, Up}
 use Rattle.hub_answers.specs.declared.Answer.TheVariants.{Limited, Held, NotHeld}
-use Rattle.hub_answers.specs.declared.EventAbort.{EventAbort}
-use Rattle.hub_answers.specs.declared.EventAbort.TheVariants.{NoAbort, Abort}
-use Rattle.hub_answers.specs.declared.MaybePutBack.{MaybePutBack}
-use Rattle.hub_answers.specs.declared.MaybePutBack.TheVariants.{Nothing, One}
 use Rattle.hub_answers.specs.declared.PutBack.{PutBack}
 use Rattle.hub_answers.specs.declared.PutBacks.{PutBacks}
 
@@ -22,9 +18,9 @@ abbrev pub put_backs_of : PutBacks → List Back
 put_backs_of b = map back_of (take b.count b.items)
 
 -- None or one.
-abbrev pub one_of : MaybePutBack → List Back
-one_of Nothing = []
-one_of (One b) = back_of b ∷ []
+abbrev pub one_of : Option PutBack → List Back
+one_of None = []
+one_of (Some b) = back_of b ∷ []
 
 -- The put-backs fit their array.
 abbrev pub PutBacksOk : PutBacks → Type 0
@@ -47,12 +43,12 @@ answer_of (Held i) l = held i
 answer_of (NotHeld i) l = not_held i
 
 -- The abort that a failure or a restart brings comes first.
-abbrev pub event_abort_of : EventAbort → List Back → List Told
-event_abort_of NoAbort l = []
-event_abort_of (Abort i) l = aborted i l ∷ []
+abbrev pub event_abort_of : Option ℕ → List Back → List Told
+event_abort_of None l = []
+event_abort_of (Some i) l = aborted i l ∷ []
 
 -- What is answered, one for each line that document 01 prints.
-abbrev pub answers_of : EventAbort → Answer → PutBacks → List Told
+abbrev pub answers_of : Option ℕ → Answer → PutBacks → List Told
 answers_of first answer backs = event_abort_of first (put_backs_of backs) ++ (answer_of answer (put_backs_of backs) ∷ [])
 
 -- What answers put back.

@@ -46,20 +46,7 @@ pub enum Answer {
 pub fn changes_nothing(answer: Answer) -> bool
     ensures { result ≡ changes_nothing answer }
 {
-    let Answer::Refused(_) = answer else {
-        let Answer::Wait(_, _) = answer else {
-            return false;
-        };
-        return true;
-    };
-    true
-}
-
-// The routine that a failure or a restart aborted before its own answer.
-#[derive(Clone, Copy)]
-pub enum EventAbort {
-    NoAbort,
-    Abort(u32),
+    matches!(answer, Answer::Refused(_) | Answer::Wait(_, _))
 }
 
 // A setting that a device is put back to.
@@ -67,13 +54,6 @@ pub enum EventAbort {
 pub struct PutBack {
     pub device: u8,
     pub setting: i16,
-}
-
-// What an answer that is no abort puts back.
-#[derive(Clone, Copy)]
-pub enum MaybePutBack {
-    Nothing,
-    One(PutBack),
 }
 
 // The first `count` of the items, by rising device.
@@ -108,12 +88,12 @@ pub fn with_put_back(backs: PutBacks, back: PutBack) -> PutBacks
 }
 
 // None or one, as a list.
-pub fn at_most_one(back: MaybePutBack) -> PutBacks
+pub fn at_most_one(back: Option<PutBack>) -> PutBacks
     ensures { (PutBacksOk result) × (put_backs_of result ≡ one_of back) }
 {
     let none = no_put_backs();
-    let MaybePutBack::One(one) = back else {
-        return none;
-    };
-    with_put_back(none, one)
+    match back {
+        None => none,
+        Some(one) => with_put_back(none, one),
+    }
 }

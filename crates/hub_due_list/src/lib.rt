@@ -7,18 +7,17 @@ ghost use Rattle.hub_state.specs.View.{state_of};
 ghost use Rattle.hub_state.specs.Valid.{StateOk};
 
 use hub_state::HubState;
-use rules_routine::refusals::NO_ROOM;
-use rules_routine::{Refusal, Verdict};
+use rules_routine::Refusal;
 
 // What all devices are due, into a lent list. "A list shorter than N gets 21 and is unchanged."
-pub fn put_settings(state: HubState, list: &mut [i16]) -> Verdict
+pub fn put_settings(state: HubState, list: &mut [i16]) -> Result<(), Refusal>
     requires { StateOk state }
     ensures answers { result ≡ list_check (state_of state) (length list.old) }
     ensures leaves { list.new ≡ list_after (state_of state) list.old }
 {
     let count = state.devices as usize;
     if list.len() < count {
-        return Verdict::Refused(Refusal::Number(NO_ROOM));
+        return Err(Refusal::NoRoom);
     }
     let table = hub_due::due_settings(state);
     let mut d: usize = 0;
@@ -26,5 +25,5 @@ pub fn put_settings(state: HubState, list: &mut [i16]) -> Verdict
         list[d] = table[d];
         d += 1;
     }
-    Verdict::Accepted
+    Ok(())
 }

@@ -28,17 +28,12 @@ use Rattle.hub_sequence.specs.Links.{Stands}
 use Rattle.hub_sequence.specs.declared.Links.{Links}
 use Rattle.hub_answers.specs.View.{put_backs_of, event_abort_of, put_backs_in, PutBacksOk}
 use Rattle.hub_answers.specs.declared.Answer.TheVariants.{Down, Up}
-use Rattle.hub_answers.specs.declared.EventAbort.{EventAbort}
-use Rattle.hub_answers.specs.declared.EventAbort.TheVariants.{NoAbort, Abort}
-use Rattle.hub_answers.specs.declared.MaybePutBack.TheVariants.{Nothing as NoBack}
 use Rattle.hub_answers.specs.declared.PutBacks.{PutBacks}
-use Rattle.hub_state.specs.View.{no_restart, is_restart, member_at, state_of, there}
+use Rattle.hub_state.specs.View.{found_at, no_restart, is_restart, member_at, state_of, there}
 use Rattle.hub_state.specs.Valid.{StateOk}
-use Rattle.hub_state.specs.Contract.{put_backs_left, halfway_in, stopped_by, put_backs_stopped, down_with, up_with, StandsOrPast, Decides}
+use Rattle.hub_state.specs.Contract.{put_backs_left, stopped_by, put_backs_stopped, down_with, up_with, StandsIfAny, Decides}
 use Rattle.hub_state.specs.Unmoved.{InPlace, OnlyLeave}
 use Rattle.hub_state.specs.declared.HubState.{HubState}
-use Rattle.hub_state.specs.declared.Place.{Place}
-use Rattle.hub_state.specs.declared.Place.TheVariants.{At, Nowhere}
 use Rattle.hub_state.specs.declared.Change.TheVariants.{Fail, Restart}
 use Rattle.hub_state.proofs.Members.{state-mark, member_id, there-it, stands_below}
 use Rattle.hub_state.proofs.UnmovedLaws.{same-routine_as, itself_in_place, in_place-leaves, leave_then}
@@ -52,10 +47,10 @@ use Rattle.hub_events.specs.declared.Affected.{Affected}
 -- ---- the routine that is halfway, by its slot
 
 module _ (h : HubState) (x : ℕ) where
-  half_there : x < max_sequence → halfway_in h x ≡ Some (there h x)
+  half_there : x < max_sequence → found_at h x ≡ Some (there h x)
   half_there i = rw (lt-ltb x max_sequence i)
 
-  half_past : max_sequence ≤ x → halfway_in h x ≡ None
+  half_past : max_sequence ≤ x → found_at h x ≡ None
   half_past i = rw (le-ltb x max_sequence i)
 
 -- is a must of it left?
@@ -96,20 +91,20 @@ module _ (s : State) (f : Found) (d : ℕ) where
   unfolding move_marks
   mark_moved e = sym (mark_left ∙ ap (λ (t : Bool). if t then last_id_or 0 f.ahead else s.mark d) (eq-eqb (s.mark d) f.it.id e))
 
-module _ (h : HubState) (d : ℕ) (p : Place) (f : Finds h (is_halfway d) p) where
+module _ (h : HubState) (d : ℕ) (p : Option ℕ) (f : Finds h (is_halfway d) p) where
   -- no running routine has begun D and not finished it
-  pub halfway_none : p ≡ Nowhere → IsHalfway h d (record { slot = max_sequence; first = NoAbort; mark = get_or h.mark d 0 })
+  pub halfway_none : p ≡ None → IsHalfway h d (record { slot = max_sequence; first = None; mark = get_or h.mark d 0 })
   halfway_none e =
       let g = half_past h max_sequence (omega arith) in
       record {
         place_ok = λ i. absurd (omega (arith, i));
-        slot_is = g ∙ sym (found_as h (is_halfway d) p f Nowhere e);
+        slot_is = g ∙ sym (found_as h (is_halfway d) p f None e);
         first_is = λ l. sym (ap (λ (o : Option Found). abort_told d o l) g);
         mark_is = sym (λ i. state-mark h i d) ∙ sym (ap (λ (o : Option Found). (stopped_by d (state_of h) o).mark d) g);
       }
 
   -- the one in this slot has
-  module _ (v : StateOk h) (x : ℕ) (e : p ≡ At x) where
+  module _ (v : StateOk h) (x : ℕ) (e : p ≡ Some x) where
     pub halfway_stands : Stands h.links x
     halfway_stands = stands_at h (is_halfway d) p f x e
 
@@ -120,13 +115,13 @@ module _ (h : HubState) (d : ℕ) (p : Place) (f : Finds h (is_halfway d) p) whe
     mark-there = λ i. sym (state-mark h) i d
 
     -- so it is told, and m is D's mark then
-    halfway_one : (first : EventAbort) (m : ℕ) → ((l : List Back) → event_abort_of first l ≡ abort_told d (Some (there h x)) l) →
+    halfway_one : (first : Option ℕ) (m : ℕ) → ((l : List Back) → event_abort_of first l ≡ abort_told d (Some (there h x)) l) →
         m ≡ (stopped_by d (state_of h) (Some (there h x))).mark d → IsHalfway h d (record { slot = x; first = first; mark = m })
     halfway_one first m t q =
         let g = half_there h x (stands_below h x v halfway_stands) in
         record {
           place_ok = λ i. halfway_stands;
-          slot_is = g ∙ sym (found_as h (is_halfway d) p f (At x) e);
+          slot_is = g ∙ sym (found_as h (is_halfway d) p f (Some x) e);
           first_is = λ l. t l ∙ sym (ap (λ (o : Option Found). abort_told d o l) g);
           mark_is = q ∙ sym (ap (λ (o : Option Found). (stopped_by d (state_of h) o).mark d) g);
         }
@@ -134,29 +129,29 @@ module _ (h : HubState) (d : ℕ) (p : Place) (f : Finds h (is_halfway d) p) whe
     -- t: is a must left?
     module _ (t : Bool) (k : t ≡ must_left d (member_at h x)) where
       -- none is: it is not told, and the mark stays
-      pub halfway_skips : t ≡ false → IsHalfway h d (record { slot = x; first = NoAbort; mark = get_or h.mark d 0 })
+      pub halfway_skips : t ≡ false → IsHalfway h d (record { slot = x; first = None; mark = get_or h.mark d 0 })
       halfway_skips n =
           let u = must-there h x d k ∙ n in
-          halfway_one NoAbort (get_or h.mark d 0) (λ l. rw u)
+          halfway_one None (get_or h.mark d 0) (λ l. rw u)
           (mark-there ∙ (λ i. sym (ap (λ (s : State). s.mark) (stop_skips d (state_of h) (there h x) u) ∙ mark-skipped d _ _) i d))
 
       -- one is: it aborts
       module _ (y : t ≡ true) where
         halfway_aborts : (m : ℕ) → m ≡ (leave (state_of h) (there h x)).mark d →
-            IsHalfway h d (record { slot = x; first = Abort (get_or h.ids x 0); mark = m })
+            IsHalfway h d (record { slot = x; first = Some (get_or h.ids x 0); mark = m })
         halfway_aborts m q =
             let u = must-there h x d k ∙ y in
-            halfway_one (Abort (get_or h.ids x 0)) m (λ l. rw u (ap (λ (j : ℕ). event_abort_of (Abort j) l) id-there))
+            halfway_one (Some (get_or h.ids x 0)) m (λ l. rw u (ap (λ (j : ℕ). event_abort_of (Some j) l) id-there))
             (q ∙ (λ i. (sym (stop-leaves d (state_of h) (there h x) u) i).mark d))
 
         pub halfway_other : (get_or h.mark d 0 ≡ get_or h.ids x 0 → ⊥) →
-            IsHalfway h d (record { slot = x; first = Abort (get_or h.ids x 0); mark = get_or h.mark d 0 })
+            IsHalfway h d (record { slot = x; first = Some (get_or h.ids x 0); mark = get_or h.mark d 0 })
         halfway_other n =
             halfway_aborts (get_or h.mark d 0)
             (mark-there ∙ mark-kept (state_of h) (there h x) d (λ q. n (mark-there ∙ q ∙ sym id-there)))
 
         pub halfway_marked : (m : ℕ) → m ≡ last_id_or 0 (there h x).ahead → get_or h.mark d 0 ≡ get_or h.ids x 0 →
-            IsHalfway h d (record { slot = x; first = Abort (get_or h.ids x 0); mark = m })
+            IsHalfway h d (record { slot = x; first = Some (get_or h.ids x 0); mark = m })
         halfway_marked m b q = halfway_aborts m (b ∙ mark_moved (state_of h) (there h x) d (sym mark-there ∙ q ∙ id-there))
 
 -- ---- what an event comes to
@@ -209,10 +204,10 @@ restart-is s d v = refl
 
 module _ (h : HubState) (d : ℕ) (a : Affected) (w : IsHalfway h d a) (result : Result) where
   pub failure-decides : d < max_devices → settling (failure_result (state_of h) d) ≡ result →
-      Decides h [] (record { first = a.first; answer = Down d a.mark; back = NoBack; change = Fail d a.slot }) result
+      Decides h [] (record { first = a.first; answer = Down d a.mark; back = None; change = Fail d a.slot }) result
   failure-decides i e =
       let s = down_with (state_of h) d in
-      let o = halfway_in h a.slot in
+      let o = found_at h a.slot in
       let l = put_backs_stopped d s o in
       let m = w.mark_is ∙ down-mark (state_of h) d o in
       record {
@@ -230,10 +225,10 @@ module _ (h : HubState) (d : ℕ) (a : Affected) (w : IsHalfway h d a) (result :
       }
 
   pub restart-decides : (v : ℤ) → d < max_devices → is_restart v ≡ true → settling (restart_result (state_of h) d v) ≡ result →
-      Decides h [] (record { first = a.first; answer = Up d a.mark; back = NoBack; change = Restart d v a.slot }) result
+      Decides h [] (record { first = a.first; answer = Up d a.mark; back = None; change = Restart d v a.slot }) result
   restart-decides v i r e =
       let s = state_of h in
-      let o = halfway_in h a.slot in
+      let o = found_at h a.slot in
       let l = put_backs_stopped d s o in
       record {
         change_ok = (i, r, w.place_ok);
@@ -293,7 +288,7 @@ module _ (s : State) (d : ℕ) (v : ℤ) where
 module _ (h : HubState) (x d : ℕ) where
   -- what comes of the routine that is halfway, if there is one
   abbrev pub Stops : HubState → Type 0
-  Stops r = (StateOk r) × (state_of r ≡ stopped_by d (state_of h) (halfway_in h x)) × (OnlyLeave h r)
+  Stops r = (StateOk r) × (state_of r ≡ stopped_by d (state_of h) (found_at h x)) × (OnlyLeave h r)
 
   -- there is none
   pub none_stops : StateOk h → max_sequence ≤ x → Stops h
@@ -302,7 +297,7 @@ module _ (h : HubState) (x d : ℕ) where
   -- t: is a must of the one in this slot left?
   module _ (i : x < max_sequence) (t : Bool) (k : t ≡ must_left d (member_at h x)) where
     -- it aborts
-    pub one-leaves : StateOk h → StandsOrPast h x → t ≡ true → (r : HubState) → LeavesHub h x r → Stops r
+    pub one-leaves : StateOk h → StandsIfAny h x → t ≡ true → (r : HubState) → LeavesHub h x r → Stops r
     one-leaves v s y r a = (
       a.valid,
       a.gives ∙ sym (stop-leaves d (state_of h) (there h x) (must-there h x d k ∙ y))
@@ -323,13 +318,13 @@ module _ (h : HubState) (x d : ℕ) where
   -- what its abort puts back, in the state s
   module _ (s : State) (r : PutBacks) where
     abbrev BacksIf : Type 0
-    BacksIf = (PutBacksOk r) × (put_backs_of r ≡ put_backs_stopped d s (halfway_in h x))
+    BacksIf = (PutBacksOk r) × (put_backs_of r ≡ put_backs_stopped d s (found_at h x))
 
     pub none_backs : max_sequence ≤ x → PutBacksOk r → put_backs_of r ≡ [] → BacksIf
     none_backs i fit k = (fit, k ∙ ap (put_backs_stopped d s) (sym (half_past h x i)))
 
     module _ (i : x < max_sequence) (t : Bool) (k : t ≡ must_left d (member_at h x)) where
-      backs_there : (u : Bool) → t ≡ u → (if u then put_backs_left s (there h x) else []) ≡ put_backs_stopped d s (halfway_in h x)
+      backs_there : (u : Bool) → t ≡ u → (if u then put_backs_left s (there h x) else []) ≡ put_backs_stopped d s (found_at h x)
       backs_there u e =
           ap (λ (v : Bool). if v then put_backs_left s (there h x) else []) (sym (must-there h x d k ∙ e))
           ∙ ap (put_backs_stopped d s) (sym (half_there h x i))
@@ -341,7 +336,7 @@ module _ (h : HubState) (x d : ℕ) where
       skip_backs n fit e = (fit, e ∙ backs_there false n)
 
 -- g: the hub with the device down
-pub stands-down : (h g : HubState) (x : ℕ) → g.links ≡ h.links → StandsOrPast h x → StandsOrPast g x
+pub stands-down : (h g : HubState) (x : ℕ) → g.links ≡ h.links → StandsIfAny h x → StandsIfAny g x
 stands-down h g x k s i = subst (λ (l : Links). Stands l x) (sym k) (s i)
 
 -- whether a device is up changes nothing else
@@ -355,7 +350,7 @@ up-leaves h g v k t =
 
 pub failure_stops : (h g : HubState) (d x : ℕ) → StateOk h → state_of g ≡ down_with (state_of h) d → g.links ≡ h.links →
     there g ≡ there h → (r : HubState) → Stops g x d r →
-    (StateOk r) × (state_of r ≡ stopped_by d (down_with (state_of h) d) (halfway_in h x)) × (OnlyLeave h r)
+    (StateOk r) × (state_of r ≡ stopped_by d (down_with (state_of h) d) (found_at h x)) × (OnlyLeave h r)
 failure_stops h g d x v e k t r a = (
   a.0,
   a.1 ∙ (λ i. stopped_by d (e i) (if ltb x max_sequence then Some (t i x) else None)),
@@ -369,7 +364,7 @@ restart-leaves h g t u p v q w k e = leave_then h g u p (leave_then g t u (in_pl
 -- g: after the abort or the skips, if there are any; t: with the restart attached; u: with the device up
 pub restart-gives : (h g t u : HubState) (x d : ℕ) (v : ℤ) → Stops h x d g →
     state_of t ≡ attach (get_or g.mark d 0) (one_restart d v) (state_of g) → state_of u ≡ with_up (state_of t) (put (state_of t).up d true) →
-    state_of u ≡ up_with (stopped_by d (state_of h) (halfway_in h x)) d v
+    state_of u ≡ up_with (stopped_by d (state_of h) (found_at h x)) d v
 restart-gives h g t u x d v a e k =
     k
     ∙ ap (λ (s : State). with_up s (put s.up d true))

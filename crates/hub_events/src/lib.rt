@@ -7,24 +7,22 @@ ghost use Rattle.rules.specs.Tables.{put};
 ghost use Rattle.rules.specs.Sequence.{with_up};
 ghost use Rattle.rules.specs.Events.{failure_of, restart_of};
 ghost use Rattle.hub_answers.specs.View.{put_backs_of, PutBacksOk};
-ghost use Rattle.hub_state.specs.View.{is_restart, state_of, there};
+ghost use Rattle.hub_state.specs.View.{found_at, is_restart, state_of, there};
 ghost use Rattle.hub_state.specs.Valid.{StateOk};
 ghost use Rattle.hub_state.specs.Unmoved.{OnlyLeave};
-ghost use Rattle.hub_state.specs.Contract.{halfway_in, stopped_by, put_backs_stopped, down_with, up_with, StandsOrPast, Decides};
+ghost use Rattle.hub_state.specs.Contract.{stopped_by, put_backs_stopped, down_with, up_with, StandsIfAny, Decides};
 ghost use Rattle.hub_abort.specs.PutBacks.{down_if};
 ghost use Rattle.hub_events.specs.Contract.{IsHalfway};
 
-use hub_answers::{Answer, EventAbort, MaybePutBack, PutBacks};
-use hub_state::{Change, Decision, HubState, Place, decisions, readers};
-use rules_routine::limits::MAX_SEQUENCE;
-use rules_routine::refusals::{EVENT_DEVICE, FAILURE_OF_DOWN, RESTART_OF_UP, RESTART_SETTING};
+use hub_answers::{Answer, PutBacks};
+use hub_state::{Change, Decision, HubState, decisions, readers};
+use rules_routine::Refusal;
 
-// The routine that is halfway with an event's device, by its slot, MAX_SEQUENCE if there is none; its abort as it is told, if it aborts;
-// and the device's mark after that.
+// The routine that is halfway with an event's device, by its slot, if there is one; its id, if it aborts; and the device's mark after that.
 #[derive(Clone, Copy)]
 pub struct Affected {
-    pub slot: usize,
-    pub first: EventAbort,
+    pub slot: Option<usize>,
+    pub first: Option<u32>,
     pub mark: u32,
 }
 
@@ -37,28 +35,28 @@ fn halfway(state: HubState, device: u8) -> Affected
     let marks = state.mark;
     let d = device as usize;
     let mark = marks[d];
-    let place = hub_search::halfway(state, device);
-    let Place::At(slot) = place else {
+    let slot = hub_search::halfway(state, device);
+    let Some(at) = slot else {
         return Affected {
-            slot: MAX_SEQUENCE,
-            first: EventAbort::NoAbort,
+            slot,
+            first: None,
             mark,
         };
     };
-    if !hub_search::must_left(state, slot, device) {
+    if !hub_search::must_left(state, at, device) {
         return Affected {
             slot,
-            first: EventAbort::NoAbort,
+            first: None,
             mark,
         };
     }
     let ids = state.ids;
-    let id = ids[slot];
-    let first = EventAbort::Abort(id);
+    let id = ids[at];
+    let first = Some(id);
     if mark != id {
         return Affected { slot, first, mark };
     }
-    let before = readers::id_ahead(state, slot);
+    let before = readers::id_ahead(state, at);
     Affected {
         slot,
         first,
@@ -72,17 +70,17 @@ pub fn decide_failure(state: HubState, device: u8) -> Decision
     ensures { Decides state [] result (failure_of (state_of state) device) }
 {
     if state.devices <= device {
-        return decisions::refused(EVENT_DEVICE);
+        return decisions::refused(Refusal::EventDevice);
     }
     if !readers::is_up(state, device) {
-        return decisions::refused(FAILURE_OF_DOWN);
+        return decisions::refused(Refusal::FailureOfDown);
     }
     let half = halfway(state, device);
     let first = half.first;
     Decision {
         first,
         answer: Answer::Down(device, half.mark),
-        back: MaybePutBack::Nothing,
+        back: None,
         change: Change::Fail(device, half.slot),
     }
 }
@@ -93,32 +91,32 @@ pub fn decide_restart(state: HubState, device: u8, setting: i16) -> Decision
     ensures { Decides state [] result (restart_of (state_of state) device setting) }
 {
     if state.devices <= device {
-        return decisions::refused(EVENT_DEVICE);
+        return decisions::refused(Refusal::EventDevice);
     }
     if readers::is_up(state, device) {
-        return decisions::refused(RESTART_OF_UP);
+        return decisions::refused(Refusal::RestartOfUp);
     }
     if !rules_routine::in_range(setting) {
-        return decisions::refused(RESTART_SETTING);
+        return decisions::refused(Refusal::RestartSetting);
     }
     let half = halfway(state, device);
     let first = half.first;
     Decision {
         first,
         answer: Answer::Up(device, half.mark),
-        back: MaybePutBack::Nothing,
+        back: None,
         change: Change::Restart(device, setting, half.slot),
     }
 }
 
-// What the abort that comes first puts back, if there is one, while the device `down` fails; a number past the devices is none.
-pub fn put_backs_if(state: HubState, slot: usize, device: u8, down: u8) -> PutBacks
-    requires { (StateOk state) × (StandsOrPast state slot) }
-    ensures { (PutBacksOk result) × (put_backs_of result ≡ put_backs_stopped device (down_if (state_of state) down) (halfway_in state slot)) }
+// What the abort that comes first puts back, if there is one, while a device fails, if one does.
+pub fn put_backs_if(state: HubState, slot: Option<usize>, device: u8, down: Option<u8>) -> PutBacks
+    requires { (StateOk state) × (StandsIfAny state slot) }
+    ensures { (PutBacksOk result) × (put_backs_of result ≡ put_backs_stopped device (down_if (state_of state) down) (found_at state slot)) }
 {
-    if slot < MAX_SEQUENCE {
-        if hub_search::must_left(state, slot, device) {
-            return hub_abort::put_backs_of(state, slot, down);
+    if let Some(at) = slot {
+        if hub_search::must_left(state, at, device) {
+            return hub_abort::put_backs_of(state, at, down);
         }
     }
     hub_answers::no_put_backs()
@@ -138,38 +136,34 @@ fn with_up(state: HubState, device: u8, is_up: bool) -> HubState
 
 // "On a failure D first becomes down." Then the abort, or the skips. (That both events have this in their own text, and not in a function
 // called by both, keeps two states off the stack.)
-pub fn with_failure(state: HubState, device: u8, slot: usize) -> HubState
-    requires { (StateOk state) × (device < max_devices) × (StandsOrPast state slot) }
-    ensures { (StateOk result) × (state_of result ≡ stopped_by device (down_with (state_of state) device) (halfway_in state slot))
+pub fn with_failure(state: HubState, device: u8, slot: Option<usize>) -> HubState
+    requires { (StateOk state) × (device < max_devices) × (StandsIfAny state slot) }
+    ensures { (StateOk result) × (state_of result ≡ stopped_by device (down_with (state_of state) device) (found_at state slot))
         × (OnlyLeave state result) }
 {
     let mut next = with_up(state, device, false);
-    if slot < MAX_SEQUENCE {
-        if hub_search::must_left(next, slot, device) {
-            let left = hub_settle::leave::leave(next, slot);
-            next = left;
+    if let Some(at) = slot {
+        if hub_search::must_left(next, at, device) {
+            next = hub_settle::leave::leave(next, at);
         } else {
-            let skipped = hub_apply::with_skips(next, slot, device);
-            next = skipped;
+            next = hub_apply::with_skips(next, at, device);
         }
     }
     next
 }
 
 // The abort, or the skips; the event is attached to D's mark; "On a restart D then becomes up at the setting it reports."
-pub fn with_restart(state: HubState, device: u8, setting: i16, slot: usize) -> HubState
-    requires { (StateOk state) × (device < max_devices) × (is_restart setting ≡ true) × (StandsOrPast state slot) }
-    ensures { (StateOk result) × (state_of result ≡ up_with (stopped_by device (state_of state) (halfway_in state slot)) device setting)
+pub fn with_restart(state: HubState, device: u8, setting: i16, slot: Option<usize>) -> HubState
+    requires { (StateOk state) × (device < max_devices) × (is_restart setting ≡ true) × (StandsIfAny state slot) }
+    ensures { (StateOk result) × (state_of result ≡ up_with (stopped_by device (state_of state) (found_at state slot)) device setting)
         × (OnlyLeave state result) }
 {
     let mut next = state;
-    if slot < MAX_SEQUENCE {
-        if hub_search::must_left(state, slot, device) {
-            let left = hub_settle::leave::leave(next, slot);
-            next = left;
+    if let Some(at) = slot {
+        if hub_search::must_left(state, at, device) {
+            next = hub_settle::leave::leave(next, at);
         } else {
-            let skipped = hub_apply::with_skips(next, slot, device);
-            next = skipped;
+            next = hub_apply::with_skips(next, at, device);
         }
     }
     let marks = next.mark;

@@ -9,33 +9,24 @@ ghost use Rattle.hub_state.specs.Valid.{StateOk};
 ghost use Rattle.hub_state.specs.Unmoved.{Unmoved};
 ghost use Rattle.hub_limit.specs.Contract.{Limits};
 
-use hub_answers::Answer;
 use hub_state::HubState;
 use rules_routine::limits::{HIGHEST_PASS_LIMIT, MAX_DEVICES};
-use rules_routine::refusals::{DEVICES_OUT_OF_RANGE, PASS_LIMIT_OUT_OF_RANGE};
-use rules_routine::{Refusal, Verdict};
-
-// What comes of it: the state, and the answer.
-#[derive(Clone, Copy)]
-pub struct NewLimit {
-    pub state: HubState,
-    pub answer: Answer,
-}
+use rules_routine::Refusal;
 
 // "N not 1 to 32", then "K above 8": of an opening, and of a new pass limit on a hub with so many devices.
-pub fn check(devices: u8, pass_limit: u8) -> Verdict
+pub fn check(devices: u8, pass_limit: u8) -> Result<(), Refusal>
     ensures { result ≡ new_limit_check devices pass_limit }
 {
     if devices == 0 {
-        return Verdict::Refused(Refusal::Number(DEVICES_OUT_OF_RANGE));
+        return Err(Refusal::DevicesOutOfRange);
     }
     if MAX_DEVICES < devices as usize {
-        return Verdict::Refused(Refusal::Number(DEVICES_OUT_OF_RANGE));
+        return Err(Refusal::DevicesOutOfRange);
     }
     if HIGHEST_PASS_LIMIT < pass_limit {
-        return Verdict::Refused(Refusal::Number(PASS_LIMIT_OUT_OF_RANGE));
+        return Err(Refusal::PassLimitOutOfRange);
     }
-    Verdict::Accepted
+    Ok(())
 }
 
 // "Every routine keeps its count": K alone changes. Then, as "After each call", what is committed at the front settles; after calls from an
@@ -49,21 +40,11 @@ fn with_limit(state: HubState, pass_limit: u8) -> HubState
     hub_settle::settle::settle(changed)
 }
 
-// The call: K becomes the new one, or it is turned down and the state is the same.
-pub fn set_limit(state: HubState, pass_limit: u8) -> NewLimit
+// The call: the state with the new K, or why it is turned down.
+pub fn set_limit(state: HubState, pass_limit: u8) -> Result<HubState, Refusal>
     requires { StateOk state }
     ensures { Limits state pass_limit result }
 {
-    let next = with_limit(state, pass_limit);
-    let verdict = check(state.devices, pass_limit);
-    match verdict {
-        Verdict::Accepted => NewLimit {
-            state: next,
-            answer: Answer::Limited(pass_limit),
-        },
-        Verdict::Refused(refusal) => NewLimit {
-            state,
-            answer: Answer::Refused(refusal),
-        },
-    }
+    check(state.devices, pass_limit)?;
+    Ok(with_limit(state, pass_limit))
 }

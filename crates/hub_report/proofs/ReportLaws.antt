@@ -1,6 +1,7 @@
 -- Laws that the proofs of this crate cite. Assumes nothing.
+use Rattle.hub_answers.specs.declared.PutBack.{PutBack}
 use Rattle.rules_routine.specs.Refusals.{numbered}
-use Rattle.std.proofs.Common.{Option, None}
+use Rattle.std.proofs.Common.{Option, None, Some}
 use mathlib.Core.Path.{◌≡◌, refl, sym, ap, ◌∙◌, subst}
 use mathlib.Core.Logic.{◌≢◌}
 use mathlib.Core.Bool.{Bool, true, false, ◌&&◌}
@@ -29,15 +30,11 @@ use Rattle.rules.proofs.Lists.{by_if, t≠f, same-setting, members_after_++}
 use Rattle.hub_sequence.specs.Links.{Stands}
 use Rattle.hub_answers.specs.View.{one_of}
 use Rattle.hub_answers.specs.declared.Answer.TheVariants.{Refused, Done, Skipped, Aborted}
-use Rattle.hub_answers.specs.declared.EventAbort.TheVariants.{NoAbort}
-use Rattle.hub_answers.specs.declared.MaybePutBack.{MaybePutBack}
 use Rattle.hub_state.specs.View.{settings_of, done_code, skipped_code, status_of, step_at, steps_at, member_at, state_of, there}
 use Rattle.hub_state.specs.Valid.{StateOk}
 use Rattle.hub_state.specs.Unanswered.{answered_at, due_then_at, command_at, NextInFlight, UnansweredIs}
 use Rattle.hub_state.specs.Contract.{set_status, staged, StageOk, plainly, Decides}
 use Rattle.hub_state.specs.declared.HubState.{HubState}
-use Rattle.hub_state.specs.declared.Place.{Place}
-use Rattle.hub_state.specs.declared.Place.TheVariants.{At, Nowhere}
 use Rattle.hub_state.specs.declared.Unanswered.{Unanswered}
 use Rattle.hub_state.specs.declared.Unanswered.TheVariants.{Nothing, ToDo, InFlight}
 use Rattle.hub_state.specs.declared.Staged.{Staged}
@@ -151,10 +148,10 @@ module _ (h : HubState) (x k : ℕ) (s : Stands h.links x) (o : NextInFlight h x
         (λ j. settling (record { state = w j; answers = done (id-there j) ∷ [] })))
 
     -- "a best-effort is skipped"
-    abbrev skip_decision : MaybePutBack → Change → Decision
-    skip_decision b c = record { first = NoAbort; answer = Skipped i; back = b; change = c }
+    abbrev skip_decision : Option PutBack → Change → Decision
+    skip_decision b c = record { first = None; answer = Skipped i; back = b; change = c }
 
-    pub skips : (b : MaybePutBack) (c : Change) (d : ℕ) (now before : ℤ) → StateOk h → c ≡ answered_by x skipped_code i →
+    pub skips : (b : Option PutBack) (c : Change) (d : ℕ) (now before : ℤ) → StateOk h → c ≡ answered_by x skipped_code i →
         one_of b ≡ back_if_changed d now before →
         d ≡ (command_at h k).device → now ≡ due (state_of h) d → before ≡ due_then_at h x →
         Decides h [] (skip_decision b c) (settling (skip_report (state_of h) (there h x) (flight_at h x k)))
@@ -195,23 +192,23 @@ idle h x Nothing k t = k.no_flight
 idle h x (ToDo j) k t = k.no_flight
 idle h x (InFlight j) k t = absurd (t j refl)
 
-module _ (h : HubState) (i code : ℕ) (p : Place) (f : Finds h (runs i) p) (y : Decision) where
+module _ (h : HubState) (i code : ℕ) (p : Option ℕ) (f : Finds h (runs i) p) (y : Decision) where
   refuses : (n : ℕ) → y ≡ plainly (Refused (numbered n)) NoChange → turned_down (numbered n) (state_of h) ≡ report_of (state_of h) i code →
       Decides h [] y (report_of (state_of h) i code)
   refuses n z e = subst (λ (d : Decision). Decides h [] d (report_of (state_of h) i code)) (sym z) (refused-decides h [] _ (numbered n) e)
 
   -- 10: no running routine has this id
-  pub report_nowhere : p ≡ Nowhere → y ≡ plainly (Refused (numbered 10)) NoChange → Decides h [] y (report_of (state_of h) i code)
+  pub report_nowhere : p ≡ None → y ≡ plainly (Refused (numbered 10)) NoChange → Decides h [] y (report_of (state_of h) i code)
  unfolding report_of
-  report_nowhere e z = refuses 10 z (sym (ap (report_found (state_of h) code) (found_as h (runs i) p f Nowhere e)))
+  report_nowhere e z = refuses 10 z (sym (ap (report_found (state_of h) code) (found_as h (runs i) p f None e)))
 
-  module _ (x : ℕ) (e : p ≡ At x) where
+  module _ (x : ℕ) (e : p ≡ Some x) where
     -- the command in flight decides
     report_at : (o : Option Flight) → flight (steps_at h x) ≡ o → report_flight (state_of h) (there h x) code o ≡ report_of (state_of h) i code
     unfolding report_of
     report_at o q =
         let l = ap (λ (m : Member). m.steps) (there-it h x) ∙ member_steps h x in
-        sym (ap (report_found (state_of h) code) (found_as h (runs i) p f (At x) e)
+        sym (ap (report_found (state_of h) code) (found_as h (runs i) p f (Some x) e)
         ∙ ap (report_flight (state_of h) (there h x) code) (ap flight l ∙ q))
 
     -- 12: none is in flight

@@ -14,11 +14,11 @@ ghost use Rattle.hub_state.specs.Unanswered.{command_at, NextInFlight};
 ghost use Rattle.hub_state.specs.Contract.{Decides};
 ghost use Rattle.hub_report.specs.Contract.{answered_by, flight_at};
 
-use hub_answers::{Answer, EventAbort, MaybePutBack, PutBack};
+use hub_answers::{Answer, PutBack};
 use hub_state::{
-    Change, DONE, Decision, HubState, Place, SKIPPED, Staged, Unanswered, decisions, readers,
+    Change, DONE, Decision, HubState, SKIPPED, Staged, Unanswered, decisions, readers,
 };
-use rules_routine::refusals::{NONE_IN_FLIGHT, NOT_RUNNING, REPORT_CODE};
+use rules_routine::Refusal;
 use rules_routine::reports::{CODE_DONE, CODE_FAILED};
 use rules_routine::tags::MUST;
 
@@ -38,17 +38,16 @@ fn answered(at: usize, stage: u8, id: u32) -> Change
 }
 
 // "its device is then sent its due setting if that is another than when the command was sent"
-fn back_if_changed(device: u8, due: i16, before: i16) -> MaybePutBack
+fn back_if_changed(device: u8, due: i16, before: i16) -> Option<PutBack>
     ensures { one_of result ≡ back_if_changed device due before }
 {
     if due == before {
-        return MaybePutBack::Nothing;
+        return None;
     }
-    let back = PutBack {
+    Some(PutBack {
         device,
         setting: due,
-    };
-    MaybePutBack::One(back)
+    })
 }
 
 // "a best-effort is skipped". No due setting changes by that: the command was not done.
@@ -66,7 +65,7 @@ fn skip(state: HubState, at: usize, k: usize, id: u32) -> Decision
     let back = back_if_changed(wanted, due, before);
     let change = answered(at, SKIPPED, id);
     Decision {
-        first: EventAbort::NoAbort,
+        first: None,
         answer: Answer::Skipped(id),
         back,
         change,
@@ -91,17 +90,16 @@ pub fn decide(state: HubState, id: u32, code: u8) -> Decision
     requires { StateOk state }
     ensures { Decides state [] result (report_of (state_of state) id code) }
 {
-    let place = hub_search::running(state, id);
-    let Place::At(at) = place else {
-        return decisions::refused(NOT_RUNNING);
+    let Some(at) = hub_search::running(state, id) else {
+        return decisions::refused(Refusal::NotRunning);
     };
     let stage = state.stage;
     let open = readers::unanswered_at(state, &stage, at);
     let Unanswered::InFlight(k) = open else {
-        return decisions::refused(NONE_IN_FLIGHT);
+        return decisions::refused(Refusal::NothingInFlight);
     };
     if CODE_FAILED < code {
-        return decisions::refused(REPORT_CODE);
+        return decisions::refused(Refusal::ReportCodeOutOfRange);
     }
     if code == CODE_DONE {
         let change = answered(at, DONE, id);

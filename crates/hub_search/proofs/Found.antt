@@ -13,8 +13,6 @@ use Rattle.hub_sequence.specs.Links.{Stands}
 use Rattle.hub_state.specs.View.{member_at, state_of, found_at}
 use Rattle.hub_state.specs.Valid.{PlaceOk}
 use Rattle.hub_state.specs.declared.HubState.{HubState}
-use Rattle.hub_state.specs.declared.Place.{Place}
-use Rattle.hub_state.specs.declared.Place.TheVariants.{At}
 use Rattle.hub_state.proofs.Members.{there-it}
 use Rattle.hub_search.specs.Contract.{Finds}
 
@@ -31,21 +29,21 @@ find_passes : (p : Member → Bool) (l : List Member) → Passes p (find p l)
 find_passes p [] = tt
 find_passes p (m ∷ l) = by_if (Passes p) (p m) (λ t. t) (λ t. onto_passes p m (find p l) (find_passes p l))
 
-module _ (h : HubState) (test : Member → Bool) (p : Place) (f : Finds h test p) where
-  pub found_as : (r : Place) → p ≡ r → find test (state_of h).sequence ≡ found_at h r
+module _ (h : HubState) (test : Member → Bool) (p : Option ℕ) (f : Finds h test p) where
+  pub found_as : (r : Option ℕ) → p ≡ r → find test (state_of h).sequence ≡ found_at h r
   found_as r e = sym f.found ∙ ap (found_at h) e
 
-  pub stands_at : (x : ℕ) → p ≡ At x → Stands h.links x
+  pub stands_at : (x : ℕ) → p ≡ Some x → Stands h.links x
   stands_at x e = subst (PlaceOk h) e f.place_ok
 
-  passes_at : (x : ℕ) → p ≡ At x → test (member_at h x) ≡ true
+  passes_at : (x : ℕ) → p ≡ Some x → test (member_at h x) ≡ true
   passes_at x e =
-      ap test (sym (there-it h x)) ∙ subst (Passes test) (found_as (At x) e) (find_passes test (state_of h).sequence)
+      ap test (sym (there-it h x)) ∙ subst (Passes test) (found_as (Some x) e) (find_passes test (state_of h).sequence)
 
 -- the one that runs under an id has it
 runs-id : (i : ℕ) (m : Member) → runs i m ≡ true → i ≡ m.id
 unfolding runs
 runs-id i m e = sym (eqb-true m.id i (and_left (eqb m.id i) (is_running m) e))
 
-pub found-id : (h : HubState) (i : ℕ) (p : Place) → Finds h (runs i) p → (x : ℕ) → p ≡ At x → i ≡ (member_at h x).id
+pub found-id : (h : HubState) (i : ℕ) (p : Option ℕ) → Finds h (runs i) p → (x : ℕ) → p ≡ Some x → i ≡ (member_at h x).id
 found-id h i p f x e = runs-id i (member_at h x) (passes_at h (runs i) p f x e)

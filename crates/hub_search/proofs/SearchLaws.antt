@@ -34,7 +34,6 @@ use Rattle.hub_state.proofs.Steps.{each_at}
 use Rattle.hub_state.proofs.Codes.{upto_codes}
 use Rattle.hub_state.proofs.Members.{member_committed}
 use Rattle.hub_state.specs.declared.HubState.{HubState}
-use Rattle.hub_state.specs.declared.Place.TheVariants.{At, Nowhere}
 use Rattle.hub_search.specs.Contract.{has_id, Finds, any_on, any_staged, highest_stage, any_must, marks_for, Latest}
 use Rattle.hub_search.proofs.Slots.{first_slot, Seeks, stop_at, seeks_there, seeks_found, seeks_end, first-same, first_some, find-slot}
 use Rattle.hub_search.proofs.Slots.{find_nowhere, holding_none, holding_some}
@@ -233,7 +232,7 @@ module _ (h : HubState) (v : StateOk h) where
       first_is : first_slot (λ y. p (member_at h y)) (slots_of h.links) ≡ first_slot t (slots_of h.links)
       first_is = sym (first-same t (λ y. p (member_at h y)) (slots_of h.links) e)
 
-      finds_at : x < max_sequence → t x ≡ true → Finds h p (At x)
+      finds_at : x < max_sequence → t x ≡ true → Finds h p (Some x)
       unfolding state_of members_of there
       finds_at i a =
           record {
@@ -242,7 +241,7 @@ module _ (h : HubState) (v : StateOk h) where
                 sym (find-slot p (member_at h) (slots_of h.links) x (first_is ∙ seeks_found s i a) (not_none x i));
           }
 
-      finds_nowhere : max_sequence ≤ x → Finds h p Nowhere
+      finds_nowhere : max_sequence ≤ x → Finds h p None
       unfolding state_of members_of
       finds_nowhere i =
           record { place_ok = tt; found = sym (find_nowhere p (member_at h) (slots_of h.links) (first_is ∙ seeks_end s i) none_apart) }
@@ -251,20 +250,20 @@ module _ (h : HubState) (v : StateOk h) where
 
   module _ (i : ℕ) {x : ℕ} where
     module _ (s : Seeks (runs_in h.ids h.committed i) h.links.behind h.links.first x) where
-      pub running_at : x < max_sequence → get_or h.ids x 0 ≡ i → not (get_or h.committed x false) ≡ true → Finds h (runs i) (At x)
+      pub running_at : x < max_sequence → get_or h.ids x 0 ≡ i → not (get_or h.committed x false) ≡ true → Finds h (runs i) (Some x)
       unfolding runs is_running member_at runs_in id_in
       running_at k e n = finds_at (runs i) _ (λ y _. refl) s k (rw (eq-eqb (get_or h.ids x 0) i e, n))
 
-      pub running_nowhere : max_sequence ≤ x → Finds h (runs i) Nowhere
+      pub running_nowhere : max_sequence ≤ x → Finds h (runs i) None
       unfolding runs is_running member_at runs_in id_in
       running_nowhere k = finds_nowhere (runs i) _ (λ y _. refl) s k
 
     module _ (s : Seeks (id_in h.ids i) h.links.behind h.links.first x) where
-      pub id_at : x < max_sequence → get_or h.ids x 0 ≡ i → Finds h (has_id i) (At x)
+      pub id_at : x < max_sequence → get_or h.ids x 0 ≡ i → Finds h (has_id i) (Some x)
       unfolding member_at id_in
       id_at k e = finds_at (has_id i) _ (λ y _. refl) s k (eq-eqb (get_or h.ids x 0) i e)
 
-      pub id_nowhere : max_sequence ≤ x → Finds h (has_id i) Nowhere
+      pub id_nowhere : max_sequence ≤ x → Finds h (has_id i) None
       unfolding member_at id_in
       id_nowhere k = finds_nowhere (has_id i) _ (λ y _. refl) s k
 
@@ -288,7 +287,7 @@ module _ (h : HubState) (v : StateOk h) where
             (x * max_commands + get_or h.counts x 0 - x * max_commands) →
             u ≡ any_staged h.device h.stage d in_flight_code highest_stage (x * max_commands)
             (x * max_commands + get_or h.counts x 0 - x * max_commands) →
-            t ≡ true → u ≡ true → Finds h (is_halfway d) (At x)
+            t ≡ true → u ≡ true → Finds h (is_halfway d) (Some x)
         unfolding halfway_in
         halfway_at k n e f p q =
             let z = slot_places x (get_or h.counts x 0) in
@@ -296,7 +295,7 @@ module _ (h : HubState) (v : StateOk h) where
             let c : begun_in h.counts h.device h.stage d x ≡ true = rw z at (sym f ∙ q) in
             finds_at (is_halfway d) _ halfway_is s k (rw (n, c, a))
 
-        pub halfway_nowhere : max_sequence ≤ x → Finds h (is_halfway d) Nowhere
+        pub halfway_nowhere : max_sequence ≤ x → Finds h (is_halfway d) None
         halfway_nowhere k = finds_nowhere (is_halfway d) _ halfway_is s k
 
   -- ---- the wait search, whose long rows are lent

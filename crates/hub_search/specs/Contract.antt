@@ -1,5 +1,5 @@
 -- What the searches promise. Assumes nothing.
-use Rattle.std.specs.Prelude.{◌≡◌, Bool, false, ◌&&◌, ◌||◌, List, map, ℕ, zero, suc, eqb, leb, ltb, get_or, if◌then◌else◌}
+use Rattle.std.specs.Prelude.{◌≡◌, Bool, false, ◌&&◌, ◌||◌, List, map, ℕ, zero, suc, eqb, leb, ltb, get_or, if◌then◌else◌, Option}
 use Rattle.rules_routine.specs.Routine.{must_tag, condition_tag}
 use Rattle.rules_routine.specs.declared.Command.{Command}
 use Rattle.rules.specs.State.{Member}
@@ -10,13 +10,12 @@ use Rattle.hub_sequence.specs.Links.{none, slots_of, StandsOrNone}
 use Rattle.hub_state.specs.View.{in_flight_code, marks_of, member_at, state_of, found_at}
 use Rattle.hub_state.specs.Valid.{PlaceOk}
 use Rattle.hub_state.specs.declared.HubState.{HubState}
-use Rattle.hub_state.specs.declared.Place.{Place}
 
 abbrev pub has_id : ℕ → Member → Bool
 has_id i m = eqb m.id i
 
 -- The first routine of the sequence that passes the test.
-pub record Finds (h : HubState) (p : Member → Bool) (r : Place) : Type 0 where
+pub record Finds (h : HubState) (p : Member → Bool) (r : Option ℕ) : Type 0 where
   pub place_ok : PlaceOk h r
   pub found : found_at h r ≡ find p (state_of h).sequence
 

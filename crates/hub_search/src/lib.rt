@@ -10,12 +10,12 @@ ghost use Rattle.rules.specs.Progress.{begun};
 ghost use Rattle.rules.specs.Turn.{first_holding};
 ghost use Rattle.rules.specs.Events.{is_halfway, must_left};
 ghost use Rattle.hub_sequence.specs.Links.{Stands};
-ghost use Rattle.hub_state.specs.View.{member_at, there, holder_of};
+ghost use Rattle.hub_state.specs.View.{member_at, there};
 ghost use Rattle.hub_state.specs.Valid.{StateOk, CommandsOk};
 ghost use Rattle.hub_search.specs.Contract.{has_id, Finds, any_on, any_staged, counting_tag, any_must, marks_for, Latest};
 
 use hub_sequence::NONE;
-use hub_state::{DONE, Holder, HubState, IN_FLIGHT, Place, SKIPPED, STEPS, TO_DO};
+use hub_state::{DONE, HubState, IN_FLIGHT, SKIPPED, STEPS, TO_DO};
 use rules_routine::Routine;
 use rules_routine::limits::{MAX_COMMANDS, MAX_DEVICES, MAX_SEQUENCE};
 use rules_routine::tags::{CONDITION, MUST};
@@ -24,7 +24,7 @@ use rules_routine::tags::{CONDITION, MUST};
 const HIGHEST_STAGE: u8 = 255;
 
 // The running routine with this id.
-pub fn running(state: HubState, id: u32) -> Place
+pub fn running(state: HubState, id: u32) -> Option<usize>
     requires { StateOk state }
     ensures { Finds state (runs id) result }
 {
@@ -36,16 +36,16 @@ pub fn running(state: HubState, id: u32) -> Place
     while i < MAX_SEQUENCE {
         if ids[i] == id {
             if !committed[i] {
-                return Place::At(i);
+                return Some(i);
             }
         }
         i = behind[i] as usize;
     }
-    Place::Nowhere
+    None
 }
 
 // The routine with this id.
-pub fn with_id(state: HubState, id: u32) -> Place
+pub fn with_id(state: HubState, id: u32) -> Option<usize>
     requires { StateOk state }
     ensures { Finds state (has_id id) result }
 {
@@ -55,11 +55,11 @@ pub fn with_id(state: HubState, id: u32) -> Place
     let mut i = links.first as usize;
     while i < MAX_SEQUENCE {
         if ids[i] == id {
-            return Place::At(i);
+            return Some(i);
         }
         i = behind[i] as usize;
     }
-    Place::Nowhere
+    None
 }
 
 // The wait search, "the first such id in the sequence": through the routines ahead, along the links, and the commands of each. A command
@@ -72,9 +72,9 @@ pub fn first_holder<'a>(
     at: usize,
     wanted: u8,
     condition: bool,
-) -> Holder
+) -> Option<u32>
     requires { (StateOk state) × (Stands state.links at) × (device.now ≡ state.device) × (stage.now ≡ state.stage) }
-    ensures { holder_of result ≡ first_holding wanted condition (there state at).ahead }
+    ensures { result ≡ first_holding wanted condition (there state at).ahead }
 {
     let links = state.links;
     let behind = links.behind;
@@ -83,7 +83,7 @@ pub fn first_holder<'a>(
     let counts = state.counts;
     let answered = state.answered;
     let bound = if condition { SKIPPED } else { DONE };
-    let mut holder = Holder::Nobody;
+    let mut holder = None;
     let mut i = links.first as usize;
     'ahead: while i != at {
         if !committed[i] {
@@ -93,7 +93,7 @@ pub fn first_holder<'a>(
             while k < end {
                 if device[k] == wanted {
                     if stage[k] < bound {
-                        holder = Holder::Routine(ids[i]);
+                        holder = Some(ids[i]);
                         break 'ahead;
                     }
                 }
@@ -150,7 +150,7 @@ pub fn has_begun<'a>(
 }
 
 // "A running routine that has begun D and not finished it"
-pub fn halfway(state: HubState, wanted: u8) -> Place
+pub fn halfway(state: HubState, wanted: u8) -> Option<usize>
     requires { StateOk state }
     ensures { Finds state (is_halfway wanted) result }
 {
@@ -167,13 +167,13 @@ pub fn halfway(state: HubState, wanted: u8) -> Place
             let end = from + (counts[i] as usize);
             if is_staged(&device, &stage, from, end, wanted, TO_DO, IN_FLIGHT) {
                 if is_staged(&device, &stage, from, end, wanted, IN_FLIGHT, HIGHEST_STAGE) {
-                    return Place::At(i);
+                    return Some(i);
                 }
             }
         }
         i = behind[i] as usize;
     }
-    Place::Nowhere
+    None
 }
 
 // The tag that counts for the command at a place of its routine, which ends at `end`: "the condition has the tag of the command after it"

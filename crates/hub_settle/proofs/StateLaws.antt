@@ -22,7 +22,6 @@ use Rattle.hub_state.specs.View.{settings_of, steps_at, restarts_at, member_at, 
 use Rattle.hub_state.specs.Valid.{StateOk}
 use Rattle.hub_state.specs.Unmoved.{InPlace}
 use Rattle.hub_state.specs.declared.HubState.{HubState}
-use Rattle.hub_state.specs.declared.Place.TheVariants.{At, Nowhere}
 use Rattle.hub_state.proofs.Members.{there-it, changed_slot}
 use Rattle.hub_due.proofs.Tables.{set-put}
 use Rattle.hub_search.specs.Contract.{has_id, Finds}
@@ -171,13 +170,13 @@ module _ (h : HubState) (id : ℕ) (e : ℕ → Option ℤ) where
   unfolding state_of members_of member_at steps_at
   attach-settled table z t = ap (with_settled (state_of h)) t ∙ sym (attach_zero id e (state_of h) z)
 
-  pub attach_nowhere : (id ≡ 0 → ⊥) → Finds h (has_id id) Nowhere → state_of h ≡ attach id e (state_of h)
+  pub attach_nowhere : (id ≡ 0 → ⊥) → Finds h (has_id id) None → state_of h ≡ attach id e (state_of h)
   attach_nowhere n f =
       let l = (state_of h).sequence in
       let a : attach_at id e l ≡ l = attach-found id e l ∙ ap (attached_to e l) (sym f.found) in
       sym (attach-routine id e (state_of h) n ∙ ap (with_sequence (state_of h)) a)
 
-  pub attach-at : (row : List ℤ) (x : ℕ) → Attaches h.restarts x e row → (id ≡ 0 → ⊥) → StateOk h → Finds h (has_id id) (At x) →
+  pub attach-at : (row : List ℤ) (x : ℕ) → Attaches h.restarts x e row → (id ≡ 0 → ⊥) → StateOk h → Finds h (has_id id) (Some x) →
       state_of (tables_in h h.links row h.settled_at h.up h.mark) ≡ attach id e (state_of h)
   unfolding state_of
   attach-at row x a n v f =

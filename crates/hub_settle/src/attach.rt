@@ -6,7 +6,7 @@ ghost use Rattle.hub_state.specs.View.{is_restart, state_of};
 ghost use Rattle.hub_state.specs.Valid.{StateOk};
 ghost use Rattle.hub_state.specs.Unmoved.{InPlace};
 
-use hub_state::{HubState, Place};
+use hub_state::HubState;
 use rules_routine::limits::MAX_DEVICES;
 
 // A restart of one device, attached to an id: to 0, the settled part, or to the routine that has it.
@@ -20,8 +20,7 @@ pub fn attach(state: HubState, id: u32, device: u8, setting: i16) -> HubState
         changed.settled_at[d] = setting;
         return changed;
     }
-    let place = hub_search::with_id(state, id);
-    let Place::At(to) = place else {
+    let Some(to) = hub_search::with_id(state, id) else {
         return changed;
     };
     changed.restarts[to * MAX_DEVICES + d] = setting;

@@ -1,4 +1,6 @@
 -- Decisions: for each way out of a call one law, that the decision gives what the rules give. Assumes nothing.
+use Rattle.hub_answers.specs.declared.PutBack.{PutBack}
+use Rattle.std.proofs.Common.{None, Option}
 use mathlib.Core.Path.{◌≡◌, refl, sym, ap, ◌∙◌}
 use mathlib.Core.Bool.{Bool, false}
 use mathlib.Core.List.{List, [], ◌∷◌, ◌++◌}
@@ -20,8 +22,6 @@ use Rattle.hub_answers.specs.declared.Answer.TheVariants.{Refused, Placed, Wait,
 use Rattle.hub_answers.specs.declared.Answer.TheVariants.{Limited}
 use Rattle.hub_answers.specs.declared.Answer.TheVariants.{Held}
 use Rattle.hub_answers.specs.declared.Answer.TheVariants.{NotHeld}
-use Rattle.hub_answers.specs.declared.EventAbort.TheVariants.{NoAbort}
-use Rattle.hub_answers.specs.declared.MaybePutBack.{MaybePutBack}
 use Rattle.hub_state.specs.View.{state_of, there, first_committed}
 use Rattle.hub_state.specs.Contract.{StageOk, JoinOk, staged, committed_at, joined_behind, put_backs_left, plainly, Decides}
 use Rattle.hub_state.specs.declared.HubState.{HubState}
@@ -98,9 +98,9 @@ module _ (h : HubState) (cs : List Command) (result : Result) where
     }
 
   -- a command is skipped, and its device put back or not
-  pub skip_decides : (i : ℕ) (o : MaybePutBack) (c : Staged) → StageOk h c →
+  pub skip_decides : (i : ℕ) (o : Option PutBack) (c : Staged) → StageOk h c →
       settling (record { state = staged h c; answers = skipped i (one_of o) ∷ [] }) ≡ result →
-      Decides h cs (record { first = NoAbort; answer = Skipped i; back = o; change = Stage c }) result
+      Decides h cs (record { first = None; answer = Skipped i; back = o; change = Stage c }) result
   skip_decides i o c ok e = record {
     change_ok = ok;
     gives = e;

@@ -18,10 +18,7 @@ use Rattle.hub_sequence.specs.Links.{none as no_slot, slots_of, Stands, StandsOr
 use Rattle.hub_answers.specs.View.{one_of, event_abort_of, answer_of, put_backs_in, changes_nothing}
 use Rattle.hub_answers.specs.declared.Answer.{Answer}
 use Rattle.hub_answers.specs.declared.Answer.TheVariants.{Aborted, Down, Up}
-use Rattle.hub_answers.specs.declared.EventAbort.{EventAbort}
-use Rattle.hub_answers.specs.declared.EventAbort.TheVariants.{NoAbort}
-use Rattle.hub_answers.specs.declared.MaybePutBack.TheVariants.{Nothing as NoBack}
-use Rattle.hub_state.specs.View.{is_restart, status_of, member_at, state_of, there}
+use Rattle.hub_state.specs.View.{found_at, is_restart, status_of, member_at, state_of, there}
 use Rattle.hub_state.specs.Valid.{CommandsOk, RoomToPass}
 use Rattle.hub_state.specs.declared.HubState.{HubState}
 use Rattle.hub_state.specs.declared.Staged.{Staged}
@@ -67,10 +64,6 @@ joined_behind h cs after = record {
 abbrev pub put_backs_left : State → Found → List Back
 put_backs_left s f = put_backs s f.it (leave s f) 0 s.devices
 
--- The routine that an event finds halfway with its device, by its slot; there is none past the slots.
-abbrev pub halfway_in : HubState → ℕ → Option Found
-halfway_in h x = if ltb x max_sequence then Some (there h x) else None
-
 -- The state that an event of d leaves of it, by its abort or by skips (document 02, item 3); and what its abort puts back.
 abbrev pub stopped_by : ℕ → State → Option Found → State
 stopped_by d s o = (stop_if_any d s o).state
@@ -94,8 +87,8 @@ applied_to h cs (Stage c) = staged h c
 applied_to h cs (Commit x) = committed_at h x
 applied_to h cs (Join after) = joined_behind h cs after
 applied_to h cs (Abort x) = leave (state_of h) (there h x)
-applied_to h cs (Fail d x) = stopped_by d (down_with (state_of h) d) (halfway_in h x)
-applied_to h cs (Restart d v x) = up_with (stopped_by d (state_of h) (halfway_in h x)) d v
+applied_to h cs (Fail d x) = stopped_by d (down_with (state_of h) d) (found_at h x)
+applied_to h cs (Restart d v x) = up_with (stopped_by d (state_of h) (found_at h x)) d v
 
 -- What is put back: by an abort, or what the decision has.
 abbrev pub put_backs_by : HubState → List Back → Change → List Back
@@ -104,14 +97,15 @@ put_backs_by h l (Stage c) = l
 put_backs_by h l (Commit x) = l
 put_backs_by h l (Join after) = l
 put_backs_by h l (Abort x) = put_backs_left (state_of h) (there h x)
-put_backs_by h l (Fail d x) = put_backs_stopped d (down_with (state_of h) d) (halfway_in h x)
-put_backs_by h l (Restart d v x) = put_backs_stopped d (state_of h) (halfway_in h x)
+put_backs_by h l (Fail d x) = put_backs_stopped d (down_with (state_of h) d) (found_at h x)
+put_backs_by h l (Restart d v x) = put_backs_stopped d (state_of h) (found_at h x)
 
 -- ---- what the appliers may rely on
 
--- A slot, or a number past them, for none.
-abbrev pub StandsOrPast : HubState → ℕ → Type 0
-StandsOrPast h x = x < max_sequence → Stands h.links x
+-- The slot of a routine, if there is one.
+abbrev pub StandsIfAny : HubState → Option ℕ → Type 0
+StandsIfAny h None = Unit {0}
+StandsIfAny h (Some x) = Stands h.links x
 
 pub record StageOk (h : HubState) (c : Staged) : Type 0 where
   pub stands : Stands h.links c.at
@@ -133,14 +127,14 @@ ChangeOk h cs (Stage c) = StageOk h c
 ChangeOk h cs (Commit x) = Stands h.links x
 ChangeOk h cs (Join after) = JoinOk h cs after
 ChangeOk h cs (Abort x) = Stands h.links x
-ChangeOk h cs (Fail d x) = (d < max_devices) × StandsOrPast h x
-ChangeOk h cs (Restart d v x) = (d < max_devices) × (is_restart v ≡ true) × StandsOrPast h x
+ChangeOk h cs (Fail d x) = (d < max_devices) × StandsIfAny h x
+ChangeOk h cs (Restart d v x) = (d < max_devices) × (is_restart v ≡ true) × StandsIfAny h x
 
 -- ---- the decision
 
 -- One answer and a change; nothing is put back but by an abort.
 abbrev pub plainly : Answer → Change → Decision
-plainly a c = record { first = NoAbort; answer = a; back = NoBack; change = c }
+plainly a c = record { first = None; answer = a; back = None; change = c }
 
 abbrev pub put_backs_of_decision : HubState → Decision → List Back
 put_backs_of_decision h d = put_backs_by h (one_of d.back) d.change
@@ -162,12 +156,12 @@ abbrev pub result_by : HubState → List Command → Decision → Result
 result_by h cs d = settled_unless_nothing d.change (record { state = applied_to h cs d.change; answers = told_by h d })
 
 -- Only an event tells an abort before its answer; the answer of an abort is the abort, that of an event the event.
-abbrev pub WellTold : EventAbort → Answer → Change → Type 0
-WellTold f a Nothing = f ≡ NoAbort
-WellTold f a (Stage c) = f ≡ NoAbort
-WellTold f a (Commit x) = f ≡ NoAbort
-WellTold f a (Join after) = f ≡ NoAbort
-WellTold f a (Abort x) = (f ≡ NoAbort) × ((i : ℕ) × (a ≡ Aborted i))
+abbrev pub WellTold : Option ℕ → Answer → Change → Type 0
+WellTold f a Nothing = f ≡ None
+WellTold f a (Stage c) = f ≡ None
+WellTold f a (Commit x) = f ≡ None
+WellTold f a (Join after) = f ≡ None
+WellTold f a (Abort x) = (f ≡ None) × ((i : ℕ) × (a ≡ Aborted i))
 WellTold f a (Fail d x) = (i : ℕ) × (a ≡ Down d i)
 WellTold f a (Restart d v x) = (i : ℕ) × (a ≡ Up d i)
 

@@ -1,5 +1,5 @@
 -- Validity of a hub's state: what opening gives and every call keeps. Assumes nothing.
-use Rattle.std.specs.Prelude.{◌≡◌, Bool, true, false, List, [], ◌∷◌, ℕ, zero, suc, ◌<◌, ◌≤◌, get_or}
+use Rattle.std.specs.Prelude.{◌≡◌, Bool, true, false, List, [], ◌∷◌, ℕ, zero, suc, ◌<◌, ◌≤◌, get_or, Option, Some, None}
 use Rattle.rules_routine.specs.Limits.{max_devices, max_commands, highest_id}
 use Rattle.rules_routine.specs.declared.Command.{Command}
 use Rattle.rules.specs.State.{Status, to-do, in_flight, was_done, was_skipped, was_held, was_not_held, Step, Member}
@@ -9,8 +9,6 @@ use Rattle.rules.specs.Tables.{Each}
 use Rattle.hub_sequence.specs.Links.{LinksOk, Stands}
 use Rattle.hub_state.specs.View.{steps_at}
 use Rattle.hub_state.specs.declared.HubState.{HubState}
-use Rattle.hub_state.specs.declared.Place.{Place}
-use Rattle.hub_state.specs.declared.Place.TheVariants.{At, Nowhere}
 
 abbrev pub CommandOk : Command → Type 0
 CommandOk c = c.device < max_devices
@@ -56,9 +54,9 @@ pub record StateOk (h : HubState) : Type 0 where
   pub ids_below : (x : ℕ) → Stands h.links x → get_or h.ids x 0 < h.next_id
   pub ids_differ : (x y : ℕ) → Stands h.links x → Stands h.links y → get_or h.ids x 0 ≡ get_or h.ids y 0 → x ≡ y
 
-abbrev pub PlaceOk : HubState → Place → Type 0
-PlaceOk h (At x) = Stands h.links x
-PlaceOk h Nowhere = Unit {0}
+abbrev pub PlaceOk : HubState → Option ℕ → Type 0
+PlaceOk h (Some x) = Stands h.links x
+PlaceOk h None = Unit {0}
 
 -- A pass count has 8 bits in the code.
 abbrev pub highest_passed : ℕ

@@ -7,10 +7,6 @@ use Rattle.rules.specs.Sequence.{Found}
 use Rattle.hub_sequence.specs.Lists.{up_to, rest}
 use Rattle.hub_sequence.specs.Links.{slots_of}
 use Rattle.hub_state.specs.declared.HubState.{HubState}
-use Rattle.hub_state.specs.declared.Place.{Place}
-use Rattle.hub_state.specs.declared.Place.TheVariants.{At, Nowhere}
-use Rattle.hub_state.specs.declared.Holder.{Holder}
-use Rattle.hub_state.specs.declared.Holder.TheVariants.{Routine, Nobody}
 
 -- ---- rows over devices as tables: what they hold past the end is what a hub just opened has
 
@@ -135,13 +131,9 @@ there h x = record {
 
 -- ---- the cases of the enums
 
-abbrev pub found_at : HubState → Place → Option Found
-found_at h (At x) = Some (there h x)
-found_at h Nowhere = None
-
-abbrev pub holder_of : Holder → Option ℕ
-holder_of (Routine i) = Some i
-holder_of Nobody = None
+abbrev pub found_at : HubState → Option ℕ → Option Found
+found_at h (Some x) = Some (there h x)
+found_at h None = None
 
 -- The first of them is committed.
 abbrev pub first_committed : List Member → Bool

@@ -6,7 +6,7 @@
 pub mod decisions;
 pub mod readers;
 
-use hub_answers::{Answer, EventAbort, MaybePutBack};
+use hub_answers::{Answer, PutBack};
 use hub_sequence::Links;
 use rules_routine::limits::{MAX_COMMANDS, MAX_DEVICES, MAX_SEQUENCE};
 
@@ -73,20 +73,6 @@ pub struct HubState {
     pub mark: [u32; MAX_DEVICES],
 }
 
-// The slot of a routine.
-#[derive(Clone, Copy)]
-pub enum Place {
-    At(usize),
-    Nowhere,
-}
-
-// The first routine ahead that is to be waited for, by its id.
-#[derive(Clone, Copy)]
-pub enum Holder {
-    Routine(u32),
-    Nobody,
-}
-
 // The first command of a routine that is not answered, by its place in the rows.
 #[derive(Clone, Copy)]
 pub enum Unanswered {
@@ -108,8 +94,7 @@ pub struct Staged {
 }
 
 // What a call changes, by slots of the state that it was decided on. `Join` has the slot that the newcomer follows, `Fail` and `Restart`
-// the one of the routine that is halfway with the device, which aborts first or has its commands left there skipped; a number past the
-// slots stands for none.
+// the one of the routine that is halfway with the device, if there is one: it aborts first or has its commands left there skipped.
 #[derive(Clone, Copy)]
 pub enum Change {
     Nothing,
@@ -117,16 +102,16 @@ pub enum Change {
     Commit(usize),
     Join(u8),
     Abort(usize),
-    Fail(u8, usize),
-    Restart(u8, i16, usize),
+    Fail(u8, Option<usize>),
+    Restart(u8, i16, Option<usize>),
 }
 
 // What a call comes to: the abort that comes first, if there is one, the answer, what the answer puts back, and the change. What an abort
 // puts back is known once it is carried out.
 #[derive(Clone, Copy)]
 pub struct Decision {
-    pub first: EventAbort,
+    pub first: Option<u32>,
     pub answer: Answer,
-    pub back: MaybePutBack,
+    pub back: Option<PutBack>,
     pub change: Change,
 }

@@ -3,7 +3,6 @@
 
 ghost use Rattle.std.specs.Prelude.{◌≡◌, map};
 ghost use Rattle.rules_routine.specs.Routine.{commands_of};
-ghost use Rattle.rules_routine.specs.declared.Verdict.TheVariants.{Accepted};
 ghost use Rattle.rules.specs.Sequence.{last_id_or};
 ghost use Rattle.rules.specs.Submit.{submit_check, submit_of};
 ghost use Rattle.hub_sequence.specs.Lists.{ahead_of_place};
@@ -16,27 +15,22 @@ use hub_answers::{Answer, Placed};
 use hub_sequence::NONE;
 use hub_state::{Change, Decision, HubState, decisions};
 use rules_routine::limits::{HIGHEST_ID, MAX_SEQUENCE};
-use rules_routine::refusals::{IDS_USED_UP, SEQUENCE_FULL};
-use rules_routine::{Refusal, Routine, Verdict};
+use rules_routine::{Refusal, Routine};
 
 // "4; then the commands in turn", then 8, 9.
-fn check(state: HubState, routine: Routine) -> Verdict
+fn check(state: HubState, routine: Routine) -> Result<(), Refusal>
     requires { StateOk state }
     ensures { result ≡ submit_check (state_of state) (commands_of routine) }
 {
-    let devices = state.devices;
-    let verdict = rules_routine::check(routine, devices);
-    let Verdict::Accepted = verdict else {
-        return verdict;
-    };
+    rules_routine::check(routine, state.devices)?;
     let links = state.links;
     if MAX_SEQUENCE <= links.taken {
-        return Verdict::Refused(Refusal::Number(SEQUENCE_FULL));
+        return Err(Refusal::SequenceFull);
     }
     if HIGHEST_ID < state.next_id {
-        return Verdict::Refused(Refusal::Number(IDS_USED_UP));
+        return Err(Refusal::IdsUsedUp);
     }
-    Verdict::Accepted
+    Ok(())
 }
 
 // The id of the routine in a slot; 0 for none.
@@ -54,7 +48,7 @@ fn id_in(state: HubState, slot: u8) -> u32
 
 // "Place the routine directly after the latest": its id and the id it follows.
 fn place(state: HubState, routine: Routine) -> Decision
-    requires { (StateOk state) × (submit_check (state_of state) (commands_of routine) ≡ Accepted) }
+    requires { (StateOk state) × (submit_check (state_of state) (commands_of routine) ≡ Ok tt) }
     ensures { Decides state (commands_of routine) result (submit_of (state_of state) (commands_of routine)) }
 {
     let latest = hub_search::latest(state, routine);
@@ -71,9 +65,8 @@ pub fn decide(state: HubState, routine: Routine) -> Decision
     requires { StateOk state }
     ensures { Decides state (commands_of routine) result (submit_of (state_of state) (commands_of routine)) }
 {
-    let verdict = check(state, routine);
-    let Verdict::Refused(refusal) = verdict else {
-        return place(state, routine);
-    };
-    decisions::turned_down(refusal)
+    match check(state, routine) {
+        Ok(()) => place(state, routine),
+        Err(refusal) => decisions::refused(refusal),
+    }
 }

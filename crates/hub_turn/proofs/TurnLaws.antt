@@ -1,6 +1,6 @@
 -- Laws that the proofs of this crate cite. Assumes nothing.
 use Rattle.rules_routine.specs.Refusals.{numbered}
-use Rattle.std.proofs.Common.{Option, None}
+use Rattle.std.proofs.Common.{Option, None, Some}
 use mathlib.Core.Path.{◌≡◌, refl, sym, ap, ◌∙◌, subst}
 use mathlib.Core.Logic.{◌≢◌}
 use mathlib.Core.Bool.{Bool, true, false, cond, not, ◌&&◌, and-false}
@@ -35,10 +35,6 @@ use Rattle.hub_state.specs.Valid.{StateOk}
 use Rattle.hub_state.specs.Unanswered.{answered_at, due_then_at, command_at, skips_after, AllAnswered, NextToDo, NextInFlight}
 use Rattle.hub_state.specs.Contract.{set_status, staged, committed_at, StageOk, plainly, Decides}
 use Rattle.hub_state.specs.declared.HubState.{HubState}
-use Rattle.hub_state.specs.declared.Place.{Place}
-use Rattle.hub_state.specs.declared.Place.TheVariants.{At, Nowhere}
-use Rattle.hub_state.specs.declared.Holder.{Holder}
-use Rattle.hub_state.specs.declared.Holder.TheVariants.{Routine, Nobody}
 use Rattle.hub_state.specs.declared.Staged.{Staged}
 use Rattle.hub_state.specs.declared.Change.{Change}
 use Rattle.hub_state.specs.declared.Change.TheVariants.{Nothing, Stage, Commit, Abort}
@@ -208,26 +204,26 @@ module _ (h : HubState) (x k : ℕ) (s : Stands h.links x) (o : NextToDo h x k) 
 
   -- ---- the wait search: wait, or go on
 
-  module _ (d : ℕ) (p : d ≡ (command_at h k).device) (condition : Bool) (a : condition ≡ is_condition (command_at h k)) (w : Holder)
+  module _ (d : ℕ) (p : d ≡ (command_at h k).device) (condition : Bool) (a : condition ≡ is_condition (command_at h k)) (w : Option ℕ)
       (e : holder_of w ≡ first_holding d condition (there h x).ahead) where
-    holder_tells : (o : Holder) → w ≡ o →
+    holder_tells : (o : Option ℕ) → w ≡ o →
         wait_or (state_of h) (there h x) (command_at h k) (holder_of o) ≡ turn_next (state_of h) (there h x) (next (steps_at h x))
     holder_tells v q =
         ap (wait_or (state_of h) (there h x) (command_at h k))
         (sym (ap holder_of q) ∙ e ∙ (λ j. first_holding (p j) (a j) (there h x).ahead))
         ∙ ap (turn_next (state_of h) (there h x)) (sym o.next_is)
 
-    pub goes_on : (y : Decision) → w ≡ Nobody → Decides h [] y (proceed (state_of h) (there h x) (command_at h k)) →
+    pub goes_on : (y : Decision) → w ≡ None → Decides h [] y (proceed (state_of h) (there h x) (command_at h k)) →
         Decides h [] y (turn_next (state_of h) (there h x) (next (steps_at h x)))
-    goes_on y q = subst (Decides h [] y) (holder_tells Nobody q)
+    goes_on y q = subst (Decides h [] y) (holder_tells None q)
 
     -- "the answer is wait, with the first such id in the sequence, and no change"
-    pub waits : (i j : ℕ) (y : Decision) → i ≡ (member_at h x).id → w ≡ Routine j → y ≡ plainly (Wait i j) Nothing →
+    pub waits : (i j : ℕ) (y : Decision) → i ≡ (member_at h x).id → w ≡ Some j → y ≡ plainly (Wait i j) Nothing →
         Decides h [] y (turn_next (state_of h) (there h x) (next (steps_at h x)))
     waits i j y r q z =
         let n = id-there h x i r in
         subst (λ (f : Decision). Decides h [] f (turn_next (state_of h) (there h x) (next (steps_at h x)))) (sym z)
-        (wait-decides h [] _ i j ((λ a. record { state = state_of h; answers = wait (n a) j ∷ [] }) ∙ holder_tells (Routine j) q))
+        (wait-decides h [] _ i j ((λ a. record { state = state_of h; answers = wait (n a) j ∷ [] }) ∙ holder_tells (Some j) q))
 
 -- ---- does the condition before the next command skip it?
 
@@ -340,20 +336,20 @@ module _ (s : State) (f : Found) (c : Command) where
 
 -- ---- the ways of a turn
 
-module _ (h : HubState) (i : ℕ) (p : Place) (f : Finds h (runs i) p) (y : Decision) where
+module _ (h : HubState) (i : ℕ) (p : Option ℕ) (f : Finds h (runs i) p) (y : Decision) where
   -- 10: no running routine has this id
-  pub turn_nowhere : p ≡ Nowhere → y ≡ plainly (Refused (numbered 10)) Nothing → Decides h [] y (turn_of (state_of h) i)
+  pub turn_nowhere : p ≡ None → y ≡ plainly (Refused (numbered 10)) Nothing → Decides h [] y (turn_of (state_of h) i)
  unfolding turn_of
   turn_nowhere e z =
       subst (λ (d : Decision). Decides h [] d (turn_of (state_of h) i)) (sym z)
-      (refused-decides h [] _ (numbered 10) (sym (ap (turn_found (state_of h)) (found_as h (runs i) p f Nowhere e))))
+      (refused-decides h [] _ (numbered 10) (sym (ap (turn_found (state_of h)) (found_as h (runs i) p f None e))))
 
-  module _ (x : ℕ) (e : p ≡ At x) where
+  module _ (x : ℕ) (e : p ≡ Some x) where
     -- the command in flight decides
     turn_at : (o : Option Flight) → flight (steps_at h x) ≡ o → turn_flight (state_of h) (there h x) o ≡ turn_of (state_of h) i
     unfolding turn_of
     turn_at o q =
-        sym (ap (turn_found (state_of h)) (found_as h (runs i) p f (At x) e)
+        sym (ap (turn_found (state_of h)) (found_as h (runs i) p f (Some x) e)
         ∙ ap (turn_flight (state_of h) (there h x)) (ap flight (steps-there h x) ∙ q))
 
     -- 11: turn with a command in flight

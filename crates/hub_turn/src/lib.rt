@@ -15,12 +15,11 @@ ghost use Rattle.hub_turn.specs.Contract.{skipped_at};
 
 use hub_answers::{Answer, Sent};
 use hub_state::{
-    Change, DONE, Decision, HELD, Holder, HubState, IN_FLIGHT, NOT_HELD, Place, SKIPPED, STEPS,
-    Staged, Unanswered, decisions, readers,
+    Change, DONE, Decision, HELD, HubState, IN_FLIGHT, NOT_HELD, SKIPPED, STEPS, Staged, Unanswered,
+    decisions, readers,
 };
-use rules_routine::Command;
+use rules_routine::{Command, Refusal};
 use rules_routine::limits::MAX_COMMANDS;
-use rules_routine::refusals::{NOT_RUNNING, TURN_IN_FLIGHT};
 use rules_routine::tags::{CONDITION, MUST};
 
 // The next command comes to a stage.
@@ -145,11 +144,10 @@ fn next_turn<'a>(
     ensures { Decides state [] result (turn_next (state_of state) (there state at) (next (steps_at state at))) }
 {
     let condition = tag[k] == CONDITION;
-    let holder = hub_search::first_holder(state, device, stage, at, device[k], condition);
-    let Holder::Routine(other) = holder else {
-        return go_on(state, device, tag, stage, at, k, id);
-    };
-    decisions::plain(Answer::Wait(id, other), Change::Nothing)
+    match hub_search::first_holder(state, device, stage, at, device[k], condition) {
+        None => go_on(state, device, tag, stage, at, k, id),
+        Some(other) => decisions::plain(Answer::Wait(id, other), Change::Nothing),
+    }
 }
 
 // What a turn comes to. "Turn: 10, 11."
@@ -157,16 +155,15 @@ pub fn decide(state: HubState, id: u32) -> Decision
     requires { StateOk state }
     ensures { Decides state [] result (turn_of (state_of state) id) }
 {
-    let place = hub_search::running(state, id);
-    let Place::At(at) = place else {
-        return decisions::refused(NOT_RUNNING);
+    let Some(at) = hub_search::running(state, id) else {
+        return decisions::refused(Refusal::NotRunning);
     };
     let stage = state.stage;
     let tag = state.tag;
     let open = readers::unanswered_at(state, &stage, at);
     match open {
         Unanswered::Nothing => decisions::plain(Answer::Committed(id), Change::Commit(at)),
-        Unanswered::InFlight(_) => decisions::refused(TURN_IN_FLIGHT),
+        Unanswered::InFlight(_) => decisions::refused(Refusal::TurnInFlight),
         Unanswered::ToDo(k) => {
             let device = state.device;
             next_turn(state, &device, &tag, &stage, at, k, id)

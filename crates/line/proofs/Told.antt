@@ -1,4 +1,5 @@
 -- What a line prints: the answers of a call, one behind another, as its decision tells them. Assumes nothing.
+use Rattle.std.proofs.Common.{Option, None, Some}
 use mathlib.Core.Path.{◌≡◌, refl, sym, ap, ◌∙◌, subst}
 use mathlib.Core.Bool.{true, false}
 use mathlib.Core.List.{List, [], ◌∷◌, ◌++◌}
@@ -11,8 +12,6 @@ use Rattle.hub_answers.specs.declared.Answer.{Answer}
 use Rattle.hub_answers.specs.declared.Answer.TheVariants.{Refused, Placed, Wait, Sent, Done, Skipped, Committed, Aborted, Down, Up}
 use Rattle.hub_answers.specs.declared.Answer.TheVariants.{Limited}
 use Rattle.hub_answers.specs.declared.Answer.TheVariants.{Held, NotHeld}
-use Rattle.hub_answers.specs.declared.EventAbort.{EventAbort}
-use Rattle.hub_answers.specs.declared.EventAbort.TheVariants.{NoAbort, Abort as AbortFirst}
 use Rattle.hub_answers.specs.declared.PutBacks.{PutBacks}
 use Rattle.hub_state.specs.Contract.{put_backs_by, put_backs_of_decision, told_by, WellTold}
 use Rattle.hub_state.specs.declared.HubState.{HubState}
@@ -26,65 +25,65 @@ use Rattle.line_print.proofs.PutLaws.{within, as_text, answers_one}
 use Rattle.line.specs.Contract.{is_abort}
 
 -- an answer that is no abort
-pub no_abort : (a : Answer) {f : EventAbort} → f ≡ NoAbort → ((i : ℕ) → a ≡ Aborted i → ⊥) → is_abort f a ≡ false
-no_abort (Refused x) e h = ap (λ (f : EventAbort). is_abort f (Refused x)) e
-no_abort (Placed x) e h = ap (λ (f : EventAbort). is_abort f (Placed x)) e
-no_abort (Wait i j) e h = ap (λ (f : EventAbort). is_abort f (Wait i j)) e
-no_abort (Sent x) e h = ap (λ (f : EventAbort). is_abort f (Sent x)) e
-no_abort (Done i) e h = ap (λ (f : EventAbort). is_abort f (Done i)) e
-no_abort (Skipped i) e h = ap (λ (f : EventAbort). is_abort f (Skipped i)) e
-no_abort (Committed i) e h = ap (λ (f : EventAbort). is_abort f (Committed i)) e
+pub no_abort : (a : Answer) {f : (Option ℕ)} → f ≡ None → ((i : ℕ) → a ≡ Aborted i → ⊥) → is_abort f a ≡ false
+no_abort (Refused x) e h = ap (λ (f : Option ℕ). is_abort f (Refused x)) e
+no_abort (Placed x) e h = ap (λ (f : Option ℕ). is_abort f (Placed x)) e
+no_abort (Wait i j) e h = ap (λ (f : Option ℕ). is_abort f (Wait i j)) e
+no_abort (Sent x) e h = ap (λ (f : Option ℕ). is_abort f (Sent x)) e
+no_abort (Done i) e h = ap (λ (f : Option ℕ). is_abort f (Done i)) e
+no_abort (Skipped i) e h = ap (λ (f : Option ℕ). is_abort f (Skipped i)) e
+no_abort (Committed i) e h = ap (λ (f : Option ℕ). is_abort f (Committed i)) e
 no_abort (Aborted i) e h = absurd (h i refl)
-no_abort (Down d i) e h = ap (λ (f : EventAbort). is_abort f (Down d i)) e
-no_abort (Up d i) e h = ap (λ (f : EventAbort). is_abort f (Up d i)) e
-no_abort (Limited k) e h = ap (λ (f : EventAbort). is_abort f (Limited k)) e
-no_abort (Held i) e h = ap (λ (f : EventAbort). is_abort f (Held i)) e
-no_abort (NotHeld i) e h = ap (λ (f : EventAbort). is_abort f (NotHeld i)) e
+no_abort (Down d i) e h = ap (λ (f : Option ℕ). is_abort f (Down d i)) e
+no_abort (Up d i) e h = ap (λ (f : Option ℕ). is_abort f (Up d i)) e
+no_abort (Limited k) e h = ap (λ (f : Option ℕ). is_abort f (Limited k)) e
+no_abort (Held i) e h = ap (λ (f : Option ℕ). is_abort f (Held i)) e
+no_abort (NotHeld i) e h = ap (λ (f : Option ℕ). is_abort f (NotHeld i)) e
 
 -- ---- the answers of a decision
 
 -- where a routine aborts, what is put back stands beside that alone
-once_plain : (f : EventAbort) (a : Answer) (l : List Back) → f ≡ NoAbort → is_abort f a ≡ true → PutBacksOnce f a l
-once_plain (AbortFirst i) a l e t = let z : ◌≡◌ {A = ℕ} 0 1 = cc in absurd (omega arith)
-once_plain NoAbort (Refused x) l e t = t≠f (sym t)
-once_plain NoAbort (Placed x) l e t = t≠f (sym t)
-once_plain NoAbort (Wait i j) l e t = t≠f (sym t)
-once_plain NoAbort (Sent x) l e t = t≠f (sym t)
-once_plain NoAbort (Done i) l e t = t≠f (sym t)
-once_plain NoAbort (Skipped i) l e t = t≠f (sym t)
-once_plain NoAbort (Committed i) l e t = t≠f (sym t)
-once_plain NoAbort (Aborted i) l e t = (i, refl)
-once_plain NoAbort (Down d i) l e t = t≠f (sym t)
-once_plain NoAbort (Up d i) l e t = t≠f (sym t)
-once_plain NoAbort (Limited k) l e t = t≠f (sym t)
-once_plain NoAbort (Held i) l e t = t≠f (sym t)
-once_plain NoAbort (NotHeld i) l e t = t≠f (sym t)
+once_plain : (f : Option ℕ) (a : Answer) (l : List Back) → f ≡ None → is_abort f a ≡ true → PutBacksOnce f a l
+once_plain (Some i) a l e t = let z : ◌≡◌ {A = ℕ} 0 1 = cc in absurd (omega arith)
+once_plain None (Refused x) l e t = t≠f (sym t)
+once_plain None (Placed x) l e t = t≠f (sym t)
+once_plain None (Wait i j) l e t = t≠f (sym t)
+once_plain None (Sent x) l e t = t≠f (sym t)
+once_plain None (Done i) l e t = t≠f (sym t)
+once_plain None (Skipped i) l e t = t≠f (sym t)
+once_plain None (Committed i) l e t = t≠f (sym t)
+once_plain None (Aborted i) l e t = (i, refl)
+once_plain None (Down d i) l e t = t≠f (sym t)
+once_plain None (Up d i) l e t = t≠f (sym t)
+once_plain None (Limited k) l e t = t≠f (sym t)
+once_plain None (Held i) l e t = t≠f (sym t)
+once_plain None (NotHeld i) l e t = t≠f (sym t)
 
 -- the answer of an event puts nothing back
-once-event : (f : EventAbort) (a : Answer) (l : List Back) → is_abort NoAbort a ≡ false → answer_of a [] ≡ answer_of a l → is_abort f a ≡ true →
+once-event : (f : Option ℕ) (a : Answer) (l : List Back) → is_abort None a ≡ false → answer_of a [] ≡ answer_of a l → is_abort f a ≡ true →
     PutBacksOnce f a l
-once-event NoAbort a l n e t = t≠f (sym t ∙ n)
-once-event (AbortFirst i) a l n e t = e
+once-event None a l n e t = t≠f (sym t ∙ n)
+once-event (Some i) a l n e t = e
 
 no_put_backs : {a : Answer} (x : Answer) (l m : List Back) → a ≡ x → answer_of x l ≡ answer_of x m → answer_of a l ≡ answer_of a m
 no_put_backs x l m e k = subst (λ (y : Answer). answer_of y l ≡ answer_of y m) (sym e) k
 
-pub backs_once : (f : EventAbort) (a : Answer) (c : Change) (l : List Back) → WellTold f a c → is_abort f a ≡ true → PutBacksOnce f a l
+pub backs_once : (f : Option ℕ) (a : Answer) (c : Change) (l : List Back) → WellTold f a c → is_abort f a ≡ true → PutBacksOnce f a l
 backs_once f a Nothing l w t = once_plain f a l w t
 backs_once f a (Stage c) l w t = once_plain f a l w t
 backs_once f a (Commit x) l w t = once_plain f a l w t
 backs_once f a (Join after) l w t = once_plain f a l w t
 backs_once f a (Abort x) l w t = once_plain f a l w.0 t
-backs_once f a (Fail d x) l w t = once-event f a l (ap (is_abort NoAbort) w.1) (no_put_backs (Down d w.0) [] l w.1 refl) t
-backs_once f a (Restart d v x) l w t = once-event f a l (ap (is_abort NoAbort) w.1) (no_put_backs (Up d w.0) [] l w.1 refl) t
+backs_once f a (Fail d x) l w t = once-event f a l (ap (is_abort None) w.1) (no_put_backs (Down d w.0) [] l w.1 refl) t
+backs_once f a (Restart d v x) l w t = once-event f a l (ap (is_abort None) w.1) (no_put_backs (Up d w.0) [] l w.1 refl) t
 
 -- no abort: one answer, with what the decision has
-told_plain : (f : EventAbort) (a : Answer) (l m : List Back) → is_abort f a ≡ false → answer_of a m ≡ answer_of a l →
+told_plain : (f : Option ℕ) (a : Answer) (l m : List Back) → is_abort f a ≡ false → answer_of a m ≡ answer_of a l →
     event_abort_of f m ++ (answer_of a m ∷ []) ≡ answer_of a l ∷ []
-told_plain NoAbort a l m t e = ap (λ (x : Said). x ∷ []) e
-told_plain (AbortFirst i) a l m t e = t≠f t
+told_plain None a l m t e = ap (λ (x : Said). x ∷ []) e
+told_plain (Some i) a l m t e = t≠f t
 
-told-one : (h : HubState) (f : EventAbort) (a : Answer) (c : Change) (l : List Back) → WellTold f a c → is_abort f a ≡ false →
+told-one : (h : HubState) (f : Option ℕ) (a : Answer) (c : Change) (l : List Back) → WellTold f a c → is_abort f a ≡ false →
     event_abort_of f (put_backs_by h l c) ++ (answer_of a (put_backs_by h l c) ∷ []) ≡ answer_of a l ∷ []
 told-one h f a Nothing l w t = told_plain f a l l t refl
 told-one h f a (Stage c) l w t = told_plain f a l l t refl

@@ -1,12 +1,10 @@
 -- The contracts of the line program's calls. Assumes nothing.
 use Rattle.rules_routine.specs.Refusals.{Verdict}
-use Rattle.std.specs.Prelude.{◌≡◌, Bool, true, false, List, ℕ, suc, ◌+◌, ◌-◌, ◌*◌, ◌<◌, ◌≤◌, ℤ, length, take, drop, None, Ok, Err}
+use Rattle.std.specs.Prelude.{◌≡◌, Bool, true, false, List, ℕ, suc, ◌+◌, ◌-◌, ◌*◌, ◌<◌, ◌≤◌, ℤ, length, take, drop, None, Ok, Err, Option, Some}
 use Rattle.hub_answers.specs.declared.Answer.{Answer}
 use Rattle.hub_answers.specs.declared.Answer.TheVariants.{Refused, Placed, Wait, Sent, Done, Skipped, Committed, Aborted, Down, Up}
 use Rattle.hub_answers.specs.declared.Answer.TheVariants.{Limited}
 use Rattle.hub_answers.specs.declared.Answer.TheVariants.{Held, NotHeld}
-use Rattle.hub_answers.specs.declared.EventAbort.{EventAbort}
-use Rattle.hub_answers.specs.declared.EventAbort.TheVariants.{NoAbort, Abort}
 use Rattle.line_rules.specs.Text.{line_end}
 use Rattle.line_rules.specs.Pieces.{reach, lines_of}
 use Rattle.line_rules.specs.Reading.{read_line}
@@ -78,18 +76,18 @@ is_accepted (Ok tt) = true
 is_accepted (Err r) = false
 
 -- Does a routine abort by this call: before its answer, or by the call itself?
-abbrev pub is_abort : EventAbort → Answer → Bool
-is_abort (Abort i) a = true
-is_abort NoAbort (Refused r) = false
-is_abort NoAbort (Placed p) = false
-is_abort NoAbort (Wait i j) = false
-is_abort NoAbort (Sent x) = false
-is_abort NoAbort (Done i) = false
-is_abort NoAbort (Skipped i) = false
-is_abort NoAbort (Committed i) = false
-is_abort NoAbort (Aborted i) = true
-is_abort NoAbort (Down d i) = false
-is_abort NoAbort (Up d i) = false
-is_abort NoAbort (Limited k) = false
-is_abort NoAbort (Held i) = false
-is_abort NoAbort (NotHeld i) = false
+abbrev pub is_abort : Option ℕ → Answer → Bool
+is_abort (Some i) a = true
+is_abort None (Refused r) = false
+is_abort None (Placed p) = false
+is_abort None (Wait i j) = false
+is_abort None (Sent x) = false
+is_abort None (Done i) = false
+is_abort None (Skipped i) = false
+is_abort None (Committed i) = false
+is_abort None (Aborted i) = true
+is_abort None (Down d i) = false
+is_abort None (Up d i) = false
+is_abort None (Limited k) = false
+is_abort None (Held i) = false
+is_abort None (NotHeld i) = false

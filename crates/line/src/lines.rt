@@ -15,24 +15,21 @@ ghost use Rattle.line.specs.View.{hub_in, heard_of, call_in, FitsCall};
 ghost use Rattle.line.specs.Contract.{ReadsNext, is_accepted, is_abort};
 
 use hub::Hub;
-use hub_answers::{Answer, EventAbort};
+use hub_answers::Answer;
 use hub_state::Decision;
 use line_print::Devices;
 use line_read::{Call, Line};
 use rules_routine::limits::MAX_DEVICES;
-use rules_routine::{Routine, Verdict};
+use rules_routine::Routine;
 
 // A call before an accepted `O` is not read: there is no hub, that is, one of no devices.
 pub fn heard(line: Line, devices: u8) -> Line
     ensures { result ≡ heard_of line devices }
 {
-    if devices == 0 {
-        let Line::Calling(_) = line else {
-            return line;
-        };
-        return Line::Unread;
+    match line {
+        Line::Calling(_) if devices == 0 => Line::Unread,
+        _ => line,
     }
-    line
 }
 
 // What the call that a line makes comes to.
@@ -89,29 +86,11 @@ pub fn next_line(input: &[u8], from: usize, devices: u8) -> NextLine
     NextLine { said, routine, end }
 }
 
-// Is this opening accepted?
-pub fn is_accepted(verdict: Verdict) -> bool
-    ensures { result ≡ is_accepted verdict }
-{
-    let Verdict::Accepted = verdict else {
-        return false;
-    };
-    true
-}
-
 // Is this the decision of an abort, or of an event that brings one?
 fn aborts(decision: Decision) -> bool
     ensures { result ≡ is_abort decision.first decision.answer }
 {
-    let first = decision.first;
-    let EventAbort::NoAbort = first else {
-        return true;
-    };
-    let answer = decision.answer;
-    let Answer::Aborted(_) = answer else {
-        return false;
-    };
-    true
+    decision.first.is_some() || matches!(decision.answer, Answer::Aborted(_))
 }
 
 // The answers of a call.

@@ -48,7 +48,7 @@ pub fn run_lines(hub: Hub, input: &[u8], out: &mut [u8], room: usize) -> Lines
             Line::Open(devices, pass_limit, first_id) => {
                 let verdict = hub::check_opening(devices, pass_limit, first_id);
                 printed = line_print::put_opening(&mut text, 0, verdict);
-                if lines::is_accepted(verdict) {
+                if verdict.is_ok() {
                     let opened = hub::open(devices, pass_limit, first_id);
                     now = opened.hub;
                 }

@@ -1,4 +1,5 @@
 -- Texts put one behind another, and the texts of answers. Assumes nothing.
+use Rattle.std.proofs.Common.{Option, None, Some}
 use mathlib.Core.Path.{◌≡◌, refl, sym, ap, ap₂, ◌∙◌, subst}
 use mathlib.Core.Bool.{true, false}
 use mathlib.Core.List.{List, [], ◌∷◌, ◌++◌, append-nil, append_assoc, map, map-append}
@@ -20,8 +21,6 @@ use Rattle.rules.specs.Answers.{Back, Answer as Said, aborted}
 use Rattle.hub_answers.specs.View.{back_of, put_backs_of, answer_of, answers_of}
 use Rattle.hub_answers.specs.declared.Answer.{Answer}
 use Rattle.hub_answers.specs.declared.Answer.TheVariants.{Aborted}
-use Rattle.hub_answers.specs.declared.EventAbort.{EventAbort}
-use Rattle.hub_answers.specs.declared.EventAbort.TheVariants.{NoAbort, Abort}
 use Rattle.hub_answers.specs.declared.PutBack.{PutBack}
 use Rattle.hub_answers.specs.declared.PutBacks.{PutBacks}
 use Rattle.line_rules.specs.Text.{minus, bytes, decimal, signed}
@@ -131,16 +130,16 @@ answers-append (a ∷ k) l =
 -- ---- the answers of an abort
 
 -- there is one
-pub put_neither : {first : EventAbort} (answer : Answer) (backs : PutBacks) {P : Type 0} → first ≡ NoAbort →
+pub put_neither : {first : (Option ℕ)} (answer : Answer) (backs : PutBacks) {P : Type 0} → first ≡ None →
     PutBacksOnce first answer (put_backs_of backs) →
     ((i : ℕ) → answer ≡ Aborted i → ⊥) → P
 put_neither answer backs e k h =
-    let own = subst (λ (f : EventAbort). PutBacksOnce f answer (put_backs_of backs)) e k in
+    let own = subst (λ (f : Option ℕ). PutBacksOnce f answer (put_backs_of backs)) e k in
     absurd (h own.0 own.1)
 
-module _ {first : EventAbort} (answer : Answer) (backs : PutBacks) {a b : List ℕ} {at m : ℕ} where
+module _ {first : (Option ℕ)} (answer : Answer) (backs : PutBacks) {a b : List ℕ} {at m : ℕ} where
   -- the call's own
-  pub put_own : (i : ℕ) → first ≡ NoAbort → answer ≡ Aborted i →
+  pub put_own : (i : ℕ) → first ≡ None → answer ≡ Aborted i →
       PutShort half_text a b at m (as_line (answer_text (aborted i (put_backs_of backs)))) →
       PutShort max_text a b at m (answers_text (answers_of first answer backs))
   put_own i e k p =
@@ -149,16 +148,16 @@ module _ {first : EventAbort} (answer : Answer) (backs : PutBacks) {a b : List �
       (within (omega arith) p)
 
   -- one before the answer
-  pub put_both : {c : List ℕ} {end : ℕ} (i : ℕ) → first ≡ Abort i → PutBacksOnce first answer (put_backs_of backs) →
+  pub put_both : {c : List ℕ} {end : ℕ} (i : ℕ) → first ≡ Some i → PutBacksOnce first answer (put_backs_of backs) →
       PutShort half_text a b at m (as_line (answer_text (aborted i (put_backs_of backs)))) →
       PutShort half_text b c m end (as_line (answer_text (answer_of answer []))) →
       PutShort max_text a c at end (answers_text (answers_of first answer backs))
   put_both i e k p q =
       let l = put_backs_of backs in
-      let once = subst (λ (f : EventAbort). PutBacksOnce f answer l) e k in
+      let once = subst (λ (f : Option ℕ). PutBacksOnce f answer l) e k in
       as_text
       (sym
-      (ap (λ (f : EventAbort). answers_text (answers_of f answer backs)) e
+      (ap (λ (f : Option ℕ). answers_text (answers_of f answer backs)) e
       ∙ answers-append (aborted i l ∷ []) (answer_of answer l ∷ [])
       ∙ (λ j. answers_one (aborted i l) j ++ answers_one (sym once j) j)))
       (short_then p q)

@@ -15,9 +15,9 @@ ghost use Rattle.hub_answers.specs.View.{put_backs_of, one_of, answer_of, answer
 ghost use Rattle.line_print.specs.Put.{half_text, max_text, max_device_line, max_end, Put, PutShort};
 ghost use Rattle.line_print.specs.Texts.{opening_text, PutBacksOnce, devices_text};
 
-use hub_answers::{Answer, EventAbort, MaybePutBack, PutBacks};
+use hub_answers::{Answer, PutBack, PutBacks};
 use rules_routine::limits::MAX_DEVICES;
-use rules_routine::{Refusal, Verdict};
+use rules_routine::Refusal;
 
 // The answers of a line are not longer: the size of the buffer that they are put into.
 pub const MAX_TEXT: usize = 800;
@@ -50,13 +50,13 @@ fn put_refusal(out: &mut [u8], at: usize, refusal: Refusal) -> usize
 }
 
 // What an opening prints.
-pub fn put_opening(out: &mut [u8], at: usize, verdict: Verdict) -> usize
+pub fn put_opening(out: &mut [u8], at: usize, verdict: Result<(), Refusal>) -> usize
     requires { at + max_text ≤ length out.old }
     ensures { PutShort max_text out.old out.new at result (opening_text verdict) }
 {
     match verdict {
-        Verdict::Accepted => put_opened(out, at),
-        Verdict::Refused(refusal) => put_refusal(out, at, refusal),
+        Ok(()) => put_opened(out, at),
+        Err(refusal) => put_refusal(out, at, refusal),
     }
 }
 
@@ -70,7 +70,7 @@ fn put_abort(out: &mut [u8], at: usize, id: u32, backs: PutBacks) -> usize
 }
 
 // An answer that puts back one setting at most, on a line.
-pub fn put_answer(out: &mut [u8], at: usize, answer: Answer, back: MaybePutBack) -> usize
+pub fn put_answer(out: &mut [u8], at: usize, answer: Answer, back: Option<PutBack>) -> usize
     requires { at + half_text ≤ length out.old }
     ensures { PutShort half_text out.old out.new at result (as_line (answer_text (answer_of answer (one_of back)))) }
 {
@@ -82,21 +82,21 @@ pub fn put_answer(out: &mut [u8], at: usize, answer: Answer, back: MaybePutBack)
 pub fn put_aborts(
     out: &mut [u8],
     at: usize,
-    first: EventAbort,
+    first: Option<u32>,
     answer: Answer,
     backs: PutBacks,
 ) -> usize
     requires { (at + max_text ≤ length out.old) × (PutBacksOk backs) × (PutBacksOnce first answer (put_backs_of backs)) }
     ensures { PutShort max_text out.old out.new at result (answers_text (answers_of first answer backs)) }
 {
-    let EventAbort::Abort(id) = first else {
-        let Answer::Aborted(own) = answer else {
-            return put_answer(out, at, answer, MaybePutBack::Nothing);
-        };
-        return put_abort(out, at, own, backs);
-    };
-    let behind = put_abort(out, at, id, backs);
-    put_answer(out, behind, answer, MaybePutBack::Nothing)
+    if let Some(id) = first {
+        let behind = put_abort(out, at, id, backs);
+        return put_answer(out, behind, answer, None);
+    }
+    match answer {
+        Answer::Aborted(id) => put_abort(out, at, id, backs),
+        _ => put_answer(out, at, answer, None),
+    }
 }
 
 // "one line a device, with its due setting if it is up"

@@ -6,7 +6,7 @@ ghost use Rattle.hub_answers.specs.View.{back_of, put_backs_of, one_of, answer_o
 ghost use Rattle.line_print.specs.Put.{max_put_back, max_put_backs, ahead, max_answer, half_text, PutShort};
 
 use crate::text::{put_one, put_setting, put_two, put_word};
-use hub_answers::{Answer, MaybePutBack, PutBack, PutBacks, Sent};
+use hub_answers::{Answer, PutBack, PutBacks, Sent};
 use rules_routine::Refusal;
 
 // The word, the number, and the index if there is one; no line's end.
@@ -14,16 +14,10 @@ pub fn put_refused(out: &mut [u8], at: usize, refusal: Refusal) -> usize
     requires { at + half_text ≤ length out.old }
     ensures { PutShort max_answer out.old out.new at result (refusal_text refusal) }
 {
-    match refusal {
-        Refusal::Number(number) => put_one(out, at, b"refused ", number as u64),
-        Refusal::Indexed(number, index) => put_two(
-            out,
-            at,
-            b"refused ",
-            number as u64,
-            b" ",
-            index as u64,
-        ),
+    let number = refusal.number() as u64;
+    match refusal.index() {
+        None => put_one(out, at, b"refused ", number),
+        Some(index) => put_two(out, at, b"refused ", number, b" ", index as u64),
     }
 }
 
@@ -64,13 +58,13 @@ fn put_one_back(out: &mut [u8], at: usize, back: PutBack) -> usize
 }
 
 // The same of no device or one.
-fn put_at_most_one(out: &mut [u8], at: usize, back: MaybePutBack) -> usize
+fn put_at_most_one(out: &mut [u8], at: usize, back: Option<PutBack>) -> usize
     requires { at + max_put_backs + ahead ≤ length out.old }
     ensures { PutShort max_put_backs out.old out.new at result (back_text (one_of back)) }
 {
     match back {
-        MaybePutBack::Nothing => put_word(out, at, b" back 0"),
-        MaybePutBack::One(one) => put_one_back(out, at, one),
+        None => put_word(out, at, b" back 0"),
+        Some(one) => put_one_back(out, at, one),
     }
 }
 
@@ -103,19 +97,19 @@ fn put_sent(out: &mut [u8], at: usize, sent: Sent) -> usize
 }
 
 // "`skipped 1` (followed by `back` in the same form where a setting was sent back)"
-fn put_skipped(out: &mut [u8], at: usize, id: u32, back: MaybePutBack) -> usize
+fn put_skipped(out: &mut [u8], at: usize, id: u32, back: Option<PutBack>) -> usize
     requires { at + half_text ≤ length out.old }
     ensures { PutShort max_answer out.old out.new at result (answer_text (skipped id (one_of back))) }
 {
     let named = put_one(out, at, b"skipped ", id as u64);
     match back {
-        MaybePutBack::Nothing => named,
-        MaybePutBack::One(one) => put_one_back(out, named, one),
+        None => named,
+        Some(one) => put_one_back(out, named, one),
     }
 }
 
 // An abort that puts back one setting at most.
-fn put_short_abort(out: &mut [u8], at: usize, id: u32, back: MaybePutBack) -> usize
+fn put_short_abort(out: &mut [u8], at: usize, id: u32, back: Option<PutBack>) -> usize
     requires { at + half_text ≤ length out.old }
     ensures { PutShort max_answer out.old out.new at result (answer_text (aborted id (one_of back))) }
 {
@@ -124,7 +118,7 @@ fn put_short_abort(out: &mut [u8], at: usize, id: u32, back: MaybePutBack) -> us
 }
 
 // An answer, without its line's end.
-pub fn put_words(out: &mut [u8], at: usize, answer: Answer, back: MaybePutBack) -> usize
+pub fn put_words(out: &mut [u8], at: usize, answer: Answer, back: Option<PutBack>) -> usize
     requires { at + half_text ≤ length out.old }
     ensures { PutShort max_answer out.old out.new at result (answer_text (answer_of answer (one_of back))) }
 {

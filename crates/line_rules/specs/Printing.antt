@@ -1,6 +1,6 @@
 -- The words that the line program prints: document 01, "The line program". Assumes nothing.
-use Rattle.rules_routine.specs.Refusals.{numbered, indexed}
-use Rattle.std.specs.Prelude.{Bool, List, [], ◌∷◌, ◌++◌, ℕ, zero, suc, ℤ, length, if◌then◌else◌}
+use Rattle.rules_routine.specs.Refusals.{number_of, index_of}
+use Rattle.std.specs.Prelude.{Bool, Option, None, Some, List, [], ◌∷◌, ◌++◌, ℕ, zero, suc, ℤ, length, if◌then◌else◌}
 use Rattle.rules_routine.specs.declared.refusals.Refusal.{Refusal}
 use Rattle.rules.specs.State.{State}
 use Rattle.rules.specs.Due.{due}
@@ -9,9 +9,12 @@ use Rattle.rules.specs.Answers.{limited}
 use Rattle.line_rules.specs.Text.{line_end, bytes, decimal, signed}
 
 -- "Refusals print `refused`, the number and the index if there is one."
+unfoldable pub index_text : Option ℕ → List ℕ
+index_text None = []
+index_text (Some i) = bytes " " ++ decimal i
+
 unfoldable pub refusal_text : Refusal → List ℕ
-refusal_text (numbered n) = bytes "refused " ++ decimal n
-refusal_text (indexed n i) = bytes "refused " ++ decimal n ++ bytes " " ++ decimal i
+refusal_text r = bytes "refused " ++ decimal (number_of r) ++ index_text (index_of r)
 
 -- "`back` a count, then device and setting for each"
 unfoldable pub back_list : List Back → List ℕ

@@ -4,8 +4,8 @@ use lib.IntN.{ℤ}
 use mir.Val.{to_z, of_z}
 use mir.Syntax.{w16}
 use borrow.Author.Rules.{rules}
-use Rattle.hub_state.specs.View.{state_of, is_restart}
-use Rattle.hub_state.specs.Contract.{halfway_in, stopped_by, up_with}
+use Rattle.hub_state.specs.View.{found_at, state_of, is_restart}
+use Rattle.hub_state.specs.Contract.{stopped_by, up_with}
 use Rattle.hub.proofs.CallLaws.{leave_moves, decided_ok}
 use Rattle.hub.proofs.with_restart.Goals as goal
 
@@ -22,7 +22,7 @@ returns c = let a = c.args in
       w.0,
       subst
           (λ (v : ℤ).
-          state_of c.with_restart-next.result ≡ up_with (stopped_by a.device (state_of a.hub.state) (halfway_in a.hub.state a.slot))
+          state_of c.with_restart-next.result ≡ up_with (stopped_by a.device (state_of a.hub.state) (found_at a.hub.state a.slot))
           a.device v)
           e
           w.1,

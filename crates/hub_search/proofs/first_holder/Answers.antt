@@ -8,7 +8,6 @@ use lib.ListN.{get_or}
 use Rattle.rules_routine.specs.Limits.{max_commands, max_sequence}
 use Rattle.hub_sequence.specs.Links.{Stands}
 use Rattle.hub_sequence.proofs.ReadLaws.{walks-behind}
-use Rattle.hub_state.specs.View.{holder_of}
 use Rattle.hub_state.proofs.Members.{answered_most}
 use Rattle.hub_search.proofs.Slots.{seeks_start, seeks_there, seeks_on, seeks_less, seeks_spot}
 use Rattle.hub_search.proofs.Commands.{bound_of, below_at, at_hit, at_on, at_end, below_here, below_other, below_bound}
@@ -126,7 +125,7 @@ ahead-preserved c = let w = c.ahead.invariant in
 pub returns-after-ahead : goal.returns-after-ahead
 returns-after-ahead c = let w = c.ahead.invariant in
     let p = c.requires in
-    ap holder_of w.0
+    w.0
     ∙ holder_nobody _ p.0 _ _ p.2 p.3 c.args.condition (bound-is (goal.at.returns-after-ahead c).Joined-condition) _ _ p.1 w.1 c.ahead-test.false
 
 pub returns-then-stage-k : goal.returns-then-stage-k

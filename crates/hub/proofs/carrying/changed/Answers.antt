@@ -1,4 +1,5 @@
 -- `hub::carrying::changed` meets its contract. Assumes nothing.
+use Rattle.hub_state.specs.View.{found_at}
 use mathlib.Core.Path.{◌≡◌, sym, ap, ◌∙◌, subst}
 use lib.IntN.{ℤ}
 use mir.Val.{to_z, of_z}
@@ -6,7 +7,7 @@ use mir.Syntax.{w16}
 use Prim.Native.Nat.{ℕ}
 use native.Mathlib.Omega.{arith}
 use borrow.Author.Rules.{rules}
-use Rattle.hub_state.specs.Contract.{halfway_in, stopped_by, up_with}
+use Rattle.hub_state.specs.Contract.{stopped_by, up_with}
 use Rattle.hub_state.specs.declared.Change.TheVariants.{Restart}
 use Rattle.hub.specs.View.{view}
 use Rattle.hub.proofs.CallLaws.{decided_as, carries_as, carries_nothing}
@@ -70,7 +71,7 @@ pub returns-in-Restart : goal.returns-in-Restart
 returns-in-Restart c = let a = c.args in
     let x = c.in-Restart in
     carries_as c.in-Restart.is (λ e. let z : ◌≡◌ {A = ℕ} 0 1 = cc in omega arith) c.with_restart.ensures.0
-    (subst (λ (z : ℤ). view c.with_restart.result ≡ up_with (stopped_by x.device (view a.hub) (halfway_in a.hub.state x.slot))
+    (subst (λ (z : ℤ). view c.with_restart.result ≡ up_with (stopped_by x.device (view a.hub) (found_at a.hub.state x.slot))
     x.device z)
     (same-setting (goal.at.returns-in-Restart c).In-Restart) c.with_restart.ensures.1)
     c.with_restart.ensures.2

@@ -2,7 +2,7 @@
 use mathlib.Core.Path.{subst}
 use Prim.Native.Nat.{◌<◌}
 use Rattle.rules_routine.specs.Limits.{max_devices}
-use Rattle.hub_state.specs.Contract.{StandsOrPast}
+use Rattle.hub_state.specs.Contract.{StandsIfAny}
 use Rattle.hub.specs.Carrying.{LeavingOk}
 use Rattle.hub.proofs.CallLaws.{backs_as, backs_down}
 use Rattle.hub.proofs.carrying.put_backs_of.Goals.{In-Fail}
@@ -15,7 +15,7 @@ put_backs_of-requires c = let p = c.requires in
 -- a failure is of a device, and aborts one that stands
 fails_ok : (c : In-Fail) →
     let a = c.args in
-    (c.in-Fail.device < max_devices) × StandsOrPast a.state c.in-Fail.slot
+    (c.in-Fail.device < max_devices) × StandsIfAny a.state c.in-Fail.slot
 fails_ok c = subst (LeavingOk c.args.state) c.in-Fail.is c.requires.1
 
 pub put_backs_if-requires : goal.put_backs_if-requires

@@ -1,4 +1,5 @@
 -- `hub_settle::attach::attach` meets its contract. Assumes nothing.
+use Rattle.std.proofs.Common.{Some, None}
 use borrow.Author.Rules.{rules}
 use Prim.Native.Nat.{◌+◌, ◌*◌, ◌<◌}
 use native.Mathlib.Omega.{arith}
@@ -10,7 +11,6 @@ use Rattle.rules_routine.specs.Limits.{max_devices, max_sequence}
 use Rattle.rules_routine.proofs.RoutineLaws.{length_mapped}
 use Rattle.hub_sequence.proofs.ReadLaws.{stands-slot}
 use Rattle.hub_search.specs.Contract.{has_id, Finds}
-use Rattle.hub_state.specs.declared.Place.TheVariants.{At, Nowhere}
 use Rattle.hub_state.proofs.UnmovedLaws.{itself_in_place}
 use Rattle.hub_settle.proofs.RestartLaws.{attaches_one}
 use Rattle.hub_settle.proofs.StateLaws.{valid_tables, tables_in_place, attach-settled, attach_nowhere, attach-at, settles-one}
@@ -38,11 +38,11 @@ pub with_id-place-requires : goal.with_id-place-requires
 with_id-place-requires c = c.requires.0
 
 pub returns-in_default : goal.returns-in_default
-returns-in_default c = let f : Finds c.args.state (has_id c.args.id) Nowhere =
+returns-in_default c = let f : Finds c.args.state (has_id c.args.id) None =
     subst (Finds c.args.state (has_id c.args.id)) c.in_default.is c.with_id-place.ensures in
     (c.requires.0, attach_nowhere c.args.state c.args.id _ c.if-id-eq0.false f, itself_in_place c.args.state)
 
-found : (c : In-At) → Finds c.args.state (has_id c.args.id) (At c.in-At.to)
+found : (c : In-At) → Finds c.args.state (has_id c.args.id) (Some c.in-At.to)
 found c =
     subst (Finds c.args.state (has_id c.args.id)) c.in-At.is c.with_id-place.ensures
 

@@ -1,8 +1,9 @@
 -- `line_print::words::put_at_most_one` meets its contract. Assumes nothing.
+use Rattle.hub_answers.specs.declared.PutBack.{PutBack}
+use Rattle.std.proofs.Common.{Option}
 use mathlib.Core.Path.{sym, ap}
 use native.Mathlib.Omega.{arith}
 use Rattle.hub_answers.specs.View.{one_of}
-use Rattle.hub_answers.specs.declared.MaybePutBack.{MaybePutBack}
 use Rattle.line_rules.specs.Text.{digits, decimal}
 use Rattle.line_rules.specs.Printing.{back_list, back_text}
 use Rattle.line_print.proofs.PutLaws.{exactly, within, as_text}
@@ -10,9 +11,9 @@ use Rattle.line_print.proofs.words.put_at_most_one.Goals as goal
 
 pub returns-in-Nothing : goal.returns-in-Nothing
 unfolding back_list back_text decimal digits
-returns-in-Nothing c = as_text (ap (λ (b : MaybePutBack). back_text (one_of b)) (sym c.in-Nothing.is))
+returns-in-Nothing c = as_text (ap (λ (b : Option PutBack). back_text (one_of b)) (sym c.in-Nothing.is))
     (within (omega arith) (exactly c.put_word.ensures))
 
 pub returns-in-One : goal.returns-in-One
-returns-in-One c = as_text (ap (λ (b : MaybePutBack). back_text (one_of b)) (sym c.in-One.is))
+returns-in-One c = as_text (ap (λ (b : Option PutBack). back_text (one_of b)) (sym c.in-One.is))
     c.put_one_back.ensures
