@@ -1,4 +1,6 @@
 -- Laws that the proofs of this crate, and those above it, cite. Assumes nothing.
+use Rattle.rules_routine.specs.declared.refusals.Refusal.TheVariants.{NotRunning}
+use Rattle.rules_routine.specs.declared.refusals.Refusal.{Refusal}
 use Rattle.rules_routine.specs.Refusals.{numbered}
 use Rattle.std.proofs.Common.{None, Option, Some}
 use mathlib.Core.Path.{◌≡◌, refl, sym, ap, ◌∙◌, subst, fun_ext}
@@ -113,24 +115,25 @@ backs_by s m t d (suc n) =
 
 module _ (h : HubState) (d : ℕ) where
   -- it is down then
-  pub up-fails : d < max_devices → length h.up ≡ max_devices → up_of (set h.up d false) ≡ (down_if (state_of h) d).up
+  pub up-fails : d < max_devices → length h.up ≡ max_devices → up_of (set h.up d false) ≡ (down_if (state_of h) (Some d)).up
   unfolding state_of
   up-fails i n = rw (lt-ltb d max_devices i) (fun_ext (set-put h.up d false true (omega (arith, i, n))))
 
   -- there is none
-  pub up_stays : max_devices ≤ d → up_of h.up ≡ (down_if (state_of h) d).up
+  pub up_stays : max_devices ≤ d → up_of h.up ≡ (down_if (state_of h) (Some d)).up
   unfolding state_of
   up_stays i = rw (le-ltb d max_devices i)
 
 -- while it fails, nothing else of the state is another
-fails-up : (s : State) (d : ℕ) → with_up s (down_if s d).up ≡ down_if s d
-fails-up s d =
+fails-up : (s : State) (o : Option ℕ) → with_up s (down_if s o).up ≡ down_if s o
+fails-up s None = refl
+fails-up s (Some d) =
     by_test (λ (t : Bool). with_up s (if t then down_with s d else s).up ≡ (if t then down_with s d else s)) (ltb d max_devices)
     (λ _. refl) (λ _. refl)
 
 -- ---- the put-backs of the rules, by the tables
 
-module _ (h : HubState) (x down : ℕ) (t : Tables) (a : TablesAre h x down t) where
+module _ (h : HubState) (x : ℕ) (down : Option ℕ) (t : Tables) (a : TablesAre h x down t) where
   -- the state while the device fails
   abbrev failing : State
   failing = with_up (state_of h) (down_if (state_of h) down).up
@@ -208,17 +211,17 @@ module _ (h : HubState) (x : ℕ) (v : StateOk h) (s : Stands h.links x) where
 -- ---- a decision that was made
 
 -- a call was turned down with a number of the table
-pub refused_as : (h : HubState) (cs : List Command) (n : ℕ) (r : Decision) (result : Result) → r ≡ plainly (Refused (numbered n)) NoChange →
-    turned_down (numbered n) (state_of h) ≡ result → Decides h cs r result
-refused_as h cs n r result k e = subst (λ (d : Decision). Decides h cs d result) (sym k) (refused-decides h cs result (numbered n) e)
+pub refused_as : (h : HubState) (cs : List Command) (why : Refusal) (r : Decision) (result : Result) → r ≡ plainly (Refused why) NoChange →
+    turned_down why (state_of h) ≡ result → Decides h cs r result
+refused_as h cs why r result k e = subst (λ (d : Decision). Decides h cs d result) (sym k) (refused-decides h cs result why e)
 
 -- ---- the ways out of a cancel
 
 module _ (h : HubState) (i : ℕ) (p : Option ℕ) (f : Finds h (runs i) p) where
-  pub cancel_nowhere : (r : Decision) → r ≡ plainly (Refused (numbered 10)) NoChange → p ≡ None → Decides h [] r (cancel_of (state_of h) i)
- unfolding cancel_of
+  pub cancel_nowhere : (r : Decision) → r ≡ plainly (Refused NotRunning) NoChange → p ≡ None → Decides h [] r (cancel_of (state_of h) i)
+  unfolding cancel_of
   cancel_nowhere r k e =
-      refused_as h [] 10 r (cancel_of (state_of h) i) k (sym (ap (cancel_found (state_of h)) (found_as h (runs i) p f None e)))
+      refused_as h [] NotRunning r (cancel_of (state_of h) i) k (sym (ap (cancel_found (state_of h)) (found_as h (runs i) p f None e)))
 
   pub cancel_aborts : (x : ℕ) (r : Decision) → r ≡ plainly (Aborted i) (Abort x) → p ≡ Some x → Decides h [] r (cancel_of (state_of h) i)
   unfolding cancel_of

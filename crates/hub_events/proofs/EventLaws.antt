@@ -1,4 +1,5 @@
 -- Laws that the proofs of this crate, and those above it, cite. Assumes nothing.
+use Rattle.rules_routine.specs.declared.refusals.Refusal.TheVariants.{EventDevice, FailureOfDown, RestartOfUp, RestartSetting}
 use Rattle.rules_routine.specs.Refusals.{numbered}
 use Rattle.std.proofs.Common.{Option, None, Some}
 use mathlib.Core.Path.{◌≡◌, refl, sym, ap, subst, ◌∙◌}
@@ -46,13 +47,6 @@ use Rattle.hub_events.specs.declared.Affected.{Affected}
 
 -- ---- the routine that is halfway, by its slot
 
-module _ (h : HubState) (x : ℕ) where
-  half_there : x < max_sequence → found_at h x ≡ Some (there h x)
-  half_there i = rw (lt-ltb x max_sequence i)
-
-  half_past : max_sequence ≤ x → found_at h x ≡ None
-  half_past i = rw (le-ltb x max_sequence i)
-
 -- is a must of it left?
 must-there : (h : HubState) (x d : ℕ) {t : Bool} → t ≡ must_left d (member_at h x) → must_left d (there h x).it ≡ t
 must-there h x d k = ap (must_left d) (there-it h x) ∙ sym k
@@ -93,14 +87,13 @@ module _ (s : State) (f : Found) (d : ℕ) where
 
 module _ (h : HubState) (d : ℕ) (p : Option ℕ) (f : Finds h (is_halfway d) p) where
   -- no running routine has begun D and not finished it
-  pub halfway_none : p ≡ None → IsHalfway h d (record { slot = max_sequence; first = None; mark = get_or h.mark d 0 })
+  pub halfway_none : p ≡ None → IsHalfway h d (record { slot = p; first = None; mark = get_or h.mark d 0 })
   halfway_none e =
-      let g = half_past h max_sequence (omega arith) in
       record {
-        place_ok = λ i. absurd (omega (arith, i));
-        slot_is = g ∙ sym (found_as h (is_halfway d) p f None e);
-        first_is = λ l. sym (ap (λ (o : Option Found). abort_told d o l) g);
-        mark_is = sym (λ i. state-mark h i d) ∙ sym (ap (λ (o : Option Found). (stopped_by d (state_of h) o).mark d) g);
+        place_ok = subst (StandsIfAny h) (sym e) tt;
+        slot_is = sym (found_as h (is_halfway d) p f p refl);
+        first_is = λ l. sym (ap (λ (o : Option ℕ). abort_told d (found_at h o) l) e);
+        mark_is = sym (λ i. state-mark h i d) ∙ sym (ap (λ (o : Option ℕ). (stopped_by d (state_of h) (found_at h o)).mark d) e);
       }
 
   -- the one in this slot has
@@ -116,20 +109,19 @@ module _ (h : HubState) (d : ℕ) (p : Option ℕ) (f : Finds h (is_halfway d) p
 
     -- so it is told, and m is D's mark then
     halfway_one : (first : Option ℕ) (m : ℕ) → ((l : List Back) → event_abort_of first l ≡ abort_told d (Some (there h x)) l) →
-        m ≡ (stopped_by d (state_of h) (Some (there h x))).mark d → IsHalfway h d (record { slot = x; first = first; mark = m })
+        m ≡ (stopped_by d (state_of h) (Some (there h x))).mark d → IsHalfway h d (record { slot = Some x; first = first; mark = m })
     halfway_one first m t q =
-        let g = half_there h x (stands_below h x v halfway_stands) in
         record {
-          place_ok = λ i. halfway_stands;
-          slot_is = g ∙ sym (found_as h (is_halfway d) p f (Some x) e);
-          first_is = λ l. t l ∙ sym (ap (λ (o : Option Found). abort_told d o l) g);
-          mark_is = q ∙ sym (ap (λ (o : Option Found). (stopped_by d (state_of h) o).mark d) g);
+          place_ok = halfway_stands;
+          slot_is = sym (found_as h (is_halfway d) p f (Some x) e);
+          first_is = t;
+          mark_is = q;
         }
 
     -- t: is a must left?
     module _ (t : Bool) (k : t ≡ must_left d (member_at h x)) where
       -- none is: it is not told, and the mark stays
-      pub halfway_skips : t ≡ false → IsHalfway h d (record { slot = x; first = None; mark = get_or h.mark d 0 })
+      pub halfway_skips : t ≡ false → IsHalfway h d (record { slot = Some x; first = None; mark = get_or h.mark d 0 })
       halfway_skips n =
           let u = must-there h x d k ∙ n in
           halfway_one None (get_or h.mark d 0) (λ l. rw u)
@@ -138,20 +130,20 @@ module _ (h : HubState) (d : ℕ) (p : Option ℕ) (f : Finds h (is_halfway d) p
       -- one is: it aborts
       module _ (y : t ≡ true) where
         halfway_aborts : (m : ℕ) → m ≡ (leave (state_of h) (there h x)).mark d →
-            IsHalfway h d (record { slot = x; first = Some (get_or h.ids x 0); mark = m })
+            IsHalfway h d (record { slot = Some x; first = Some (get_or h.ids x 0); mark = m })
         halfway_aborts m q =
             let u = must-there h x d k ∙ y in
             halfway_one (Some (get_or h.ids x 0)) m (λ l. rw u (ap (λ (j : ℕ). event_abort_of (Some j) l) id-there))
             (q ∙ (λ i. (sym (stop-leaves d (state_of h) (there h x) u) i).mark d))
 
         pub halfway_other : (get_or h.mark d 0 ≡ get_or h.ids x 0 → ⊥) →
-            IsHalfway h d (record { slot = x; first = Some (get_or h.ids x 0); mark = get_or h.mark d 0 })
+            IsHalfway h d (record { slot = Some x; first = Some (get_or h.ids x 0); mark = get_or h.mark d 0 })
         halfway_other n =
             halfway_aborts (get_or h.mark d 0)
             (mark-there ∙ mark-kept (state_of h) (there h x) d (λ q. n (mark-there ∙ q ∙ sym id-there)))
 
         pub halfway_marked : (m : ℕ) → m ≡ last_id_or 0 (there h x).ahead → get_or h.mark d 0 ≡ get_or h.ids x 0 →
-            IsHalfway h d (record { slot = x; first = Some (get_or h.ids x 0); mark = m })
+            IsHalfway h d (record { slot = Some x; first = Some (get_or h.ids x 0); mark = m })
         halfway_marked m b q = halfway_aborts m (b ∙ mark_moved (state_of h) (there h x) d (sym mark-there ∙ q ∙ id-there))
 
 -- ---- what an event comes to
@@ -254,12 +246,12 @@ restart_entry (negsuc n) e = refl
 -- ---- whether it is turned down
 
 module _ (s : State) (d : ℕ) where
-  pub failure_14 : s.devices ≤ d → turned_down (numbered 14) s ≡ failure_of s d
- unfolding failure_of
+  pub failure_14 : s.devices ≤ d → turned_down EventDevice s ≡ failure_of s d
+  unfolding failure_of
   failure_14 h = rw (le-leb s.devices d h)
 
-  pub failure_15 : d < s.devices → s.up d ≡ false → turned_down (numbered 15) s ≡ failure_of s d
- unfolding failure_of
+  pub failure_15 : d < s.devices → s.up d ≡ false → turned_down FailureOfDown s ≡ failure_of s d
+  unfolding failure_of
   failure_15 h u = rw (lt-leb s.devices d h, u)
 
   pub failure_passes : d < s.devices → s.up d ≡ true → settling (failure_result s d) ≡ failure_of s d
@@ -267,16 +259,16 @@ module _ (s : State) (d : ℕ) where
   failure_passes h u = rw (lt-leb s.devices d h, u)
 
 module _ (s : State) (d : ℕ) (v : ℤ) where
-  pub restart_14 : s.devices ≤ d → turned_down (numbered 14) s ≡ restart_of s d v
- unfolding restart_of
+  pub restart_14 : s.devices ≤ d → turned_down EventDevice s ≡ restart_of s d v
+  unfolding restart_of
   restart_14 h = rw (le-leb s.devices d h)
 
-  pub restart_16 : d < s.devices → s.up d ≡ true → turned_down (numbered 16) s ≡ restart_of s d v
- unfolding restart_of
+  pub restart_16 : d < s.devices → s.up d ≡ true → turned_down RestartOfUp s ≡ restart_of s d v
+  unfolding restart_of
   restart_16 h u = rw (lt-leb s.devices d h, u)
 
-  pub restart_17 : d < s.devices → s.up d ≡ false → in_range v ≡ false → turned_down (numbered 17) s ≡ restart_of s d v
- unfolding restart_of
+  pub restart_17 : d < s.devices → s.up d ≡ false → in_range v ≡ false → turned_down RestartSetting s ≡ restart_of s d v
+  unfolding restart_of
   restart_17 h u r = rw (lt-leb s.devices d h, u, r)
 
   pub restart_passes : d < s.devices → s.up d ≡ false → in_range v ≡ true → settling (restart_result s d v) ≡ restart_of s d v
@@ -285,24 +277,25 @@ module _ (s : State) (d : ℕ) (v : ℤ) where
 
 -- ---- the event carried out
 
-module _ (h : HubState) (x d : ℕ) where
+module _ (h : HubState) (o : Option ℕ) (d : ℕ) where
   -- what comes of the routine that is halfway, if there is one
   abbrev pub Stops : HubState → Type 0
-  Stops r = (StateOk r) × (state_of r ≡ stopped_by d (state_of h) (found_at h x)) × (OnlyLeave h r)
+  Stops r = (StateOk r) × (state_of r ≡ stopped_by d (state_of h) (found_at h o)) × (OnlyLeave h r)
 
   -- there is none
-  pub none_stops : StateOk h → max_sequence ≤ x → Stops h
-  none_stops v i = (v, ap (stopped_by d (state_of h)) (sym (half_past h x i)), in_place-leaves h h v (itself_in_place h))
+  pub none_stops : StateOk h → o ≡ None → Stops h
+  none_stops v e =
+      (v, ap (λ (p : Option ℕ). stopped_by d (state_of h) (found_at h p)) (sym e), in_place-leaves h h v (itself_in_place h))
 
   -- t: is a must of the one in this slot left?
-  module _ (i : x < max_sequence) (t : Bool) (k : t ≡ must_left d (member_at h x)) where
+  module _ (x : ℕ) (i : o ≡ Some x) (t : Bool) (k : t ≡ must_left d (member_at h x)) where
     -- it aborts
-    pub one-leaves : StateOk h → StandsIfAny h x → t ≡ true → (r : HubState) → LeavesHub h x r → Stops r
+    pub one-leaves : StateOk h → StandsIfAny h o → t ≡ true → (r : HubState) → LeavesHub h x r → Stops r
     one-leaves v s y r a = (
       a.valid,
       a.gives ∙ sym (stop-leaves d (state_of h) (there h x) (must-there h x d k ∙ y))
-          ∙ ap (stopped_by d (state_of h)) (sym (half_there h x i)),
-      leaves-unmoved h x r v (s i) a,
+          ∙ ap (λ (p : Option ℕ). stopped_by d (state_of h) (found_at h p)) (sym i),
+      leaves-unmoved h x r v (subst (StandsIfAny h) i s) a,
     )
 
     -- what is left is skipped
@@ -311,23 +304,23 @@ module _ (h : HubState) (x d : ℕ) where
     one_skips v n r a = (
       a.0,
       a.1 ∙ sym (stop_skips d (state_of h) (there h x) (must-there h x d k ∙ n))
-          ∙ ap (stopped_by d (state_of h)) (sym (half_there h x i)),
+          ∙ ap (λ (p : Option ℕ). stopped_by d (state_of h) (found_at h p)) (sym i),
       in_place-leaves h r v a.2,
     )
 
   -- what its abort puts back, in the state s
   module _ (s : State) (r : PutBacks) where
     abbrev BacksIf : Type 0
-    BacksIf = (PutBacksOk r) × (put_backs_of r ≡ put_backs_stopped d s (found_at h x))
+    BacksIf = (PutBacksOk r) × (put_backs_of r ≡ put_backs_stopped d s (found_at h o))
 
-    pub none_backs : max_sequence ≤ x → PutBacksOk r → put_backs_of r ≡ [] → BacksIf
-    none_backs i fit k = (fit, k ∙ ap (put_backs_stopped d s) (sym (half_past h x i)))
+    pub none_backs : o ≡ None → PutBacksOk r → put_backs_of r ≡ [] → BacksIf
+    none_backs e fit k = (fit, k ∙ ap (λ (p : Option ℕ). put_backs_stopped d s (found_at h p)) (sym e))
 
-    module _ (i : x < max_sequence) (t : Bool) (k : t ≡ must_left d (member_at h x)) where
-      backs_there : (u : Bool) → t ≡ u → (if u then put_backs_left s (there h x) else []) ≡ put_backs_stopped d s (found_at h x)
+    module _ (x : ℕ) (i : o ≡ Some x) (t : Bool) (k : t ≡ must_left d (member_at h x)) where
+      backs_there : (u : Bool) → t ≡ u → (if u then put_backs_left s (there h x) else []) ≡ put_backs_stopped d s (found_at h o)
       backs_there u e =
           ap (λ (v : Bool). if v then put_backs_left s (there h x) else []) (sym (must-there h x d k ∙ e))
-          ∙ ap (put_backs_stopped d s) (sym (half_there h x i))
+          ∙ ap (λ (p : Option ℕ). put_backs_stopped d s (found_at h p)) (sym i)
 
       pub one_backs : t ≡ true → (PutBacksOk r) × (put_backs_of r ≡ put_backs_left s (there h x)) → BacksIf
       one_backs y a = (a.0, a.1 ∙ backs_there true y)
@@ -336,8 +329,13 @@ module _ (h : HubState) (x d : ℕ) where
       skip_backs n fit e = (fit, e ∙ backs_there false n)
 
 -- g: the hub with the device down
-pub stands-down : (h g : HubState) (x : ℕ) → g.links ≡ h.links → StandsIfAny h x → StandsIfAny g x
-stands-down h g x k s i = subst (λ (l : Links). Stands l x) (sym k) (s i)
+pub stands-down : (h g : HubState) (o : Option ℕ) → g.links ≡ h.links → StandsIfAny h o → StandsIfAny g o
+stands-down h g None k s = tt
+stands-down h g (Some x) k s = subst (λ (l : Links). Stands l x) (sym k) s
+
+found_same : (h g : HubState) (o : Option ℕ) → there g ≡ there h → found_at g o ≡ found_at h o
+found_same h g None t = refl
+found_same h g (Some x) t = λ i. Some (t i x)
 
 -- whether a device is up changes nothing else
 up-leaves : (h g : HubState) → StateOk h → g.links ≡ h.links → there g ≡ there h → OnlyLeave h g
@@ -348,12 +346,12 @@ up-leaves h g v k t =
       routines = λ x _. same-routine_as (sym (there-it g x) ∙ (λ i. (t i x).it) ∙ there-it h x);
     })
 
-pub failure_stops : (h g : HubState) (d x : ℕ) → StateOk h → state_of g ≡ down_with (state_of h) d → g.links ≡ h.links →
-    there g ≡ there h → (r : HubState) → Stops g x d r →
-    (StateOk r) × (state_of r ≡ stopped_by d (down_with (state_of h) d) (found_at h x)) × (OnlyLeave h r)
-failure_stops h g d x v e k t r a = (
+pub failure_stops : (h g : HubState) (d : ℕ) (o : Option ℕ) → StateOk h → state_of g ≡ down_with (state_of h) d → g.links ≡ h.links →
+    there g ≡ there h → (r : HubState) → Stops g o d r →
+    (StateOk r) × (state_of r ≡ stopped_by d (down_with (state_of h) d) (found_at h o)) × (OnlyLeave h r)
+failure_stops h g d o v e k t r a = (
   a.0,
-  a.1 ∙ (λ i. stopped_by d (e i) (if ltb x max_sequence then Some (t i x) else None)),
+  a.1 ∙ (λ i. stopped_by d (e i) (found_same h g o t i)),
   leave_then h g r (up-leaves h g v k t) a.2,
 )
 
@@ -362,10 +360,10 @@ pub restart-leaves : (h g t u : HubState) → OnlyLeave h g → StateOk g → In
 restart-leaves h g t u p v q w k e = leave_then h g u p (leave_then g t u (in_place-leaves g t v q) (up-leaves t u w k e))
 
 -- g: after the abort or the skips, if there are any; t: with the restart attached; u: with the device up
-pub restart-gives : (h g t u : HubState) (x d : ℕ) (v : ℤ) → Stops h x d g →
+pub restart-gives : (h g t u : HubState) (o : Option ℕ) (d : ℕ) (v : ℤ) → Stops h o d g →
     state_of t ≡ attach (get_or g.mark d 0) (one_restart d v) (state_of g) → state_of u ≡ with_up (state_of t) (put (state_of t).up d true) →
-    state_of u ≡ up_with (stopped_by d (state_of h) (found_at h x)) d v
-restart-gives h g t u x d v a e k =
+    state_of u ≡ up_with (stopped_by d (state_of h) (found_at h o)) d v
+restart-gives h g t u o d v a e k =
     k
     ∙ ap (λ (s : State). with_up s (put s.up d true))
     (e ∙ ap (λ (j : ℕ). attach j (one_restart d v) (state_of g)) (λ i. sym (state-mark g) i d))

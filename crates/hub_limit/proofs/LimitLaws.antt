@@ -15,7 +15,6 @@ use Rattle.rules.specs.Settle.{settle}
 use Rattle.rules.specs.Limit.{new_limit_check, with_pass_limit}
 use Rattle.rules.proofs.Lists.{t≠f}
 use Rattle.rules.proofs.LimitLaws.{limit_passes, limit-turned-down}
-use Rattle.hub_answers.specs.declared.Answer.TheVariants.{Refused, Limited}
 use Rattle.hub_state.specs.View.{steps_at, member_at, members_of, state_of}
 use Rattle.hub_state.specs.Valid.{StateOk}
 use Rattle.hub_state.specs.Unmoved.{Unmoved}
@@ -85,22 +84,20 @@ limited-unmoved h k r u = record { same_slot = u.same_slot; same_routine = u.sam
 module _ (h : HubState) (k : ℕ) (verdict : Verdict) (made : verdict ≡ new_limit_check h.devices k) where
   -- it is in force
   pub limits_fine : (next : HubState) → StateOk next → state_of next ≡ settle (with_pass_limit (state_of h) k) → Unmoved h next →
-      verdict ≡ Ok tt → Limits h k (record { state = next; answer = Limited k })
+      verdict ≡ Ok tt → Limits h k (Ok next)
   unfolding state_of
   limits_fine next v e p a = record {
     valid = v;
     unmoved = p;
     gives = ap (λ (s : State). record { state = s; answers = limited k ∷ [] }) e ∙ sym (limit_passes (state_of h) k (sym made ∙ a));
-    same_state = λ z. t≠f (sym z);
   }
 
   -- it is turned down
-  pub limits-not : (r : Refusal) → StateOk h → verdict ≡ Err r → Limits h k (record { state = h; answer = Refused r })
+  pub limits-not : (r : Refusal) → StateOk h → verdict ≡ Err r → Limits h k (Err r)
   unfolding state_of
   limits-not r v a =
       record {
         valid = v;
         gives = sym (limit-turned-down (state_of h) k r (sym made ∙ a));
         unmoved = in_place h h v (itself_in_place h);
-        same_state = λ _. refl;
       }

@@ -1,4 +1,6 @@
 -- Laws that the proofs of this crate cite. Assumes nothing.
+use Rattle.rules_routine.specs.declared.refusals.Refusal.TheVariants.{NotRunning, NothingInFlight, ReportCodeOutOfRange}
+use Rattle.rules_routine.specs.declared.refusals.Refusal.{Refusal}
 use Rattle.hub_answers.specs.declared.PutBack.{PutBack}
 use Rattle.rules_routine.specs.Refusals.{numbered}
 use Rattle.std.proofs.Common.{Option, None, Some}
@@ -193,14 +195,14 @@ idle h x (ToDo j) k t = k.no_flight
 idle h x (InFlight j) k t = absurd (t j refl)
 
 module _ (h : HubState) (i code : ℕ) (p : Option ℕ) (f : Finds h (runs i) p) (y : Decision) where
-  refuses : (n : ℕ) → y ≡ plainly (Refused (numbered n)) NoChange → turned_down (numbered n) (state_of h) ≡ report_of (state_of h) i code →
+  refuses : (r : Refusal) → y ≡ plainly (Refused r) NoChange → turned_down r (state_of h) ≡ report_of (state_of h) i code →
       Decides h [] y (report_of (state_of h) i code)
-  refuses n z e = subst (λ (d : Decision). Decides h [] d (report_of (state_of h) i code)) (sym z) (refused-decides h [] _ (numbered n) e)
+  refuses r z e = subst (λ (d : Decision). Decides h [] d (report_of (state_of h) i code)) (sym z) (refused-decides h [] _ r e)
 
   -- 10: no running routine has this id
-  pub report_nowhere : p ≡ None → y ≡ plainly (Refused (numbered 10)) NoChange → Decides h [] y (report_of (state_of h) i code)
- unfolding report_of
-  report_nowhere e z = refuses 10 z (sym (ap (report_found (state_of h) code) (found_as h (runs i) p f None e)))
+  pub report_nowhere : p ≡ None → y ≡ plainly (Refused NotRunning) NoChange → Decides h [] y (report_of (state_of h) i code)
+  unfolding report_of
+  report_nowhere e z = refuses NotRunning z (sym (ap (report_found (state_of h) code) (found_as h (runs i) p f None e)))
 
   module _ (x : ℕ) (e : p ≡ Some x) where
     -- the command in flight decides
@@ -212,14 +214,14 @@ module _ (h : HubState) (i code : ℕ) (p : Option ℕ) (f : Finds h (runs i) p)
         ∙ ap (report_flight (state_of h) (there h x) code) (ap flight l ∙ q))
 
     -- 12: none is in flight
-    pub report-idle : flight (steps_at h x) ≡ None → y ≡ plainly (Refused (numbered 12)) NoChange →
+    pub report-idle : flight (steps_at h x) ≡ None → y ≡ plainly (Refused NothingInFlight) NoChange →
         Decides h [] y (report_of (state_of h) i code)
-    report-idle q z = refuses 12 z (report_at None q)
+    report-idle q z = refuses NothingInFlight z (report_at None q)
 
     module _ (k : ℕ) (o : NextInFlight h x k) where
       -- 13: a code that there is not
-      pub report_code : code_failed < code → y ≡ plainly (Refused (numbered 13)) NoChange → Decides h [] y (report_of (state_of h) i code)
-      report_code l z = refuses 13 z (rw (lt-ltb code_failed code l) at (report_at _ o.flight_is))
+      pub report_code : code_failed < code → y ≡ plainly (Refused ReportCodeOutOfRange) NoChange → Decides h [] y (report_of (state_of h) i code)
+      report_code l z = refuses ReportCodeOutOfRange z (rw (lt-ltb code_failed code l) at (report_at _ o.flight_is))
 
       report_on : code ≤ code_failed → reported (state_of h) (there h x) (flight_at h x k) code ≡ report_of (state_of h) i code
       report_on l = rw (le-ltb code_failed code l) at (report_at _ o.flight_is)

@@ -1,4 +1,5 @@
 -- Laws that the proofs of this crate cite. Assumes nothing.
+use Rattle.rules_routine.specs.declared.refusals.Refusal.TheVariants.{NotRunning, TurnInFlight}
 use Rattle.rules_routine.specs.Refusals.{numbered}
 use Rattle.std.proofs.Common.{Option, None, Some}
 use mathlib.Core.Path.{◌≡◌, refl, sym, ap, ◌∙◌, subst}
@@ -30,7 +31,7 @@ use Rattle.rules.specs.Turn.{proceed_up, proceed, wait_or, turn_next, turn_fligh
 use Rattle.hub_sequence.specs.Links.{Stands}
 use Rattle.hub_sequence.proofs.Tables.{by_eq, by_less}
 use Rattle.hub_state.specs.View.{in_flight_code, done_code, skipped_code, held_code, not_held_code, status_of, rows_of, step_at, steps_from, steps_at}
-use Rattle.hub_state.specs.View.{member_at, state_of, there, holder_of}
+use Rattle.hub_state.specs.View.{member_at, state_of, there}
 use Rattle.hub_state.specs.Valid.{StateOk}
 use Rattle.hub_state.specs.Unanswered.{answered_at, due_then_at, command_at, skips_after, AllAnswered, NextToDo, NextInFlight}
 use Rattle.hub_state.specs.Contract.{set_status, staged, committed_at, StageOk, plainly, Decides}
@@ -205,12 +206,12 @@ module _ (h : HubState) (x k : ℕ) (s : Stands h.links x) (o : NextToDo h x k) 
   -- ---- the wait search: wait, or go on
 
   module _ (d : ℕ) (p : d ≡ (command_at h k).device) (condition : Bool) (a : condition ≡ is_condition (command_at h k)) (w : Option ℕ)
-      (e : holder_of w ≡ first_holding d condition (there h x).ahead) where
+      (e : w ≡ first_holding d condition (there h x).ahead) where
     holder_tells : (o : Option ℕ) → w ≡ o →
-        wait_or (state_of h) (there h x) (command_at h k) (holder_of o) ≡ turn_next (state_of h) (there h x) (next (steps_at h x))
+        wait_or (state_of h) (there h x) (command_at h k) o ≡ turn_next (state_of h) (there h x) (next (steps_at h x))
     holder_tells v q =
         ap (wait_or (state_of h) (there h x) (command_at h k))
-        (sym (ap holder_of q) ∙ e ∙ (λ j. first_holding (p j) (a j) (there h x).ahead))
+        (sym q ∙ e ∙ (λ j. first_holding (p j) (a j) (there h x).ahead))
         ∙ ap (turn_next (state_of h) (there h x)) (sym o.next_is)
 
     pub goes_on : (y : Decision) → w ≡ None → Decides h [] y (proceed (state_of h) (there h x) (command_at h k)) →
@@ -338,11 +339,11 @@ module _ (s : State) (f : Found) (c : Command) where
 
 module _ (h : HubState) (i : ℕ) (p : Option ℕ) (f : Finds h (runs i) p) (y : Decision) where
   -- 10: no running routine has this id
-  pub turn_nowhere : p ≡ None → y ≡ plainly (Refused (numbered 10)) Nothing → Decides h [] y (turn_of (state_of h) i)
- unfolding turn_of
+  pub turn_nowhere : p ≡ None → y ≡ plainly (Refused NotRunning) Nothing → Decides h [] y (turn_of (state_of h) i)
+  unfolding turn_of
   turn_nowhere e z =
       subst (λ (d : Decision). Decides h [] d (turn_of (state_of h) i)) (sym z)
-      (refused-decides h [] _ (numbered 10) (sym (ap (turn_found (state_of h)) (found_as h (runs i) p f None e))))
+      (refused-decides h [] _ NotRunning (sym (ap (turn_found (state_of h)) (found_as h (runs i) p f None e))))
 
   module _ (x : ℕ) (e : p ≡ Some x) where
     -- the command in flight decides
@@ -353,10 +354,10 @@ module _ (h : HubState) (i : ℕ) (p : Option ℕ) (f : Finds h (runs i) p) (y :
         ∙ ap (turn_flight (state_of h) (there h x)) (ap flight (steps-there h x) ∙ q))
 
     -- 11: turn with a command in flight
-    pub turn-sent : (k : ℕ) → NextInFlight h x k → y ≡ plainly (Refused (numbered 11)) Nothing → Decides h [] y (turn_of (state_of h) i)
+    pub turn-sent : (k : ℕ) → NextInFlight h x k → y ≡ plainly (Refused TurnInFlight) Nothing → Decides h [] y (turn_of (state_of h) i)
     turn-sent k o z =
         subst (λ (d : Decision). Decides h [] d (turn_of (state_of h) i)) (sym z)
-        (refused-decides h [] _ (numbered 11) (turn_at _ o.flight_is))
+        (refused-decides h [] _ TurnInFlight (turn_at _ o.flight_is))
 
     -- no command is in flight: the next one
     turn-next : (o : Option Command) → flight (steps_at h x) ≡ None → next (steps_at h x) ≡ o →

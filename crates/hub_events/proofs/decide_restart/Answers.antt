@@ -8,6 +8,7 @@ use mir.Facts.{to_z-of_z}
 use Rattle.rules_routine.specs.Range.{in_range}
 use Rattle.rules.specs.Settle.{settling}
 use Rattle.rules.specs.Events.{restart_result}
+use Rattle.rules_routine.specs.declared.refusals.Refusal.TheVariants.{EventDevice, RestartOfUp, RestartSetting}
 use Rattle.hub_state.specs.View.{state_of}
 use Rattle.hub_abort.proofs.PutBackLaws.{refused_as}
 use Rattle.hub_events.proofs.EventLaws.{restart_14, restart_16, restart_17, restart_passes, restart-decides, restart_entry}
@@ -16,20 +17,20 @@ use Rattle.hub_events.proofs.decide_restart.Goals as goal
 pub returns-then-state-device : goal.returns-then-state-device
 unfolding state_of
 returns-then-state-device c = let a = c.args in
-    refused_as a.state [] 14 c.refused.result _ c.refused.ensures
+    refused_as a.state [] EventDevice c.refused.result _ c.refused.ensures
     (restart_14 (state_of a.state) a.device a.setting c.if-state-device.true)
 
 pub returns-then-is_up : goal.returns-then-is_up
 unfolding state_of
 returns-then-is_up c = let a = c.args in
-    refused_as a.state [] 16 c.refused-then-is_up.result _ c.refused-then-is_up.ensures
+    refused_as a.state [] RestartOfUp c.refused-then-is_up.result _ c.refused-then-is_up.ensures
     (restart_16 (state_of a.state) a.device a.setting c.if-state-device.false (sym c.is_up.ensures ∙ c.if-is_up.true))
 
 pub returns-then-not-in_range : goal.returns-then-not-in_range
 unfolding state_of
 returns-then-not-in_range c = let a = c.args in
     let z = to_z-of_z c.ranges.setting in
-    refused_as a.state [] 17 c.refused-then-not-in_range.result _ c.refused-then-not-in_range.ensures
+    refused_as a.state [] RestartSetting c.refused-then-not-in_range.result _ c.refused-then-not-in_range.ensures
     (restart_17 (state_of a.state) a.device a.setting c.if-state-device.false (sym c.is_up.ensures ∙ c.if-is_up.false)
     (ap in_range (sym z) ∙ sym c.in_range.ensures ∙ not-true c.in_range.result c.if-not-in_range.true-raw))
 

@@ -1,10 +1,18 @@
 -- `hub_limit::set_limit` meets its contract. Assumes nothing.
+use Rattle.std.proofs.Common.{Result, Err, subst, sym, ap, ◌∙◌}
+use Rattle.std.proofs.lemmas.Result.{err_from_is_err_and}
+use Rattle.rules_routine.specs.declared.refusals.Refusal.{Refusal}
+use Rattle.hub_state.specs.declared.HubState.{HubState}
+use Rattle.hub_limit.specs.Contract.{Limits}
 use Rattle.hub_limit.proofs.LimitLaws.{limits_fine, limits-not}
 use Rattle.hub_limit.proofs.set_limit.Goals as goal
 
-pub returns-in-Accepted : goal.returns-in-Accepted
-returns-in-Accepted c = let w = c.with_limit-next.ensures in
-    limits_fine _ _ _ c.check-verdict.ensures _ w.0 w.1 w.2 c.in-Accepted.is
+pub returns-in_err-check : goal.returns-in_err-check
+returns-in_err-check c = let a = c.args in
+    let p = err_from_is_err_and c.from_residual.result c.from_residual.ensures.1 in
+    subst (λ (r : Result HubState Refusal). Limits a.state a.pass_limit r) (sym (p.1 ∙ ap Err p.2))
+    (limits-not _ _ _ c.check.ensures _ c.requires c.in_err-check.was)
 
-pub returns-in-Refused : goal.returns-in-Refused
-returns-in-Refused c = limits-not _ _ _ c.check-verdict.ensures _ c.requires c.in-Refused.is
+pub returns : goal.returns
+returns c = let w = c.with_limit.ensures in
+    limits_fine _ _ _ c.check.ensures _ w.0 w.1 w.2 c.in_ok-check.was

@@ -4,7 +4,7 @@ use Rattle.hub_submit.proofs.SubmitLaws.{submit-turned-down}
 use Rattle.hub_submit.proofs.decide.Goals as goal
 
 pub place-requires : goal.place-requires
-place-requires c = (c.requires, sym c.check-verdict.ensures ∙ c.in_default.is)
+place-requires c = (c.requires, sym c.check.ensures ∙ c.in-Ok.is)
 
-pub returns : goal.returns
-returns c = submit-turned-down c.args.state _ _ _ (sym c.check-verdict.ensures ∙ c.in-Refused.is) c.turned_down.ensures
+pub returns-in-Err : goal.returns-in-Err
+returns-in-Err c = submit-turned-down c.args.state _ _ _ (sym c.check.ensures ∙ c.in-Err.is) c.refused.ensures

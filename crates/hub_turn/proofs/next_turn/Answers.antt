@@ -15,23 +15,23 @@ bounds-tag-k c = within (goal.at.bounds-tag-k c).Start
 pub bounds-device-k : goal.bounds-device-k
 bounds-device-k c = within (goal.at.bounds-device-k c).Start
 
-pub first_holder-holder-requires : goal.first_holder-holder-requires
-first_holder-holder-requires c = let p = c.requires in (p.0, p.1, p.4, p.6)
+pub first_holder-requires : goal.first_holder-requires
+first_holder-requires c = let p = c.requires in (p.0, p.1, p.4, p.6)
 
 pub go_on-requires : goal.go_on-requires
 go_on-requires c = c.requires
 
-pub returns-in_default : goal.returns-in_default
-returns-in_default c = let h = c.args.state in
+pub returns-in-None : goal.returns-in-None
+returns-in-None c = let h = c.args.state in
     let k = c.args.k in
     let p = c.requires in
-    goes_on h c.args.at k p.1 p.2 _ (device-read h k _ p.4) _ (condition-read h k _ p.5) _ c.first_holder-holder.ensures _
-    c.in_default.is c.go_on.ensures
+    goes_on h c.args.at k p.1 p.2 _ (device-read h k _ p.4) _ (condition-read h k _ p.5) _ c.first_holder.ensures _
+    c.in-None.is c.go_on.ensures
 
-pub returns : goal.returns
-returns c = let h = c.args.state in
+pub returns-in-Some : goal.returns-in-Some
+returns-in-Some c = let h = c.args.state in
     let k = c.args.k in
     let p = c.requires in
-    waits h c.args.at k p.1 p.2 _ (device-read h k _ p.4) _ (condition-read h k _ p.5) _ c.first_holder-holder.ensures _ _ _
+    waits h c.args.at k p.1 p.2 _ (device-read h k _ p.4) _ (condition-read h k _ p.5) _ c.first_holder.ensures _ _ _
     p.3
-    c.in-Routine.is c.plain.ensures
+    c.in-Some.is c.plain.ensures

@@ -14,7 +14,7 @@ use Rattle.hub_search.specs.Contract.{has_id, Finds}
 use Rattle.hub_state.proofs.UnmovedLaws.{itself_in_place}
 use Rattle.hub_settle.proofs.RestartLaws.{attaches_one}
 use Rattle.hub_settle.proofs.StateLaws.{valid_tables, tables_in_place, attach-settled, attach_nowhere, attach-at, settles-one}
-use Rattle.hub_settle.proofs.attach.attach.Goals.{In-At, Start}
+use Rattle.hub_settle.proofs.attach.attach.Goals.{In-Some, Start}
 use Rattle.hub_settle.proofs.attach.attach.Goals as goal
 
 -- the lengths of the rows
@@ -34,38 +34,38 @@ returns-then-id-eq0 c = let a = c.args in
       tables_in_place a.state _ _ _ _,
     )
 
-pub with_id-place-requires : goal.with_id-place-requires
-with_id-place-requires c = c.requires.0
+pub with_id-requires : goal.with_id-requires
+with_id-requires c = c.requires.0
 
 pub returns-in_default : goal.returns-in_default
 returns-in_default c = let f : Finds c.args.state (has_id c.args.id) None =
-    subst (Finds c.args.state (has_id c.args.id)) c.in_default.is c.with_id-place.ensures in
+    subst (Finds c.args.state (has_id c.args.id)) c.in_default.is c.with_id.ensures in
     (c.requires.0, attach_nowhere c.args.state c.args.id _ c.if-id-eq0.false f, itself_in_place c.args.state)
 
-found : (c : In-At) → Finds c.args.state (has_id c.args.id) (Some c.in-At.to)
+found : (c : In-Some) → Finds c.args.state (has_id c.args.id) (Some c.in-Some.to)
 found c =
-    subst (Finds c.args.state (has_id c.args.id)) c.in-At.is c.with_id-place.ensures
+    subst (Finds c.args.state (has_id c.args.id)) c.in-Some.is c.with_id.ensures
 
 -- its slot, and the place in the row
-slot : (c : In-At) → c.in-At.to < max_sequence
+slot : (c : In-Some) → c.in-Some.to < max_sequence
 slot c = stands-slot _ _ c.requires.0.links_ok (found c).place_ok
 
-place : (c : In-At) → c.in-At.to * max_devices + c.args.device < max_sequence * max_devices
+place : (c : In-Some) → c.in-Some.to * max_devices + c.args.device < max_sequence * max_devices
 place c = let h = slot c in
     let d = c.requires.1 in
     omega arith
 
 pub overflow_mul-setting : goal.overflow_mul-setting
-overflow_mul-setting c = let h = slot (goal.at.overflow_mul-setting c).In-At in omega arith
+overflow_mul-setting c = let h = slot (goal.at.overflow_mul-setting c).In-Some in omega arith
 
 pub overflow_add-setting : goal.overflow_add-setting
-overflow_add-setting c = let h = place (goal.at.overflow_add-setting c).In-At in omega arith
+overflow_add-setting c = let h = place (goal.at.overflow_add-setting c).In-Some in omega arith
 
 pub offset_bounds-changed-to : goal.offset_bounds-changed-to
-offset_bounds-changed-to c = let h = place (goal.at.offset_bounds-changed-to c).In-At in omega arith
+offset_bounds-changed-to c = let h = place (goal.at.offset_bounds-changed-to c).In-Some in omega arith
 
 pub bounds-changed-to : goal.bounds-changed-to
-bounds-changed-to c = place (goal.at.bounds-changed-to c).In-At
+bounds-changed-to c = place (goal.at.bounds-changed-to c).In-Some
 
 pub returns : goal.returns
 returns c = let a = c.args in
@@ -73,7 +73,7 @@ returns c = let a = c.args in
       valid_tables a.state _ _ _ _ c.requires.0,
       rw z
           (attach-at a.state a.id _ _ _
-          (attaches_one a.state.restarts _ a.device a.setting (long (goal.at.returns c).Start).1 (slot (goal.at.returns c).In-At) c.requires.1 c.requires.2) c.if-id-eq0.false
-          c.requires.0 (found (goal.at.returns c).In-At)),
+          (attaches_one a.state.restarts _ a.device a.setting (long (goal.at.returns c).Start).1 (slot (goal.at.returns c).In-Some) c.requires.1 c.requires.2) c.if-id-eq0.false
+          c.requires.0 (found (goal.at.returns c).In-Some)),
       tables_in_place a.state _ _ _ _,
     )
