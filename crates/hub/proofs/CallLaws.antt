@@ -1,4 +1,5 @@
 -- Laws for the proofs of the public calls: a decision that is carried out gives what the call's contract says. Assumes nothing.
+use Rattle.std.proofs.Common.{Option, Some}
 use mathlib.Core.Path.{◌≡◌, refl, sym, ap, ◌∙◌, subst}
 use mathlib.Core.Bool.{Bool, true, false}
 use mathlib.Core.List.{List, [], ◌∷◌, ◌++◌}
@@ -180,11 +181,11 @@ pub backs_as : (h : HubState) (d : Decision) {c : Change} {l : List Back} → d.
 backs_as h d e f = f ∙ sym (ap (put_backs_by h (one_of d.back)) e)
 
 -- a device that fails is down by then
-down_is : (s : State) (d : ℕ) → d < max_devices → down_if s d ≡ down_with s d
+down_is : (s : State) (d : ℕ) → d < max_devices → down_if s (Some d) ≡ down_with s d
 down_is s d h = ap (λ (t : Bool). if t then down_with s d else s) (lt-ltb d max_devices h)
 
-pub backs_down : (h : HubState) (d : Decision) {x y : ℕ} {l : List Back} → d.change ≡ Fail x y → x < max_devices →
-    l ≡ put_backs_stopped x (down_if (state_of h) x) (found_at h y) → l ≡ put_backs_of_decision h d
+pub backs_down : (h : HubState) (d : Decision) {x : ℕ} {y : Option ℕ} {l : List Back} → d.change ≡ Fail x y → x < max_devices →
+    l ≡ put_backs_stopped x (down_if (state_of h) (Some x)) (found_at h y) → l ≡ put_backs_of_decision h d
 backs_down h d {x} {y} e i f = backs_as h d e (f ∙ ap (λ (s : State). put_backs_stopped x s (found_at h y)) (down_is (state_of h) x i))
 
 -- nobody is moved where some may leave and nobody joins, and where nobody does either

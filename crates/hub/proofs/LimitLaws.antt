@@ -1,22 +1,23 @@
 -- A new pass limit gives what its contract says. Assumes nothing.
 use Rattle.std.proofs.Common.{Ok, Err, None}
 use Rattle.rules_routine.specs.Refusals.{Verdict}
-use mathlib.Core.Path.{◌≡◌, sym, ap, ◌∙◌}
+use mathlib.Core.Path.{◌≡◌, refl, sym, ap}
 use mathlib.Core.Bool.{false}
 use mathlib.Core.List.{List, [], ◌∷◌}
 use Prim.Native.Nat.{ℕ}
 use native.Mathlib.Omega.{arith}
 use Rattle.rules.specs.State.{State}
-use Rattle.rules.specs.Answers.{Back, Result, limited, unless_refused}
+use Rattle.rules.specs.Answers.{Result, limited, unless_refused}
 use Rattle.rules.specs.Settle.{settling}
 use Rattle.rules.specs.Limit.{new_limit_check, with_pass_limit, limit_of}
-use Rattle.hub_answers.specs.View.{answer_of, put_backs_of, put_backs_in}
+use Rattle.hub_answers.specs.View.{put_backs_of}
 use Rattle.hub_answers.specs.declared.PutBacks.{PutBacks}
 use Rattle.hub_state.specs.View.{first_committed, state_of}
 use Rattle.hub_state.specs.declared.HubState.{HubState}
-use Rattle.hub_state.proofs.DecisionLaws.{no_put_backs}
+use Rattle.rules.proofs.Lists.{t≠f}
+use Rattle.rules_routine.specs.declared.refusals.Refusal.{Refusal}
+use Rattle.hub_answers.specs.declared.Answer.TheVariants.{Refused, Limited as NowLimited}
 use Rattle.hub_limit.specs.Contract.{Limits}
-use Rattle.hub_limit.specs.declared.NewLimit.{NewLimit}
 use Rattle.hub.specs.View.{view}
 use Rattle.hub.specs.Valid.{Valid}
 use Rattle.hub.specs.Contract.{Limited}
@@ -34,14 +35,27 @@ limit_rests s k f = go (new_limit_check s.devices k)
     go (Ok tt) = settled_rests (with_pass_limit s k)
     go (Err r) = f
 
-pub limits-hub : (h : Hub) (k : ℕ) (l : NewLimit) (b : PutBacks) → Valid h → Limits h.state k l → b.count ≡ 0 →
-    put_backs_of b ≡ [] →
-    Limited h k (record { hub = record { state = l.state }; first = None; answer = l.answer; put_backs = b })
-limits-hub h k l b v g n e = record {
-  valid = rests_as _ g.valid (ap (λ (r : Result). r.state) g.gives) (limit_rests (view h) k v.at_rest);
-  gives = ap (λ (m : List Back). record { state = state_of l.state; answers = answer_of l.answer m ∷ [] }) e ∙ g.gives;
-  put_backs_fit = omega arith;
-  put_backs_told = e ∙ no_put_backs l.answer ∙ sym (ap (λ (m : List Back). put_backs_in (answer_of l.answer m ∷ [])) e);
-  unmoved = g.unmoved;
-  same_hub = λ z. ap (λ (s : HubState). record { state = s }) (g.same_state z);
-}
+module _ (h : Hub) (k : ℕ) (b : PutBacks) (v : Valid h) (n : b.count ≡ 0) (e : put_backs_of b ≡ []) where
+  -- it is in force
+  pub limits_hub : (s : HubState) → Limits h.state k (Ok s) →
+      Limited h k (record { hub = record { state = s }; first = None; answer = NowLimited k; put_backs = b })
+  limits_hub s g = record {
+    valid = rests_as _ g.valid (ap (λ (r : Result). r.state) g.gives) (limit_rests (view h) k v.at_rest);
+    gives = g.gives;
+    put_backs_fit = omega arith;
+    put_backs_told = e;
+    unmoved = g.unmoved;
+    same_hub = λ z. t≠f (sym z);
+  }
+
+  -- it is turned down
+  pub limits_nothing : (r : Refusal) → Limits h.state k (Err r) →
+      Limited h k (record { hub = h; first = None; answer = Refused r; put_backs = b })
+  limits_nothing r g = record {
+    valid = v;
+    gives = g.gives;
+    put_backs_fit = omega arith;
+    put_backs_told = e;
+    unmoved = g.unmoved;
+    same_hub = λ z. refl;
+  }

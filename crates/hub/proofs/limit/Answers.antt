@@ -1,7 +1,13 @@
 -- `hub::limit` meets its contract. Assumes nothing.
-use Rattle.hub.proofs.LimitLaws.{limits-hub}
+use Rattle.std.proofs.Common.{subst}
+use Rattle.hub_limit.specs.Contract.{Limits}
+use Rattle.hub.proofs.LimitLaws.{limits_hub, limits_nothing}
 use Rattle.hub.proofs.limit.Goals as goal
 
-pub returns : goal.returns
-returns c = let b = c.no_put_backs-backs.ensures in
-    limits-hub _ _ _ _ c.requires c.set_limit-changed.ensures b.0 b.1
+pub returns-in-Ok : goal.returns-in-Ok
+returns-in-Ok c = let b = c.no_put_backs-put_backs.ensures in
+    limits_hub _ _ _ c.requires b.0 b.1 _ (subst (Limits _ _) c.in-Ok.is c.set_limit.ensures)
+
+pub returns-in-Err : goal.returns-in-Err
+returns-in-Err c = let b = c.no_put_backs-put_backs.ensures in
+    limits_nothing _ _ _ c.requires b.0 b.1 _ (subst (Limits _ _) c.in-Err.is c.set_limit.ensures)
