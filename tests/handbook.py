@@ -378,8 +378,11 @@ def check_answers(pieces, sittings):
 
 # Numbers of the definitions' table, and whether each has an index.
 def numbers_defined():
-    found = re.findall(r'= (Number|Indexed) (\d+)', TABLE_OF_REFUSALS.read_text(encoding='utf-8'))
-    return {int(number): kind == 'Indexed' for kind, number in found}
+    table = TABLE_OF_REFUSALS.read_text(encoding='utf-8')
+    numbers = dict(re.findall(r'^number_of \(?(\w+)(?: i\))? = (\d+)', table, re.M))
+    indexes = dict(re.findall(r'^index_of \(?(\w+)(?: i\))? = (None|Some i)$', table, re.M))
+    check(numbers.keys() == indexes.keys(), 'a cause has a number and no index, or the other way round')
+    return {int(number): indexes[cause] == 'Some i' for cause, number in numbers.items()}
 
 
 # By number, the letters of the lines that some sitting has refused with it, and the indexes.

@@ -522,7 +522,7 @@ HARM = [  # changes of the page, and what the test says of them
     (r'(has_set</b>.*?λ x\..*?</a> d )x ', r'\1<a href="#rules.State.Step">x</a> ', "a link on x, which is bound there"),
     (r"(Proved in crates/rules_promises/proofs/Theorem\.antt, line )\d+", r"\g<1>1",
      "is not at crates/rules_promises/proofs/Theorem.antt, line 1"),
-    (r"enum <b>Verdict</b>", "enum <b>Verdicts</b>", "code.rules_routine.Verdict: another text"),
+    (r"enum <b>Refusal</b>", "enum <b>Refusals</b>", "code.rules_routine.refusals.Refusal: another text"),
     (r'id="chapter-(order|serial)"', lambda found: 'id="chapter-%s"' % {"order": "serial", "serial": "order"}[found[1]], "another order"),
     (r'href="#rules\.State\.Member\.steps"', 'href="#rules.State.Member.id"', "steps leads to rules.State.Member.id"),
     (r'id="call\.hub\.submit"', 'id="call.hub.submits"', "call.hub.submit is not on the page"),
@@ -535,7 +535,7 @@ AMISS = [  # changes of docs/STATEMENTS.md, and what the test says of them
     ("- `told-is-held`: ", "- `told-is-kept`: ", "lists told-is-kept, which is no theorem"),
     ("proved in `crates/hub/proofs/Links.antt`", "proved in `crates/hub/proofs/Theorem.antt`", "says of links_are_the_sequence"),
     ("`crates/rules/specs/World.antt`", "`crates/rules/specs/Worlds.antt`", "there is no such file"),
-    ("`refusal_of`", "`refusal_for`", "names refusal_for, which neither"),
+    ("`number_of`", "`number_for`", "names number_for, which neither"),
 ]
 
 

@@ -47,7 +47,7 @@ def call_text(c):
 
 def answer_text(a):
     if a[0] == "refused":
-        return f"refused (Number {a[1]})" if len(a) == 2 else f"refused (Indexed {a[1]} {a[2]})"
+        return f"refused (numbered {a[1]})" if len(a) == 2 else f"refused (indexed {a[1]} {a[2]})"
     if a[0] == "send":
         return f"send {a[1]} ({command(a[2])})"
     if a[0] in ("skipped", "aborted"):
@@ -59,7 +59,7 @@ def answer_text(a):
 
 def example(i, h):
     (n, k, first), calls, answers, hub = h
-    settings = [f"some ({whole(s)})" if s is not None else "none" for s in hub.lines()]
+    settings = [f"Some ({whole(s)})" if s is not None else "None" for s in hub.lines()]
     return f"""
 abbrev c{i} : List Call
 c{i} = {listed([call_text(c) for c in calls])}
@@ -76,11 +76,11 @@ h{i} = (refl, refl, refl)
 def reading(i, n, k, first, hub):
     """All due settings into a list, of one length after another (document 02, item 14)."""
     size = i % (LONGEST_LIST + 1)
-    lent, verdict = [7] * size, "Accepted"
+    lent, verdict = [7] * size, "Ok tt"
     try:
         hub.settings(lent)
     except Refused as refusal:
-        verdict = f"Refused (Number {refusal.answer[1]})"
+        verdict = f"Err (numbered {refusal.answer[1]})"
     return f"""
 l{i} : let s = state_after (new_hub {n} {k} {first}) c{i} in
   (list_check s {size} ≡ {verdict}) × (list_after s (replicate {size} (pos 7)) ≡ {listed([whole(s) for s in lent])})
@@ -90,10 +90,8 @@ l{i} = (refl, refl)
 
 
 HEADER = """-- Random histories, with the answers of an independent model.
-use Rattle.std.specs.Prelude.{◌≡◌, refl, List, [], ◌∷◌, pos, negsuc, replicate}
-use Rattle.std.proofs.Math.Option.{none, some}
-use Rattle.rules_routine.specs.declared.Refusal.TheVariants.{Number, Indexed}
-use Rattle.rules_routine.specs.declared.Verdict.TheVariants.{Accepted, Refused}
+use Rattle.std.specs.Prelude.{◌≡◌, refl, List, [], ◌∷◌, pos, negsuc, replicate, None, Some, Ok, Err}
+use Rattle.rules_routine.specs.Refusals.{numbered, indexed}
 use Rattle.rules.specs.AllDue.{all_due, list_check, list_after}
 use Rattle.rules.specs.Open.{new_hub}
 use Rattle.rules.specs.Calls.{state_after}
