@@ -16,19 +16,18 @@ use Rattle.rules_routine.specs.declared.Command.{Command}
 use Rattle.rules_routine.specs.declared.Routine.{Routine}
 use Rattle.line_rules.specs.Reading.{LineCall, turns, reports, fails, restarts, cancels}
 use Rattle.rules.specs.Report.{code_done, code_failed}
-use Rattle.rules.proofs.Lists.{by_if, t≠f}
+use Rattle.rules.proofs.Lists.{by_if}
 use Rattle.line_rules.specs.Text.{space, same}
 use Rattle.line_rules.specs.Pieces.{words_of}
 use Rattle.rules_routine.specs.Limits.{max_line}
 use Rattle.line_rules.specs.Reading.{Line as Said, opening, calling, unread, highest8, highest32, number_up_to, setting}
 use Rattle.line_rules.specs.Reading.{opening_with, opening_line, command_before, commands, submit_line, submit_with, call_with, one_number}
 use Rattle.line_rules.specs.Reading.{restart_with, restart_line, line_with, line_by, read_line}
-use Rattle.line_read.specs.Places.{behind_letter, word_at, word_end, words_from, command_behind, CommandAt}
+use Rattle.line_read.specs.Places.{behind_letter, word_at, word_end, words_from, command_behind}
 use Rattle.line_read.specs.declared.Call.TheVariants.{Submit}
 use Rattle.line_read.specs.declared.Line.{Line}
 use Rattle.line_read.specs.declared.Line.TheVariants.{Calling}
 use Rattle.line_read.specs.declared.LineRead.{LineRead}
-use Rattle.line_read.specs.declared.calls.CommandRead.{CommandRead}
 use Rattle.line_read.specs.View.{together, letter_of, read_as, id_call_with, id_line}
 use Rattle.line_read.proofs.WordLaws.{word_past, word_none, word_more, words_none, words_first, words_all, WordSays, NotFirst}
 
@@ -200,16 +199,6 @@ module _ (line : List ℕ) (at : ℕ) where
       unfolding commands
       command_all {v} {last} c =
           rw (a.words, b.words, c.words, a.says, b.says, c.says) (before-behind d t v (commands (words_from line (last + 1))))
-
--- what is read at a place: no command, or one and the commands behind it
-pub none_at : (line : List ℕ) (from : ℕ) (r : CommandRead) → r.found ≡ false →
-    (from ≤ length line → commands (words_from line from) ≡ None) →
-    CommandAt line from r
-none_at line from r e h = record { found_one = λ t. t≠f (sym t ∙ e); found_none = λ _. h }
-
-pub one_at : (line : List ℕ) (from : ℕ) (r : CommandRead) → r.found ≡ true → from ≤ r.end → r.end ≤ length line →
-    commands (words_from line from) ≡ command_behind r.command (commands (words_from line (r.end + 1))) → CommandAt line from r
-one_at line from r e h k w = record { found_one = λ _. (h, k, w); found_none = λ f. t≠f (sym e ∙ f) }
 
 -- a submission whose commands behind those of a routine are these
 abbrev pub submit_from : Routine → Option (List Command) → LineRead

@@ -1,7 +1,7 @@
 -- Laws of words by their places, and of the numbers in them. Assumes nothing.
 use Rattle.std.proofs.Common.{Option, None, Some}
 use mathlib.Core.Path.{◌≡◌, refl, sym, ap, ◌∙◌}
-use mathlib.Core.Logic.{◌≢◌}
+use mathlib.Core.Logic.{◌≢◌, ◌⊎◌, inl, inr}
 use mathlib.Core.Bool.{Bool, true, false}
 use mathlib.Core.List.{List, [], ◌∷◌}
 use Prim.Native.Nat.{ℕ, zero, suc, ◌+◌, ◌-◌, ◌*◌, ◌≤◌, ◌<◌}
@@ -21,11 +21,7 @@ use Rattle.line_rules.specs.Pieces.{pieces, reach, words_of}
 use Rattle.line_rules.specs.Reading.{highest16, lowest16, is_digit, digits_from, number, within, number_up_to, positive, minus_of, negative}
 use Rattle.line_rules.specs.Reading.{setting}
 use Rattle.line_rules.proofs.LineLaws.{drop-behind, reach-within, pieces_parted, pieces-one}
-use Rattle.line_read.specs.Places.{word_at, word_end, words_from, number_as, found_from, number_at, setting_as, setting_at}
-use Rattle.line_read.specs.declared.numbers.Number.{Number}
-use Rattle.line_read.specs.declared.numbers.Number.TheVariants.{Found, Missing}
-use Rattle.line_read.specs.declared.numbers.Setting.{Setting}
-use Rattle.line_read.specs.declared.numbers.Setting.TheVariants.{Found as SettingFound, Missing as SettingMissing}
+use Rattle.line_read.specs.Places.{word_at, word_end, words_from, ending, found_from, number_at, setting_at}
 
 -- ---- how far a piece reaches from a place
 
@@ -177,7 +173,7 @@ within_bound highest (Some m) n e = go (leb m highest) refl e
 -- one that was read to the end of its word
 read_whole : (highest : ℕ) (word : List ℕ) (value from at : ℕ) → digits_from 0 word ≡ Some value → value ≤ highest →
     at ≡ from + length word →
-    found_from value from at ≡ number_as (number_up_to highest word) at
+    found_from value from at ≡ ending (number_up_to highest word) at
 read_whole highest [] value from at d h e = rw (number_empty highest, eq-eqb from at (omega arith))
 read_whole highest (b ∷ bs) value from at d h e =
     rw (number_digits highest (b ∷ bs) (omega arith), d, ne_eqb from at (λ f. omega arith), within_some highest value h)
@@ -197,21 +193,19 @@ module _ (highest : ℕ) (line : List ℕ) (from : ℕ) where
       let ends : at ≡ word_end line from = sym e.1 ∙ left.ends in
       let digits : digits_from 0 (word_at line from) ≡ Some value = sym left.digits ∙ ap (digits_from value) e.0 in
       read_whole highest (word_at line from) value from at digits h (ends ∙ word_length line from)
-      ∙ ap (number_as (number_up_to highest (word_at line from))) ends
+      ∙ ap (ending (number_up_to highest (word_at line from))) ends
 
   -- the digits left say that there is none
   pub number_missing : (at value : ℕ) → Left line from at value → within highest (digits_from value (word_at line at)) ≡ None →
-      number_at highest line from ≡ Missing
+      number_at highest line from ≡ None
   unfolding number_at
   number_missing at value left e = rw (number-none highest (word_at line from) (ap (within highest) (sym left.digits) ∙ e))
 
 module _ (line : List ℕ) (at value : ℕ) (h : at < length line) (n : get_or line at 0 ≢ space) where
   -- no digit
-  pub left_below : get_or line at 0 < digit0 → digits_from value (word_at line at) ≡ None
-  left_below k = rw (word_more line at h n).0 (digits_below value (get_or line at 0) (word_at line (suc at)) k)
-
-  pub left_above : digit0 + 10 ≤ get_or line at 0 → digits_from value (word_at line at) ≡ None
-  left_above k = rw (word_more line at h n).0 (digits_above value (get_or line at 0) (word_at line (suc at)) k)
+  pub left_other : (get_or line at 0 < digit0) ⊎ (digit0 + 9 < get_or line at 0) → digits_from value (word_at line at) ≡ None
+  left_other (inl k) = rw (word_more line at h n).0 (digits_below value (get_or line at 0) (word_at line (suc at)) k)
+  left_other (inr k) = rw (word_more line at h n).0 (digits_above value (get_or line at 0) (word_at line (suc at)) (omega arith))
 
   -- one digit more
   pub left_more : (from : ℕ) → Left line from at value → digit0 ≤ get_or line at 0 → get_or line at 0 < digit0 + 10 →
@@ -225,19 +219,19 @@ module _ (line : List ℕ) (at value : ℕ) (h : at < length line) (n : get_or l
 -- ---- settings
 
 -- a setting held, of the number behind a minus and of one without
-abbrev pub minus_held : Number → Setting
-minus_held (Found n end) = SettingFound (minus_of n) end
-minus_held Missing = SettingMissing
+abbrev pub minus_held : Option (ℕ × ℕ) → Option (ℤ × ℕ)
+minus_held (Some (n, end)) = Some (minus_of n, end)
+minus_held None = None
 
-abbrev pub plain_held : Number → Setting
-plain_held (Found n end) = SettingFound (pos n) end
-plain_held Missing = SettingMissing
+abbrev pub plain_held : Option (ℕ × ℕ) → Option (ℤ × ℕ)
+plain_held (Some (n, end)) = Some (pos n, end)
+plain_held None = None
 
-minus-held : (o : Option ℕ) (end : ℕ) → setting_as (negative o) end ≡ minus_held (number_as o end)
+minus-held : (o : Option ℕ) (end : ℕ) → ending (negative o) end ≡ minus_held (ending o end)
 minus-held None end = refl
 minus-held (Some n) end = refl
 
-plain-held : (o : Option ℕ) (end : ℕ) → setting_as (positive o) end ≡ plain_held (number_as o end)
+plain-held : (o : Option ℕ) (end : ℕ) → ending (positive o) end ≡ plain_held (ending o end)
 plain-held None end = refl
 plain-held (Some n) end = refl
 
@@ -337,43 +331,37 @@ module _ {A : Type 0} (reads : List ℕ → Option A) (line : List ℕ) (at : �
       behind : suc (word_end line at) ≡ end + 1
       behind = omega (arith, e.1)
 
-held_none : (o : Option ℕ) (end : ℕ) → number_as o end ≡ Missing → o ≡ None
-held_none None end e = refl
-held_none (Some n) end e = let z : ◌≡◌ {A = ℕ} 0 1 = cc in absurd (omega arith)
+ending_none : {A : Type 0} (o : Option A) (end : ℕ) → ending o end ≡ None → o ≡ None
+ending_none None end e = refl
+ending_none (Some a) end e = cc
 
-held_some : (o : Option ℕ) (end n e : ℕ) → number_as o end ≡ Found n e → (o ≡ Some n) × (end ≡ e)
-held_some None end n e f = let z : ◌≡◌ {A = ℕ} 0 1 = cc in absurd (omega arith)
-held_some (Some m) end n e f = (cc, cc)
+ending_some : {A : Type 0} (o : Option A) (end : ℕ) (a : A) (e : ℕ) → ending o end ≡ Some (a, e) → (o ≡ Some a) × (end ≡ e)
+ending_some None end a e f = (cc, cc)
+ending_some {A} (Some b) end a e f =
+    let p : ◌≡◌ {A = A × ℕ} (b, end) (a, e) = cc in
+    (ap (λ (q : A × ℕ). Some q.0) p, ap (λ (q : A × ℕ). q.1) p)
 
 module _ (highest : ℕ) (line : List ℕ) (at : ℕ) where
-  pub no_number : number_at highest line at ≡ Missing → NotFirst (number_up_to highest) (words_from line at)
+  pub no_number : number_at highest line at ≡ None → NotFirst (number_up_to highest) (words_from line at)
   unfolding number_at
-  no_number e = not_first (number_up_to highest) line at (held_none (number_up_to highest (word_at line at)) (word_end line at) e)
+  no_number e = not_first (number_up_to highest) line at (ending_none (number_up_to highest (word_at line at)) (word_end line at) e)
 
-  pub number_says : (n end : ℕ) → number_at highest line at ≡ Found n end → WordSays (number_up_to highest) line at n end
+  pub number_says : (n end : ℕ) → number_at highest line at ≡ Some (n, end) → WordSays (number_up_to highest) line at n end
   unfolding number_at
   number_says n end e =
       word_says (number_up_to highest) line at (number_empty highest) n end
-      (held_some (number_up_to highest (word_at line at)) (word_end line at) n end e)
+      (ending_some (number_up_to highest (word_at line at)) (word_end line at) n end e)
 
   -- "with a number outside its width": none
-  pub number_bound : (n end : ℕ) → number_at highest line at ≡ Found n end → n ≤ highest
+  pub number_bound : (n end : ℕ) → number_at highest line at ≡ Some (n, end) → n ≤ highest
   unfolding number_up_to
   number_bound n end e = within_bound highest (number (word_at line at)) n (number_says n end e).says
 
-setting-none : (o : Option ℤ) (end : ℕ) → setting_as o end ≡ SettingMissing → o ≡ None
-setting-none None end e = refl
-setting-none (Some v) end e = let z : ◌≡◌ {A = ℕ} 0 1 = cc in absurd (omega arith)
-
-setting_some : (o : Option ℤ) (end : ℕ) (v : ℤ) (e : ℕ) → setting_as o end ≡ SettingFound v e → (o ≡ Some v) × (end ≡ e)
-setting_some None end v e f = let z : ◌≡◌ {A = ℕ} 0 1 = cc in absurd (omega arith)
-setting_some (Some u) end v e f = (cc, cc)
-
 module _ (line : List ℕ) (at : ℕ) where
-  pub no_setting : setting_at line at ≡ SettingMissing → NotFirst setting (words_from line at)
+  pub no_setting : setting_at line at ≡ None → NotFirst setting (words_from line at)
   unfolding setting_at
-  no_setting e = not_first setting line at (setting-none (setting (word_at line at)) (word_end line at) e)
+  no_setting e = not_first setting line at (ending_none (setting (word_at line at)) (word_end line at) e)
 
-  pub setting_says : (v : ℤ) (end : ℕ) → setting_at line at ≡ SettingFound v end → WordSays setting line at v end
+  pub setting_says : (v : ℤ) (end : ℕ) → setting_at line at ≡ Some (v, end) → WordSays setting line at v end
   unfolding setting_at setting
-  setting_says v end e = word_says setting line at refl v end (setting_some (setting (word_at line at)) (word_end line at) v end e)
+  setting_says v end e = word_says setting line at refl v end (ending_some (setting (word_at line at)) (word_end line at) v end e)

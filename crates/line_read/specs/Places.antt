@@ -1,14 +1,9 @@
 -- Words by their places: the words of a line from a place on. Assumes nothing.
-use Rattle.std.specs.Prelude.{◌≡◌, true, false, List, [], ◌∷◌, ℕ, ◌+◌, ◌≤◌, leb, eqb, ℤ, length, take, drop, if◌then◌else◌, Option, None, Some}
+use Rattle.std.specs.Prelude.{◌≡◌, List, [], ◌∷◌, ℕ, ◌+◌, ◌≤◌, leb, eqb, ℤ, length, take, drop, if◌then◌else◌, Option, None, Some}
 use Rattle.line_rules.specs.Text.{space}
 use Rattle.line_rules.specs.Pieces.{pieces, reach}
 use Rattle.line_rules.specs.Reading.{number_up_to, setting, commands}
 use Rattle.rules_routine.specs.declared.Command.{Command}
-use Rattle.line_read.specs.declared.calls.CommandRead.{CommandRead}
-use Rattle.line_read.specs.declared.numbers.Number.{Number}
-use Rattle.line_read.specs.declared.numbers.Number.TheVariants.{Found, Missing}
-use Rattle.line_read.specs.declared.numbers.Setting.{Setting}
-use Rattle.line_read.specs.declared.numbers.Setting.TheVariants.{Found as SettingFound, Missing as SettingMissing}
 
 -- Where the words behind a line's letter begin.
 abbrev pub behind_letter : ℕ
@@ -25,32 +20,27 @@ word_end line at = at + reach space (drop at line)
 unfoldable pub words_from : List ℕ → ℕ → List (List ℕ)
 words_from line at = if leb at (length line) then pieces space (drop at line) else []
 
--- A number of that word, as it is read.
-abbrev pub number_as : Option ℕ → ℕ → Number
-number_as None end = Missing
-number_as (Some n) end = Found n end
+-- What that word says, as it is read: with where the word ends.
+abbrev pub ending : {A : Type 0} → Option A → ℕ → Option (A × ℕ)
+ending None end = None
+ending (Some a) end = Some (a, end)
 
 -- One that was read to the end of its word: a word of no bytes is none.
-abbrev pub found_from : ℕ → ℕ → ℕ → Number
-found_from value from end = if eqb from end then Missing else Found value end
+abbrev pub found_from : ℕ → ℕ → ℕ → Option (ℕ × ℕ)
+found_from value from end = if eqb from end then None else Some (value, end)
 
-unfoldable pub number_at : ℕ → List ℕ → ℕ → Number
-number_at highest line at = number_as (number_up_to highest (word_at line at)) (word_end line at)
+unfoldable pub number_at : ℕ → List ℕ → ℕ → Option (ℕ × ℕ)
+number_at highest line at = ending (number_up_to highest (word_at line at)) (word_end line at)
 
-abbrev pub setting_as : Option ℤ → ℕ → Setting
-setting_as None end = SettingMissing
-setting_as (Some v) end = SettingFound v end
-
-unfoldable pub setting_at : List ℕ → ℕ → Setting
-setting_at line at = setting_as (setting (word_at line at)) (word_end line at)
+unfoldable pub setting_at : List ℕ → ℕ → Option (ℤ × ℕ)
+setting_at line at = ending (setting (word_at line at)) (word_end line at)
 
 abbrev pub command_behind : Command → Option (List Command) → Option (List Command)
 command_behind c None = None
 command_behind c (Some cs) = Some (c ∷ cs)
 
 -- A command that begins at a place within a line, and the commands behind it; if there is none, the line has another shape.
-pub record CommandAt (line : List ℕ) (from : ℕ) (r : CommandRead) : Type 0 where
-  pub found_one : r.found ≡ true →
-      (from ≤ r.end) × (r.end ≤ length line)
-      × (commands (words_from line from) ≡ command_behind r.command (commands (words_from line (r.end + 1))))
-  pub found_none : r.found ≡ false → from ≤ length line → commands (words_from line from) ≡ None
+abbrev pub CommandAt : List ℕ → ℕ → Option (Command × ℕ) → Type 0
+CommandAt line from (Some (c, end)) =
+    (from ≤ end) × (end ≤ length line) × (commands (words_from line from) ≡ command_behind c (commands (words_from line (end + 1))))
+CommandAt line from None = from ≤ length line → commands (words_from line from) ≡ None

@@ -6,14 +6,12 @@ ghost use Rattle.line_rules.specs.Pieces.{reach};
 fn near_end(bytes: &[u8], from: usize, byte: u8) -> usize
     ensures { result ≡ from + reach byte (drop from bytes.now) }
 {
-    let mut at = from;
-    while at < bytes.len() {
+    for at in from..bytes.len() {
         if bytes[at] == byte {
             return at;
         }
-        at += 1;
     }
-    at
+    bytes.len().max(from)
 }
 
 // Where the piece that begins at a place ends: at the next such byte, or at the end. Four bytes are looked at in a round, which is the
@@ -21,10 +19,7 @@ fn near_end(bytes: &[u8], from: usize, byte: u8) -> usize
 pub fn piece_end(bytes: &[u8], from: usize, byte: u8) -> usize
     ensures { result ≡ from + reach byte (drop from bytes.now) }
 {
-    let mut stop = 0;
-    if 3 < bytes.len() {
-        stop = bytes.len() - 3;
-    }
+    let stop = bytes.len().saturating_sub(3);
     let mut at = from;
     while at < stop {
         if bytes[at] == byte {

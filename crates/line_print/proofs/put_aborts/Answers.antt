@@ -2,12 +2,11 @@
 use Rattle.line_print.proofs.PutLaws.{put_neither, put_own, put_both}
 use Rattle.line_print.proofs.put_aborts.Goals as goal
 
+pub returns-in-Some : goal.returns-in-Some
+returns-in-Some c = put_both c.args.answer c.args.backs _ c.in-Some.is c.requires.2 c.put_abort-behind.ensures c.put_answer.ensures
+
+pub returns-in-Aborted : goal.returns-in-Aborted
+returns-in-Aborted c = put_own c.args.answer c.args.backs _ c.in_default.is c.in-Aborted.is c.put_abort.ensures
+
 pub returns-in_default-answer : goal.returns-in_default-answer
 returns-in_default-answer c = put_neither c.args.answer c.args.backs c.in_default.is c.requires.2 c.in_default-answer.not-Aborted
-
-pub returns-in_default : goal.returns-in_default
-returns-in_default c = let a = c.args in
-    put_own a.answer a.backs _ c.in_default.is c.in-Aborted.is c.put_abort.ensures
-
-pub returns : goal.returns
-returns c = put_both c.args.answer c.args.backs _ c.in-Abort.is c.requires.2 c.put_abort-behind.ensures c.put_answer-2.ensures

@@ -9,11 +9,11 @@ use Rattle.line_rules.specs.Printing.{back_list, back_text}
 use Rattle.line_print.proofs.PutLaws.{exactly, within, as_text}
 use Rattle.line_print.proofs.words.put_at_most_one.Goals as goal
 
-pub returns-in-Nothing : goal.returns-in-Nothing
+pub returns-in-None : goal.returns-in-None
 unfolding back_list back_text decimal digits
-returns-in-Nothing c = as_text (ap (λ (b : Option PutBack). back_text (one_of b)) (sym c.in-Nothing.is))
+returns-in-None c = as_text (ap (λ (b : Option PutBack). back_text (one_of b)) (sym c.in-None.is))
     (within (omega arith) (exactly c.put_word.ensures))
 
-pub returns-in-One : goal.returns-in-One
-returns-in-One c = as_text (ap (λ (b : Option PutBack). back_text (one_of b)) (sym c.in-One.is))
+pub returns-in-Some : goal.returns-in-Some
+returns-in-Some c = as_text (ap (λ (b : Option PutBack). back_text (one_of b)) (sym c.in-Some.is))
     c.put_one_back.ensures

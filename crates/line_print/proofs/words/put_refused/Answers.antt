@@ -1,16 +1,28 @@
 -- `line_print::words::put_refused` meets its contract. Assumes nothing.
-use mathlib.Core.Path.{sym, ap}
+use mathlib.Core.Path.{◌≡◌, sym, ap₂, ◌∙◌}
+use mathlib.Core.List.{◌++◌, append-nil, append_assoc}
+use Prim.Native.Nat.{ℕ}
+use Rattle.std.proofs.Common.{Option}
 use native.Mathlib.Omega.{arith}
-use Rattle.line_rules.specs.Printing.{refusal_text}
+use Rattle.line_rules.specs.Text.{bytes, decimal}
+use Rattle.line_rules.specs.Printing.{refusal_text, index_text}
 use Rattle.line_print.proofs.PutLaws.{within, as_text}
 use Rattle.line_print.proofs.words.put_refused.Goals as goal
 
-pub returns-in-Number : goal.returns-in-Number
-unfolding refusal_text
-returns-in-Number c = let e = c.in-Number.is in
-    within (omega arith) (as_text (ap refusal_text (sym e)) c.put_one.ensures)
+pub returns-in-None : goal.returns-in-None
+unfolding refusal_text index_text
+returns-in-None c =
+    within (omega arith)
+    (as_text
+    (sym (append-nil (bytes "refused " ++ decimal c.number-number.result))
+    ∙ ap₂ (λ (n : ℕ) (i : Option ℕ). bytes "refused " ++ decimal n ++ index_text i) c.number-number.ensures (sym c.in-None.is ∙ c.index.ensures))
+    c.put_one.ensures)
 
-pub returns-in-Indexed : goal.returns-in-Indexed
-unfolding refusal_text
-returns-in-Indexed c = let e = c.in-Indexed.is in
-    within (omega arith) (as_text (ap refusal_text (sym e)) c.put_two.ensures)
+pub returns-in-Some : goal.returns-in-Some
+unfolding refusal_text index_text
+returns-in-Some c =
+    within (omega arith)
+    (as_text
+    (append_assoc (bytes "refused " ++ decimal c.number-number.result) (bytes " ") (decimal c.in-Some.index)
+    ∙ ap₂ (λ (n : ℕ) (i : Option ℕ). bytes "refused " ++ decimal n ++ index_text i) c.number-number.ensures (sym c.in-Some.is ∙ c.index.ensures))
+    c.put_two.ensures)

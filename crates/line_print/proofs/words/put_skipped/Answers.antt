@@ -11,16 +11,16 @@ use Rattle.line_rules.specs.Printing.{back_if_any, answer_text}
 use Rattle.line_print.proofs.PutLaws.{short_then, within, as_text}
 use Rattle.line_print.proofs.words.put_skipped.Goals as goal
 
-pub returns-in-Nothing : goal.returns-in-Nothing
+pub returns-in-None : goal.returns-in-None
 unfolding answer_text back_if_any
-returns-in-Nothing c = let i = c.args.id in
+returns-in-None c = let i = c.args.id in
     as_text
     (sym (append-nil (bytes "skipped " ++ decimal i))
-    ∙ ap (λ (b : Option PutBack). answer_text (skipped i (one_of b))) (sym c.in-Nothing.is))
+    ∙ ap (λ (b : Option PutBack). answer_text (skipped i (one_of b))) (sym c.in-None.is))
     (within (omega arith) c.put_one-named.ensures)
 
-pub returns-in-One : goal.returns-in-One
+pub returns-in-Some : goal.returns-in-Some
 unfolding answer_text back_if_any
-returns-in-One c = let i = c.args.id in
-    as_text (ap (λ (b : Option PutBack). answer_text (skipped i (one_of b))) (sym c.in-One.is))
+returns-in-Some c = let i = c.args.id in
+    as_text (ap (λ (b : Option PutBack). answer_text (skipped i (one_of b))) (sym c.in-Some.is))
     (within (omega arith) (short_then c.put_one-named.ensures c.put_one_back.ensures))

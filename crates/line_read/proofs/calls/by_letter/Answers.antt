@@ -28,6 +28,6 @@ returns-then-letter-eq-SUBMIT c = c.submit_line.ensures ∙ sym (ap read_as (alo
 
 pub returns : goal.returns
 returns c = let w = c.without_routine.ensures in
-    let said = w.0 ∙ c.plain_line-said.ensures in
+    let said = w.0 ∙ c.unwrap_or-said.ensures ∙ c.plain_line.ensures in
     let none = w.1 ∙ sym (plain_routine _ _ c.if-letter-eq-SUBMIT.false) in
     (λ i. record { line = said i; routine = none i }) ∙ sym (ap read_as (alone (goal.at.returns c).Joined-line-gt1))

@@ -1,58 +1,60 @@
 -- `line_read::calls::command_at` meets its contract. Assumes nothing.
 use Prim.Native.Nat.{◌+◌}
-use mathlib.Core.Path.{◌≡◌, refl, sym, ◌∙◌}
+use mathlib.Core.Path.{◌≡◌, sym, ◌∙◌}
 use native.Mathlib.Omega.{arith}
 use mir.Syntax.{w16}
 use mir.Val.{to_z, of_z}
 use Rattle.line_rules.specs.Reading.{highest8, number_up_to, setting}
 use Rattle.line_read.proofs.WordLaws.{WordSays, no_number, number_says, number_bound, no_setting, setting_says}
-use Rattle.line_read.proofs.Forms.{command-none, command-one, command-two, command_all, none_at, one_at}
+use Rattle.line_read.proofs.Forms.{command-none, command-one, command-two, command_all}
 use borrow.Author.Rules.{rules}
-use Rattle.line_read.proofs.calls.command_at.Goals.{In-Found, In-Found-setting, In-Found-tag}
+use Rattle.line_read.proofs.calls.command_at.Goals.{In_ok-device, In_ok-setting, In_ok-tag}
 use Rattle.line_read.proofs.calls.command_at.Goals as goal
 
 -- the words, as they are found
-device : (c : In-Found) →
+device : (c : In_ok-device) →
     let a = c.args in
-    WordSays (number_up_to highest8) a.line.now a.from c.in-Found.d c.in-Found.d_end
-device c = number_says highest8 _ _ _ _ (sym c.number_at-device.ensures ∙ c.in-Found.is)
+    WordSays (number_up_to highest8) a.line.now a.from c.in_ok-device.device c.in_ok-device.device_end
+device c = number_says highest8 _ _ _ _ (sym c.number_at.ensures ∙ c.in_ok-device.was)
 
-tag : (c : In-Found-tag) →
-    WordSays (number_up_to highest8) c.args.line.now (c.in-Found.d_end + 1)
-    c.in-Found-tag.t c.in-Found-tag.t_end
-tag c = number_says highest8 _ _ _ _ (sym c.number_at-tag.ensures ∙ c.in-Found-tag.is)
+tag : (c : In_ok-tag) →
+    WordSays (number_up_to highest8) c.args.line.now (c.in_ok-device.device_end + 1)
+    c.in_ok-tag.tag c.in_ok-tag.tag_end
+tag c = number_says highest8 _ _ _ _ (sym c.number_at-2.ensures ∙ c.in_ok-tag.was)
 
-value : (c : In-Found-setting) →
-    WordSays setting c.args.line.now (c.in-Found-tag.t_end + 1) c.in-Found-setting.v c.in-Found-setting.end
-value c = setting_says _ _ _ _ (sym c.setting_at-setting.ensures ∙ c.in-Found-setting.is)
+value : (c : In_ok-setting) →
+    WordSays setting c.args.line.now (c.in_ok-tag.tag_end + 1) c.in_ok-setting.setting c.in_ok-setting.end
+value c = setting_says _ _ _ _ (sym c.setting_at.ensures ∙ c.in_ok-setting.was)
 
-pub returns-in_default : goal.returns-in_default
-returns-in_default c = none_at _ _ _ c.no_command.ensures
-    (λ h. command-none _ _ h (no_number highest8 _ _ (sym c.number_at-device.ensures ∙ c.in_default.is)))
+pub returns-in_err-device : goal.returns-in_err-device
+returns-in_err-device c = rw c.from_residual.ensures
+    (λ h. command-none _ _ h (no_number highest8 _ _ (sym c.number_at.ensures ∙ c.in_err-device.was)))
 
-pub overflow_add-d_end : goal.overflow_add-d_end
-overflow_add-d_end c = let d = device (goal.at.overflow_add-d_end c).In-Found in search rules
+pub overflow_add-device_end : goal.overflow_add-device_end
+overflow_add-device_end c = let d = device (goal.at.overflow_add-device_end c).In_ok-device in search rules
 
-pub returns-in_default-tag : goal.returns-in_default-tag
-returns-in_default-tag c = let none = no_number highest8 _ _ (sym c.number_at-tag.ensures ∙ c.in_default-tag.is) in
-    none_at _ _ _ c.no_command-in_default-tag.ensures (λ _. command-one _ _ (device (goal.at.returns-in_default-tag c).In-Found) none)
+pub returns-in_err-tag : goal.returns-in_err-tag
+returns-in_err-tag c = let none = no_number highest8 _ _ (sym c.number_at-2.ensures ∙ c.in_err-tag.was) in
+    rw c.from_residual-in_err-tag.ensures (λ _. command-one _ _ (device (goal.at.returns-in_err-tag c).In_ok-device) none)
 
-pub overflow_add-t_end : goal.overflow_add-t_end
-overflow_add-t_end c = let t = tag (goal.at.overflow_add-t_end c).In-Found-tag in search rules
+pub overflow_add-tag_end : goal.overflow_add-tag_end
+overflow_add-tag_end c = let t = tag (goal.at.overflow_add-tag_end c).In_ok-tag in search rules
 
-pub returns-in_default-setting : goal.returns-in_default-setting
-returns-in_default-setting c = let none = no_setting _ _ (sym c.setting_at-setting.ensures ∙ c.in_default-setting.is) in
-    none_at _ _ _ c.no_command-in_default-setting.ensures (λ _. command-two _ _ (device (goal.at.returns-in_default-setting c).In-Found) (tag (goal.at.returns-in_default-setting c).In-Found-tag) none)
+pub returns-in_err-setting : goal.returns-in_err-setting
+returns-in_err-setting c = let none = no_setting _ _ (sym c.setting_at.ensures ∙ c.in_err-setting.was) in
+    rw c.from_residual-in_err-setting.ensures (λ _. command-two _ _ (device (goal.at.returns-in_err-setting c).In_ok-device) (tag (goal.at.returns-in_err-setting c).In_ok-tag) none)
 
 pub overflow_cast-command : goal.overflow_cast-command
-overflow_cast-command c = omega (arith, number_bound highest8 _ _ _ _ (sym c.number_at-device.ensures ∙ c.in-Found.is))
+overflow_cast-command c = omega (arith, number_bound highest8 _ _ _ _ (sym c.number_at.ensures ∙ c.in_ok-device.was))
 
 pub overflow_cast-command-2 : goal.overflow_cast-command-2
-overflow_cast-command-2 c = omega (arith, number_bound highest8 _ _ _ _ (sym c.number_at-tag.ensures ∙ c.in-Found-tag.is))
+overflow_cast-command-2 c = omega (arith, number_bound highest8 _ _ _ _ (sym c.number_at-2.ensures ∙ c.in_ok-tag.was))
 
 pub returns : goal.returns
-returns c = let d = device (goal.at.returns c).In-Found in
-    let v = c.in-Found-setting.v in
-    let e : to_z w16 (of_z w16 v) ≡ v = search rules in
-    rw e (one_at _ _ _ refl (omega (arith, d.begins, (tag (goal.at.returns c).In-Found-tag).begins, (value (goal.at.returns c).In-Found-setting).begins)) (value (goal.at.returns c).In-Found-setting).ends
-    (command_all _ _ d (tag (goal.at.returns c).In-Found-tag) (value (goal.at.returns c).In-Found-setting)))
+returns c =
+    let d = device (goal.at.returns c).In_ok-device in
+    let t = tag (goal.at.returns c).In_ok-tag in
+    let v = value (goal.at.returns c).In_ok-setting in
+    let z = c.in_ok-setting.setting in
+    let e : to_z w16 (of_z w16 z) ≡ z = search rules in
+    rw e (omega (arith, d.begins, t.begins, v.begins), v.ends, command_all _ _ d t v)

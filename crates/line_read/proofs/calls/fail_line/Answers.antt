@@ -6,24 +6,24 @@ use Rattle.line_rules.specs.Reading.{highest8, call_with, number_up_to}
 use Rattle.line_read.specs.Places.{behind_letter}
 use Rattle.line_read.proofs.WordLaws.{WordSays, no_number, number_says, number_bound}
 use Rattle.line_read.proofs.Forms.{held_as, one_none, one_more, one_found}
-use Rattle.line_read.proofs.calls.fail_line.Goals.{In-Found}
+use Rattle.line_read.proofs.calls.fail_line.Goals.{In_ok-device}
 use Rattle.line_read.proofs.calls.fail_line.Goals as goal
 
 -- the device's word
-device : (c : In-Found) →
-    WordSays (number_up_to highest8) c.args.line.now behind_letter c.in-Found.d c.in-Found.end
-device c = number_says highest8 _ _ _ _ (sym c.number_at-device.ensures ∙ c.in-Found.is)
+device : (c : In_ok-device) →
+    WordSays (number_up_to highest8) c.args.line.now behind_letter c.in_ok-device.device c.in_ok-device.end
+device c = number_says highest8 _ _ _ _ (sym c.number_at.ensures ∙ c.in_ok-device.was)
 
-pub returns-in_default : goal.returns-in_default
-returns-in_default c = sym (ap held_as
+pub returns-in_err-device : goal.returns-in_err-device
+returns-in_err-device c = rw c.from_residual.ensures (sym (ap held_as
     (one_none highest8 (call_with fails) refl _ _
-    (no_number highest8 _ _ (sym c.number_at-device.ensures ∙ c.in_default.is))))
+    (no_number highest8 _ _ (sym c.number_at.ensures ∙ c.in_err-device.was)))))
 
 pub returns-then-end-line : goal.returns-then-end-line
-returns-then-end-line c = sym (ap held_as (one_more highest8 (call_with fails) refl _ _ (device (goal.at.returns-then-end-line c).In-Found) c.if-end-line.true))
+returns-then-end-line c = sym (ap held_as (one_more highest8 (call_with fails) refl _ _ (device (goal.at.returns-then-end-line c).In_ok-device) c.if-end-line.true))
 
 pub overflow_cast-result : goal.overflow_cast-result
-overflow_cast-result c = omega (arith, number_bound highest8 _ _ _ _ (sym c.number_at-device.ensures ∙ c.in-Found.is))
+overflow_cast-result c = omega (arith, number_bound highest8 _ _ _ _ (sym c.number_at.ensures ∙ c.in_ok-device.was))
 
 pub returns : goal.returns
-returns c = sym (ap held_as (one_found highest8 (call_with fails) refl _ _ (device (goal.at.returns c).In-Found) c.if-end-line.false))
+returns c = sym (ap held_as (one_found highest8 (call_with fails) refl _ _ (device (goal.at.returns c).In_ok-device) c.if-end-line.false))

@@ -7,51 +7,51 @@ use Rattle.line_read.specs.Places.{behind_letter}
 use Rattle.line_read.proofs.WordLaws.{WordSays, no_number, number_says, number_bound}
 use Rattle.line_read.proofs.Forms.{held_as, open_none, open_one, open_two, open_more, open_all}
 use borrow.Author.Rules.{rules}
-use Rattle.line_read.proofs.calls.open_line.Goals.{In-Found, In-Found-first, In-Found-pass_limit}
+use Rattle.line_read.proofs.calls.open_line.Goals.{In_ok-devices, In_ok-first, In_ok-pass_limit}
 use Rattle.line_read.proofs.calls.open_line.Goals as goal
 
 -- the words, as they are found
-devices : (c : In-Found) →
-    WordSays (number_up_to highest8) c.args.line.now behind_letter c.in-Found.n c.in-Found.n_end
-devices c = number_says highest8 _ _ _ _ (sym c.number_at-devices.ensures ∙ c.in-Found.is)
+devices : (c : In_ok-devices) →
+    WordSays (number_up_to highest8) c.args.line.now behind_letter c.in_ok-devices.devices c.in_ok-devices.devices_end
+devices c = number_says highest8 _ _ _ _ (sym c.number_at.ensures ∙ c.in_ok-devices.was)
 
-limit : (c : In-Found-pass_limit) →
-    WordSays (number_up_to highest8) c.args.line.now (c.in-Found.n_end + 1)
-    c.in-Found-pass_limit.k c.in-Found-pass_limit.k_end
-limit c = number_says highest8 _ _ _ _ (sym c.number_at-pass_limit.ensures ∙ c.in-Found-pass_limit.is)
+limit : (c : In_ok-pass_limit) →
+    WordSays (number_up_to highest8) c.args.line.now (c.in_ok-devices.devices_end + 1)
+    c.in_ok-pass_limit.pass_limit c.in_ok-pass_limit.limit_end
+limit c = number_says highest8 _ _ _ _ (sym c.number_at-2.ensures ∙ c.in_ok-pass_limit.was)
 
-first : (c : In-Found-first) →
-    WordSays (number_up_to highest32) c.args.line.now (c.in-Found-pass_limit.k_end + 1)
-    c.in-Found-first.id c.in-Found-first.end
-first c = number_says highest32 _ _ _ _ (sym c.number_at-first.ensures ∙ c.in-Found-first.is)
+first : (c : In_ok-first) →
+    WordSays (number_up_to highest32) c.args.line.now (c.in_ok-pass_limit.limit_end + 1)
+    c.in_ok-first.first c.in_ok-first.end
+first c = number_says highest32 _ _ _ _ (sym c.number_at-3.ensures ∙ c.in_ok-first.was)
 
-pub returns-in_default : goal.returns-in_default
-returns-in_default c = sym (ap held_as (open_none _ _ (no_number highest8 _ _ (sym c.number_at-devices.ensures ∙ c.in_default.is))))
+pub returns-in_err-devices : goal.returns-in_err-devices
+returns-in_err-devices c = rw c.from_residual.ensures (sym (ap held_as (open_none _ _ (no_number highest8 _ _ (sym c.number_at.ensures ∙ c.in_err-devices.was)))))
 
-pub overflow_add-n_end : goal.overflow_add-n_end
-overflow_add-n_end c = let d = devices (goal.at.overflow_add-n_end c).In-Found in search rules
+pub overflow_add-devices_end : goal.overflow_add-devices_end
+overflow_add-devices_end c = let d = devices (goal.at.overflow_add-devices_end c).In_ok-devices in search rules
 
-pub returns-in_default-pass_limit : goal.returns-in_default-pass_limit
-returns-in_default-pass_limit c = sym (ap held_as (open_one _ _ (devices (goal.at.returns-in_default-pass_limit c).In-Found) (no_number highest8 _ _ (sym c.number_at-pass_limit.ensures ∙ c.in_default-pass_limit.is))))
+pub returns-in_err-pass_limit : goal.returns-in_err-pass_limit
+returns-in_err-pass_limit c = rw c.from_residual-in_err-pass_limit.ensures (sym (ap held_as (open_one _ _ (devices (goal.at.returns-in_err-pass_limit c).In_ok-devices) (no_number highest8 _ _ (sym c.number_at-2.ensures ∙ c.in_err-pass_limit.was)))))
 
-pub overflow_add-k_end : goal.overflow_add-k_end
-overflow_add-k_end c = let k = limit (goal.at.overflow_add-k_end c).In-Found-pass_limit in search rules
+pub overflow_add-limit_end : goal.overflow_add-limit_end
+overflow_add-limit_end c = let k = limit (goal.at.overflow_add-limit_end c).In_ok-pass_limit in search rules
 
-pub returns-in_default-first : goal.returns-in_default-first
-returns-in_default-first c = let none = no_number highest32 _ _ (sym c.number_at-first.ensures ∙ c.in_default-first.is) in
-    sym (ap held_as (open_two _ _ (devices (goal.at.returns-in_default-first c).In-Found) (limit (goal.at.returns-in_default-first c).In-Found-pass_limit) none))
+pub returns-in_err-first : goal.returns-in_err-first
+returns-in_err-first c = let none = no_number highest32 _ _ (sym c.number_at-3.ensures ∙ c.in_err-first.was) in
+    rw c.from_residual-in_err-first.ensures (sym (ap held_as (open_two _ _ (devices (goal.at.returns-in_err-first c).In_ok-devices) (limit (goal.at.returns-in_err-first c).In_ok-pass_limit) none)))
 
 pub returns-then-end-line : goal.returns-then-end-line
-returns-then-end-line c = sym (ap held_as (open_more _ _ (devices (goal.at.returns-then-end-line c).In-Found) (limit (goal.at.returns-then-end-line c).In-Found-pass_limit) (first (goal.at.returns-then-end-line c).In-Found-first) c.if-end-line.true))
+returns-then-end-line c = sym (ap held_as (open_more _ _ (devices (goal.at.returns-then-end-line c).In_ok-devices) (limit (goal.at.returns-then-end-line c).In_ok-pass_limit) (first (goal.at.returns-then-end-line c).In_ok-first) c.if-end-line.true))
 
 pub overflow_cast-result : goal.overflow_cast-result
-overflow_cast-result c = omega (arith, number_bound highest8 _ _ _ _ (sym c.number_at-devices.ensures ∙ c.in-Found.is))
+overflow_cast-result c = omega (arith, number_bound highest8 _ _ _ _ (sym c.number_at.ensures ∙ c.in_ok-devices.was))
 
 pub overflow_cast-result-2 : goal.overflow_cast-result-2
-overflow_cast-result-2 c = omega (arith, number_bound highest8 _ _ _ _ (sym c.number_at-pass_limit.ensures ∙ c.in-Found-pass_limit.is))
+overflow_cast-result-2 c = omega (arith, number_bound highest8 _ _ _ _ (sym c.number_at-2.ensures ∙ c.in_ok-pass_limit.was))
 
 pub overflow_cast-result-3 : goal.overflow_cast-result-3
-overflow_cast-result-3 c = omega (arith, number_bound highest32 _ _ _ _ (sym c.number_at-first.ensures ∙ c.in-Found-first.is))
+overflow_cast-result-3 c = omega (arith, number_bound highest32 _ _ _ _ (sym c.number_at-3.ensures ∙ c.in_ok-first.was))
 
 pub returns : goal.returns
-returns c = sym (ap held_as (open_all _ _ (devices (goal.at.returns c).In-Found) (limit (goal.at.returns c).In-Found-pass_limit) (first (goal.at.returns c).In-Found-first) c.if-end-line.false))
+returns c = sym (ap held_as (open_all _ _ (devices (goal.at.returns c).In_ok-devices) (limit (goal.at.returns c).In_ok-pass_limit) (first (goal.at.returns c).In_ok-first) c.if-end-line.false))
