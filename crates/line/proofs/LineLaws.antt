@@ -59,7 +59,7 @@ use Rattle.line_read.specs.declared.Call.TheVariants.{Submit, Turn, Report, Canc
 use Rattle.line_read.specs.declared.Line.{Line}
 use Rattle.line_read.specs.declared.Line.TheVariants.{Open, Calling, Unread}
 use Rattle.line.specs.View.{hub_in, heard_of, call_in, FitsCall}
-use Rattle.line.specs.Contract.{is_accepted}
+use Rattle.std.specs.Prelude.{is_ok}
 
 -- ---- a submission's commands, put together one by one
 
@@ -262,11 +262,11 @@ does_unread h q v e = record { valid = v; is = line-unread h q e; unopened = λ 
 -- an opening: the verdict is the rules'
 module _ (h : Hub) (q : Said) (n k first : ℕ) (e : heard_of (read_as q).line (view h).devices ≡ Open n k first) (v : Verdict)
     (same : v ≡ open_check n k first) where
-  pub does_open : (o : Opened) → Opens n k first o → is_accepted v ≡ true → Does h q o.hub (opening_text v)
+  pub does_open : (o : Opened) → Opens n k first o → is_ok v ≡ true → Does h q o.hub (opening_text v)
   unfolding open_of
   does_open o w t = go v same t
     where
-      go : (u : Verdict) → u ≡ open_check n k first → is_accepted u ≡ true → Does h q o.hub (opening_text u)
+      go : (u : Verdict) → u ≡ open_check n k first → is_ok u ≡ true → Does h q o.hub (opening_text u)
       go (Ok tt) a _ =
           let accepted : open_of n k first ≡ opened (new_hub n k first) = ap (λ (x : Verdict). open_if x (new_hub n k first)) (sym a) in
           let f = accepted ∙ sym (opened_as o.verdict (view o.hub) (w.gives ∙ accepted)) in
@@ -279,11 +279,11 @@ module _ (h : Hub) (q : Said) (n k first : ℕ) (e : heard_of (read_as q).line (
           }
       go (Err r) a u = t≠f (sym u)
 
-  pub does_not_open : Valid h → is_accepted v ≡ false → Does h q h (opening_text v)
+  pub does_not_open : Valid h → is_ok v ≡ false → Does h q h (opening_text v)
   unfolding open_of
   does_not_open valid t = go v same t
     where
-      go : (u : Verdict) → u ≡ open_check n k first → is_accepted u ≡ false → Does h q h (opening_text u)
+      go : (u : Verdict) → u ≡ open_check n k first → is_ok u ≡ false → Does h q h (opening_text u)
       go (Ok tt) a u = t≠f u
       go (Err r) a _ =
           let f : open_of n k first ≡ not_opened r = ap (λ (x : Verdict). open_if x (new_hub n k first)) (sym a) in

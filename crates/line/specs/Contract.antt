@@ -71,10 +71,6 @@ pub record ReadsNext (input : List ℕ) (from devices : ℕ) (r : NextLine) : Ty
   pub hears : r.said ≡ heard_of (read_as (read_line (take (r.end - from) (drop from input)))).line devices
   pub beside : r.routine ≡ (read_as (read_line (take (r.end - from) (drop from input)))).routine
 
-abbrev pub is_accepted : Verdict → Bool
-is_accepted (Ok tt) = true
-is_accepted (Err r) = false
-
 -- Does a routine abort by this call: before its answer, or by the call itself?
 abbrev pub is_abort : Option ℕ → Answer → Bool
 is_abort (Some i) a = true

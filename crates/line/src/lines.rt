@@ -12,7 +12,7 @@ ghost use Rattle.hub.specs.View.{view};
 ghost use Rattle.hub.specs.Valid.{Valid};
 ghost use Rattle.hub.specs.Decided.{WasDecidedOn};
 ghost use Rattle.line.specs.View.{hub_in, heard_of, call_in, FitsCall};
-ghost use Rattle.line.specs.Contract.{ReadsNext, is_accepted, is_abort};
+ghost use Rattle.line.specs.Contract.{ReadsNext, is_abort};
 
 use hub::Hub;
 use hub_answers::Answer;
@@ -53,7 +53,7 @@ pub fn devices_of(hub: Hub) -> Devices
     ensures { (result.count ≤ max_devices) × (devices_text result ≡ end_text (hub_in hub)) }
 {
     let mut due = [0i16; MAX_DEVICES];
-    hub::due_settings(hub, &mut due);
+    let _ = hub::due_settings(hub, &mut due);
     let mut up = [true; MAX_DEVICES];
     let count = hub::device_count(hub);
     let mut device: u8 = 0;

@@ -33,7 +33,7 @@ use Rattle.line.proofs.Loops.{Prints, prints, printed_fits, printed_long, goes}
 use Rattle.line.proofs.Loops.{ran_none, ran_more, ran_length, ran_past, ran_all, end_within}
 use borrow.Author.Rules.{rules}
 use Rattle.line.proofs.running.run_lines.Goals.{After-next_line-next, After-decided-decision, Joined-change, Joined-said}
-use Rattle.line.proofs.running.run_lines.Goals.{in-Open+then-is_accepted, in-Open+else-is_accepted, in-Unread}
+use Rattle.line.proofs.running.run_lines.Goals.{in-Open+then-is_ok, in-Open+else-is_ok, in-Unread}
 use Rattle.line.proofs.running.run_lines.Goals.{in-Calling+then-not-changes_nothing+then-settles, in-Calling+else-not-changes_nothing}
 use Rattle.line.proofs.running.run_lines.Goals.{in-Nothing, in-Stage, in-Commit, in-Join, in-Abort, in-Fail, in-Restart}
 use Rattle.line.proofs.running.run_lines.Goals.{else-not-changes_nothing-via-then-not-changes_nothing+else-settles}
@@ -118,15 +118,15 @@ line-prints : (c : Joined-said) →
     c.match-said.printed
 line-prints c x room =
     elim c.match-said.branch [
-      | in-Open+then-is_accepted w ↦
+      | in-Open+then-is_ok w ↦
           prints
           (does_open _ _ _ _ _ (x.hears ∙ w.in-Open.is) w.check_opening-verdict.result w.check_opening-verdict.ensures w.open-opened.result
-          w.open-opened.ensures (sym w.is_accepted.ensures ∙ w.if-is_accepted.true))
+          w.open-opened.ensures (sym w.is_ok.ensures.value ∙ w.if-is_ok.true))
           w.put_opening-printed.ensures room w.now-is w.text-is w.printed-is
-      | in-Open+else-is_accepted w ↦
+      | in-Open+else-is_ok w ↦
           prints
           (does_not_open _ _ _ _ _ (x.hears ∙ w.in-Open.is) w.check_opening-verdict.result w.check_opening-verdict.ensures x.valid
-          (sym w.is_accepted.ensures ∙ w.if-is_accepted.false))
+          (sym w.is_ok.ensures.value ∙ w.if-is_ok.false))
           w.put_opening-printed.ensures room w.now-is w.text-is w.printed-is
       | in-Calling+then-not-changes_nothing+then-settles w ↦
           let y = comes x _ w.in-Calling.is w.decided-decision.ensures in
