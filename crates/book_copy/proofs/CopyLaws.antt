@@ -1,5 +1,5 @@
 -- Laws of rows, of the steps that read them, and of the copy. Assumes nothing.
-use Rattle.std.proofs.Common.{Ok, Err}
+use Rattle.std.proofs.Common.{Some, Result, Ok, Err}
 use Rattle.rules_routine.specs.Refusals.{Verdict}
 use Prim.Native.Nat.{ℕ, zero, suc, ◌+◌, ◌-◌, ◌*◌, ◌≤◌, ◌<◌}
 use mathlib.Core.Path.{◌≡◌, refl, sym, ap, ap₂, subst, ◌∙◌}
@@ -9,12 +9,13 @@ use native.Mathlib.Omega.{arith}
 use borrow.Author.Tests.{lt-ltb, le-ltb}
 use lib.Dec.{ltb}
 use lib.IntN.{pos}
-use lib.ListN.{length, take, drop, get_or, set, replicate, length-append, length-map, length-take, length-drop}
-use lib.Seq.{set_at, slice, slice-cons, slice_empty, take-append_seam, take-suc}
+use lib.ListN.{length, take, drop, get_or, set, replicate, length-append, length-map, length-take, length-drop, drop_of_length-le}
+use lib.Seq.{set_at, drop-cons, take-append_seam, take-suc}
 use Rattle.std.specs.Prelude.{if◌then◌else◌}
 use Rattle.rules_routine.specs.Limits.{max_commands, max_routines}
 use Rattle.rules_routine.specs.Routine.{zero_command, commands_of, routine_check}
 use Rattle.rules_routine.specs.declared.Command.{Command}
+use Rattle.rules_routine.specs.declared.Routine.{Routine}
 use Rattle.rules_routine.specs.declared.refusals.Refusal.{Refusal}
 use Rattle.rules_routine.proofs.RoutineLaws.{both_accept, check_accepted}
 use Rattle.book_layout.specs.Claims.{Hands, ends, hands, Bytes}
@@ -22,7 +23,6 @@ use Rattle.book_layout.specs.Layout.{book_devices}
 use Rattle.book_layout.specs.Reading.{book_check, next_of}
 use Rattle.book_layout.specs.Writing.{routines_lent, row_of, counts_of, routines_check, write_check, written_with, written_of, buffer_with}
 use Rattle.book_layout.specs.Writing.{buffer_after}
-use Rattle.book_layout.specs.declared.Item.TheVariants.{Handed}
 use Rattle.book_layout.proofs.Lending.{first-there, rest-there}
 use Rattle.book_layout.proofs.RoundTrip.{Makes, hands_make}
 use Rattle.book_layout.proofs.Theorems.{read_then_write, lent_again}
@@ -30,7 +30,6 @@ use Rattle.book_copy.specs.Copy.{copy_check, copied_of, copy_after}
 use Rattle.book_copy.specs.Rows.{most_commands, padded, rows_with, rows_of, RowsOfBook, with_command, with_commands, with_count}
 use Rattle.book_copy.specs.Rows.{with_routine}
 use Rattle.book_copy.specs.declared.Rows.{Rows}
-use Rattle.book_copy.specs.declared.RowsRead.{RowsRead}
 
 -- ---- rows with more in them
 
@@ -75,15 +74,15 @@ with-commands ns cs (c ∷ r) h =
     ∙ ap (rows_with ns) (append_assoc cs (c ∷ []) r)
 
 -- commands in turn: what is left from the i-th on
-module _ (r : Rows) (cs : List Command) (i n : ℕ) where
-  pub commands-step : i < n → n ≤ length cs →
-      with_commands r (slice i n cs) ≡ with_commands (with_command r (get_or cs i zero_command)) (slice (i + 1) n cs)
+module _ (r : Rows) (cs : List Command) (i : ℕ) where
+  pub commands-step : i < length cs →
+      with_commands r (drop i cs) ≡ with_commands (with_command r (get_or cs i zero_command)) (drop (i + 1) cs)
   unfolding with_commands
-  commands-step h k = rw (slice-cons i n cs zero_command h k, add-one i)
+  commands-step h = rw (drop-cons cs i zero_command h, add-one i)
 
-  pub commands_over : i ≤ n → n ≤ i → with_commands r (slice i n cs) ≡ r
+  pub commands_over : length cs ≤ i → with_commands r (drop i cs) ≡ r
   unfolding with_commands
-  commands_over h k = let e : i ≡ n = omega arith in rw (e, slice_empty n cs)
+  commands_over h = rw (drop_of_length-le cs h)
 
 with-count : (ns : List ℕ) (cs : List Command) (n : ℕ) → length ns < max_routines →
     with_count (rows_with ns cs) n ≡ rows_with (ns ++ (n ∷ [])) cs
@@ -139,32 +138,34 @@ rows_more rs i e h k =
 
 -- ---- a step of reading, where i routines were handed out
 
-pub record CopyStep (b : List ℕ) (at i : ℕ) (rs : List (List Command)) : Type 0 where
+pub record CopyStep (b : List ℕ) (at i : ℕ) (rs : List (List Command)) (q : Routine) : Type 0 where
   pub there : i < length rs
-  pub same : commands_of (next_of b at).routine ≡ get_or rs i []
+  pub same : commands_of q ≡ get_or rs i []
   pub left : Hands b (next_of b at).position (drop (i + 1) rs)
 
 module _ (b : List ℕ) (at i : ℕ) (rs : List (List Command)) where
-  stepped : (l : List (List Command)) → drop i rs ≡ l → Hands b at l → (next_of b at).item ≡ Handed → CopyStep b at i rs
-  stepped [] e (ends x) h = let z : ◌≡◌ {A = ℕ} 0 1 = cc in absurd (omega arith)
-  stepped (r ∷ l) e (hands x y z) h =
+  stepped : (q : Routine) (l : List (List Command)) → drop i rs ≡ l → Hands b at l → (next_of b at).item ≡ Ok (Some q) →
+      CopyStep b at i rs q
+  stepped q [] e (ends x) h = let z : ◌≡◌ {A = ℕ} 0 1 = cc in absurd (omega arith)
+  stepped q (r ∷ l) e (hands p x y z) h =
       let n = ap length e in
+      let s : q ≡ p = cc in
       let d = ap (λ (k : ℕ). drop k rs) (add-one i) ∙ rest-there rs l r i e in
       record {
         there = omega (arith, length-drop i rs);
-        same = y ∙ sym (first-there rs l r [] i e);
+        same = ap commands_of s ∙ y ∙ sym (first-there rs l r [] i e);
         left = subst (Hands b (next_of b at).position) (sym d) z;
       }
 
-  pub step_handed : Hands b at (drop i rs) → (next_of b at).item ≡ Handed → CopyStep b at i rs
-  step_handed = stepped (drop i rs) refl
+  pub step_handed : (q : Routine) → Hands b at (drop i rs) → (next_of b at).item ≡ Ok (Some q) → CopyStep b at i rs q
+  step_handed q = stepped q (drop i rs) refl
 
   -- the reading has ended
-  ended : (l : List (List Command)) → drop i rs ≡ l → Hands b at l → ((next_of b at).item ≡ Handed → ⊥) → length rs ≤ i
+  ended : (l : List (List Command)) → drop i rs ≡ l → Hands b at l → ((q : Routine) → (next_of b at).item ≡ Ok (Some q) → ⊥) → length rs ≤ i
   ended [] e (ends x) h = let n = ap length e in omega (arith, length-drop i rs)
-  ended (r ∷ l) e (hands x y z) h = absurd (h x)
+  ended (r ∷ l) e (hands q x y z) h = absurd (h q x)
 
-  pub step_ended : Hands b at (drop i rs) → ((next_of b at).item ≡ Handed → ⊥) → length rs ≤ i
+  pub step_ended : Hands b at (drop i rs) → ((q : Routine) → (next_of b at).item ≡ Ok (Some q) → ⊥) → length rs ≤ i
   step_ended = ended (drop i rs) refl
 
 -- ---- the copy
@@ -179,7 +180,8 @@ pub rows_lent : (rs : List (List Command)) (r : Rows) → r ≡ rows_of rs →
 unfolding rows_with
 rows_lent rs r e =
     ap (λ (x : Rows). routines_lent (take x.routines x.counts) x.devices x.tags x.settings) e
-    ∙ ap (λ (ns : List ℕ). routines_lent ns (rows_of rs).devices (rows_of rs).tags (rows_of rs).settings) (take-append_seam (counts_of rs) _)
+    ∙ ap (λ (ns : List ℕ). routines_lent ns (rows_of rs).devices (rows_of rs).tags (rows_of rs).settings)
+    (take-append_seam (counts_of rs) _)
     ∙ lent_again rs _ _ _
 
 module _ (b : List ℕ) (rs : List (List Command)) (accepted : book_check b ≡ Ok tt) (makes : Makes rs b) where
@@ -205,35 +207,31 @@ refused_copied b buffer x e = (rw e, rw e)
 -- ---- what rows tell of their book
 
 -- rows of an accepted book
-pub record Read (b : List ℕ) (r : RowsRead) : Type 0 where
+pub record Read (b : List ℕ) (r : Rows) : Type 0 where
   pub routines : List (List Command)
   pub accepted : book_check b ≡ Ok tt
   pub makes : Makes routines b
-  pub rows : r.rows ≡ rows_of routines
+  pub rows : r ≡ rows_of routines
 
-module _ (b : List ℕ) (bytes : Bytes b) (r : RowsRead) (of : RowsOfBook b r) where
-  pub read-refused : (x : Refusal) → r.verdict ≡ Err x → book_check b ≡ Err x
+module _ (b : List ℕ) (bytes : Bytes b) (r : Result Rows Refusal) (of : RowsOfBook b r) where
+  pub read-refused : (x : Refusal) → r ≡ Err x → book_check b ≡ Err x
   read-refused x e = go (book_check b) refl
     where
       go : (v : Verdict) → book_check b ≡ v → book_check b ≡ Err x
       go (Ok tt) a =
           let w = (read_then_write b bytes).0 a in
-          let f = ap (λ (s : RowsRead). s.verdict) (of.accepted w.0 w.1) in
+          let f = of.accepted w.0 w.1 in
           let z : ◌≡◌ {A = ℕ} 0 1 = cc in absurd (omega arith)
-      go (Err y) a = a ∙ sym (ap (λ (s : RowsRead). s.verdict) (of.refused y a)) ∙ e
+      go (Err y) a = let f = of.refused y a in let s : x ≡ y = cc in a ∙ ap Err (sym s)
 
-  pub read-accepted : r.verdict ≡ Ok tt → Read b r
-  read-accepted e = go (book_check b) refl
+  pub read-accepted : (q : Rows) → r ≡ Ok q → Read b q
+  read-accepted q e = go (book_check b) refl
     where
-      go : (v : Verdict) → book_check b ≡ v → Read b r
+      go : (v : Verdict) → book_check b ≡ v → Read b q
       go (Ok tt) a =
           let w = (read_then_write b bytes).0 a in
-          record {
-            routines = w.0;
-            accepted = a;
-            makes = hands_make b bytes w.0 w.1;
-            rows = ap (λ (s : RowsRead). s.rows) (of.accepted w.0 w.1);
-          }
+          let f = of.accepted w.0 w.1 in
+          record { routines = w.0; accepted = a; makes = hands_make b bytes w.0 w.1; rows = cc }
       go (Err y) a =
-          let f = ap (λ (s : RowsRead). s.verdict) (of.refused y a) in
+          let f = of.refused y a in
           let z : ◌≡◌ {A = ℕ} 0 1 = cc in absurd (omega arith)

@@ -1,5 +1,6 @@
 -- Rows: routines as the writer takes them, by value. Assumes nothing.
-use Rattle.std.specs.Prelude.{◌≡◌, List, [], ◌∷◌, ◌++◌, map, ℕ, ◌+◌, ◌-◌, ◌*◌, ltb, pos, length, set, replicate, if◌then◌else◌, Ok, Err}
+use Rattle.std.specs.Prelude.{◌≡◌, List, [], ◌∷◌, ◌++◌, map, ℕ, ◌+◌, ◌-◌, ◌*◌, ltb, pos, length, set, replicate, if◌then◌else◌, Result, Ok}
+use Rattle.std.specs.Prelude.{Err}
 use Rattle.rules_routine.specs.Limits.{max_commands, max_routines}
 use Rattle.rules_routine.specs.declared.Command.{Command}
 use Rattle.rules_routine.specs.declared.refusals.Refusal.{Refusal}
@@ -7,7 +8,6 @@ use Rattle.book_layout.specs.Claims.{Hands}
 use Rattle.book_layout.specs.Reading.{book_check}
 use Rattle.book_layout.specs.Writing.{row_of, counts_of}
 use Rattle.book_copy.specs.declared.Rows.{Rows}
-use Rattle.book_copy.specs.declared.RowsRead.{RowsRead}
 
 -- The most commands that a book has.
 abbrev pub most_commands : ℕ
@@ -33,10 +33,10 @@ abbrev pub rows_of : List (List Command) → Rows
 rows_of rs = rows_with (counts_of rs) (row_of rs)
 
 -- What `rows_of` gives of book b: of an accepted one (which has such routines: `ReadThenWrite`) the rows of the routines that reading hands
--- out, of a refused one its refusal and no rows.
-pub record RowsOfBook (b : List ℕ) (r : RowsRead) : Type 0 where
-  pub accepted : (rs : List (List Command)) → Hands b 0 rs → r ≡ record { verdict = (Ok tt); rows = rows_of rs }
-  pub refused : (x : Refusal) → book_check b ≡ Err x → r ≡ record { verdict = Err x; rows = rows_of [] }
+-- out, of a refused one its refusal.
+pub record RowsOfBook (b : List ℕ) (r : Result Rows Refusal) : Type 0 where
+  pub accepted : (rs : List (List Command)) → Hands b 0 rs → r ≡ Ok (rows_of rs)
+  pub refused : (x : Refusal) → book_check b ≡ Err x → r ≡ Err x
 
 -- ---- how rows are put together
 

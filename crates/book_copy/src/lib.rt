@@ -16,7 +16,7 @@ use rules_routine::limits::{MAX_COMMANDS, MAX_ROUTINES};
 // The most commands that a book has.
 const MOST_COMMANDS: usize = MAX_ROUTINES * MAX_COMMANDS;
 
-// Routines as the writer takes them: a count for each of them, and the parts of their commands in rows.
+// Routines as the writer takes them: a count for each of them, and the parts of their commands in rows. By value, since there is no heap.
 #[derive(Clone, Copy)]
 pub struct Rows {
     pub counts: [u8; MAX_ROUTINES],
@@ -45,12 +45,13 @@ fn write_rows(rows: Rows, out: &mut [u8]) -> Result<usize, Refusal>
         (routines_lent (take rows.routines rows.counts) rows.devices rows.tags rows.settings)
         out.old }
 {
-    let counts = rows.counts;
-    let devices = rows.devices;
-    let tags = rows.tags;
-    let settings = rows.settings;
-    let n = rows.routines;
-    book_write::write(&counts[..n], &devices, &tags, &settings, out)
+    book_write::write(
+        &rows.counts[..rows.routines],
+        &rows.devices,
+        &rows.tags,
+        &rows.settings,
+        out,
+    )
 }
 
 // A book read, and what was read written into a lent buffer: the same bytes, or 21 if it is too short; of a refused book its refusal.

@@ -13,35 +13,28 @@ use rules_routine::{Command, Routine};
 pub fn empty() -> Rows
     ensures { result ≡ rows_of [] }
 {
-    let counts = [0u8; MAX_ROUTINES];
-    let devices = [0u8; MOST_COMMANDS];
-    let tags = [0u8; MOST_COMMANDS];
-    let settings = [0i16; MOST_COMMANDS];
     Rows {
-        counts,
-        devices,
-        tags,
-        settings,
+        counts: [0; MAX_ROUTINES],
+        devices: [0; MOST_COMMANDS],
+        tags: [0; MOST_COMMANDS],
+        settings: [0; MOST_COMMANDS],
         routines: 0,
         commands: 0,
     }
 }
 
 // Rows with one command more; where there is no room they stay.
-fn with_command(rows: Rows, command: Command) -> Rows
+fn with_command(mut rows: Rows, command: Command) -> Rows
     ensures { result ≡ with_command rows command }
 {
-    let mut longer = rows;
-    let at = longer.commands;
-    if MOST_COMMANDS <= at {
-        return longer;
+    let at = rows.commands;
+    if at < MOST_COMMANDS {
+        rows.devices[at] = command.device;
+        rows.tags[at] = command.tag;
+        rows.settings[at] = command.setting;
+        rows.commands = at + 1;
     }
-    longer.devices[at] = command.device;
-    longer.tags[at] = command.tag;
-    let setting = command.setting;
-    longer.settings[at] = setting;
-    longer.commands = at + 1;
-    longer
+    rows
 }
 
 // The same with the commands of a routine.
@@ -50,27 +43,22 @@ fn with_commands(rows: Rows, routine: Routine) -> Rows
     ensures { result ≡ with_commands rows (commands_of routine) }
 {
     let mut longer = rows;
-    let mut i = 0;
-    while i < routine.count {
-        let command = routine.commands[i];
-        longer = with_command(longer, command);
-        i += 1;
+    for command in &routine.commands[..routine.count] {
+        longer = with_command(longer, *command);
     }
     longer
 }
 
 // And with one count more.
-fn with_count(rows: Rows, count: u8) -> Rows
+fn with_count(mut rows: Rows, count: u8) -> Rows
     ensures { result ≡ with_count rows count }
 {
-    let mut longer = rows;
-    let at = longer.routines;
-    if MAX_ROUTINES <= at {
-        return longer;
+    let at = rows.routines;
+    if at < MAX_ROUTINES {
+        rows.counts[at] = count;
+        rows.routines = at + 1;
     }
-    longer.counts[at] = count;
-    longer.routines = at + 1;
-    longer
+    rows
 }
 
 // Rows with one routine more.
@@ -78,8 +66,7 @@ fn with_routine(rows: Rows, routine: Routine) -> Rows
     requires { routine.count ≤ max_commands }
     ensures { result ≡ with_routine rows (commands_of routine) }
 {
-    let longer = with_commands(rows, routine);
-    with_count(longer, routine.count as u8)
+    with_count(with_commands(rows, routine), routine.count as u8)
 }
 
 // The rows of what an accepted book hands out, step by step.
@@ -89,15 +76,14 @@ pub fn read_all(book: &[u8]) -> Rows
 {
     let mut rows = empty();
     let mut position = 0;
-    let mut i = 0;
-    while i < MAX_ROUTINES {
+    for _ in 0..MAX_ROUTINES {
         let next = book_read::next(book, position);
-        let Ok(Some(routine)) = next.item else {
-            return rows;
-        };
-        rows = with_routine(rows, routine);
+        match next.item {
+            Ok(Some(routine)) => rows = with_routine(rows, routine),
+            Ok(None) => return rows,
+            Err(_) => return rows,
+        }
         position = next.position;
-        i += 1;
     }
     rows
 }

@@ -1,5 +1,5 @@
 -- Laws of the layout's definitions that the theorems and the code's proofs cite. Assumes nothing.
-use Rattle.std.proofs.Common.{Ok, Err}
+use Rattle.std.proofs.Common.{Some, Ok, Err}
 use Rattle.rules_routine.specs.declared.refusals.Refusal.TheVariants.{BookCutShort, BookMisplaced, BookLength}
 use Prim.Native.Nat.{ℕ, zero, suc, ◌+◌, ◌-◌, ◌*◌, ◌/◌, ◌%◌, ◌≤◌, ◌<◌}
 use mathlib.Core.Path.{◌≡◌, refl, sym, ap, subst, ◌∙◌}
@@ -21,7 +21,6 @@ use Rattle.book_layout.specs.Numbers.{two_bytes, four_bytes, byte_at, two_at, fo
 use Rattle.book_layout.specs.Layout.{count_size, pair_size, offset_size, command_size, book_devices, pairs_end, length_in}
 use Rattle.book_layout.specs.Layout.{command_bytes, commands_bytes, pairs_bytes, count-of, offset_at, length_at, commands_at}
 use Rattle.book_layout.specs.Reading.{head_check, length_fits, placed_check, placed_checks, book_check, end_at, pair_next, turns_down, next_of}
-use Rattle.book_layout.specs.declared.Item.TheVariants.{Handed}
 
 -- ---- lengths that fit: 4 to 32 in fours
 
@@ -244,8 +243,7 @@ module _ (b : List ℕ) (at : ℕ) where
   pub pair_handed : at < pairs_end (count-of b) → at % pair_size ≡ count_size →
       pair_next b at
       ≡ record {
-        item = Handed;
-        routine = routine_of (commands_at b (four_at b at) (four_at b (at + offset_size) / command_size));
+        item = Ok (Some (routine_of (commands_at b (four_at b at) (four_at b (at + offset_size) / command_size))));
         position = at + pair_size;
       }
   unfolding pair_next

@@ -1,6 +1,6 @@
 -- Theorems (a) and (b): a book is accepted only if it is the bytes of routines that may be written, and such bytes are accepted and read as
 -- the same routines. Assumes nothing.
-use Rattle.std.proofs.Common.{Ok, Err}
+use Rattle.std.proofs.Common.{Some, None, Ok, Err}
 use Rattle.rules_routine.specs.Refusals.{Verdict}
 use Rattle.rules_routine.specs.declared.refusals.Refusal.TheVariants.{BookCutShort, BookMisplaced, NoRoom}
 use Prim.Native.Nat.{ℕ, zero, suc, ◌+◌, ◌*◌, ◌/◌, ◌≤◌, ◌<◌}
@@ -15,6 +15,7 @@ use lib.Seq.{take-append_seam}
 use Rattle.rules_routine.specs.Limits.{max_commands, max_routines}
 use Rattle.rules_routine.specs.Routine.{commands_of, routine_of, commands_check, routine_check}
 use Rattle.rules_routine.specs.declared.Command.{Command}
+use Rattle.rules_routine.specs.declared.Routine.{Routine}
 use Rattle.rules_routine.specs.declared.refusals.Refusal.{Refusal}
 use Rattle.rules_routine.proofs.RoutineLaws.{both_accept, accept_both, not-refused, or-false, check_counted, check_accepted}
 use Rattle.rules_routine.proofs.RoutineLaws.{routine_of-commands}
@@ -24,7 +25,6 @@ use Rattle.book_layout.specs.Layout.{count_size, pair_size, offset_size, command
 use Rattle.book_layout.specs.Reading.{head_check, length_fits, placed_check, placed_checks, book_check, pair_next, next_with, next_of}
 use Rattle.book_layout.specs.Writing.{routines_check, write_check, written_with, written_of, buffer_after}
 use Rattle.book_layout.specs.Claims.{Hands, ends, hands, Bytes, WriteThenRead, ReadThenWrite}
-use Rattle.book_layout.specs.declared.Item.TheVariants.{Handed, End, Refused as RefusedBook}
 use Rattle.book_layout.specs.declared.Next.{Next}
 use Rattle.book_layout.proofs.LayoutLaws.{InFours, fits_in_fours, in_fours_fits, placed-commands, Placed, placed}
 use Rattle.book_layout.proofs.LayoutLaws.{head_fine, book-placed, pair_handed, pair-past, next-first, next-later}
@@ -67,12 +67,12 @@ pair-next : (b : List ℕ) → book_check b ≡ Ok tt → (i : ℕ) → next_of 
 pair-next b a i = next-later b a (pair_place i) (λ e. omega arith)
 
 -- behind the pairs it is at the end;
-pairs_over : (b : List ℕ) → book_check b ≡ Ok tt → (i : ℕ) → count-of b ≤ i → (next_of b (pair_place i)).item ≡ End
+pairs_over : (b : List ℕ) → book_check b ≡ Ok tt → (i : ℕ) → count-of b ≤ i → (next_of b (pair_place i)).item ≡ Ok None
 pairs_over b a i h = ap (λ (t : Next). t.item) (pair-next b a i ∙ pair-past b (pair_place i) (omega arith))
 
 -- and this is the step that hands out r, the i-th routine.
 abbrev handed : ℕ → List Command → Next
-handed i r = record { item = Handed; routine = routine_of r; position = pair_place (suc i) }
+handed i r = record { item = Ok (Some (routine_of r)); position = pair_place (suc i) }
 
 module _ (b : List ℕ) (i at : ℕ) (r : List Command) (s : Stands b i at r) where
   -- Where r stands, its length fits, its commands are read,
@@ -100,16 +100,15 @@ module _ (b : List ℕ) (i at : ℕ) (r : List Command) (s : Stands b i at r) wh
       let q : pair_place i + pair_size ≡ pair_place (suc i) = omega arith in
       pair-next b a i
       ∙ pair_handed b (pair_place i) (omega arith) (omega arith)
-      ∙ (λ j. record { item = Handed; routine = routine_of (c j); position = q j })
+      ∙ (λ j. record { item = Ok (Some (routine_of (c j))); position = q j })
 
 -- ---- routines that may be written are read as they are
 
 -- A step of reading that is known hands out its routine.
-hands_by : (b : List ℕ) (p : ℕ) (t : Next) (r : List Command) (rs : List (List Command)) → next_of b p ≡ t →
-    t.item ≡ Handed → commands_of t.routine ≡ r → Hands b t.position rs → Hands b p (r ∷ rs)
-hands_by b p t r rs e x y z =
-    hands (ap (λ (u : Next). u.item) e ∙ x) (ap (λ (u : Next). commands_of u.routine) e ∙ y)
-    (subst (λ (q : ℕ). Hands b q rs) (sym (ap (λ (u : Next). u.position) e)) z)
+hands_by : (b : List ℕ) (p : ℕ) (t : Next) (q : Routine) (r : List Command) (rs : List (List Command)) → next_of b p ≡ t →
+    t.item ≡ Ok (Some q) → commands_of q ≡ r → Hands b t.position rs → Hands b p (r ∷ rs)
+hands_by b p t q r rs e x y z =
+    hands q (ap (λ (u : Next). u.item) e ∙ x) y (subst (λ (at : ℕ). Hands b at rs) (sym (ap (λ (u : Next). u.position) e)) z)
 
 -- Of the routines from the i-th on, of which the first begins at a place, the pairs and the commands are written: they pass and, the whole
 -- book being accepted, are handed out.
@@ -135,13 +134,13 @@ read_back b rest i at (r ∷ rs) h n pairs body =
       accept_both _ _ (stands-accepted b i at r s) (rw s.size f.0),
       λ w.
           let h = stands_handed b i at r s w (omega arith) in
-          hands_by b (pair_place i) (handed i r) r rs h refl (routine_of-commands r s.few) (f.1 w),
+          hands_by b (pair_place i) (handed i r) (routine_of r) r rs h refl (routine_of-commands r s.few) (f.1 w),
     )
 
 -- An accepted book is read from position 0 as from its first pair.
 from_start : (b : List ℕ) (rs : List (List Command)) → book_check b ≡ Ok tt → Hands b count_size rs → Hands b 0 rs
 from_start b [] e (ends x) = let t = next-first b e ∙ sym (pair-next b e 0) in ends {at = 0} (ap (λ (u : Next). u.item) t ∙ x)
-from_start b (r ∷ rs) e (hands x y z) = hands_by b 0 (next_of b count_size) r rs (next-first b e ∙ sym (pair-next b e 0)) x y z
+from_start b (r ∷ rs) e (hands q x y z) = hands_by b 0 (next_of b count_size) q r rs (next-first b e ∙ sym (pair-next b e 0)) x y z
 
 -- Routines that may be written, and book b is their bytes.
 pub record Makes (rs : List (List Command)) (b : List ℕ) : Type 0 where
@@ -259,19 +258,20 @@ book-written b bytes e =
 -- What is handed out from a position is determined.
 hands-same : (b : List ℕ) (p : ℕ) (rs rs' : List (List Command)) → Hands b p rs → Hands b p rs' → rs ≡ rs'
 hands-same b p [] [] (ends x) (ends x') = refl
-hands-same b p [] (r' ∷ rs') (ends x) (hands x' y' z') = let z : ◌≡◌ {A = ℕ} 0 1 = cc in absurd (omega arith)
-hands-same b p (r ∷ rs) [] (hands x y z) (ends x') = let z : ◌≡◌ {A = ℕ} 0 1 = cc in absurd (omega arith)
-hands-same b p (r ∷ rs) (r' ∷ rs') (hands x y z) (hands x' y' z') = ap₂ ◌∷◌ (sym y ∙ y') (hands-same b (next_of b p).position rs rs' z z')
+hands-same b p [] (r' ∷ rs') (ends x) (hands q' x' y' z') = let z : ◌≡◌ {A = ℕ} 0 1 = cc in absurd (omega arith)
+hands-same b p (r ∷ rs) [] (hands q x y z) (ends x') = let z : ◌≡◌ {A = ℕ} 0 1 = cc in absurd (omega arith)
+hands-same b p (r ∷ rs) (r' ∷ rs') (hands q x y z) (hands q' x' y' z') =
+    let e : q ≡ q' = cc in ap₂ ◌∷◌ (sym y ∙ ap commands_of e ∙ y') (hands-same b (next_of b p).position rs rs' z z')
 
 -- Only an accepted book is read.
-not-turned-down : (b : List ℕ) (v : Verdict) → ((r : Refusal) → (next_with v b 0).item ≡ RefusedBook r → ⊥) → v ≡ Ok tt
+not-turned-down : (b : List ℕ) (v : Verdict) → ((r : Refusal) → (next_with v b 0).item ≡ Err r → ⊥) → v ≡ Ok tt
 not-turned-down b (Ok tt) h = refl
 not-turned-down b (Err r) h = absurd (h r refl)
 
 pub hands-accepted : (b : List ℕ) (rs : List (List Command)) → Hands b 0 rs → book_check b ≡ Ok tt
 unfolding next_of
 hands-accepted b [] (ends x) = not-turned-down b (book_check b) (λ r e. let z : ◌≡◌ {A = ℕ} 0 1 = cc in omega arith)
-hands-accepted b (r ∷ rs) (hands x y z) = not-turned-down b (book_check b) (λ r e. let z : ◌≡◌ {A = ℕ} 0 1 = cc in omega arith)
+hands-accepted b (r ∷ rs) (hands q x y z) = not-turned-down b (book_check b) (λ r e. let z : ◌≡◌ {A = ℕ} 0 1 = cc in omega arith)
 
 -- So what was read of a book makes it.
 pub hands_make : (b : List ℕ) → Bytes b → (rs : List (List Command)) → Hands b 0 rs → Makes rs b

@@ -1,25 +1,26 @@
 -- What is claimed of the definitions, beside the contracts of crates `book_read` and `book_write`. The theorems stand in
 -- proofs/Theorems.antt. Assumes nothing.
-use Rattle.rules_routine.specs.declared.refusals.Refusal.TheVariants.{DeviceNotBelow, SettingOutOfRange, TagOutOfRange, BookCutShort, BookMisplaced, BookLength, ConditionAlone}
+use Rattle.rules_routine.specs.declared.refusals.Refusal.TheVariants.{DeviceNotBelow, SettingOutOfRange, TagOutOfRange, BookCutShort}
+use Rattle.rules_routine.specs.declared.refusals.Refusal.TheVariants.{BookMisplaced, BookLength, ConditionAlone}
 use Rattle.rules_routine.specs.declared.refusals.Refusal.{Refusal}
-use Rattle.std.specs.Prelude.{◌≡◌, ◌⊎◌, ◌≢◌, List, [], ◌∷◌, ◌++◌, ℕ, zero, suc, ◌+◌, ◌*◌, ◌<◌, ◌≤◌, ℤ, length, take, Ok, Err}
+use Rattle.std.specs.Prelude.{◌≡◌, ◌⊎◌, ◌≢◌, List, [], ◌∷◌, ◌++◌, ℕ, zero, suc, ◌+◌, ◌*◌, ◌<◌, ◌≤◌, ℤ, length, take, Some, None, Ok, Err}
 use Rattle.rules_routine.specs.Causes.{Exactly}
 use Rattle.rules_routine.specs.Limits.{max_commands, lowest_setting, highest_setting, max_routines}
 use Rattle.rules_routine.specs.Routine.{highest_tag, condition_tag, commands_of}
 use Rattle.rules_routine.specs.declared.Command.{Command}
+use Rattle.rules_routine.specs.declared.Routine.{Routine}
 use Rattle.book_layout.specs.Numbers.{byte_at, two_at, bits_of}
 use Rattle.book_layout.specs.Layout.{count_size, command_size, book_devices, pairs_end, count-of, offset_at, length_at}
 use Rattle.book_layout.specs.Reading.{book_check, next_of}
 use Rattle.book_layout.specs.Writing.{routines_lent, row_of, counts_of, devices_of, tags_of, settings_of, written_of, buffer_after}
-use Rattle.book_layout.specs.declared.Item.TheVariants.{Handed, End}
 
 -- ---- what is read
 
 -- From a position the steps of reading hand out these routines, one a step, and then the end.
 pub data Hands (b : List ℕ) : ℕ → List (List Command) → Type 0 where
-  ends : {at : ℕ} → (next_of b at).item ≡ End → Hands b at []
-  hands : {at : ℕ} {r : List Command} {rs : List (List Command)} →
-      (next_of b at).item ≡ Handed → commands_of (next_of b at).routine ≡ r → Hands b (next_of b at).position rs → Hands b at (r ∷ rs)
+  ends : {at : ℕ} → (next_of b at).item ≡ Ok None → Hands b at []
+  hands : {at : ℕ} {r : List Command} {rs : List (List Command)} (q : Routine) →
+      (next_of b at).item ≡ Ok (Some q) → commands_of q ≡ r → Hands b (next_of b at).position rs → Hands b at (r ∷ rs)
 
 -- A list of bytes: no number above 255.
 abbrev pub Bytes : List ℕ → Type 0
@@ -110,12 +111,14 @@ abbrev pub Breaks : List ℕ → Test → Type 0
 Breaks b head = (length b < count_size) ⊎ ((max_routines < count-of b) ⊎ (length b < pairs_end (count-of b)))
 Breaks b (routine_length i) = (i < count-of b) × ((k : ℕ) → 1 ≤ k → k ≤ max_commands → length_at b i ≢ command_size * k)
 Breaks b (routine_place i) = (i < count-of b) × ((offset_at b i ≢ place b i) ⊎ (length b < place b i + length_at b i))
-Breaks b (command_device i j) = (i < count-of b) × (command_size * j < length_at b i) × (book_devices ≤ byte_at b (place b i + command_size * j))
+Breaks b (command_device i j) = (i < count-of b) × (command_size * j < length_at b i)
+    × (book_devices ≤ byte_at b (place b i + command_size * j))
 Breaks b (command_setting i j) =
     (i < count-of b) × (command_size * j < length_at b i)
     × (bits_of highest_setting < two_at b (place b i + command_size * j + 2))
     × (two_at b (place b i + command_size * j + 2) < bits_of lowest_setting)
-Breaks b (command_tag i j) = (i < count-of b) × (command_size * j < length_at b i) × (highest_tag < byte_at b (place b i + command_size * j + 1))
+Breaks b (command_tag i j) = (i < count-of b) × (command_size * j < length_at b i)
+    × (highest_tag < byte_at b (place b i + command_size * j + 1))
 Breaks b (command_alone i j) =
     (i < count-of b) × (command_size * j < length_at b i) × (byte_at b (place b i + command_size * j + 1) ≡ condition_tag)
     × ((length_at b i ≤ command_size * suc j) ⊎ (byte_at b (place b i + command_size * suc j + 1) ≡ condition_tag))

@@ -1,23 +1,23 @@
 -- Worked books, by computation. The first two are document 01's ★ examples. Assumes nothing.
 use Rattle.rules_routine.specs.declared.refusals.Refusal.{Refusal}
 use Rattle.rules_routine.specs.Refusals.{numbered, indexed, Verdict}
-use Rattle.std.specs.Prelude.{◌≡◌, refl, List, [], ◌∷◌, ◌++◌, ℕ, suc, ℤ, pos, negsuc, take, Ok, Err, Result}
+use Rattle.std.specs.Prelude.{◌≡◌, refl, List, [], ◌∷◌, ◌++◌, ℕ, suc, ℤ, pos, negsuc, take, Option, Some, None, Ok, Err, Result}
 use Rattle.rules_routine.specs.Limits.{first_bytes}
 use Rattle.rules_routine.specs.Range.{in_range}
 use Rattle.rules_routine.specs.Routine.{routine_of, command_check, stands_alone, commands_check, routine_check}
 use Rattle.rules_routine.specs.declared.Command.{Command}
+use Rattle.rules_routine.specs.declared.Routine.{Routine}
 use Rattle.book_layout.specs.Numbers.{two_bytes, four_bytes, two_at, four_at, bits_of, setting_of}
 use Rattle.book_layout.specs.Layout.{command_bytes, book_bytes, count-of, offset_at, length_at, command_at}
 use Rattle.book_layout.specs.Reading.{head_check, length_fits, placed_check, placed_checks, book_check, pair_next, turns_down, next_of}
 use Rattle.book_layout.specs.Claims.{longest_book}
 use Rattle.book_layout.specs.Writing.{routines_lent, routines_check, write_check, written_of, buffer_after}
-use Rattle.book_layout.specs.declared.Item.{Item}
-use Rattle.book_layout.specs.declared.Item.TheVariants.{Handed, End, Refused as NotRead}
 
 -- All that a computation opens.
 abbrev calc : Unit {0}
 unfolding in_range command_check stands_alone commands_check routine_check two_bytes four_bytes two_at four_at bits_of setting_of
-    command_bytes book_bytes count-of offset_at length_at command_at head_check length_fits placed_check placed_checks book_check pair_next next_of
+    command_bytes book_bytes count-of offset_at length_at command_at head_check length_fits placed_check placed_checks book_check pair_next
+    next_of
     routine_of routines_check write_check written_of buffer_after
 calc = tt
 
@@ -28,7 +28,7 @@ command d t s = record { device = d; tag = t; setting = s }
 pub record Example : Type 0 where
   pub book : List ℕ
   pub verdict : Verdict
-  pub first : Item
+  pub first : Result (Option Routine) Refusal
 
 abbrev pub Holds : Example → Type 0
 Holds e = (book_check e.book ≡ e.verdict) × ((next_of e.book 0).item ≡ e.first)
@@ -39,11 +39,11 @@ AllHold (e ∷ l) = Holds e × AllHold l
 
 -- ★ "Book `00 00` is empty and accepted"
 abbrev pub empty_book : Example
-empty_book = record { book = 0 ∷ 0 ∷ []; verdict = (Ok tt); first = End }
+empty_book = record { book = 0 ∷ 0 ∷ []; verdict = Ok tt; first = Ok None }
 
 -- ★ "`00` is refused (18)"
 abbrev pub cut_book : Example
-cut_book = record { book = 0 ∷ []; verdict = Err (numbered 18); first = NotRead (numbered 18) }
+cut_book = record { book = 0 ∷ []; verdict = Err (numbered 18); first = Err (numbered 18) }
 
 -- Those with ★.
 abbrev pub book_examples : List Example
@@ -66,8 +66,10 @@ unfolding calc
 written = (refl, refl, refl)
 
 -- Each routine in turn, then the end.
-pub read : (book_check bytes ≡ Ok tt) × ((next_of bytes 0).item ≡ Handed) × ((next_of bytes 0).position ≡ 10)
-    × ((next_of bytes 10).routine.commands ≡ (routine_of (command 0 0 (pos 70) ∷ [])).commands) × ((next_of bytes 18).item ≡ End)
+pub read : (book_check bytes ≡ Ok tt)
+    × ((next_of bytes 0).item ≡ Ok (Some (routine_of (command 0 0 (pos 50) ∷ command 31 1 (negsuc 999) ∷ []))))
+    × ((next_of bytes 0).position ≡ 10) × ((next_of bytes 10).item ≡ Ok (Some (routine_of (command 0 0 (pos 70) ∷ []))))
+    × ((next_of bytes 18).item ≡ Ok None)
 unfolding calc
 read = (refl, refl, refl, refl, refl)
 

@@ -1,22 +1,23 @@
 -- Reading a book: document 01, "The routine book" and "When a call is turned down" ("Book reading: 18; then by routine 20, 19, then its
 -- commands; bytes left over last"). Assumes nothing.
 use Rattle.rules_routine.specs.declared.refusals.Refusal.TheVariants.{BookCutShort, BookMisplaced, BookLength}
-use Rattle.std.specs.Prelude.{Bool, not, ◌&&◌, ◌||◌, List, ℕ, zero, suc, ◌+◌, ◌*◌, ◌/◌, ◌%◌, leb, ltb, eqb, length, if◌then◌else◌, Ok, Err}
+use Rattle.std.specs.Prelude.{Bool, not, ◌&&◌, ◌||◌, List, ℕ, zero, suc, ◌+◌, ◌*◌, ◌/◌, ◌%◌, leb, ltb, eqb, length, if◌then◌else◌, Some}
+use Rattle.std.specs.Prelude.{None, Ok, Err}
 use Rattle.rules_routine.specs.Refusals.{refuse◌when◌, ◌and_then◌, Verdict}
 use Rattle.rules_routine.specs.Limits.{max_commands, max_routines}
-use Rattle.rules_routine.specs.Routine.{routine_of, no_routine, commands_check}
+use Rattle.rules_routine.specs.Routine.{routine_of, commands_check}
 use Rattle.rules_routine.specs.declared.refusals.Refusal.{Refusal}
 use Rattle.book_layout.specs.Numbers.{four_at}
 use Rattle.book_layout.specs.Layout.{count_size, pair_size, offset_size, command_size, book_devices}
 use Rattle.book_layout.specs.Layout.{pairs_end, count-of, offset_at, length_at, commands_at}
-use Rattle.book_layout.specs.declared.Item.TheVariants.{Handed, End, Refused as RefusedBook}
 use Rattle.book_layout.specs.declared.Next.{Next}
 
 -- ---- the check of the whole book
 
 -- 18: "book ends inside count or pairs, or count above 64".
 unfoldable pub head_check : List ℕ → Verdict
-head_check b = refuse BookCutShort when (ltb (length b) count_size || ltb max_routines (count-of b) || ltb (length b) (pairs_end (count-of b)))
+head_check b =
+    refuse BookCutShort when (ltb (length b) count_size || ltb max_routines (count-of b) || ltb (length b) (pairs_end (count-of b)))
 
 -- "length not 4 to 32 in fours", the other way round.
 unfoldable pub length_fits : ℕ → Bool
@@ -41,7 +42,7 @@ book_check b = head_check b and_then placed_checks b 0 (count-of b) (pairs_end (
 
 -- The end, at a position.
 abbrev pub end_at : ℕ → Next
-end_at at = record { item = End; routine = no_routine; position = at }
+end_at at = record { item = Ok None; position = at }
 
 -- In an accepted book: if one of its pairs begins at the position, its routine is handed out, and the position moves to the next pair;
 -- else this is the end.
@@ -50,12 +51,12 @@ pair_next b at =
     let from = four_at b at in
     let size = four_at b (at + offset_size) in
     if ltb at (pairs_end (count-of b)) && eqb (at % pair_size) count_size
-    then record { item = Handed; routine = routine_of (commands_at b from (size / command_size)); position = at + pair_size }
+    then record { item = Ok (Some (routine_of (commands_at b from (size / command_size)))); position = at + pair_size }
     else end_at at
 
--- A book that is turned down: its refusal, no routine, and position 0.
+-- A book that is turned down: its refusal, and position 0.
 abbrev pub turns_down : Refusal → Next
-turns_down r = record { item = RefusedBook r; routine = no_routine; position = 0 }
+turns_down r = record { item = Err r; position = 0 }
 
 abbrev pub next_with : Verdict → List ℕ → ℕ → Next
 next_with (Ok tt) b at = if eqb at 0 then pair_next b count_size else pair_next b at

@@ -21,15 +21,15 @@ pub const COMMAND_SIZE: usize = 4;
 // "Device 0 to 31 is accepted in a book."
 pub const BOOK_DEVICES: u8 = MAX_DEVICES as u8;
 
-// A step of reading: a routine is handed out, or the end is reached, or the book is turned down; and where the next step goes on. Position 0
-// is that of a reading not begun, and of a book that is turned down; any other is the place in the book of the next pair.
+// A step of reading: a routine is handed out, or the end is reached, or the book is turned down; and where the next step goes on.
+// Position 0 is that of a reading not begun, and of a book that is turned down; any other is the place in the book of the next pair.
 #[derive(Clone, Copy)]
 pub struct Next {
     pub item: Result<Option<Routine>, Refusal>,
     pub position: usize,
 }
 
-// The setting of two bytes, the lower one first: document 02, item 2. Upper byte
+// The setting of two bytes, the lower one first. By cases, and not by `from_le_bytes`, as document 02, item 2 asks. Upper byte
 // below 128: the two bytes' number;
 // 128 or above: that less 65,536.
 pub fn setting_of(lower: u8, upper: u8) -> i16

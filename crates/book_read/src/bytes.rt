@@ -6,13 +6,7 @@ ghost use Rattle.book_layout.specs.Numbers.{byte_at, two_at, four_at};
 pub fn byte_at(s: &[u8], at: usize) -> u8
     ensures { result ≡ byte_at s.now at }
 {
-    if at < s.len() { s[at] } else { 0 }
-}
-
-fn wide(byte: u8) -> usize
-    ensures { (result ≡ byte) × (result < 256) }
-{
-    byte as usize
+    s.get(at).copied().unwrap_or(0)
 }
 
 // The 16-bit number whose first byte is at a place.
@@ -20,7 +14,7 @@ pub fn two_at(s: &[u8], at: usize) -> usize
     requires { at + 1 < 2 ^ 64 }
     ensures { (result ≡ two_at s.now at) × (result < 2 ^ 16) }
 {
-    wide(byte_at(s, at)) + 256 * wide(byte_at(s, at + 1))
+    usize::from(u16::from_le_bytes([byte_at(s, at), byte_at(s, at + 1)]))
 }
 
 // The 32-bit number whose first byte is at a place.
@@ -28,5 +22,10 @@ pub fn four_at(s: &[u8], at: usize) -> usize
     requires { at + 3 < 2 ^ 64 }
     ensures { (result ≡ four_at s.now at) × (result < 2 ^ 32) }
 {
-    two_at(s, at) + 65536 * two_at(s, at + 2)
+    u32::from_le_bytes([
+        byte_at(s, at),
+        byte_at(s, at + 1),
+        byte_at(s, at + 2),
+        byte_at(s, at + 3),
+    ]) as usize
 }

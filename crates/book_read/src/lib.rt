@@ -9,8 +9,8 @@ ghost use Rattle.std.specs.Prelude.{◌≡◌};
 ghost use Rattle.book_layout.specs.Reading.{book_check, next_of};
 
 use book_layout::{COUNT_SIZE, Next, PAIR_SIZE};
-use rules_routine::limits::MAX_ROUTINES;
 use rules_routine::Refusal;
+use rules_routine::limits::MAX_ROUTINES;
 
 // The whole book: 18; then by routine 20, 19, then its commands; bytes left over last.
 pub fn check(book: &[u8]) -> Result<(), Refusal>

@@ -1,5 +1,5 @@
-// The reader of a routine book: document 01, "The routine book". Two thin functions over a struct that holds the lent book; the work is
-// `next`, on a plain slice.
+// The reader of a routine book: document 01, "The routine book", which names this form. Two thin functions over a struct that holds the
+// lent book; the work is `next`, on a plain slice.
 ghost use Rattle.book_read.specs.Reader.{Started, Advanced};
 
 use book_layout::Next;
@@ -22,8 +22,7 @@ pub fn start<'a>(book: &'a [u8]) -> BookReader<'a>
 pub fn advance<'s, 'a>(reader: &'s mut BookReader<'a>) -> Next
     ensures { Advanced reader.old reader.new result }
 {
-    let held = *reader;
-    let step = crate::next(held.book, held.position);
+    let step = crate::next(reader.book, reader.position);
     reader.position = step.position;
     step
 }

@@ -3,7 +3,7 @@ ghost use Rattle.std.specs.Prelude.{◌≡◌, ◌+◌, ◌*◌, ◌<◌, ◌≤
 ghost use Rattle.rules_routine.specs.Limits.{max_commands, max_routines};
 ghost use Rattle.rules_routine.specs.Routine.{routine_of};
 ghost use Rattle.book_layout.specs.Layout.{command_size, pairs_end, command_at, commands_at};
-ghost use Rattle.book_layout.specs.Reading.{length_fits, placed_check, placed_checks, book_check, end_at, pair_next};
+ghost use Rattle.book_layout.specs.Reading.{length_fits, placed_check, placed_checks, book_check, pair_next};
 
 use crate::bytes::{byte_at, four_at, two_at};
 use book_layout::{BOOK_DEVICES, COMMAND_SIZE, COUNT_SIZE, Next, OFFSET_SIZE, PAIR_SIZE};
@@ -15,11 +15,10 @@ fn command_at(book: &[u8], at: usize) -> Command
     requires { at + 3 < 2 ^ 64 }
     ensures { result ≡ command_at book.now at }
 {
-    let setting = book_layout::setting_of(byte_at(book, at + 2), byte_at(book, at + 3));
     Command {
         device: byte_at(book, at),
         tag: byte_at(book, at + 1),
-        setting,
+        setting: book_layout::setting_of(byte_at(book, at + 2), byte_at(book, at + 3)),
     }
 }
 
@@ -39,13 +38,7 @@ fn routine_at(book: &[u8], at: usize, count: usize) -> Routine
 fn length_fits(length: usize) -> bool
     ensures { result ≡ length_fits length }
 {
-    if length < COMMAND_SIZE {
-        return false;
-    }
-    if COMMAND_SIZE * MAX_COMMANDS < length {
-        return false;
-    }
-    length % COMMAND_SIZE == 0
+    COMMAND_SIZE <= length && length <= COMMAND_SIZE * MAX_COMMANDS && length % COMMAND_SIZE == 0
 }
 
 // Routine i, which the layout puts at a place: 20, 19, then its commands. No sum of an offset and a length is made.
@@ -84,26 +77,17 @@ pub fn check_all(book: &[u8], count: usize) -> Result<(), Refusal>
     Ok(())
 }
 
-fn ended(position: usize) -> Next
-    ensures { result ≡ end_at position }
-{
-    Next {
-        item: Ok(None),
-        position,
-    }
-}
-
 // The routine of the pair of an accepted book that begins at a position, or the end.
 pub fn next_pair(book: &[u8], position: usize) -> Next
     requires { book_check book.now ≡ Ok tt }
     ensures { result ≡ pair_next book.now position }
 {
     let pairs_end = COUNT_SIZE + PAIR_SIZE * two_at(book, 0);
-    if pairs_end <= position {
-        return ended(position);
-    }
-    if position % PAIR_SIZE != COUNT_SIZE {
-        return ended(position);
+    if pairs_end <= position || position % PAIR_SIZE != COUNT_SIZE {
+        return Next {
+            item: Ok(None),
+            position,
+        };
     }
     let from = four_at(book, position);
     let size = four_at(book, position + OFFSET_SIZE);

@@ -9,7 +9,12 @@ use native.Mathlib.Numerals.{add-one}
 use native.Mathlib.Omega.{arith}
 use borrow.Author.Tests.{lt-ltb, le-ltb}
 use lib.IntN.{ℤ}
-use lib.ListN.{length, drop, get_or, length-append, length-map, length-drop, drop_of_length-le}
+use Rattle.std.proofs.Common.{◌/◌, ◌%◌, ◌^◌, w16, w32}
+use Rattle.std.specs.Int.{to_le_bytes}
+use borrow.Rule.Slice.PartMut.{put_mid}
+use Rattle.std.proofs.lemmas.Slice.{put_mid-paste}
+use Rattle.std.proofs.lemmas.List.Edits.{paste_all}
+use lib.ListN.{length, take, drop, get_or, length-append, length-map, length-drop, drop_of_length-le}
 use lib.Seq.{sets, sets-eq, drop-cons}
 use Rattle.rules_routine.specs.Routine.{routine_check}
 use Rattle.rules_routine.specs.declared.Command.{Command}
@@ -23,24 +28,19 @@ use Rattle.book_layout.specs.Writing.{command_lent, commands_lent, routines_from
 use Rattle.book_layout.specs.Writing.{routines_check, write_check, written_of, buffer_after}
 use Rattle.book_layout.proofs.Lending.{length-lent, routine_whole}
 use Rattle.book_layout.proofs.LayoutLaws.{length-two_bytes, length-four_bytes, length-command_bytes, length-commands_bytes, length-pairs_bytes}
-use Rattle.book_write.specs.Count.{commands_counted, pairs_counted}
+use Rattle.book_write.specs.Count.{pairs_counted}
+use Rattle.std.specs.List.{sum}
+use Rattle.std.proofs.lemmas.List.Sums.{sum_by-cons}
 
 -- ---- counts: what is left from the i-th on
 
-module _ (ns : List ℕ) (i : ℕ) where
-  pub counts_more : i < length ns → drop i ns ≡ get_or ns i 0 ∷ drop (i + 1) ns
-  counts_more h = drop-cons ns i 0 h ∙ ap (λ (j : ℕ). get_or ns i 0 ∷ drop j ns) (sym (add-one i))
-
-  pub counted-more : i < length ns → commands_counted (drop i ns) ≡ get_or ns i 0 + commands_counted (drop (i + 1) ns)
-  counted-more h = ap commands_counted (counts_more h)
-
-  pub counted-end : length ns ≤ i → commands_counted (drop i ns) ≡ 0
-  counted-end h = ap commands_counted (drop_of_length-le ns h)
+counts_more : (ns : List ℕ) (i n : ℕ) → i < length ns → n ≡ get_or ns i 0 → drop i ns ≡ n ∷ drop (i + 1) ns
+counts_more ns i n h e = drop-cons ns i 0 h ∙ ap₂ (λ (k j : ℕ). k ∷ drop j ns) (sym e) (sym (add-one i))
 
 -- a count is a byte
-pub commands-few : (ns : List ℕ) → ((i : ℕ) → get_or ns i 0 < 256) → commands_counted ns ≤ 255 * length ns
+pub commands-few : (ns : List ℕ) → ((i : ℕ) → get_or ns i 0 < 256) → sum ns ≤ 255 * length ns
 commands-few [] h = omega arith
-commands-few (n ∷ ns) h = let k = commands-few ns (λ i. h (suc i)) in omega (arith, h 0)
+commands-few (n ∷ ns) h = let k = commands-few ns (λ i. h (suc i)) in omega (arith, h 0, sum_by-cons (λ x. x) n ns)
 
 -- ---- commands of the row
 
@@ -83,10 +83,9 @@ module _ (ds ts : List ℕ) (ss : List ℤ) where
 
 module _ (ds ts : List ℕ) (ss : List ℤ) where
   -- the next routine, which begins at a place, where i are behind
-  pub routines-more : (ns : List ℕ) (i at : ℕ) → i < length ns →
-      routines_from ds ts ss at (drop i ns)
-      ≡ commands_lent ds ts ss at (get_or ns i 0) ∷ routines_from ds ts ss (at + get_or ns i 0) (drop (i + 1) ns)
-  routines-more ns i at h = ap (routines_from ds ts ss at) (counts_more ns i h)
+  pub routines-more : (ns : List ℕ) (i at n : ℕ) → i < length ns → n ≡ get_or ns i 0 →
+      routines_from ds ts ss at (drop i ns) ≡ commands_lent ds ts ss at n ∷ routines_from ds ts ss (at + n) (drop (i + 1) ns)
+  routines-more ns i at n h e = ap (routines_from ds ts ss at) (counts_more ns i n h e)
 
   pub routines_end : (ns : List ℕ) (i at : ℕ) → length ns ≤ i → routines_from ds ts ss at (drop i ns) ≡ []
   routines_end ns i at h = ap (routines_from ds ts ss at) (drop_of_length-le ns h)
@@ -105,13 +104,14 @@ module _ (ds ts : List ℕ) (ss : List ℤ) where
       ∙ ap (λ (l : List ℕ). four_bytes p ++ (four_bytes (command_size * n) ++ l)) (pairs-counted (at + n) (p + command_size * n) ns)
 
   -- their commands are those of the row in turn
-  body_is : (at : ℕ) (ns : List ℕ) → body_bytes (routines_from ds ts ss at ns) ≡ commands_bytes (commands_lent ds ts ss at (commands_counted ns))
+  body_is : (at : ℕ) (ns : List ℕ) → body_bytes (routines_from ds ts ss at ns) ≡ commands_bytes (commands_lent ds ts ss at (sum ns))
   body_is at [] = refl
   body_is at (n ∷ ns) =
-      let m = commands_counted ns in
+      let m = sum ns in
       ap (λ (l : List ℕ). commands_bytes (commands_lent ds ts ss at n) ++ l) (body_is (at + n) ns)
       ∙ sym (commands-append (commands_lent ds ts ss at n) (commands_lent ds ts ss (at + n) m))
       ∙ ap commands_bytes (sym (lent_both ds ts ss at n m))
+      ∙ ap (λ (k : ℕ). commands_bytes (commands_lent ds ts ss at k)) (sym (sum_by-cons (λ x. x) n ns))
     where
       commands-append : (a b : List Command) → commands_bytes (a ++ b) ≡ commands_bytes a ++ commands_bytes b
       commands-append [] b = refl
@@ -120,12 +120,12 @@ module _ (ds ts : List ℕ) (ss : List ℤ) where
           ∙ sym (append_assoc (command_bytes c) (commands_bytes a) (commands_bytes b))
 
   -- how long the book is
-  pub length-book : (ns : List ℕ) → length (book_bytes (routines_lent ns ds ts ss)) ≡ pairs_end (length ns) + command_size * commands_counted ns
+  pub length-book : (ns : List ℕ) → length (book_bytes (routines_lent ns ds ts ss)) ≡ pairs_end (length ns) + command_size * sum ns
   unfolding book_bytes
   length-book ns =
       let rs = routines_lent ns ds ts ss in
       let pairs = pairs_bytes (pairs_end (length rs)) rs in
-      let body = commands_lent ds ts ss 0 (commands_counted ns) in
+      let body = commands_lent ds ts ss 0 (sum ns) in
       omega (
         arith,
         length-routines 0 ns,
@@ -135,7 +135,7 @@ module _ (ds ts : List ℕ) (ss : List ℤ) where
         length-pairs_bytes (pairs_end (length rs)) rs,
         ap length (body_is 0 ns),
         length-commands_bytes body,
-        length-lent ds ts ss 0 (commands_counted ns),
+        length-lent ds ts ss 0 (sum ns),
       )
 
 -- the routines in turn
@@ -154,16 +154,35 @@ module _ (r : List Command) (rs : List (List Command)) where
 
 -- ---- bytes that are written one after another
 
+-- the bytes of numbers, as the machine gives them
+pub two_le : (n : ℕ) → n < 2 ^ 16 → to_le_bytes w16 n ≡ two_bytes n
+unfolding two_bytes
+two_le n h = let e : n / 256 % 256 ≡ n / 256 = omega arith in ap (λ (k : ℕ). n % 256 ∷ k ∷ []) e
+
+pub four_le : (n : ℕ) → n < 2 ^ 32 → to_le_bytes w32 n ≡ four_bytes n
+unfolding four_bytes
+four_le n h =
+    let e : n / 16777216 % 256 ≡ n / 16777216 = omega arith in
+    ap (λ (k : ℕ). n % 256 ∷ n / 256 % 256 ∷ n / 65536 % 256 ∷ k ∷ []) e
+
+-- bytes copied into a part of a buffer
+pub bytes-put : (out ys bs : List ℕ) (at k : ℕ) → ys ≡ bs → k ≡ length bs → at + k ≤ length out → put_mid at k out ys ≡ sets out at bs
+bytes-put out ys bs at k e n h =
+    put_mid-paste at k out ys bs (length bs) e (sym n) refl
+    ∙ paste_all out at bs (length bs) refl
+    ∙ sym (append_assoc (take at out) bs (drop (at + length bs) out))
+    ∙ sym (sets-eq bs out at (omega arith))
+
 -- one pair of those that are left
-pub pairs_more : (out ns : List ℕ) (p at i : ℕ) → i < length ns →
-    let size = command_size * get_or ns i 0 in
+pub pairs_more : (out ns : List ℕ) (p at i n : ℕ) → i < length ns → n ≡ get_or ns i 0 →
+    let size = command_size * n in
     sets out p (pairs_counted at (drop i ns))
     ≡ sets (sets (sets out p (four_bytes at)) (p + offset_size) (four_bytes size)) (p + pair_size) (pairs_counted (at + size) (drop (i + 1) ns))
-pairs_more out ns p at i h =
-    let size = command_size * get_or ns i 0 in
+pairs_more out ns p at i n h e =
+    let size = command_size * n in
     let rest = pairs_counted (at + size) (drop (i + 1) ns) in
     let one = sets out p (four_bytes at) in
-    ap (λ (l : List ℕ). sets out p (pairs_counted at l)) (counts_more ns i h)
+    ap (λ (l : List ℕ). sets out p (pairs_counted at l)) (counts_more ns i n h e)
     ∙ sets_append (four_bytes at) (four_bytes size ++ rest) out p
     ∙ ap (λ (k : ℕ). sets one (p + k) (four_bytes size ++ rest)) (length-four_bytes at)
     ∙ sets_append (four_bytes size) rest one (p + offset_size)
@@ -192,7 +211,7 @@ module _ (ds ts : List ℕ) (ss : List ℤ) where
   pub book-put : (ns out : List ℕ) →
       let first = pairs_end (length ns) in
       let counted = sets (sets out 0 (two_bytes (length ns))) count_size (pairs_counted first ns) in
-      sets counted first (commands_bytes (commands_lent ds ts ss 0 (commands_counted ns))) ≡ sets out 0 (book_bytes (routines_lent ns ds ts ss))
+      sets counted first (commands_bytes (commands_lent ds ts ss 0 (sum ns))) ≡ sets out 0 (book_bytes (routines_lent ns ds ts ss))
   unfolding book_bytes
   book-put ns out =
       let rs = routines_lent ns ds ts ss in
@@ -202,7 +221,7 @@ module _ (ds ts : List ℕ) (ss : List ℤ) where
       let l = length-pairs_bytes (pairs_end (length ns)) rs in
       let p : pairs_end (length ns) ≡ count_size + length pairs = omega arith in
       let two : count_size ≡ 0 + length count = omega (arith, length-two_bytes (length ns)) in
-      let row = commands_bytes (commands_lent ds ts ss 0 (commands_counted ns)) in
+      let row = commands_bytes (commands_lent ds ts ss 0 (sum ns)) in
       ap (λ (q : List ℕ). sets (sets (sets out 0 count) count_size q) (pairs_end (length ns)) row)
       (sym (pairs-counted ds ts ss 0 (pairs_end (length ns)) ns))
       ∙ ap₂ (λ (k : ℕ) (b : List ℕ). sets (sets (sets out 0 count) count_size pairs) k b) p (sym (body_is ds ts ss 0 ns))

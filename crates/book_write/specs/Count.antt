@@ -3,11 +3,6 @@ use Rattle.std.specs.Prelude.{List, [], ◌∷◌, ◌++◌, ℕ, ◌+◌, ◌*�
 use Rattle.book_layout.specs.Layout.{command_size}
 use Rattle.book_layout.specs.Numbers.{four_bytes}
 
--- How many commands routines of these counts have together.
-abbrev pub commands_counted : List ℕ → ℕ
-commands_counted [] = 0
-commands_counted (n ∷ ns) = n + commands_counted ns
-
 -- The pairs of routines of these counts, of which the first begins at a place.
 abbrev pub pairs_counted : ℕ → List ℕ → List ℕ
 pairs_counted at [] = []

@@ -7,12 +7,13 @@ ghost use Rattle.std.specs.Prelude.{◌≡◌, length};
 ghost use Rattle.book_layout.specs.Writing.{routines_lent, written_of, buffer_after};
 
 use book_layout::{COMMAND_SIZE, COUNT_SIZE, PAIR_SIZE};
-use rules_routine::limits::MAX_ROUTINES;
 use rules_routine::Refusal;
+use rules_routine::limits::MAX_ROUTINES;
 
 // Routines written into a lent buffer: the routines in turn (4, then commands), then 21. `counts` has a number of commands for each
 // routine; the three other slices hold the parts of all commands in a row. Each routine has as many of the next as its count says: one that
-// is not all there is turned down (5, 6 or 7 with the command's index). What is lent behind the last routine is not looked at.
+// is not all there is turned down (5, 6 or 7 with the command's index). What is lent behind the last routine is not looked at. Four slices
+// and no list of routines: what is promised of rows that are cut short is said of them, and there is no heap.
 pub fn write(
     counts: &[u8],
     devices: &[u8],

@@ -1,13 +1,12 @@
 // The parts of writing a book. The routines are lent as a count for each, and their commands in a row as three slices.
-ghost use Rattle.std.specs.Prelude.{◌≡◌, ◌+◌, ◌*◌, ◌≤◌, length, get_or};
+ghost use Rattle.std.specs.Prelude.{◌≡◌, ◌+◌, ◌*◌, ◌≤◌, length, get_or, sum};
 ghost use Rattle.std.proofs.lemmas.List.Edits.{sets};
 ghost use Rattle.rules_routine.specs.Limits.{max_commands, max_routines};
 ghost use Rattle.rules_routine.specs.Routine.{routine_of, routine_check};
 ghost use Rattle.book_layout.specs.Layout.{count_size, command_size, book_devices, pairs_end};
 ghost use Rattle.book_layout.specs.Layout.{command_bytes, commands_bytes, book_bytes};
-ghost use Rattle.book_layout.specs.Numbers.{two_bytes, four_bytes};
-ghost use Rattle.book_layout.specs.Writing.{missing_setting, command_lent, commands_lent, routines_lent, routines_check};
-ghost use Rattle.book_write.specs.Count.{commands_counted, pairs_counted};
+ghost use Rattle.book_layout.specs.Writing.{command_lent, commands_lent, routines_lent, routines_check};
+ghost use Rattle.book_write.specs.Count.{pairs_counted};
 
 use book_layout::{BOOK_DEVICES, COMMAND_SIZE, COUNT_SIZE, OFFSET_SIZE, PAIR_SIZE};
 use rules_routine::limits::MAX_COMMANDS;
@@ -20,34 +19,21 @@ const MISSING_TAG: u8 = 255;
 
 const MISSING_SETTING: i16 = 32767;
 
-// A device or a tag of the row.
-fn byte_in(row: &[u8], at: usize, missing: u8) -> u8
+// A part of a command of the row.
+fn part_in<T: Copy>(row: &[T], at: usize, missing: T) -> T
     ensures { result ≡ get_or row.now at missing }
 {
-    if at < row.len() {
-        return row[at];
-    }
-    missing
-}
-
-fn setting_in(settings: &[i16], at: usize) -> i16
-    ensures { result ≡ get_or settings.now at missing_setting }
-{
-    if at < settings.len() {
-        return settings[at];
-    }
-    MISSING_SETTING
+    row.get(at).copied().unwrap_or(missing)
 }
 
 // A command of the row.
 fn command_in(devices: &[u8], tags: &[u8], settings: &[i16], at: usize) -> Command
     ensures { result ≡ command_lent devices.now tags.now settings.now at }
 {
-    let setting = setting_in(settings, at);
     Command {
-        device: byte_in(devices, at, MISSING_DEVICE),
-        tag: byte_in(tags, at, MISSING_TAG),
-        setting,
+        device: part_in(devices, at, MISSING_DEVICE),
+        tag: part_in(tags, at, MISSING_TAG),
+        setting: part_in(settings, at, MISSING_SETTING),
     }
 }
 
@@ -57,17 +43,20 @@ fn routine_in(devices: &[u8], tags: &[u8], settings: &[i16], at: usize, count: u
     ensures { result ≡ routine_of (commands_lent devices.now tags.now settings.now at count) }
 {
     let mut routine = rules_routine::empty();
-    let mut i = 0;
-    while i < count {
-        let command = command_in(devices, tags, settings, at + i);
-        routine = rules_routine::with_command(routine, command);
-        i += 1;
+    for i in 0..count {
+        routine = rules_routine::with_command(routine, command_in(devices, tags, settings, at + i));
     }
     routine
 }
 
 // One routine of the row: 4, whatever is lent; then its commands.
-fn check_one(devices: &[u8], tags: &[u8], settings: &[i16], at: usize, count: usize) -> Result<(), Refusal>
+fn check_one(
+    devices: &[u8],
+    tags: &[u8],
+    settings: &[i16],
+    at: usize,
+    count: usize,
+) -> Result<(), Refusal>
     requires { at ≤ length devices.now }
     ensures { result ≡ routine_check book_devices
         (commands_lent devices.now tags.now settings.now at count) }
@@ -80,14 +69,20 @@ fn check_one(devices: &[u8], tags: &[u8], settings: &[i16], at: usize, count: us
 }
 
 // The routines in turn. Where one is accepted all its commands are there, so that the next begins inside the row or at its end.
-pub fn check_routines(counts: &[u8], devices: &[u8], tags: &[u8], settings: &[i16]) -> Result<(), Refusal>
+pub fn check_routines(
+    counts: &[u8],
+    devices: &[u8],
+    tags: &[u8],
+    settings: &[i16],
+) -> Result<(), Refusal>
     ensures { result ≡ routines_check
         (routines_lent counts.now devices.now tags.now settings.now) }
 {
     let mut at = 0;
-    for count in counts {
-        check_one(devices, tags, settings, at, *count as usize)?;
-        at += *count as usize;
+    for n in counts {
+        let count = usize::from(*n);
+        check_one(devices, tags, settings, at, count)?;
+        at += count;
     }
     Ok(())
 }
@@ -95,34 +90,17 @@ pub fn check_routines(counts: &[u8], devices: &[u8], tags: &[u8], settings: &[i1
 // How many commands the routines have together.
 pub fn count_commands(counts: &[u8]) -> usize
     requires { length counts.now ≤ max_routines }
-    ensures { result ≡ commands_counted counts.now }
+    ensures { result ≡ sum counts.now }
 {
-    let mut total = 0;
-    let mut i = 0;
-    while i < counts.len() {
-        total += counts[i] as usize;
-        i += 1;
-    }
-    total
+    counts.iter().map(|n| usize::from(*n)).sum()
 }
 
-// Two bytes, and four, written from a place on.
-fn put_two(out: &mut [u8], at: usize, n: u16)
-    requires { at + 2 ≤ length out.old }
-    ensures { out.new ≡ sets out.old at (two_bytes n) }
+// Bytes written from a place on.
+fn put<const N: usize>(out: &mut [u8], at: usize, bytes: [u8; N])
+    requires { at + N ≤ length out.old }
+    ensures { out.new ≡ sets out.old at bytes.entry }
 {
-    out[at] = (n % 256) as u8;
-    out[at + 1] = (n / 256) as u8;
-}
-
-fn put_four(out: &mut [u8], at: usize, n: u32)
-    requires { at + 4 ≤ length out.old }
-    ensures { out.new ≡ sets out.old at (four_bytes n) }
-{
-    out[at] = (n % 256) as u8;
-    out[at + 1] = (n / 256 % 256) as u8;
-    out[at + 2] = (n / 65536 % 256) as u8;
-    out[at + 3] = (n / 16777216) as u8;
+    out[at..at + N].copy_from_slice(&bytes);
 }
 
 // The pairs, behind the count.
@@ -132,14 +110,12 @@ fn put_pairs(counts: &[u8], out: &mut [u8])
         (pairs_counted (pairs_end (length counts.now)) counts.now) }
 {
     let mut at = COUNT_SIZE + PAIR_SIZE * counts.len();
-    let mut i = 0;
-    while i < counts.len() {
-        let size = COMMAND_SIZE * (counts[i] as usize);
+    for (i, count) in counts.iter().enumerate() {
+        let size = COMMAND_SIZE * usize::from(*count);
         let pair = COUNT_SIZE + PAIR_SIZE * i;
-        put_four(out, pair, at as u32);
-        put_four(out, pair + OFFSET_SIZE, size as u32);
+        put(out, pair, (at as u32).to_le_bytes());
+        put(out, pair + OFFSET_SIZE, (size as u32).to_le_bytes());
         at += size;
-        i += 1;
     }
 }
 
@@ -148,10 +124,8 @@ fn put_command(out: &mut [u8], at: usize, command: Command)
     requires { at + command_size ≤ length out.old }
     ensures { out.new ≡ sets out.old at (command_bytes command) }
 {
-    out[at] = command.device;
-    out[at + 1] = command.tag;
-    let setting = command.setting;
-    put_two(out, at + 2, book_layout::bits_of(setting));
+    let [lower, upper] = book_layout::bits_of(command.setting).to_le_bytes();
+    put(out, at, [command.device, command.tag, lower, upper]);
 }
 
 // The first commands of the row, from a place on.
@@ -167,11 +141,12 @@ fn put_commands(
     ensures { out.new ≡ sets out.old from
         (commands_bytes (commands_lent devices.now tags.now settings.now 0 count)) }
 {
-    let mut i = 0;
-    while i < count {
-        let command = command_in(devices, tags, settings, i);
-        put_command(out, from + COMMAND_SIZE * i, command);
-        i += 1;
+    for i in 0..count {
+        put_command(
+            out,
+            from + COMMAND_SIZE * i,
+            command_in(devices, tags, settings, i),
+        );
     }
 }
 
@@ -184,12 +159,12 @@ pub fn put_book(
     commands: usize,
     out: &mut [u8],
 )
-    requires { (length counts.now ≤ max_routines) × (commands ≡ commands_counted counts.now)
+    requires { (length counts.now ≤ max_routines) × (commands ≡ sum counts.now)
         × (length (book_bytes (routines_lent counts.now devices.now tags.now settings.now)) ≤ length out.old) }
     ensures { out.new ≡ sets out.old 0
         (book_bytes (routines_lent counts.now devices.now tags.now settings.now)) }
 {
-    put_two(out, 0, counts.len() as u16);
+    put(out, 0, (counts.len() as u16).to_le_bytes());
     put_pairs(counts, out);
     put_commands(
         devices,

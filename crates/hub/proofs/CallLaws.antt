@@ -1,33 +1,29 @@
 -- Laws for the proofs of the public calls: a decision that is carried out gives what the call's contract says. Assumes nothing.
-use Rattle.std.proofs.Common.{Option, Some}
 use mathlib.Core.Path.{◌≡◌, refl, sym, ap, ◌∙◌, subst}
 use mathlib.Core.Bool.{Bool, true, false}
 use mathlib.Core.List.{List, [], ◌∷◌, ◌++◌}
-use Prim.Native.Nat.{ℕ, ◌<◌}
-use borrow.Author.Tests.{lt-ltb}
+use Prim.Native.Nat.{ℕ}
 use Rattle.std.specs.Prelude.{if◌then◌else◌}
-use Rattle.rules_routine.specs.Limits.{max_devices}
 use Rattle.rules_routine.specs.Routine.{commands_of, routine_of, no_routine}
 use Rattle.rules_routine.specs.declared.Command.{Command}
 use Rattle.rules_routine.specs.declared.Routine.{Routine}
 use Rattle.rules_routine.proofs.RoutineLaws.{by_test}
 use Rattle.rules.specs.State.{Member, State}
-use Rattle.rules.specs.Answers.{Back, Call, Result}
+use Rattle.rules.specs.Answers.{Call, Result}
 use Rattle.rules.specs.Calls.{result_of}
 use Rattle.rules.specs.Rounds.{KeepsLimit}
 use Rattle.rules.specs.Sequence.{with_sequence}
 use Rattle.rules.specs.Settle.{join_settled, settle_from, settle, settling}
 use Rattle.rules.proofs.Lists.{t≠f}
 use Rattle.hub_sequence.specs.Links.{StandsOrNone}
-use Rattle.hub_answers.specs.View.{one_of, event_abort_of, answer_of, put_backs_of, put_backs_in, PutBacksOk, changes_nothing}
+use Rattle.hub_answers.specs.View.{event_abort_of, answer_of, put_backs_of, put_backs_in, changes_nothing}
 use Rattle.hub_answers.specs.declared.PutBacks.{PutBacks}
-use Rattle.hub_state.specs.View.{found_at, state_of, first_committed}
+use Rattle.hub_state.specs.View.{first_committed}
 use Rattle.hub_state.specs.Valid.{StateOk}
 use Rattle.hub_state.specs.Unmoved.{Unmoved, InPlace, OnlyLeave}
 use Rattle.hub_apply.specs.Contract.{Places}
 use Rattle.hub_apply.proofs.PlaceLaws.{places_unmoved, places_run}
-use Rattle.hub_abort.specs.PutBacks.{down_if}
-use Rattle.hub_state.specs.Contract.{put_backs_stopped, down_with, applied_to, put_backs_by, ChangeOk, put_backs_of_decision, told_by}
+use Rattle.hub_state.specs.Contract.{applied_to, ChangeOk, put_backs_of_decision, told_by}
 use Rattle.hub_state.specs.Contract.{settled_unless_nothing, result_by, Decides}
 use Rattle.hub_state.specs.declared.HubState.{HubState}
 use Rattle.hub_state.specs.declared.Change.{Change}
@@ -38,7 +34,7 @@ use Rattle.hub_state.proofs.UnmovedLaws.{itself_in_place, in_place-leaves, settl
 use Rattle.hub.specs.View.{view, answers_in}
 use Rattle.hub.specs.Valid.{InOrder, Valid}
 use Rattle.hub.specs.Contract.{Gives}
-use Rattle.hub.specs.Carrying.{LeavingOk, MovesNobody, OnlySettle, Carries}
+use Rattle.hub.specs.Carrying.{MovesNobody, OnlySettle, Carries}
 use Rattle.hub.specs.Decided.{DecidedOn, Decided}
 use Rattle.hub.specs.declared.Hub.{Hub}
 use Rattle.hub.specs.declared.Outcome.{Outcome}
@@ -68,20 +64,6 @@ rests_as h v e f = record { in_order = v; at_rest = ap (λ (t : State). first_co
 
 pub decided_ok : {h : Hub} {cs : List Command} {c : Change} → Decided h cs c → ChangeOk h.state cs c
 decided_ok {h} {cs} k = subst (ChangeOk h.state cs) k.change_is k.made.decides.change_ok
-
--- by another word for the change
-pub decided_as : {h : Hub} {cs : List Command} {c x : Change} → c ≡ x → Decided h cs c → Decided h cs x
-decided_as e k = record { decision = k.decision; made = k.made; change_is = k.change_is ∙ e }
-
--- and asked about its put-backs
-pub leaving_ok : (h : HubState) (cs : List Command) (c : Change) → ChangeOk h cs c → LeavingOk h c
-leaving_ok h cs Nothing k = tt
-leaving_ok h cs (Stage x) k = tt
-leaving_ok h cs (Commit x) k = tt
-leaving_ok h cs (Join after) k = tt
-leaving_ok h cs (Abort x) k = k
-leaving_ok h cs (Fail d x) k = k
-leaving_ok h cs (Restart d v x) k = k
 
 -- ---- a decision with another word for its result
 
@@ -113,7 +95,7 @@ abbrev pub Wraps : Hub → Decision → PutBacks → Outcome → Type 0
 Wraps r d backs o = (o.hub ≡ r) × (o.first ≡ d.first) × (o.answer ≡ d.answer) × (o.put_backs ≡ backs)
 
 module _ (h : Hub) (cs : List Command) (d : Decision) (backs : PutBacks) (n : Hub) (v : Valid h)
-    (k : Decides h.state cs d (result_by h.state cs d)) (fit : PutBacksOk backs)
+    (k : Decides h.state cs d (result_by h.state cs d))
     (are : put_backs_of backs ≡ put_backs_of_decision h.state d)
     (c : Carries h cs d.change n) where
   told : (r : Hub) (o : Outcome) → Wraps r d backs o → answers_in o ≡ told_by h.state d
@@ -128,7 +110,7 @@ module _ (h : Hub) (cs : List Command) (d : Decision) (backs : PutBacks) (n : Hu
   wraps_gives r o w z e u s = record {
     valid = subst Valid (sym w.0) z;
     gives = (λ i. record { state = view (w.0 i); answers = told r o w i }) ∙ e;
-    put_backs_fit = subst PutBacksOk (sym w.3) fit;
+    put_backs_fit = o.put_backs.within;
     put_backs_told = ap put_backs_of w.3 ∙ are ∙ k.put_backs_told ∙ sym (ap put_backs_in (told r o w));
     unmoved = subst (λ (x : Hub). Unmoved h.state x.state) (sym w.0) u;
     same_hub = λ t. w.0 ∙ s (sym (ap changes_nothing w.2) ∙ t);
@@ -173,20 +155,7 @@ module _ (h : Hub) (cs : List Command) (d : Decision) (backs : PutBacks) (n : Hu
       c.moves_nobody.unmoved
       (λ _. same)
 
--- ---- the arms
-
--- what is put back, where the change is this one
-pub backs_as : (h : HubState) (d : Decision) {c : Change} {l : List Back} → d.change ≡ c → l ≡ put_backs_by h (one_of d.back) c →
-    l ≡ put_backs_of_decision h d
-backs_as h d e f = f ∙ sym (ap (put_backs_by h (one_of d.back)) e)
-
--- a device that fails is down by then
-down_is : (s : State) (d : ℕ) → d < max_devices → down_if s (Some d) ≡ down_with s d
-down_is s d h = ap (λ (t : Bool). if t then down_with s d else s) (lt-ltb d max_devices h)
-
-pub backs_down : (h : HubState) (d : Decision) {x : ℕ} {y : Option ℕ} {l : List Back} → d.change ≡ Fail x y → x < max_devices →
-    l ≡ put_backs_stopped x (down_if (state_of h) (Some x)) (found_at h y) → l ≡ put_backs_of_decision h d
-backs_down h d {x} {y} e i f = backs_as h d e (f ∙ ap (λ (s : State). put_backs_stopped x s (found_at h y)) (down_is (state_of h) x i))
+-- ---- who is moved
 
 -- nobody is moved where some may leave and nobody joins, and where nobody does either
 pub leave_moves : (h r : HubState) → OnlyLeave h r → MovesNobody h r
@@ -202,16 +171,7 @@ place_moves h r v k p = record { unmoved = places_unmoved h _ _ r v k p; joined_
 pub itself_moves : (h : HubState) → StateOk h → MovesNobody h h
 itself_moves h v = stay_moves h h v (itself_in_place h)
 
--- a change that is this one is carried out
-pub carries_as : {h : Hub} {cs : List Command} {c x : Change} {r : Hub} → c ≡ x → (x ≡ Nothing → ⊥) → InOrder r →
-    view r ≡ applied_to h.state cs x → MovesNobody h.state r.state → Carries h cs c r
-carries_as {h} {cs} e n v g m = record {
-  in_order = v;
-  gives = g ∙ sym (ap (applied_to h.state cs) e);
-  moves_nobody = m;
-  same_hub = λ k. absurd (n (sym e ∙ k));
-}
-
+-- a change of nothing is carried out
 pub carries_nothing : {h : Hub} {cs : List Command} {c : Change} → c ≡ Nothing → Valid h → Carries h cs c h
 carries_nothing {h} {cs} e v = record {
   in_order = v.in_order;

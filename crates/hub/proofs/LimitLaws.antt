@@ -1,22 +1,20 @@
 -- A new pass limit gives what its contract says. Assumes nothing.
 use Rattle.std.proofs.Common.{Ok, Err, None}
 use Rattle.rules_routine.specs.Refusals.{Verdict}
-use mathlib.Core.Path.{◌≡◌, refl, sym, ap}
+use mathlib.Core.Path.{◌≡◌, sym, ap}
 use mathlib.Core.Bool.{false}
-use mathlib.Core.List.{List, [], ◌∷◌}
+use mathlib.Core.List.{[], ◌∷◌}
 use Prim.Native.Nat.{ℕ}
-use native.Mathlib.Omega.{arith}
 use Rattle.rules.specs.State.{State}
 use Rattle.rules.specs.Answers.{Result, limited, unless_refused}
 use Rattle.rules.specs.Settle.{settling}
 use Rattle.rules.specs.Limit.{new_limit_check, with_pass_limit, limit_of}
 use Rattle.hub_answers.specs.View.{put_backs_of}
 use Rattle.hub_answers.specs.declared.PutBacks.{PutBacks}
-use Rattle.hub_state.specs.View.{first_committed, state_of}
+use Rattle.hub_state.specs.View.{first_committed}
 use Rattle.hub_state.specs.declared.HubState.{HubState}
 use Rattle.rules.proofs.Lists.{t≠f}
-use Rattle.rules_routine.specs.declared.refusals.Refusal.{Refusal}
-use Rattle.hub_answers.specs.declared.Answer.TheVariants.{Refused, Limited as NowLimited}
+use Rattle.hub_answers.specs.declared.Answer.TheVariants.{Limited as NowLimited}
 use Rattle.hub_limit.specs.Contract.{Limits}
 use Rattle.hub.specs.View.{view}
 use Rattle.hub.specs.Valid.{Valid}
@@ -35,27 +33,15 @@ limit_rests s k f = go (new_limit_check s.devices k)
     go (Ok tt) = settled_rests (with_pass_limit s k)
     go (Err r) = f
 
-module _ (h : Hub) (k : ℕ) (b : PutBacks) (v : Valid h) (n : b.count ≡ 0) (e : put_backs_of b ≡ []) where
+module _ (h : Hub) (k : ℕ) (b : PutBacks) (v : Valid h) (e : put_backs_of b ≡ []) where
   -- it is in force
   pub limits_hub : (s : HubState) → Limits h.state k (Ok s) →
       Limited h k (record { hub = record { state = s }; first = None; answer = NowLimited k; put_backs = b })
   limits_hub s g = record {
     valid = rests_as _ g.valid (ap (λ (r : Result). r.state) g.gives) (limit_rests (view h) k v.at_rest);
     gives = g.gives;
-    put_backs_fit = omega arith;
+    put_backs_fit = b.within;
     put_backs_told = e;
     unmoved = g.unmoved;
     same_hub = λ z. t≠f (sym z);
-  }
-
-  -- it is turned down
-  pub limits_nothing : (r : Refusal) → Limits h.state k (Err r) →
-      Limited h k (record { hub = h; first = None; answer = Refused r; put_backs = b })
-  limits_nothing r g = record {
-    valid = v;
-    gives = g.gives;
-    put_backs_fit = omega arith;
-    put_backs_told = e;
-    unmoved = g.unmoved;
-    same_hub = λ z. refl;
   }

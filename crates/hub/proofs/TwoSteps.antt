@@ -38,15 +38,15 @@ applied_meets h c o v a =
     meets h c o
     (subst (Gives h o) a.decides.gives
     (by_test (λ (_ : Bool). P) (changes_nothing answer)
-    (λ t. same_gives h a.commands a.decision o.put_backs a.made v k a.put_backs_fit a.put_backs_are a.carries o
+    (λ t. same_gives h a.commands a.decision o.put_backs a.made v k a.put_backs_are a.carries o
     (a.settles.same t, a.first_is, a.answer_is, refl) t)
     (λ f.
     by_test (λ (_ : Bool). P) (first_committed (view a.made).sequence)
     (λ t.
     let s = a.settles.settled f t in
-    settled-gives h a.commands a.decision o.put_backs a.made v k a.put_backs_fit a.put_backs_are a.carries o.hub o
+    settled-gives h a.commands a.decision o.put_backs a.made v k a.put_backs_are a.carries o.hub o
     (refl, a.first_is, a.answer_is, refl) f s.0 s.1 s.2)
-    (λ e. idle-gives h a.commands a.decision o.put_backs a.made v k a.put_backs_fit a.put_backs_are a.carries o
+    (λ e. idle-gives h a.commands a.decision o.put_backs a.made v k a.put_backs_are a.carries o
     (a.settles.idle f e, a.first_is, a.answer_is, refl) f e))))
 
 pub applied_chains : AppliedChains

@@ -1,7 +1,7 @@
 // A decision carried out, as one outcome: what it puts back, the change, and settling.
 ghost use Rattle.std.specs.Prelude.{◌≡◌};
 ghost use Rattle.rules_routine.specs.Routine.{commands_of};
-ghost use Rattle.hub_answers.specs.View.{put_backs_of, PutBacksOk};
+ghost use Rattle.hub_answers.specs.View.{put_backs_of};
 ghost use Rattle.hub_state.specs.Valid.{StateOk};
 ghost use Rattle.hub_state.specs.Contract.{result_by, put_backs_of_decision};
 ghost use Rattle.hub.specs.Valid.{Valid};
@@ -17,15 +17,11 @@ use rules_routine::Routine;
 // What a decision puts back. What an abort does is read off the rows as they are.
 pub fn put_backs_of(state: HubState, decision: Decision) -> PutBacks
     requires { (StateOk state) × (LeavingOk state decision.change) }
-    ensures { (PutBacksOk result) × (put_backs_of result ≡ put_backs_of_decision state decision) }
+    ensures { put_backs_of result ≡ put_backs_of_decision state decision }
 {
-    let back = decision.back;
-    let change = decision.change;
-    match change {
-        Change::Nothing => hub_answers::at_most_one(back),
-        Change::Stage(_) => hub_answers::at_most_one(back),
-        Change::Commit(_) => hub_answers::at_most_one(back),
-        Change::Join(_) => hub_answers::at_most_one(back),
+    match decision.change {
+        Change::Nothing | Change::Stage(_) | Change::Commit(_) | Change::Join(_) =>
+            PutBacks::at_most_one(decision.back),
         Change::Abort(at) => hub_abort::put_backs_of(state, at, None),
         Change::Fail(device, slot) => hub_events::put_backs_if(state, slot, device, Some(device)),
         Change::Restart(device, _, slot) => hub_events::put_backs_if(state, slot, device, None),
@@ -48,33 +44,21 @@ fn changed(hub: Hub, change: Change, routine: Routine) -> Hub
     }
 }
 
-// A hub with the answers of a decision.
-fn outcome_with(hub: Hub, decision: Decision, backs: PutBacks) -> Outcome
-    ensures { (result.hub ≡ hub) × (result.first ≡ decision.first) × (result.answer ≡ decision.answer) × (result.put_backs ≡ backs) }
-{
-    let first = decision.first;
-    let answer = decision.answer;
-    Outcome {
-        hub,
-        first,
-        answer,
-        put_backs: backs,
-    }
-}
-
 // What is put back, the change, then settling. "After each call, while the first in the sequence is committed"; but the answer decides
 // first: a refusal and a wait change nothing.
 pub fn carried_out(hub: Hub, decision: Decision, routine: Routine) -> Outcome
     requires { (Valid hub) × (DecidedOn hub (commands_of routine) decision) }
     ensures { Gives hub result (result_by hub.state (commands_of routine) decision) }
 {
-    let backs = crate::put_backs(hub, decision);
-    let change = decision.change;
-    let next = changed(hub, change, routine);
-    let answer = decision.answer;
-    if !hub_answers::changes_nothing(answer) && crate::settles(next) {
-        let after = crate::settle(next);
-        return outcome_with(after, decision, backs);
+    let put_backs = crate::put_backs(hub, decision);
+    let mut next = changed(hub, decision.change, routine);
+    if !hub_answers::changes_nothing(decision.answer) && crate::settles(next) {
+        next = crate::settle(next);
     }
-    outcome_with(next, decision, backs)
+    Outcome {
+        hub: next,
+        first: decision.first,
+        answer: decision.answer,
+        put_backs,
+    }
 }

@@ -142,7 +142,7 @@ pub fn limit(hub: Hub, pass_limit: u8) -> Outcome
     requires { Valid hub }
     ensures { Limited hub pass_limit result }
 {
-    let put_backs = hub_answers::no_put_backs();
+    let put_backs = PutBacks::none();
     match hub_limit::set_limit(hub.state, pass_limit) {
         Ok(state) => Outcome {
             hub: Hub { state },
@@ -163,16 +163,14 @@ pub fn limit(hub: Hub, pass_limit: u8) -> Outcome
 pub fn device_count(hub: Hub) -> u8
     ensures { result ≡ (view hub).devices }
 {
-    let state = hub.state;
-    state.devices
+    hub.state.devices
 }
 
 // Is a device up? One that the hub does not have stands as at the opening.
 pub fn is_up(hub: Hub, device: u8) -> bool
     ensures { result ≡ (view hub).up device }
 {
-    let state = hub.state;
-    readers::is_up(state, device)
+    readers::is_up(hub.state, device)
 }
 
 // The due setting of a device. One that the hub does not have stands as at the opening.
@@ -194,8 +192,7 @@ pub fn due_settings(hub: Hub, list: &mut [i16]) -> Result<(), Refusal>
     ensures answers { result ≡ list_check (view hub) (length list.old) }
     ensures leaves { list.new ≡ list_after (view hub) list.old }
 {
-    let state = hub.state;
-    hub_due_list::put_settings(state, list)
+    hub_due_list::put_settings(hub.state, list)
 }
 
 // A hub of no devices: one that is not opened. Every call on it is turned down.
@@ -214,8 +211,7 @@ pub fn decide_submit(hub: Hub, routine: Routine) -> Decision
     requires { Valid hub }
     ensures { Decides hub.state (commands_of routine) result (submit_of (view hub) (commands_of routine)) }
 {
-    let state = hub.state;
-    hub_submit::decide(state, routine)
+    hub_submit::decide(hub.state, routine)
 }
 
 // What a turn comes to.
@@ -223,8 +219,7 @@ pub fn decide_turn(hub: Hub, id: u32) -> Decision
     requires { Valid hub }
     ensures { Decides hub.state [] result (turn_of (view hub) id) }
 {
-    let state = hub.state;
-    hub_turn::decide(state, id)
+    hub_turn::decide(hub.state, id)
 }
 
 // What a report comes to.
@@ -232,8 +227,7 @@ pub fn decide_report(hub: Hub, id: u32, code: u8) -> Decision
     requires { Valid hub }
     ensures { Decides hub.state [] result (report_of (view hub) id code) }
 {
-    let state = hub.state;
-    hub_report::decide(state, id, code)
+    hub_report::decide(hub.state, id, code)
 }
 
 // What a cancel comes to.
@@ -241,8 +235,7 @@ pub fn decide_cancel(hub: Hub, id: u32) -> Decision
     requires { Valid hub }
     ensures { Decides hub.state [] result (cancel_of (view hub) id) }
 {
-    let state = hub.state;
-    hub_abort::cancel::decide(state, id)
+    hub_abort::cancel::decide(hub.state, id)
 }
 
 // What a failure comes to.
@@ -250,8 +243,7 @@ pub fn decide_failure(hub: Hub, device: u8) -> Decision
     requires { Valid hub }
     ensures { Decides hub.state [] result (failure_of (view hub) device) }
 {
-    let state = hub.state;
-    hub_events::decide_failure(state, device)
+    hub_events::decide_failure(hub.state, device)
 }
 
 // What a restart comes to.
@@ -259,8 +251,7 @@ pub fn decide_restart(hub: Hub, device: u8, setting: i16) -> Decision
     requires { Valid hub }
     ensures { Decides hub.state [] result (restart_of (view hub) device setting) }
 {
-    let state = hub.state;
-    hub_events::decide_restart(state, device, setting)
+    hub_events::decide_restart(hub.state, device, setting)
 }
 
 // A command comes to a stage.
@@ -268,9 +259,8 @@ pub fn with_stage(hub: Hub, change: Staged) -> Hub
     requires { (Valid hub) × (WasDecided hub (Stage change)) }
     ensures { (InOrder result) × (view result ≡ staged hub.state change) × (MovesNobody hub.state result.state) }
 {
-    let state = hub.state;
-    let next = hub_apply::with_stage(state, change);
-    Hub { state: next }
+    let state = hub_apply::with_stage(hub.state, change);
+    Hub { state }
 }
 
 // The routine in a slot commits.
@@ -278,9 +268,8 @@ pub fn with_commit(hub: Hub, at: usize) -> Hub
     requires { (Valid hub) × (WasDecided hub (Commit at)) }
     ensures { (InOrder result) × (view result ≡ committed_at hub.state at) × (MovesNobody hub.state result.state) }
 {
-    let state = hub.state;
-    let next = hub_apply::with_commit(state, at);
-    Hub { state: next }
+    let state = hub_apply::with_commit(hub.state, at);
+    Hub { state }
 }
 
 // A routine joins the sequence behind a slot.
@@ -289,9 +278,8 @@ pub fn with_routine(hub: Hub, after: u8, routine: Routine) -> Hub
     ensures { (InOrder result) × (view result ≡ joined_behind hub.state (commands_of routine) after)
         × (MovesNobody hub.state result.state) }
 {
-    let state = hub.state;
-    let next = hub_apply::with_routine(state, after, routine);
-    Hub { state: next }
+    let state = hub_apply::with_routine(hub.state, after, routine);
+    Hub { state }
 }
 
 // The routine in a slot aborts.
@@ -299,9 +287,8 @@ pub fn with_abort(hub: Hub, at: usize) -> Hub
     requires { (Valid hub) × (WasDecided hub (Abort at)) }
     ensures { (InOrder result) × (view result ≡ leave (view hub) (there hub.state at)) × (MovesNobody hub.state result.state) }
 {
-    let state = hub.state;
-    let next = hub_settle::leave::leave(state, at);
-    Hub { state: next }
+    let state = hub_settle::leave::leave(hub.state, at);
+    Hub { state }
 }
 
 // A device fails; the routine in a slot, if there is one, aborts by that or loses what is left there.
@@ -310,9 +297,8 @@ pub fn with_failure(hub: Hub, device: u8, slot: Option<usize>) -> Hub
     ensures { (InOrder result) × (view result ≡ stopped_by device (down_with (view hub) device) (found_at hub.state slot))
         × (MovesNobody hub.state result.state) }
 {
-    let state = hub.state;
-    let next = hub_events::with_failure(state, device, slot);
-    Hub { state: next }
+    let state = hub_events::with_failure(hub.state, device, slot);
+    Hub { state }
 }
 
 // A device restarts; the routine in a slot, if there is one, aborts by that or loses what is left there.
@@ -321,9 +307,8 @@ pub fn with_restart(hub: Hub, device: u8, setting: i16, slot: Option<usize>) -> 
     ensures { (InOrder result) × (view result ≡ up_with (stopped_by device (view hub) (found_at hub.state slot)) device setting)
         × (MovesNobody hub.state result.state) }
 {
-    let state = hub.state;
-    let next = hub_events::with_restart(state, device, setting, slot);
-    Hub { state: next }
+    let state = hub_events::with_restart(hub.state, device, setting, slot);
+    Hub { state }
 }
 
 // What a decision puts back: by the abort that it brings, or by its answer.
@@ -331,8 +316,7 @@ pub fn put_backs(hub: Hub, decision: Decision) -> PutBacks
     requires { (Valid hub) × (WasDecidedOn hub decision) }
     ensures { (PutBacksOk result) × (put_backs_of result ≡ put_backs_of_decision hub.state decision) }
 {
-    let state = hub.state;
-    carrying::put_backs_of(state, decision)
+    carrying::put_backs_of(hub.state, decision)
 }
 
 // Is the first in the sequence committed?
@@ -340,8 +324,7 @@ pub fn settles(hub: Hub) -> bool
     requires { InOrder hub }
     ensures { result ≡ first_committed (view hub).sequence }
 {
-    let state = hub.state;
-    hub_settle::settle::settles(state)
+    hub_settle::settle::settles(hub.state)
 }
 
 // The committed routines at the front settle.
@@ -349,7 +332,6 @@ pub fn settle(hub: Hub) -> Hub
     requires { InOrder hub }
     ensures { (Valid result) × (view result ≡ settle (view hub)) × (OnlySettle hub.state result.state) }
 {
-    let state = hub.state;
-    let next = hub_settle::settle::settle(state);
-    Hub { state: next }
+    let state = hub_settle::settle::settle(hub.state);
+    Hub { state }
 }

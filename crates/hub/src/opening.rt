@@ -8,8 +8,8 @@ ghost use Rattle.hub.specs.Valid.{Valid};
 use crate::Hub;
 use hub_sequence::order;
 use hub_state::{HubState, RESTARTS, STEPS};
-use rules_routine::limits::{MAX_DEVICES, MAX_SEQUENCE};
 use rules_routine::Refusal;
+use rules_routine::limits::{MAX_DEVICES, MAX_SEQUENCE};
 
 // 1, 2, 3.
 pub fn check(devices: u8, pass_limit: u8, first_id: u32) -> Result<(), Refusal>

@@ -1,22 +1,19 @@
 -- Laws that the proofs of this crate, and those above it, cite. Assumes nothing.
 use Rattle.rules_routine.specs.declared.refusals.Refusal.TheVariants.{NotRunning}
 use Rattle.rules_routine.specs.declared.refusals.Refusal.{Refusal}
-use Rattle.rules_routine.specs.Refusals.{numbered}
 use Rattle.std.proofs.Common.{None, Option, Some}
 use mathlib.Core.Path.{◌≡◌, refl, sym, ap, ◌∙◌, subst, fun_ext}
-use mathlib.Core.Bool.{Bool, true, false, not, ◌&&◌, ◌||◌, or-true, or-false}
-use mathlib.Core.List.{List, [], ◌∷◌, ◌++◌, append_assoc, append-nil}
-use Prim.Native.Nat.{ℕ, zero, suc, ◌+◌, ◌-◌, ◌*◌, ◌<◌, ◌≤◌}
+use mathlib.Core.Bool.{Bool, true, false, not, ◌&&◌, ◌||◌}
+use mathlib.Core.List.{List, [], ◌∷◌, ◌++◌, append_assoc}
+use Prim.Native.Nat.{ℕ, zero, suc, ◌+◌, ◌-◌, ◌<◌, ◌≤◌}
 use native.Mathlib.Numerals.{add-one}
 use native.Mathlib.Omega.{arith}
-use borrow.Author.Tests.{not-true, not-false, eq-eqb, ne_eqb, lt-ltb, le-ltb}
-use mir.Val.{to_z, of_z}
-use mir.Syntax.{w16}
+use borrow.Author.Tests.{eq-eqb, ne_eqb, lt-ltb, le-ltb}
 use lib.Dec.{eqb, ltb}
 use lib.IntN.{ℤ, pos}
 use lib.ListN.{length, get_or, set, replicate, length-replicate}
 use Rattle.std.specs.Prelude.{if◌then◌else◌}
-use Rattle.rules_routine.specs.Limits.{max_commands, max_devices, max_sequence}
+use Rattle.rules_routine.specs.Limits.{max_devices}
 use Rattle.rules_routine.specs.declared.Command.{Command}
 use Rattle.rules_routine.proofs.RoutineLaws.{by_test}
 use Rattle.rules.specs.Tables.{put, any_of, same_setting}
@@ -28,7 +25,7 @@ use Rattle.rules.specs.Progress.{flight, in_flight_on}
 use Rattle.rules.specs.Due.{due}
 use Rattle.rules.specs.Abort.{leave, is_put_back, put_backs}
 use Rattle.rules.specs.Cancel.{cancel_found, cancel_of}
-use Rattle.rules.proofs.Lists.{t≠f, this_or_other, same-setting, put_same, put_other}
+use Rattle.rules.proofs.Lists.{this_or_other, put_same, put_other}
 use Rattle.hub_sequence.specs.Links.{Stands}
 use Rattle.hub_answers.specs.declared.Answer.TheVariants.{Refused, Aborted}
 use Rattle.hub_state.specs.View.{settings_of, flags_of, up_of, rows_of, steps_at, member_at, state_of, there}
@@ -42,54 +39,18 @@ use Rattle.hub_state.specs.declared.Change.TheVariants.{Nothing as NoChange, Abo
 use Rattle.hub_state.specs.declared.Decision.{Decision}
 use Rattle.hub_state.proofs.Steps.{flies, flights_none, flights_some}
 use Rattle.hub_state.proofs.Rows.{step-device}
-use Rattle.hub_state.proofs.Members.{there-it, member_steps, place-within}
+use Rattle.hub_state.proofs.Members.{there-it, member_steps}
 use Rattle.hub_state.proofs.DecisionLaws.{refused-decides, abort-decides}
-use Rattle.hub_due.proofs.Tables.{set-put, same_self}
+use Rattle.hub_due.proofs.Tables.{set-put}
 use Rattle.hub_due.proofs.Slots.{none-set}
 use Rattle.hub_search.specs.Contract.{Finds}
 use Rattle.hub_search.proofs.Found.{found_as, stands_at, found-id}
 use Rattle.hub_abort.specs.PutBacks.{is_back_by, put_backs_from, down_if, TablesAre}
 use Rattle.hub_abort.specs.declared.Tables.{Tables}
 
--- ---- the test of a device, by its tests in turn
-
--- two settings of 16 bits are the same if their bits are
-same_bits : (u v : ℤ) → to_z w16 (of_z w16 u) ≡ u → to_z w16 (of_z w16 v) ≡ v → eqb (of_z w16 u) (of_z w16 v) ≡ same_setting u v
-same_bits u v p q = go (same_setting u v) refl
-  where
-    go : (t : Bool) → same_setting u v ≡ t → eqb (of_z w16 u) (of_z w16 v) ≡ t
-    go true e = eq-eqb (of_z w16 u) (of_z w16 v) (ap (of_z w16) (same-setting u v e))
-    go false e =
-        ne_eqb (of_z w16 u) (of_z w16 v)
-        (λ b. let s : u ≡ v = sym p ∙ ap (to_z w16) b ∙ q in t≠f (sym (same_self u) ∙ ap (same_setting u) s ∙ e))
-
-module _ (up others own : Bool) (before after : ℤ) where
-  -- what the test is
-  abbrev goes_back : Bool
-  goes_back = up && not others && (not (same_setting before after) || own)
-
-  pub back-down : not up ≡ true → false ≡ goes_back
-  back-down u = rw (not-true up u)
-
-  pub back-others : not up ≡ false → others ≡ true → false ≡ goes_back
-  back-others u o = rw (not-false up u, o)
-
-  pub back_own : not up ≡ false → others ≡ false → own ≡ true → true ≡ goes_back
-  back_own u o w = rw (not-false up u, o, w) (sym (or-true (not (same_setting before after))))
-
-  pub back_changed : to_z w16 (of_z w16 before) ≡ before → to_z w16 (of_z w16 after) ≡ after → not up ≡ false → others ≡ false → own ≡ false →
-      not (eqb (of_z w16 before) (of_z w16 after)) ≡ goes_back
-  back_changed b a u o w = rw (not-false up u, o, w, same_bits before after b a) (sym (or-false (not (same_setting before after))))
-
--- the test by the tables, of what was read of them
-pub test_read : (t : Tables) (d : ℕ) (r u : Bool) (x y : ℤ) →
-    r ≡ (u && not (flags_of t.others d) && (not (same_setting x y) || flags_of t.own d)) →
-    u ≡ up_of t.up d → x ≡ settings_of t.before d → y ≡ settings_of t.after d → r ≡ is_back_by t d
-test_read t d r u x y e p q s = e ∙ (λ i. p i && not (flags_of t.others d) && (not (same_setting (q i) (s i)) || flags_of t.own d))
-
 -- ---- the list of put-backs
 
--- the devices from d on: d is put back, it is not, no device is left
+-- the devices from d on: d is put back, it is not
 module _ (p : ℕ → Bool) (setting : ℕ → ℤ) (l : List Back) (d n : ℕ) where
   pub backs_more : d < n → p d ≡ true →
       (l ++ (record { device = d; setting = setting d } ∷ [])) ++ put_backs_from p setting (d + 1) (n - (d + 1)) ≡ l
@@ -100,9 +61,6 @@ module _ (p : ℕ → Bool) (setting : ℕ → ℤ) (l : List Back) (d n : ℕ) 
 
   pub backs_same : d < n → p d ≡ false → l ++ put_backs_from p setting (d + 1) (n - (d + 1)) ≡ l ++ put_backs_from p setting d (n - d)
   backs_same h t = let e : n - d ≡ suc (n - (d + 1)) = omega (arith, h) in rw (e, add-one d, t)
-
-  pub backs_end : n ≤ d → l ++ put_backs_from p setting d (n - d) ≡ l
-  backs_end h = let e : n - d ≡ 0 = omega (arith, h) in rw e (append-nil l)
 
 -- the put-backs of the rules are those by their test
 backs_by : (s : State) (m : Member) (t : State) (d n : ℕ) → put_backs_from (is_put_back s m t) (due t) d n ≡ put_backs s m t d n
@@ -190,9 +148,6 @@ module _ (h : HubState) (x : ℕ) (v : StateOk h) (s : Stands h.links x) where
   module _ (k : ℕ) (o : Unanswered) (e : o ≡ InFlight k) (i : UnansweredIs h x o) where
     unanswered_there : NextInFlight h x k
     unanswered_there = subst (UnansweredIs h x) e i
-
-    pub own_place : k < max_sequence * max_commands
-    own_place = let p = place-within h x v s (answered_at h x) unanswered_there.not_all in omega (arith, p, unanswered_there.place)
 
     pub own_device : get_or h.device k 0 < max_devices
     own_device = subst (λ (d : ℕ). d < max_devices) (step-device (rows_of h) (pos 0) k) unanswered_there.device_fits

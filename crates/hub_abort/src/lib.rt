@@ -4,12 +4,11 @@
 
 pub mod cancel;
 
-ghost use Rattle.std.specs.Prelude.{◌≡◌, not, ◌&&◌, ◌||◌, ◌≤◌};
+ghost use Rattle.std.specs.Prelude.{◌≡◌, ◌<◌, ◌≤◌};
 ghost use Rattle.rules_routine.specs.Limits.{max_devices};
-ghost use Rattle.rules.specs.Tables.{same_setting};
 ghost use Rattle.rules.specs.Progress.{in_flight_on};
 ghost use Rattle.hub_sequence.specs.Links.{Stands};
-ghost use Rattle.hub_answers.specs.View.{put_backs_of, PutBacksOk};
+ghost use Rattle.hub_answers.specs.View.{put_backs_of};
 ghost use Rattle.hub_state.specs.View.{settings_of, flags_of, member_at, state_of, there};
 ghost use Rattle.hub_state.specs.Valid.{StateOk};
 ghost use Rattle.hub_state.specs.Contract.{put_backs_left};
@@ -30,46 +29,32 @@ pub struct Tables {
     pub after: [i16; MAX_DEVICES],
 }
 
-// "A device that is up, with no command of another routine in flight on it, is sent its due setting exactly if that changed by the abort or
-// R had a command in flight on it"
-fn is_put_back(up: bool, others: bool, own: bool, before: i16, after: i16) -> bool
-    ensures { result ≡ (up && not others && (not (same_setting before after) || own)) }
-{
-    if !up {
-        return false;
+impl Tables {
+    // "A device that is up, with no command of another routine in flight on it, is sent its due setting exactly if that changed by the abort
+    // or R had a command in flight on it"
+    fn is_put_back(&self, d: usize) -> bool
+        requires { d < max_devices }
+        ensures { result ≡ is_back_by self.now d }
+    {
+        self.up[d] && !self.others[d] && (self.before[d] != self.after[d] || self.own[d])
     }
-    if others {
-        return false;
-    }
-    if own {
-        return true;
-    }
-    before != after
 }
 
 // "These go out by rising device."
 fn put_backs(devices: u8, tables: Tables) -> PutBacks
     requires { devices ≤ max_devices }
-    ensures { (PutBacksOk result) × (put_backs_of result ≡ put_backs_from (is_back_by tables) (settings_of tables.after) 0 devices) }
+    ensures { put_backs_of result ≡ put_backs_from (is_back_by tables) (settings_of tables.after) 0 devices }
 {
-    let mut backs = hub_answers::no_put_backs();
+    let mut backs = PutBacks::none();
     let count = devices as usize;
-    let mut d: usize = 0;
-    while d < count {
-        let up = tables.up[d];
-        let others = tables.others[d];
-        let own = tables.own[d];
-        let before = tables.before[d];
-        let after = tables.after[d];
-        if is_put_back(up, others, own, before, after) {
+    for d in 0..count {
+        if tables.is_put_back(d) {
             let back = PutBack {
                 device: d as u8,
-                setting: after,
+                setting: tables.after[d],
             };
-            let more = hub_answers::with_put_back(backs, back);
-            backs = more;
+            backs = backs.with_put_back(back);
         }
-        d += 1;
     }
     backs
 }
@@ -119,9 +104,8 @@ fn tables_of(state: HubState, at: usize, down: Option<u8>) -> Tables
 // What the abort of the routine in a slot puts back, while a device fails, if one does.
 pub fn put_backs_of(state: HubState, at: usize, down: Option<u8>) -> PutBacks
     requires { (StateOk state) × (Stands state.links at) }
-    ensures { (PutBacksOk result) × (put_backs_of result ≡ put_backs_left (down_if (state_of state) down) (there state at)) }
+    ensures { put_backs_of result ≡ put_backs_left (down_if (state_of state) down) (there state at) }
 {
     let tables = tables_of(state, at, down);
-    let devices = state.devices;
-    put_backs(devices, tables)
+    put_backs(state.devices, tables)
 }

@@ -2,10 +2,12 @@
 // `specs/` sets out for each case of each enum which answer of document 01 it is, and with which values.
 #![tactic(auto)]
 
-ghost use Rattle.std.specs.Prelude.{◌≡◌, [], ◌∷◌, ◌++◌, suc, ◌<◌};
-ghost use Rattle.rules_routine.specs.Limits.{max_devices};
-ghost use Rattle.hub_answers.specs.View.{put_backs_of, back_of, one_of, PutBacksOk, changes_nothing};
+mod changes;
 
+ghost use Rattle.std.specs.Prelude.{◌≡◌, [], ◌∷◌, ◌++◌, suc, ◌<◌, ◌≤◌};
+ghost use Rattle.rules_routine.specs.Limits.{max_devices};
+
+pub use changes::changes_nothing;
 use rules_routine::limits::MAX_DEVICES;
 use rules_routine::{Command, Refusal};
 
@@ -42,13 +44,6 @@ pub enum Answer {
     NotHeld(u32),
 }
 
-// A refusal and a wait leave the hub as it was, so that nothing settles after them.
-pub fn changes_nothing(answer: Answer) -> bool
-    ensures { result ≡ changes_nothing answer }
-{
-    matches!(answer, Answer::Refused(_) | Answer::Wait(_, _))
-}
-
 // A setting that a device is put back to.
 #[derive(Clone, Copy)]
 pub struct PutBack {
@@ -61,39 +56,44 @@ pub struct PutBack {
 pub struct PutBacks {
     pub items: [PutBack; MAX_DEVICES],
     pub count: usize,
+    pub ghost within: { count ≤ max_devices },
 }
 
-// No device is put back.
-pub fn no_put_backs() -> PutBacks
-    ensures { (result.count ≡ 0) × (put_backs_of result ≡ []) }
-{
-    let none = PutBack {
-        device: 0,
-        setting: 0,
-    };
-    let items = [none; MAX_DEVICES];
-    PutBacks { items, count: 0 }
-}
+impl PutBacks {
+    ghost use Rattle.hub_answers.specs.View.{put_backs_of, back_of, one_of};
 
-// One more device is put back.
-pub fn with_put_back(backs: PutBacks, back: PutBack) -> PutBacks
-    requires { backs.count < max_devices }
-    ensures { (result.count ≡ suc backs.count) × (put_backs_of result ≡ put_backs_of backs ++ (back_of back ∷ [])) }
-{
-    let mut more = backs;
-    let at = more.count;
-    more.items[at] = back;
-    more.count = at + 1;
-    more
-}
+    // No device is put back.
+    pub fn none() -> PutBacks
+        ensures { (result.count ≡ 0) × (put_backs_of result ≡ []) }
+    {
+        let none = PutBack {
+            device: 0,
+            setting: 0,
+        };
+        let items = [none; MAX_DEVICES];
+        PutBacks { items, count: 0 }
+    }
 
-// None or one, as a list.
-pub fn at_most_one(back: Option<PutBack>) -> PutBacks
-    ensures { (PutBacksOk result) × (put_backs_of result ≡ one_of back) }
-{
-    let none = no_put_backs();
-    match back {
-        None => none,
-        Some(one) => with_put_back(none, one),
+    // One more device is put back.
+    pub fn with_put_back(self, back: PutBack) -> PutBacks
+        requires { self.count < max_devices }
+        ensures { (result.count ≡ suc self.count) × (put_backs_of result ≡ put_backs_of self ++ (back_of back ∷ [])) }
+    {
+        let mut more = self;
+        let at = more.count;
+        more.items[at] = back;
+        more.count = at + 1;
+        more
+    }
+
+    // None or one, as a list.
+    pub fn at_most_one(back: Option<PutBack>) -> PutBacks
+        ensures { put_backs_of result ≡ one_of back }
+    {
+        let none = PutBacks::none();
+        match back {
+            None => none,
+            Some(one) => none.with_put_back(one),
+        }
     }
 }

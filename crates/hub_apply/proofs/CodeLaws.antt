@@ -1,8 +1,8 @@
--- How far a routine has come once the first command that is not answered is, or once those left on a device are skipped; and what the
--- walks along its stages pass. Assumes nothing.
+-- How far a routine has come once the first command that is not answered is, or once those left on a device are skipped.
+-- Assumes nothing.
 use Prim.Native.Nat.{ℕ, zero, suc, ◌+◌, ◌≤◌, ◌<◌}
 use native.Mathlib.Omega.{arith}
-use borrow.Author.Tests.{eq-eqb, ne_eqb, lt-ltb, le-ltb}
+use borrow.Author.Tests.{lt-ltb, le-ltb}
 use mathlib.Core.Path.{◌≡◌, refl, sym, ap, subst, ◌∙◌}
 use mathlib.Core.Bool.{Bool, true, ◌&&◌, and-false}
 use mathlib.Core.List.{List, [], ◌∷◌}
@@ -23,80 +23,10 @@ use Rattle.hub_state.proofs.Rows.{with_stages, status-answered, status_open}
 use Rattle.hub_state.proofs.Codes.{CodeBehind, CodesUpTo}
 use Rattle.hub_apply.specs.Stages.{FirstUnanswered, SkipsLeft}
 
--- ---- the walk to the first that is not answered
-
--- those before k are answered
-abbrev pub AllAnswered : List ℕ → ℕ → ℕ → Type 0
-AllAnswered stage from k = (from ≤ k) × ((j : ℕ) → from ≤ j → j < k → done_code ≤ get_or stage j 0)
-
-module _ (stage : List ℕ) (from k : ℕ) where
-  pub answered-more : AllAnswered stage from k → done_code ≤ get_or stage k 0 → AllAnswered stage from (k + 1)
-  answered-more a h = (
-    omega (arith, a.0),
-    (λ j i l. by_eq j k (λ e. subst (λ (m : ℕ). done_code ≤ get_or stage m 0) (sym e) h) (λ n. a.1 j i (omega arith))),
-  )
-
-  pub open_found : (end : ℕ) → AllAnswered stage from k → k < end → get_or stage k 0 < done_code → FirstUnanswered stage from end k
-  open_found end a i h = record { within = (a.0, omega arith); answered_before = a.1; unanswered_there = λ _. h }
-
-  pub none_found : (end : ℕ) → from ≤ end → end ≤ k → AllAnswered stage from k → FirstUnanswered stage from end end
-  none_found end i l a = record {
-    within = (i, omega arith);
-    answered_before = λ j p q. a.1 j p (omega arith);
-    unanswered_there = λ q. absurd (omega arith);
-  }
-
--- ---- the walk that skips
-
 -- what a stage becomes
 abbrev pub skipped_if : List ℕ → List ℕ → ℕ → ℕ → ℕ
 skipped_if stage device d k =
     if eqb (get_or device k 0) d && ltb (get_or stage k 0) done_code then skipped_code else get_or stage k 0
-
-module _ (stage device : List ℕ) (d from : ℕ) where
-  pub skip_none : SkipsLeft stage device d from from stage
-  skip_none = record { inside = λ k i j. absurd (omega arith); outside = λ k n. refl }
-
-  module _ (k : ℕ) (now : List ℕ) (s : SkipsLeft stage device d from k now) where
-    -- it was not reached yet
-    pub not_yet : get_or now k 0 ≡ get_or stage k 0
-    not_yet = s.outside k (λ i j. omega arith)
-
-    -- it becomes skipped
-    pub skip_here : from ≤ k → k < length now → get_or device k 0 ≡ d → get_or now k 0 < done_code →
-        SkipsLeft stage device d from (k + 1) (set now k skipped_code)
-    skip_here f l e h =
-        let o : get_or stage k 0 < done_code = subst (λ (c : ℕ). c < done_code) not_yet h in
-        record {
-          inside = λ j i m. by_eq j k
-              (λ q. subst (λ (w : ℕ). get_or (set now k skipped_code) w 0 ≡ skipped_if stage device d w) (sym q)
-              (get_or-set_same now k skipped_code 0 l
-              ∙ rw (eq-eqb (get_or device k 0) d e, lt-ltb (get_or stage k 0) done_code o)))
-              (λ n. get_or-set_other now k j skipped_code 0 n ∙ s.inside j i (omega arith));
-          outside = λ j n.
-              get_or-set_other now k j skipped_code 0 (λ q. n (omega arith) (omega arith)) ∙ s.outside j (λ i m. n i (omega arith));
-        }
-
-    -- it stays
-    skip_past : from ≤ k → get_or stage k 0 ≡ skipped_if stage device d k → SkipsLeft stage device d from (k + 1) now
-    skip_past f e = record {
-      inside = λ j i m. by_eq j k
-          (λ q. subst (λ (w : ℕ). get_or now w 0 ≡ skipped_if stage device d w) (sym q) (not_yet ∙ e))
-          (λ n. s.inside j i (omega arith));
-      outside = λ j n. s.outside j (λ i m. n i (omega arith));
-    }
-
-    pub skip_other : from ≤ k → (get_or device k 0 ≡ d → ⊥) → SkipsLeft stage device d from (k + 1) now
-    skip_other f n = skip_past f (rw (ne_eqb (get_or device k 0) d n))
-
-    pub skip_answered : from ≤ k → done_code ≤ get_or now k 0 → SkipsLeft stage device d from (k + 1) now
-    skip_answered f h =
-        let o : done_code ≤ get_or stage k 0 = subst (λ (c : ℕ). done_code ≤ c) not_yet h in
-        skip_past f (rw (le-ltb (get_or stage k 0) done_code o, and-false (eqb (get_or device k 0) d)))
-
-    -- it is at its end
-    pub skip_all : (end : ℕ) → k ≤ end → end ≤ k → SkipsLeft stage device d from end now
-    skip_all end i l = let e : k ≡ end = omega arith in subst (λ (m : ℕ). SkipsLeft stage device d from m now) e s
 
 -- ---- how far it has come
 

@@ -19,9 +19,6 @@ use Rattle.hub_apply.specs.Fill.{Fills, behind_slot, CanPassBehind, once_more, P
 -- ---- a slot's part of a row: one value more in each round
 
 module _ {A : Type 0} (missing : A) (row : List A) (from : ℕ) (value : ℕ → A) where
-  pub fills_none : Fills missing row from 0 value row
-  fills_none = record { inside = λ j h. absurd (omega arith); outside = λ i h. refl }
-
   pub fills_more : (j : ℕ) (r : List A) (v : A) → Fills missing row from j value r → from + j < length r → v ≡ value j →
       Fills missing row from (j + 1) value (set r (from + j) v)
   fills_more j r v f h e =
@@ -46,10 +43,6 @@ pub record PassedSoFar (committed : List Bool) (row : List ℕ) (l rest now : Li
   pub others : (x : ℕ) → count x l ≡ 0 → get_or now x 0 ≡ get_or row x 0
 
 module _ (committed : List Bool) (row : List ℕ) where
-  pub passes_none : (l : List ℕ) → PassedSoFar committed row l l row
-  passes_none l =
-      record { part = λ x. omega arith; passed = λ x h k. absurd (omega arith); to_pass = λ x h. refl; others = λ x h. refl }
-
   -- the slot at which the walk is: its count alone may have become another
   passes_more : (l rest : List ℕ) (i : ℕ) (now later : List ℕ) → PassedSoFar committed row l (i ∷ rest) now → count i rest ≡ 0 →
       get_or later i 0 ≡ once_more (get_or committed i false) (get_or row i 0) → ((x : ℕ) → (x ≡ i → ⊥) → get_or later x 0 ≡ get_or now x 0) →

@@ -23,7 +23,7 @@ use Rattle.rules.specs.Sequence.{is_running}
 use Rattle.rules.specs.Submit.{pass, step_of, newcomer}
 use Rattle.hub_sequence.specs.Lists.{same, count, ahead_of_place, behind_place}
 use Rattle.hub_sequence.specs.Links.{none as no_slot, slots_of, Stands, StandsOrNone}
-use Rattle.hub_sequence.specs.Contract.{CanJoin, Joins}
+use Rattle.hub_sequence.specs.Contract.{Joins}
 use Rattle.hub_sequence.specs.declared.Joined.{Joined}
 use Rattle.hub_sequence.proofs.Tables.{by_eq}
 use Rattle.hub_sequence.proofs.Lists.{same_other, count-append, count-placed, placed_split, through_past}
@@ -154,9 +154,6 @@ each_mapped P f (y ∷ l) x e h =
     (λ n. each_mapped P f l x e.1 (omega (arith, same_other x y n)))
 
 module _ (h : HubState) (q : Routine) (after : ℕ) (v : StateOk h) (ok : JoinOk h (commands_of q) after) where
-  pub can_join : CanJoin h.links after
-  can_join = record { valid = v.links_ok; room = ok.room; place = ok.place }
-
   pub count_fits : q.count ≤ max_commands
   count_fits = omega (arith, ok.few, length-commands_of q)
 

@@ -19,21 +19,19 @@ ghost use Rattle.hub_apply.specs.Stages.{FirstUnanswered, SkipsLeft};
 
 use fill::CommandRows;
 use hub_sequence::order;
-use hub_state::{DONE, HubState, IN_FLIGHT, SKIPPED, STEPS, Staged};
+use hub_state::{DONE, HubState, IN_FLIGHT, NO_RESTART, SKIPPED, STEPS, Staged, TO_DO};
 use rules_routine::Routine;
-use rules_routine::limits::MAX_COMMANDS;
+use rules_routine::limits::{MAX_COMMANDS, MAX_DEVICES};
 
 // The first of these commands that is not answered; the end if there is none.
 fn first_unanswered<'a>(stage: &'a [u8; STEPS], from: usize, end: usize) -> usize
     requires { (from ≤ end) × (end ≤ max_sequence * max_commands) }
     ensures { FirstUnanswered stage.now from end result }
 {
-    let mut k = from;
-    while k < end {
+    for k in from..end {
         if stage[k] < DONE {
             return k;
         }
-        k += 1;
     }
     end
 }
@@ -110,14 +108,12 @@ fn skip_left<'a>(
     ensures { SkipsLeft stage device.now wanted from end result }
 {
     let mut skipped = stage;
-    let mut k = from;
-    while k < end {
+    for k in from..end {
         if device[k] == wanted {
             if skipped[k] < DONE {
                 skipped[k] = SKIPPED;
             }
         }
-        k += 1;
     }
     skipped
 }
@@ -259,8 +255,8 @@ pub fn with_routine(state: HubState, after: u8, routine: Routine) -> HubState
     let device = filled.device;
     let tag = filled.tag;
     let setting = filled.setting;
-    let stage = fill::with_to_do(old_stage, slot);
-    let restarts = fill::without_restarts(old_restarts, slot);
+    let stage = fill::filled(old_stage, slot * MAX_COMMANDS, MAX_COMMANDS, TO_DO);
+    let restarts = fill::filled(old_restarts, slot * MAX_DEVICES, MAX_DEVICES, NO_RESTART);
     HubState {
         devices,
         pass_limit,

@@ -10,7 +10,7 @@ use borrow.Author.Tests.{eq-eqb, ne_eqb, lt-ltb, le-ltb}
 use lib.Dec.{eqb, ltb}
 use lib.IntN.{ℤ, pos}
 use lib.ListN.{length, take, drop, get_or, set, replicate, length-set, get_or-eq_default}
-use Rattle.std.specs.Prelude.{if◌then◌else◌}
+use Rattle.std.specs.Prelude.{if◌then◌else◌, unwrap_or}
 use Rattle.rules_routine.specs.Limits.{max_devices, max_commands, max_sequence}
 use Rattle.rules.specs.Tables.{any_of}
 use Rattle.rules.specs.State.{Step, Member}
@@ -165,15 +165,30 @@ module _ (h : HubState) (ok : StateOk h) (d : ℕ) where
   unfolding after_member member_at
   slot_but but x v s = by_eq x but (λ e. rw (eq-eqb x but e)) (λ n. rw (ne_eqb x but n) (slot_due x v s))
 
-  pub due_but : (but : ℕ) →
-      in_turn (after_but h.device h.stage h.setting h.restarts h.answered d but) (slots_of h.links)
-      (settings_of h.settled_at d)
+  slots_but : (but : ℕ) (v : ℤ) →
+      in_turn (after_but h.device h.stage h.setting h.restarts h.answered d but) (slots_of h.links) v
+      ≡ after_members d (map (λ x. if eqb x but then none_done (member_at h x) else member_at h x) (slots_of h.links)) v
+  slots_but but v =
+      sym
+      (slots-due (λ x. if eqb x but then none_done (member_at h x) else member_at h x) _ (slot_but but) (slots_of h.links) v (λ x i. i))
+
+  -- no slot has the number past the slots
+  none_out : (l : List ℕ) → ((x : ℕ) → 1 ≤ count x l → Stands h.links x) →
+      map (λ y. if eqb y max_sequence then none_done (member_at h y) else member_at h y) l ≡ map (member_at h) l
+  none_out [] s = refl
+  none_out (x ∷ l) s =
+      let i = stands_below h x ok (s x (omega (arith, same_self x))) in
+      let n : x ≡ max_sequence → ⊥ = λ e. absurd (omega arith) in
+      rw (ne_eqb x max_sequence n, none_out l (λ y i. s y (omega arith)))
+
+  pub due_but : (but : Option ℕ) (x : ℕ) → x ≡ unwrap_or but max_sequence →
+      in_turn (after_but h.device h.stage h.setting h.restarts h.answered d x) (slots_of h.links) (settings_of h.settled_at d)
       ≡ due_without h but d
   unfolding due_without
-  due_but but =
-      sym
-      (slots-due (λ x. if eqb x but then none_done (member_at h x) else member_at h x) _ (slot_but but) (slots_of h.links)
-      (settings_of h.settled_at d) (λ x i. i))
+  due_but None x e =
+      let v = settings_of h.settled_at d in
+      rw e (slots_but max_sequence v ∙ ap (λ (l : List Member). after_members d l v) (none_out (slots_of h.links) (λ x i. i)))
+  due_but (Some but) x e = rw e (slots_but but (settings_of h.settled_at d))
 
   -- and from the last on; the rows that are lent are those of the state
   due-back : (v : ℤ) →
@@ -280,25 +295,14 @@ module _ (h : HubState) (ok : StateOk h) where
   unfolding due state_of
   due-is d = refl
 
+  -- of all, with none left out
+  pub due_whole : due_without h None ≡ due (state_of h)
+  unfolding due_without members_of
+  due_whole = fun_ext due-is
+
   -- one that the hub cannot have is at 0
   pub due-past : (d : ℕ) → length h.settled_at ≤ d → after_members d (members_of h) (pos 0) ≡ due (state_of h) d
   due-past d l = ap (after_members d (members_of h)) (sym (get_or-eq_default h.settled_at (pos 0) l)) ∙ due-is d
-
-  -- the number past the slots leaves none out
-  none_out : (l : List ℕ) → ((x : ℕ) → 1 ≤ count x l → Stands h.links x) →
-      map (λ y. if eqb y max_sequence then none_done (member_at h y) else member_at h y) l ≡ map (member_at h) l
-  none_out [] s = refl
-  none_out (x ∷ l) s =
-      let i = stands_below h x ok (s x (omega (arith, same_self x))) in
-      let n : x ≡ max_sequence → ⊥ = λ e. absurd (omega arith) in
-      rw (ne_eqb x max_sequence n, none_out l (λ y i. s y (omega arith)))
-
-  pub due_whole : due_without h max_sequence ≡ due (state_of h)
-  unfolding due_without members_of
-  due_whole =
-      fun_ext
-      (λ d. ap (λ (l : List Member). after_members d l (settings_of h.settled_at d)) (none_out (slots_of h.links) (λ x i. i))
-      ∙ due-is d)
 
 -- ---- a walk stays on the slots where it began
 

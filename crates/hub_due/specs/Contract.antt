@@ -1,5 +1,5 @@
 -- What the readings of due settings promise. Assumes nothing.
-use Rattle.std.specs.Prelude.{◌≡◌, List, [], map, ℕ, suc, ◌-◌, ◌≤◌, ◌<◌, eqb, ℤ, pos, get_or, if◌then◌else◌}
+use Rattle.std.specs.Prelude.{◌≡◌, List, [], map, ℕ, suc, ◌-◌, ◌≤◌, ◌<◌, eqb, ℤ, pos, get_or, if◌then◌else◌, Option, None, Some}
 use Rattle.rules_routine.specs.Limits.{max_devices}
 use Rattle.rules.specs.State.{Member}
 use Rattle.rules.specs.Progress.{with_steps}
@@ -41,8 +41,9 @@ members_without h x = map (member_at h) (without x (slots_of h.links))
 abbrev pub none_done : Member → Member
 none_done m = with_steps m []
 
--- The due settings with the commands of the routine in a slot left out, and its events not.
-unfoldable pub due_without : HubState → ℕ → ℕ → ℤ
-due_without h x d =
+-- The due settings with the commands of the routine in a slot left out, and its events not; with no slot given, those of all routines.
+unfoldable pub due_without : HubState → Option ℕ → ℕ → ℤ
+due_without h None d = after_members d (map (member_at h) (slots_of h.links)) (settings_of h.settled_at d)
+due_without h (Some x) d =
     after_members d (map (λ y. if eqb y x then none_done (member_at h y) else member_at h y) (slots_of h.links))
     (settings_of h.settled_at d)

@@ -26,14 +26,10 @@ fn behind_last_done<'a>(
     requires { (from ≤ end) × (end ≤ max_sequence * max_commands) }
     ensures { BehindLastDone device.now stage.now from end wanted result }
 {
-    let mut k = end;
-    while from < k {
-        if device[k - 1] == wanted {
-            if stage[k - 1] == DONE {
-                return k;
-            }
+    for k in (from..end).rev() {
+        if device[k] == wanted && stage[k] == DONE {
+            return k + 1;
         }
-        k -= 1;
     }
     from
 }
@@ -88,14 +84,12 @@ pub fn after_done<'a>(
     ensures { AfterDone table device.now stage.now setting.now from end result }
 {
     let mut after = table;
-    let mut k = from;
-    while k < end {
+    for k in from..end {
         if stage[k] == DONE {
             let d = device[k] as usize;
             let to = setting[k];
             after[d] = to;
         }
-        k += 1;
     }
     after
 }
@@ -112,23 +106,23 @@ pub fn after_restarts<'a>(
 {
     let from = at * MAX_DEVICES;
     let mut after = table;
-    let mut d: usize = 0;
-    while d < MAX_DEVICES {
+    for d in 0..MAX_DEVICES {
         let last = restarts[from + d];
         if last != NO_RESTART {
             after[d] = last;
         }
-        d += 1;
     }
     after
 }
 
-// What all devices are due, in one pass. The commands of the routine in the slot `but` do not count, the events attached to it do; a number
-// past the slots is no routine.
-pub fn due_settings_without(state: HubState, but: usize) -> [i16; MAX_DEVICES]
+// What all devices are due, in one pass. The commands of the routine in the slot `but`, if there is one, do not count; the events attached
+// to it do.
+pub fn due_settings_without(state: HubState, but: Option<usize>) -> [i16; MAX_DEVICES]
     requires { StateOk state }
     ensures { settings_of result ≡ due_without state but }
 {
+    // The pass compares numbers alone: that one is no slot's.
+    let left_out = but.unwrap_or(MAX_SEQUENCE);
     let links = state.links;
     let behind = links.behind;
     let answered = state.answered;
@@ -139,7 +133,7 @@ pub fn due_settings_without(state: HubState, but: usize) -> [i16; MAX_DEVICES]
     let mut table = state.settled_at;
     let mut i = links.first as usize;
     while i < MAX_SEQUENCE {
-        if i != but {
+        if i != left_out {
             let from = i * MAX_COMMANDS;
             let end = from + (answered[i] as usize);
             let done = after_done(table, &device, &stage, &setting, from, end);
@@ -157,7 +151,7 @@ pub fn due_settings(state: HubState) -> [i16; MAX_DEVICES]
     requires { StateOk state }
     ensures { settings_of result ≡ due (state_of state) }
 {
-    due_settings_without(state, MAX_SEQUENCE)
+    due_settings_without(state, None)
 }
 
 // The devices with a command in flight of a routine that is not in the slot `but`.
@@ -174,13 +168,11 @@ pub fn in_flight_without(state: HubState, but: usize) -> [bool; MAX_DEVICES]
     let mut busy = [false; MAX_DEVICES];
     let mut i = links.first as usize;
     while i < MAX_SEQUENCE {
-        if i != but {
-            if answered[i] < counts[i] {
-                let k = i * MAX_COMMANDS + (answered[i] as usize);
-                if stage[k] == IN_FLIGHT {
-                    let d = device[k] as usize;
-                    busy[d] = true;
-                }
+        if i != but && answered[i] < counts[i] {
+            let k = i * MAX_COMMANDS + (answered[i] as usize);
+            if stage[k] == IN_FLIGHT {
+                let d = device[k] as usize;
+                busy[d] = true;
             }
         }
         i = behind[i] as usize;

@@ -20,10 +20,6 @@ pub fn put_settings(state: HubState, list: &mut [i16]) -> Result<(), Refusal>
         return Err(Refusal::NoRoom);
     }
     let table = hub_due::due_settings(state);
-    let mut d: usize = 0;
-    while d < count {
-        list[d] = table[d];
-        d += 1;
-    }
+    list[..count].copy_from_slice(&table[..count]);
     Ok(())
 }

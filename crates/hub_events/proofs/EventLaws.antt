@@ -1,19 +1,17 @@
 -- Laws that the proofs of this crate, and those above it, cite. Assumes nothing.
 use Rattle.rules_routine.specs.declared.refusals.Refusal.TheVariants.{EventDevice, FailureOfDown, RestartOfUp, RestartSetting}
-use Rattle.rules_routine.specs.Refusals.{numbered}
 use Rattle.std.proofs.Common.{Option, None, Some}
 use mathlib.Core.Path.{◌≡◌, refl, sym, ap, subst, ◌∙◌}
 use mathlib.Core.Bool.{Bool, true, false, not}
 use mathlib.Core.List.{List, [], ◌∷◌, ◌++◌, append-nil}
 use Prim.Native.Nat.{ℕ, ◌<◌, ◌≤◌}
 use native.Mathlib.Omega.{arith}
-use borrow.Author.Tests.{leb-true, le-leb, lt-leb, lt-ltb, le-ltb, eq-eqb, ne_eqb}
-use lib.Dec.{ltb}
+use borrow.Author.Tests.{leb-true, le-leb, lt-leb, eq-eqb, ne_eqb}
 use lib.IntN.{ℤ, pos, negsuc}
 use lib.Signed.{mag}
 use lib.ListN.{get_or}
 use Rattle.std.specs.Prelude.{if◌then◌else◌}
-use Rattle.rules_routine.specs.Limits.{highest_setting, max_devices, max_sequence}
+use Rattle.rules_routine.specs.Limits.{highest_setting, max_devices}
 use Rattle.rules_routine.specs.Range.{in_range}
 use Rattle.rules_routine.proofs.RoutineLaws.{by_test, in_range_pos}
 use Rattle.rules.specs.Tables.{put}
@@ -27,7 +25,7 @@ use Rattle.rules.specs.Events.{is_halfway, must_left, skip_rest, stop_if_any, st
 use Rattle.rules.proofs.Lists.{t≠f}
 use Rattle.hub_sequence.specs.Links.{Stands}
 use Rattle.hub_sequence.specs.declared.Links.{Links}
-use Rattle.hub_answers.specs.View.{put_backs_of, event_abort_of, put_backs_in, PutBacksOk}
+use Rattle.hub_answers.specs.View.{put_backs_of, event_abort_of, put_backs_in}
 use Rattle.hub_answers.specs.declared.Answer.TheVariants.{Down, Up}
 use Rattle.hub_answers.specs.declared.PutBacks.{PutBacks}
 use Rattle.hub_state.specs.View.{found_at, no_restart, is_restart, member_at, state_of, there}
@@ -36,7 +34,7 @@ use Rattle.hub_state.specs.Contract.{put_backs_left, stopped_by, put_backs_stopp
 use Rattle.hub_state.specs.Unmoved.{InPlace, OnlyLeave}
 use Rattle.hub_state.specs.declared.HubState.{HubState}
 use Rattle.hub_state.specs.declared.Change.TheVariants.{Fail, Restart}
-use Rattle.hub_state.proofs.Members.{state-mark, member_id, there-it, stands_below}
+use Rattle.hub_state.proofs.Members.{state-mark, member_id, there-it}
 use Rattle.hub_state.proofs.UnmovedLaws.{same-routine_as, itself_in_place, in_place-leaves, leave_then}
 use Rattle.hub_search.specs.Contract.{Finds}
 use Rattle.hub_search.proofs.Found.{found_as, stands_at}
@@ -311,10 +309,10 @@ module _ (h : HubState) (o : Option ℕ) (d : ℕ) where
   -- what its abort puts back, in the state s
   module _ (s : State) (r : PutBacks) where
     abbrev BacksIf : Type 0
-    BacksIf = (PutBacksOk r) × (put_backs_of r ≡ put_backs_stopped d s (found_at h o))
+    BacksIf = put_backs_of r ≡ put_backs_stopped d s (found_at h o)
 
-    pub none_backs : o ≡ None → PutBacksOk r → put_backs_of r ≡ [] → BacksIf
-    none_backs e fit k = (fit, k ∙ ap (λ (p : Option ℕ). put_backs_stopped d s (found_at h p)) (sym e))
+    pub none_backs : o ≡ None → put_backs_of r ≡ [] → BacksIf
+    none_backs e k = k ∙ ap (λ (p : Option ℕ). put_backs_stopped d s (found_at h p)) (sym e)
 
     module _ (x : ℕ) (i : o ≡ Some x) (t : Bool) (k : t ≡ must_left d (member_at h x)) where
       backs_there : (u : Bool) → t ≡ u → (if u then put_backs_left s (there h x) else []) ≡ put_backs_stopped d s (found_at h o)
@@ -322,11 +320,11 @@ module _ (h : HubState) (o : Option ℕ) (d : ℕ) where
           ap (λ (v : Bool). if v then put_backs_left s (there h x) else []) (sym (must-there h x d k ∙ e))
           ∙ ap (λ (p : Option ℕ). put_backs_stopped d s (found_at h p)) (sym i)
 
-      pub one_backs : t ≡ true → (PutBacksOk r) × (put_backs_of r ≡ put_backs_left s (there h x)) → BacksIf
-      one_backs y a = (a.0, a.1 ∙ backs_there true y)
+      pub one_backs : t ≡ true → put_backs_of r ≡ put_backs_left s (there h x) → BacksIf
+      one_backs y e = e ∙ backs_there true y
 
-      pub skip_backs : t ≡ false → PutBacksOk r → put_backs_of r ≡ [] → BacksIf
-      skip_backs n fit e = (fit, e ∙ backs_there false n)
+      pub skip_backs : t ≡ false → put_backs_of r ≡ [] → BacksIf
+      skip_backs n e = e ∙ backs_there false n
 
 -- g: the hub with the device down
 pub stands-down : (h g : HubState) (o : Option ℕ) → g.links ≡ h.links → StandsIfAny h o → StandsIfAny g o

@@ -6,7 +6,7 @@ ghost use Rattle.rules_routine.specs.Limits.{max_devices};
 ghost use Rattle.rules.specs.Tables.{put};
 ghost use Rattle.rules.specs.Sequence.{with_up};
 ghost use Rattle.rules.specs.Events.{failure_of, restart_of};
-ghost use Rattle.hub_answers.specs.View.{put_backs_of, PutBacksOk};
+ghost use Rattle.hub_answers.specs.View.{put_backs_of};
 ghost use Rattle.hub_state.specs.View.{found_at, is_restart, state_of, there};
 ghost use Rattle.hub_state.specs.Valid.{StateOk};
 ghost use Rattle.hub_state.specs.Unmoved.{OnlyLeave};
@@ -112,14 +112,14 @@ pub fn decide_restart(state: HubState, device: u8, setting: i16) -> Decision
 // What the abort that comes first puts back, if there is one, while a device fails, if one does.
 pub fn put_backs_if(state: HubState, slot: Option<usize>, device: u8, down: Option<u8>) -> PutBacks
     requires { (StateOk state) × (StandsIfAny state slot) }
-    ensures { (PutBacksOk result) × (put_backs_of result ≡ put_backs_stopped device (down_if (state_of state) down) (found_at state slot)) }
+    ensures { put_backs_of result ≡ put_backs_stopped device (down_if (state_of state) down) (found_at state slot) }
 {
     if let Some(at) = slot {
         if hub_search::must_left(state, at, device) {
             return hub_abort::put_backs_of(state, at, down);
         }
     }
-    hub_answers::no_put_backs()
+    PutBacks::none()
 }
 
 // A device becomes up or down.

@@ -19,7 +19,7 @@ use Rattle.hub_sequence.specs.Lists.{count, up_to, rest}
 use Rattle.hub_sequence.specs.Links.{none, along, Walks}
 use Rattle.hub_sequence.proofs.Tables.{by_eq}
 use Rattle.hub_sequence.proofs.Lists.{same_self, same_eq, same_other}
-use Rattle.hub_sequence.proofs.WalkLaws.{walks_spot, walks_end, walks_next, walks_less}
+use Rattle.hub_sequence.proofs.WalkLaws.{walks_end, walks_next, walks_less}
 
 -- The first slot of a list that passes a test; none if there is no such slot.
 unfoldable pub first_slot : (ℕ → Bool) → List ℕ → ℕ
@@ -67,9 +67,6 @@ module _ {t : ℕ → Bool} {row : List ℕ} {first x : ℕ} (s : Seeks t row fi
 
     pub seeks_less : length (along row (get_or row x 0)) < length (along row x)
     seeks_less = walks_less s.walks h
-
-    pub seeks_spot : get_or row x 0 ≤ none
-    seeks_spot = walks_spot (walks_next s.walks h).1
 
 -- ---- the first of a list
 

@@ -34,10 +34,8 @@ pub fn running(state: HubState, id: u32) -> Option<usize>
     let committed = state.committed;
     let mut i = links.first as usize;
     while i < MAX_SEQUENCE {
-        if ids[i] == id {
-            if !committed[i] {
-                return Some(i);
-            }
+        if ids[i] == id && !committed[i] {
+            return Some(i);
         }
         i = behind[i] as usize;
     }
@@ -87,17 +85,14 @@ pub fn first_holder<'a>(
     let mut i = links.first as usize;
     'ahead: while i != at {
         if !committed[i] {
-            let end = i * MAX_COMMANDS + (counts[i] as usize);
+            let start = i * MAX_COMMANDS;
+            let end = start + (counts[i] as usize);
             let from = if condition { 0 } else { answered[i] as usize };
-            let mut k = i * MAX_COMMANDS + from;
-            while k < end {
-                if device[k] == wanted {
-                    if stage[k] < bound {
-                        holder = Some(ids[i]);
-                        break 'ahead;
-                    }
+            for k in start + from..end {
+                if device[k] == wanted && stage[k] < bound {
+                    holder = Some(ids[i]);
+                    break 'ahead;
                 }
-                k += 1;
             }
         }
         i = behind[i] as usize;
@@ -118,16 +113,10 @@ fn is_staged<'a>(
     requires { (from ≤ end) × (end ≤ max_sequence * max_commands) }
     ensures { result ≡ any_staged device.now stage.now wanted low high from (end - from) }
 {
-    let mut k = from;
-    while k < end {
-        if device[k] == wanted {
-            if low <= stage[k] {
-                if stage[k] <= high {
-                    return true;
-                }
-            }
+    for k in from..end {
+        if device[k] == wanted && low <= stage[k] && stage[k] <= high {
+            return true;
         }
-        k += 1;
     }
     false
 }
@@ -165,10 +154,10 @@ pub fn halfway(state: HubState, wanted: u8) -> Option<usize>
         if !committed[i] {
             let from = i * MAX_COMMANDS;
             let end = from + (counts[i] as usize);
-            if is_staged(&device, &stage, from, end, wanted, TO_DO, IN_FLIGHT) {
-                if is_staged(&device, &stage, from, end, wanted, IN_FLIGHT, HIGHEST_STAGE) {
-                    return Some(i);
-                }
+            if is_staged(&device, &stage, from, end, wanted, TO_DO, IN_FLIGHT)
+                && is_staged(&device, &stage, from, end, wanted, IN_FLIGHT, HIGHEST_STAGE)
+            {
+                return Some(i);
             }
         }
         i = behind[i] as usize;
@@ -182,10 +171,8 @@ pub fn counting_tag<'a>(tag: &'a [u8; STEPS], k: usize, end: usize) -> u8
     requires { (k < max_sequence * max_commands) × (end ≤ max_sequence * max_commands) }
     ensures { result ≡ counting_tag tag.now k (end - k) }
 {
-    if tag[k] == CONDITION {
-        if k + 1 < end {
-            return tag[k + 1];
-        }
+    if tag[k] == CONDITION && k + 1 < end {
+        return tag[k + 1];
     }
     tag[k]
 }
@@ -202,16 +189,10 @@ fn any_must<'a>(
     requires { (from ≤ end) × (end ≤ max_sequence * max_commands) }
     ensures { result ≡ any_must device.now tag.now stage.now wanted from (end - from) }
 {
-    let mut k = from;
-    while k < end {
-        if device[k] == wanted {
-            if stage[k] <= IN_FLIGHT {
-                if counting_tag(tag, k, end) == MUST {
-                    return true;
-                }
-            }
+    for k in from..end {
+        if device[k] == wanted && stage[k] <= IN_FLIGHT && counting_tag(tag, k, end) == MUST {
+            return true;
         }
-        k += 1;
     }
     false
 }
@@ -238,12 +219,10 @@ fn marks_of<'a>(marks: &'a [u32; MAX_DEVICES], routine: Routine) -> [u32; MAX_CO
     let commands = routine.commands;
     let count = routine.count;
     let mut wanted = [0u32; MAX_COMMANDS];
-    let mut j: usize = 0;
-    while j < count {
+    for j in 0..count {
         let command = commands[j];
         let d = command.device as usize;
         wanted[j] = marks[d];
-        j += 1;
     }
     wanted
 }
@@ -253,12 +232,10 @@ fn has_id<'a>(ids: &'a [u32; MAX_COMMANDS], count: usize, id: u32) -> bool
     requires { count ≤ max_commands }
     ensures { result ≡ any_on ids.now id 0 count }
 {
-    let mut j: usize = 0;
-    while j < count {
+    for j in 0..count {
         if ids[j] == id {
             return true;
         }
-        j += 1;
     }
     false
 }
@@ -280,10 +257,8 @@ pub fn latest(state: HubState, routine: Routine) -> u8
     let mut i = links.last;
     while (i as usize) < MAX_SEQUENCE {
         let x = i as usize;
-        if !committed[x] {
-            if limit <= passed[x] {
-                return i;
-            }
+        if !committed[x] && limit <= passed[x] {
+            return i;
         }
         if has_id(&wanted, count, ids[x]) {
             return i;

@@ -8,7 +8,8 @@ pub mod order;
 
 use rules_routine::limits::MAX_SEQUENCE;
 
-// No slot: what stands before the first and behind the last.
+// No slot: what stands before the first and behind the last. A number and no `Option`: that would double the rows of links, on the path of
+// every call and against the stack that include/plot_hub.h promises.
 pub const NONE: u8 = 255;
 
 #[derive(Clone, Copy)]

@@ -9,10 +9,8 @@ fn free_row() -> [u8; MAX_SEQUENCE]
     ensures { FreeRow result }
 {
     let mut row = [NONE; MAX_SEQUENCE];
-    let mut i: usize = 0;
-    while i + 1 < MAX_SEQUENCE {
+    for i in 0..MAX_SEQUENCE - 1 {
         row[i] = (i + 1) as u8;
-        i += 1;
     }
     row
 }

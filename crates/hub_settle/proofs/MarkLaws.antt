@@ -2,13 +2,12 @@
 use mathlib.Core.Path.{◌≡◌, sym, ap, ◌∙◌, fun_ext}
 use mathlib.Core.Bool.{Bool}
 use mathlib.Core.List.{List, ◌++◌, map, append-nil}
-use Prim.Native.Nat.{ℕ, suc, ◌+◌, ◌≤◌, ◌<◌}
-use native.Mathlib.Numerals.{add-one}
+use Prim.Native.Nat.{ℕ, ◌≤◌, ◌<◌}
 use native.Mathlib.Omega.{arith}
 use borrow.Author.Tests.{ne_eqb}
 use lib.Dec.{eqb}
-use lib.ListN.{length, take, drop, get_or, set, drop_of_length-le, get_or-map}
-use lib.Seq.{take_all, drop-cons, append_snoc, take-suc-set, drop-set-lt}
+use lib.ListN.{length, take, drop, get_or, drop_of_length-le, get_or-map}
+use lib.Seq.{take_all}
 use Rattle.std.specs.Prelude.{if◌then◌else◌}
 use Rattle.rules.specs.Sequence.{move_marks}
 use Rattle.hub_state.specs.View.{marks_of}
@@ -22,14 +21,6 @@ abbrev pub remarked : ℕ → ℕ → ℕ → List ℕ → List ℕ
 remarked from to d l = take d l ++ map (remark from to) (drop d l)
 
 module _ (from to : ℕ) where
-  -- the mark of d is moved
-  pub remark_more : (d : ℕ) (l : List ℕ) → d < length l →
-      remarked from to (d + 1) (set l d (remark from to (get_or l d 0))) ≡ remarked from to d l
-  remark_more d l h =
-      let x = remark from to (get_or l d 0) in
-      rw (add-one d, take-suc-set l d x h, drop-set-lt (suc d) l d x (omega arith), drop-cons l d 0 h)
-      (append_snoc (take d l) x (map (remark from to) (drop (suc d) l)))
-
   -- none is left
   pub remark_end : (d : ℕ) (l : List ℕ) → length l ≤ d → remarked from to d l ≡ l
   remark_end d l h = rw (take_all d l h, drop_of_length-le l {i = d} h) (append-nil l)

@@ -1,6 +1,6 @@
 -- Restarts that are attached to a slot, device by device. Assumes nothing.
 use Rattle.std.proofs.Common.{Option, None, Some}
-use mathlib.Core.Path.{◌≡◌, refl, sym, ap, ◌∙◌}
+use mathlib.Core.Path.{◌≡◌, sym, ap, ◌∙◌}
 use mathlib.Core.Bool.{true, false}
 use mathlib.Core.List.{List}
 use Prim.Native.Nat.{ℕ, ◌+◌, ◌*◌, ◌≤◌, ◌<◌}
@@ -31,9 +31,6 @@ pub record MovedUpTo (row : List ℤ) (from to d : ℕ) (r : List ℤ) : Type 0 
   pub others : (x e : ℕ) → (x ≡ to → ⊥) → restarts_at r x e ≡ restarts_at row x e
 
 module _ (row : List ℤ) (from to : ℕ) where
-  pub moved_none : MovedUpTo row from to 0 row
-  moved_none = record { moved = λ e h. absurd (omega arith); still = λ e h. refl; others = λ x e n. refl }
-
   pub moved_all : (d : ℕ) (r : List ℤ) → max_devices ≤ d → MovedUpTo row from to d r → MovesRestarts row from to r
   moved_all d r h m x e =
       by_eq x to

@@ -18,13 +18,11 @@ fn moved_restarts(row: [i16; RESTARTS], from: usize, to: usize) -> [i16; RESTART
     let old = from * MAX_DEVICES;
     let new = to * MAX_DEVICES;
     let mut moved = row;
-    let mut d: usize = 0;
-    while d < MAX_DEVICES {
+    for d in 0..MAX_DEVICES {
         let restart = row[old + d];
         if restart != NO_RESTART {
             moved[new + d] = restart;
         }
-        d += 1;
     }
     moved
 }

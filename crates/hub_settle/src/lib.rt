@@ -18,13 +18,10 @@ pub fn moved_marks(marks: [u32; MAX_DEVICES], from: u32, to: u32) -> [u32; MAX_D
     ensures { marks_of result ≡ move_marks from to (marks_of marks) }
 {
     let mut moved = marks;
-    let mut d: usize = 0;
-    while d < MAX_DEVICES {
-        let mark = moved[d];
-        if mark == from {
+    for d in 0..MAX_DEVICES {
+        if moved[d] == from {
             moved[d] = to;
         }
-        d += 1;
     }
     moved
 }

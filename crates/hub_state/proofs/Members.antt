@@ -1,13 +1,12 @@
 -- The routines in their slots, and the sequence around one of them. Assumes nothing.
 use mathlib.Core.Path.{◌≡◌, refl, sym, ap, subst, ◌∙◌}
-use mathlib.Core.Bool.{Bool, true, false}
+use mathlib.Core.Bool.{false}
 use mathlib.Core.List.{List, [], ◌∷◌, ◌++◌, map, map-append}
 use Prim.Native.Nat.{ℕ, ◌+◌, ◌*◌, ◌≤◌, ◌<◌}
 use native.Mathlib.Omega.{arith}
 use lib.IntN.{pos}
-use lib.ListN.{length, get_or, get_or-eq_default}
+use lib.ListN.{length, get_or}
 use Rattle.rules_routine.specs.Limits.{max_devices, max_commands, max_sequence}
-use Rattle.rules_routine.proofs.RoutineLaws.{any_default}
 use Rattle.rules.specs.State.{Step, Member}
 use Rattle.rules.specs.Sequence.{last_id_or}
 use Rattle.hub_sequence.specs.Lists.{count, without, up_to, rest, last_or}
@@ -35,14 +34,6 @@ module _ (h : HubState) where
   state-settled = refl
 
   -- whether a device is up, in the row and past it
-  pub up-read : (d : ℕ) (z : Bool) → d < length h.up → get_or h.up d z ≡ (state_of h).up d
-  unfolding state_of
-  up-read d z i = any_default h.up d z true i
-
-  pub up-past : (d : ℕ) → length h.up ≤ d → true ≡ (state_of h).up d
-  unfolding state_of
-  up-past d i = sym (get_or-eq_default h.up true i)
-
   pub state-mark : (state_of h).mark ≡ marks_of h.mark
   unfolding state_of
   state-mark = refl

@@ -15,7 +15,7 @@ pub const STEPS: usize = MAX_SEQUENCE * MAX_COMMANDS;
 
 pub const RESTARTS: usize = MAX_SEQUENCE * MAX_DEVICES;
 
-// Where a command stands: its stage.
+// Where a command stands: its stage. Numbers and no enum: the searches compare stages by order, `stage[k] < DONE`, on rows of bytes.
 pub const TO_DO: u8 = 0;
 
 pub const IN_FLIGHT: u8 = 1;
@@ -29,7 +29,8 @@ pub const HELD: u8 = 4;
 
 pub const NOT_HELD: u8 = 5;
 
-// In the row of restarts, what stands at a device that has none. No setting is that high.
+// In the row of restarts, what stands at a device that has none. No setting is that high. A row of `Option` would be twice as long, against
+// the stack that include/plot_hub.h promises.
 pub const NO_RESTART: i16 = 32767;
 
 // The hub: a row has an entry for each slot of the sequence, for each command of a slot, for each slot and device, or for each device.

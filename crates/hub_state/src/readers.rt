@@ -7,18 +7,14 @@ ghost use Rattle.hub_state.specs.Valid.{StateOk};
 ghost use Rattle.hub_state.specs.Unanswered.{UnansweredIs};
 
 use crate::{HubState, IN_FLIGHT, STEPS, Unanswered};
-use rules_routine::limits::{MAX_COMMANDS, MAX_DEVICES, MAX_SEQUENCE};
+use rules_routine::limits::{MAX_COMMANDS, MAX_SEQUENCE};
 
 // Is a device up? One that the hub does not have stands as at the opening.
 pub fn is_up(state: HubState, device: u8) -> bool
     ensures { result ≡ (state_of state).up device }
 {
-    let at = device as usize;
-    if MAX_DEVICES <= at {
-        return true;
-    }
     let up = state.up;
-    up[at]
+    up.get(usize::from(device)).copied().unwrap_or(true)
 }
 
 // The id of the routine before the one in a slot; 0, the settled part, if there is none.

@@ -1,6 +1,5 @@
 -- Laws that the proofs of this crate cite. Assumes nothing.
 use Rattle.rules_routine.specs.declared.refusals.Refusal.TheVariants.{NotRunning, TurnInFlight}
-use Rattle.rules_routine.specs.Refusals.{numbered}
 use Rattle.std.proofs.Common.{Option, None, Some}
 use mathlib.Core.Path.{◌≡◌, refl, sym, ap, ◌∙◌, subst}
 use mathlib.Core.Logic.{◌≢◌}
@@ -14,7 +13,7 @@ use lib.IntN.{ℤ, pos}
 use lib.ListN.{get_or}
 use lib.Signed.{lt_z}
 use Rattle.std.specs.Prelude.{if◌then◌else◌}
-use Rattle.rules_routine.specs.Limits.{max_devices, max_commands, max_sequence}
+use Rattle.rules_routine.specs.Limits.{max_devices, max_commands}
 use Rattle.rules_routine.specs.Routine.{must_tag, condition_tag, is_condition}
 use Rattle.rules_routine.specs.declared.Command.{Command}
 use Rattle.rules.specs.State.{Status, in_flight, was_skipped, was_held, was_not_held, Member, State}
@@ -32,7 +31,6 @@ use Rattle.hub_sequence.specs.Links.{Stands}
 use Rattle.hub_sequence.proofs.Tables.{by_eq, by_less}
 use Rattle.hub_state.specs.View.{in_flight_code, done_code, skipped_code, held_code, not_held_code, status_of, rows_of, step_at, steps_from, steps_at}
 use Rattle.hub_state.specs.View.{member_at, state_of, there}
-use Rattle.hub_state.specs.Valid.{StateOk}
 use Rattle.hub_state.specs.Unanswered.{answered_at, due_then_at, command_at, skips_after, AllAnswered, NextToDo, NextInFlight}
 use Rattle.hub_state.specs.Contract.{set_status, staged, committed_at, StageOk, plainly, Decides}
 use Rattle.hub_state.specs.declared.HubState.{HubState}
@@ -44,19 +42,14 @@ use Rattle.hub_answers.specs.View.{answer_of, changes_nothing}
 use Rattle.hub_answers.specs.declared.Answer.{Answer}
 use Rattle.hub_answers.specs.declared.Answer.TheVariants.{Refused, Wait, Sent as ToSend, Skipped, Committed, Aborted, Held, NotHeld}
 use Rattle.hub_state.proofs.Rows.{status-sent, status-skipped, status-held, status-not-held, status_counts, status_counts_not}
-use Rattle.hub_state.proofs.Members.{there-it, member_steps, place-within}
+use Rattle.hub_state.proofs.Members.{there-it, member_steps}
 use Rattle.hub_state.proofs.DecisionLaws.{refused-decides, wait-decides, stage_decides, commit-decides, abort-decides}
 use Rattle.hub_search.specs.Contract.{Finds, counting_tag}
 use Rattle.hub_search.proofs.Commands.{counts_must}
 use Rattle.hub_search.proofs.Found.{found_as, stands_at, found-id}
 use Rattle.hub_turn.specs.Contract.{skipped_at}
 
--- ---- the place of the next command is in the rows
-
-pub in_rows : (h : HubState) (x k : ℕ) → StateOk h → Stands h.links x → NextToDo h x k → k < max_sequence * max_commands
-in_rows h x k v s o = subst (λ (i : ℕ). i < max_sequence * max_commands) (sym o.place) (place-within h x v s (answered_at h x) o.not_all)
-
--- what the code reads there is the command
+-- what the code reads at the place of the next command is the command
 module _ (h : HubState) (k : ℕ) where
   pub device-read : (row : List ℕ) → row ≡ h.device → get_or row k 0 ≡ (command_at h k).device
   unfolding step_at

@@ -11,16 +11,24 @@ ghost use Rattle.hub_state.specs.View.{steps_at, state_of, there, member_at};
 ghost use Rattle.hub_state.specs.Valid.{StateOk};
 ghost use Rattle.hub_state.specs.Unanswered.{command_at, NextToDo};
 ghost use Rattle.hub_state.specs.Contract.{Decides};
-ghost use Rattle.hub_turn.specs.Contract.{skipped_at};
+ghost use Rattle.hub_turn.specs.Contract.{LentFrom, skipped_at};
 
 use hub_answers::{Answer, Sent};
 use hub_state::{
-    Change, DONE, Decision, HELD, HubState, IN_FLIGHT, NOT_HELD, SKIPPED, STEPS, Staged, Unanswered,
-    decisions, readers,
+    Change, DONE, Decision, HELD, HubState, IN_FLIGHT, NOT_HELD, SKIPPED, STEPS, Staged,
+    Unanswered, decisions, readers,
 };
-use rules_routine::{Command, Refusal};
 use rules_routine::limits::MAX_COMMANDS;
 use rules_routine::tags::{CONDITION, MUST};
+use rules_routine::{Command, Refusal};
+
+// The rows that a turn reads, taken out of the state once and lent.
+#[derive(Clone, Copy)]
+struct Lent<'a> {
+    device: &'a [u8; STEPS],
+    tag: &'a [u8; STEPS],
+    stage: &'a [u8; STEPS],
+}
 
 // The next command comes to a stage.
 fn staged(at: usize, stage: u8, due_then: i16, begun: bool, device: u8, id: u32) -> Change
@@ -60,27 +68,24 @@ fn is_skipped<'a>(tag: &'a [u8; STEPS], stage: &'a [u8; STEPS], from: usize, k: 
 // flight": it keeps its device's due setting of now.
 fn go_on_up<'a>(
     state: HubState,
-    device: &'a [u8; STEPS],
-    tag: &'a [u8; STEPS],
-    stage: &'a [u8; STEPS],
+    rows: Lent<'a>,
     at: usize,
     k: usize,
     id: u32,
     begun: bool,
 ) -> Decision
     requires { (StateOk state) × (Stands state.links at) × (NextToDo state at k) × (id ≡ (member_at state at).id)
-        × (device.now ≡ state.device) × (tag.now ≡ state.tag) × (stage.now ≡ state.stage)
-        × (begun ≡ has_begun (command_at state k).device (member_at state at)) }
+        × (LentFrom state rows) × (begun ≡ has_begun (command_at state k).device (member_at state at)) }
     ensures { Decides state [] result (proceed_up (state_of state) (there state at) (command_at state k)) }
 {
-    let wanted = device[k];
+    let wanted = rows.device[k];
     let settings = state.setting;
     let setting = settings[k];
-    let due = hub_due::due_setting(state, device, stage, &settings, wanted);
-    if tag[k] != CONDITION {
+    let due = hub_due::due_setting(state, rows.device, rows.stage, &settings, wanted);
+    if rows.tag[k] != CONDITION {
         let command = Command {
             device: wanted,
-            tag: tag[k],
+            tag: rows.tag[k],
             setting,
         };
         let sent = Sent { id, command };
@@ -97,55 +102,46 @@ fn go_on_up<'a>(
 
 // The command after a condition that did not hold is skipped. Else: "If D is down, a must aborts R and a best-effort is skipped"; of a
 // condition "the following command decides".
-fn go_on<'a>(
-    state: HubState,
-    device: &'a [u8; STEPS],
-    tag: &'a [u8; STEPS],
-    stage: &'a [u8; STEPS],
-    at: usize,
-    k: usize,
-    id: u32,
-) -> Decision
+fn go_on<'a>(state: HubState, rows: Lent<'a>, at: usize, k: usize, id: u32) -> Decision
     requires { (StateOk state) × (Stands state.links at) × (NextToDo state at k) × (id ≡ (member_at state at).id)
-        × (device.now ≡ state.device) × (tag.now ≡ state.tag) × (stage.now ≡ state.stage) }
+        × (LentFrom state rows) }
     ensures { Decides state [] result (proceed (state_of state) (there state at) (command_at state k)) }
 {
-    let begun = hub_search::has_begun(state, device, stage, at, device[k]);
-    let mut skips = is_skipped(tag, stage, at * MAX_COMMANDS, k);
+    let begun = hub_search::has_begun(state, rows.device, rows.stage, at, rows.device[k]);
+    let mut skips = is_skipped(rows.tag, rows.stage, at * MAX_COMMANDS, k);
     if !skips {
-        if !readers::is_up(state, device[k]) {
+        if !readers::is_up(state, rows.device[k]) {
             let counts = state.counts;
             let end = at * MAX_COMMANDS + (counts[at] as usize);
-            if hub_search::counting_tag(tag, k, end) == MUST {
+            if hub_search::counting_tag(rows.tag, k, end) == MUST {
                 return decisions::plain(Answer::Aborted(id), Change::Abort(at));
             }
             skips = true;
         }
     }
     if skips {
-        let change = staged(at, SKIPPED, 0, begun, device[k], id);
+        let change = staged(at, SKIPPED, 0, begun, rows.device[k], id);
         return decisions::plain(Answer::Skipped(id), change);
     }
-    go_on_up(state, device, tag, stage, at, k, id, begun)
+    go_on_up(state, rows, at, k, id, begun)
 }
 
 // The next command: "the answer is wait, with the first such id in the sequence, and no change", or it goes on.
-fn next_turn<'a>(
-    state: HubState,
-    device: &'a [u8; STEPS],
-    tag: &'a [u8; STEPS],
-    stage: &'a [u8; STEPS],
-    at: usize,
-    k: usize,
-    id: u32,
-) -> Decision
+fn next_turn<'a>(state: HubState, rows: Lent<'a>, at: usize, k: usize, id: u32) -> Decision
     requires { (StateOk state) × (Stands state.links at) × (NextToDo state at k) × (id ≡ (member_at state at).id)
-        × (device.now ≡ state.device) × (tag.now ≡ state.tag) × (stage.now ≡ state.stage) }
+        × (LentFrom state rows) }
     ensures { Decides state [] result (turn_next (state_of state) (there state at) (next (steps_at state at))) }
 {
-    let condition = tag[k] == CONDITION;
-    match hub_search::first_holder(state, device, stage, at, device[k], condition) {
-        None => go_on(state, device, tag, stage, at, k, id),
+    let condition = rows.tag[k] == CONDITION;
+    match hub_search::first_holder(
+        state,
+        rows.device,
+        rows.stage,
+        at,
+        rows.device[k],
+        condition,
+    ) {
+        None => go_on(state, rows, at, k, id),
         Some(other) => decisions::plain(Answer::Wait(id, other), Change::Nothing),
     }
 }
@@ -166,7 +162,12 @@ pub fn decide(state: HubState, id: u32) -> Decision
         Unanswered::InFlight(_) => decisions::refused(Refusal::TurnInFlight),
         Unanswered::ToDo(k) => {
             let device = state.device;
-            next_turn(state, &device, &tag, &stage, at, k, id)
+            let rows = Lent {
+                device: &device,
+                tag: &tag,
+                stage: &stage,
+            };
+            next_turn(state, rows, at, k, id)
         }
     }
 }

@@ -1,21 +1,16 @@
 -- Lines in turn, the device lines, and what is left in the buffer. Assumes nothing.
 use Rattle.std.proofs.Common.{Option, None, Some}
 use mathlib.Core.Path.{◌≡◌, refl, sym, ap, ap₂, ◌∙◌, subst}
-use mathlib.Core.Logic.{◌≢◌}
 use mathlib.Core.Bool.{Bool, false}
 use mathlib.Core.List.{List, [], ◌∷◌, ◌++◌, append-nil, append_assoc}
-use Prim.Native.Nat.{ℕ, zero, suc, ◌+◌, ◌-◌, ◌*◌, ◌≤◌, ◌<◌, ◌^◌}
+use Prim.Native.Nat.{ℕ, zero, suc, ◌+◌, ◌-◌, ◌*◌, ◌≤◌, ◌<◌}
 use native.Mathlib.Nat.{zero-add}
-use native.Mathlib.Numerals.{add-one}
 use native.Mathlib.Omega.{arith}
-use borrow.Author.Tests.{ltb-true, ltb-false, lt-ltb, le-ltb, eq-eqb, ne_eqb, eqb-true}
+use borrow.Author.Tests.{ltb-true, ltb-false, lt-ltb, le-ltb, eqb-true}
 use lib.Dec.{ltb, eqb}
-use lib.IntN.{pos, negsuc}
-use mir.Syntax.{w64}
-use mir.Val.{to_z}
-use mir.Facts.{to_z_pos}
-use lib.ListN.{length, take, drop, get_or, set, length-append, length-drop, drop_of_length-le}
-use lib.Seq.{sets, sets-eq, length-sets, drop-cons, drop-drop, length-take-le, get_or-set_same, get_or-set_other}
+use lib.IntN.{pos, negsuc, nat_abs}
+use lib.ListN.{length, take, drop, get_or, set, length-append, length-drop}
+use lib.Seq.{sets, sets-eq, length-sets, length-take-le, get_or-set_same, get_or-set_other}
 use Rattle.std.specs.Prelude.{if◌then◌else◌}
 use Rattle.rules_routine.proofs.RoutineLaws.{by_test}
 use Rattle.rules.specs.State.{State}
@@ -201,18 +196,6 @@ pieces_alike byte so_far (b ∷ bs) =
     ≡ length (if t then [] ∷ pieces_from byte [] bs else pieces_from byte ([] ++ (b ∷ [])) bs))
     (eqb b byte) (λ _. refl) (λ _. pieces_alike byte (so_far ++ (b ∷ [])) bs ∙ sym (pieces_alike byte ([] ++ (b ∷ [])) bs))
 
--- how often a byte stands in what is left from a place on
-pub times_end : (byte : ℕ) (bs : List ℕ) (i : ℕ) → i < length bs → get_or bs i 0 ≡ byte →
-    times byte (drop i bs) ≡ suc (times byte (drop (i + 1) bs))
-times_end byte bs i h e = rw (drop-cons bs i 0 h, eq-eqb (get_or bs i 0) byte e, add-one i)
-
-pub times_on : (byte : ℕ) (bs : List ℕ) (i : ℕ) → i < length bs → get_or bs i 0 ≢ byte →
-    times byte (drop i bs) ≡ times byte (drop (i + 1) bs)
-times_on byte bs i h e = rw (drop-cons bs i 0 h, ne_eqb (get_or bs i 0) byte e, add-one i)
-
-pub times-last : (byte : ℕ) (bs : List ℕ) (i : ℕ) → length bs ≤ i → times byte (drop i bs) ≡ 0
-times-last byte bs i h = rw (drop_of_length-le bs h)
-
 times-within : (byte : ℕ) (bs : List ℕ) → times byte bs ≤ length bs
 times-within byte [] = omega arith
 times-within byte (b ∷ bs) =
@@ -221,36 +204,28 @@ times-within byte (b ∷ bs) =
     (λ _. omega arith)
 
 -- each byte that parts makes one piece more
-times_part : (byte : ℕ) (bs : List ℕ) (n : ℕ) → times byte (take n bs) + length (pieces byte (drop n bs)) ≡ length (pieces byte bs)
+times_part : (byte : ℕ) (part rest : List ℕ) → times byte part + length (pieces byte rest) ≡ length (pieces byte (part ++ rest))
 unfolding pieces pieces_from
-times_part byte bs zero = omega arith
-times_part byte [] (suc n) = omega arith
-times_part byte (b ∷ bs) (suc n) =
-    let more = times_part byte bs n in
+times_part byte [] rest = omega arith
+times_part byte (b ∷ bs) rest =
+    let more = times_part byte bs rest in
     by_test
-    (λ (t : Bool). (if t then suc (times byte (take n bs)) else times byte (take n bs)) + length (pieces byte (drop n bs))
-    ≡ length (if t then [] ∷ pieces_from byte [] bs else pieces_from byte ([] ++ (b ∷ [])) bs))
-    (eqb b byte) (λ _. omega arith) (λ _. more ∙ sym (pieces_alike byte ([] ++ (b ∷ [])) bs))
+    (λ (t : Bool). (if t then suc (times byte bs) else times byte bs) + length (pieces byte rest)
+    ≡ length (if t then [] ∷ pieces_from byte [] (bs ++ rest) else pieces_from byte ([] ++ (b ∷ [])) (bs ++ rest)))
+    (eqb b byte) (λ _. omega arith) (λ _. more ∙ sym (pieces_alike byte ([] ++ (b ∷ [])) (bs ++ rest)))
 
--- a part of the bytes, from a place to another
-module _ (bs : List ℕ) (i end : ℕ) (h : i ≤ end) (k : end ≤ length bs) where
-  pub part_length : length (take (end - i) (drop i bs)) ≡ end - i
-  part_length = length-take-le (end - i) (drop i bs) (omega (arith, length-drop i bs))
+-- a part of what is left is counted
+pub count_part : (byte : ℕ) {left : List ℕ} (part rest : List ℕ) → left ≡ part ++ rest →
+    (times byte part + length rest ≤ length left) × (times byte part + length (pieces byte rest) ≡ length (pieces byte left))
+count_part byte {left} part rest e = (
+  omega (arith, ap length e, times-within byte part, length-append part rest),
+  times_part byte part rest ∙ sym (ap (λ (l : List ℕ). length (pieces byte l)) e),
+)
 
-  pub count_part : (byte : ℕ) →
-      let n = times byte (take (end - i) (drop i bs)) in
-      (n ≤ end - i) × (n + length (pieces byte (drop end bs)) ≡ length (pieces byte (drop i bs)))
-  count_part byte =
-      let part = take (end - i) (drop i bs) in
-      let e : i + (end - i) ≡ end = omega arith in
-      let behind : drop end bs ≡ drop (end - i) (drop i bs) = sym (drop-drop (end - i) i bs ∙ ap (λ (m : ℕ). drop m bs) e) in (
-        omega (arith, times-within byte part, part_length),
-        ap (λ (l : List ℕ). times byte part + length (pieces byte l)) behind ∙ times_part byte (drop i bs) (end - i),
-      )
-
-pub count-last : (byte : ℕ) (bs : List ℕ) (i : ℕ) → length bs ≤ i → length (pieces byte (drop i bs)) ≡ 1
+pub count-last : (byte : ℕ) (bs : List ℕ) → length bs ≡ 0 → length (pieces byte bs) ≡ 1
 unfolding pieces pieces_from
-count-last byte bs i h = rw (drop_of_length-le bs h)
+count-last byte [] h = refl
+count-last byte (b ∷ bs) h = absurd (omega arith)
 
 without_shorter : (l : List (List ℕ)) → length (without_empty_last l) ≤ length l
 unfolding without_empty_last
@@ -336,25 +311,13 @@ wrote_none p h buffer v short = record {
   unopened = λ _. refl;
 }
 
--- the length as a signed number
-pub cast_fits : {text buffer buffer' : List ℕ} {at : ℕ} → length buffer < 2 ^ 63 → length text ≤ length buffer →
-    Put buffer buffer' 0 at text → at < 2 ^ 63
-cast_fits small fits put = omega (arith, put.ends)
-
-answers_all : (text buffer buffer' : List ℕ) (at : ℕ) → length buffer < 2 ^ 63 → length text ≤ length buffer →
-    Put buffer buffer' 0 at text →
-    to_z w64 at ≡ length_or21 text (length buffer)
-answers_all text buffer buffer' at small fits put =
-    to_z_pos w64 (cast_fits small fits put) ∙ ap pos (put.ends ∙ zero-add (length text)) ∙ sym (length-fits text (length buffer) fits)
-
-pub wrote_all : (p : Printed) (h next : Hub) (buffer buffer' : List ℕ) (at : ℕ) → length buffer < 2 ^ 63 → Valid next →
-    hub_in next ≡ p.hub →
+pub wrote_all : (p : Printed) (h next : Hub) (buffer buffer' : List ℕ) (at : ℕ) → Valid next → hub_in next ≡ p.hub →
     length p.text ≤ length buffer → Put buffer buffer' 0 at p.text → (hub_in next ≡ None → next ≡ h) →
-    Wrote p h next buffer buffer' (to_z w64 at)
+    Wrote p h next buffer buffer' (pos at)
 unfolding hub_with
-wrote_all p h next buffer buffer' at small v e fits put unopened = record {
+wrote_all p h next buffer buffer' at v e fits put unopened = record {
   valid = v;
-  answers = answers_all p.text buffer buffer' at small fits put;
+  answers = ap pos (put.ends ∙ zero-add (length p.text)) ∙ sym (length-fits p.text (length buffer) fits);
   leaves = put.is ∙ sym (buffer-fits p.text buffer fits);
   hub = rw (le-ltb (length buffer) (length p.text) fits) e;
   kept = λ k. absurd (omega arith);
@@ -422,17 +385,25 @@ module _ (h : Hub) (input : List ℕ) (room : ℕ) (buffer out : List ℕ) (s : 
         let e : end ≡ length (run_from (hub_in h) input).text = (whole_put (measured_fits (lines_measured r) here)).ends ∙ zero-add _ in
         record { fits = λ _. e; past = λ k. omega arith; enough = whole_fits }
 
-    module _ (same : length buffer ≡ room) (small : room < 2 ^ 63) (fits : length (run_from (hub_in h) input).text ≤ room) where
-      here : length lines.text ≤ room
-      here = omega (arith, whole_long)
+    -- what is written
+    pub whole_wrote : length buffer ≡ room → length (run_from (hub_in h) input).text ≤ room →
+        Wrote (run_from (hub_in h) input) h s.hub buffer buffer' (pos end)
+    unfolding run_from
+    whole_wrote same fits =
+        let here : length lines.text ≤ room = omega (arith, whole_long) in
+        wrote_all (run_from (hub_in h) input) h s.hub buffer buffer' end r.valid (r.fits here).0 (omega (arith, same)) (whole_put here) r.unopened
 
-      pub whole_cast : end < 2 ^ 63
-      whole_cast = cast_fits (omega arith) (omega arith) (whole_put here)
+-- ---- the length as a signed number
 
-      -- what is written
-      pub whole_wrote : Wrote (run_from (hub_in h) input) h s.hub buffer buffer' (to_z w64 end)
-      unfolding run_from
-      whole_wrote =
-          wrote_all (run_from (hub_in h) input) h s.hub buffer buffer' end (omega arith) r.valid (r.fits here).0 (omega arith)
-          (whole_put here)
-          r.unopened
+pub written_fits : {p : Printed} {before after : Hub} {buffer buffer' : List ℕ} {n : ℕ} → Wrote p before after buffer buffer' (pos n) →
+    n ≤ length buffer
+written_fits {p} {buffer = buffer} {n = n} w =
+    by_test (λ (_ : Bool). n ≤ length buffer) (ltb (length buffer) (length p.text))
+    (λ e. absurd (pos_none (w.answers ∙ length-short p.text (length buffer) (ltb-true (length buffer) (length p.text) e))))
+    (λ e.
+    let fits = ltb-false (length buffer) (length p.text) e in
+    let same : n ≡ length p.text = ap nat_abs (w.answers ∙ length-fits p.text (length buffer) fits) in
+    omega arith)
+  where
+    pos_none : pos n ≡ negsuc 20 → ⊥
+    pos_none e = cc

@@ -1,6 +1,5 @@
 -- The contracts of the line program's calls. Assumes nothing.
-use Rattle.rules_routine.specs.Refusals.{Verdict}
-use Rattle.std.specs.Prelude.{◌≡◌, Bool, true, false, List, ℕ, suc, ◌+◌, ◌-◌, ◌*◌, ◌<◌, ◌≤◌, ℤ, length, take, drop, None, Ok, Err, Option, Some}
+use Rattle.std.specs.Prelude.{◌≡◌, Bool, true, false, List, ℕ, suc, ◌+◌, ◌-◌, ◌*◌, ◌<◌, ◌≤◌, ℤ, pos, negsuc, length, take, drop, None, Option, Some}
 use Rattle.hub_answers.specs.declared.Answer.{Answer}
 use Rattle.hub_answers.specs.declared.Answer.TheVariants.{Refused, Placed, Wait, Sent, Done, Skipped, Committed, Aborted, Down, Up}
 use Rattle.hub_answers.specs.declared.Answer.TheVariants.{Limited}
@@ -34,9 +33,14 @@ pub record Wrote (p : Printed) (before after : Hub) (buffer buffer' : List ℕ) 
 abbrev pub Ample : List ℕ → ℕ → Type 0
 Ample input room = max_text * suc (length (lines_of input)) ≤ room
 
+-- A length that was written, as the call that is exported to C says it: −21 is none.
+abbrev pub written_as : Option ℕ → ℤ
+written_as None = negsuc 20
+written_as (Some n) = pos n
+
 -- What an input prints is written, and ample room is enough for it.
-pub record Runs (p : Printed) (input : List ℕ) (before after : Hub) (buffer buffer' : List ℕ) (result : ℤ) : Type 0 where
-  pub wrote : Wrote p before after buffer buffer' result
+pub record Runs (p : Printed) (input : List ℕ) (before after : Hub) (buffer buffer' : List ℕ) (written : Option ℕ) : Type 0 where
+  pub wrote : Wrote p before after buffer buffer' (written_as written)
   pub enough : Ample input (length buffer) → length p.text ≤ length buffer
 
 -- ---- below them

@@ -19,11 +19,11 @@ use hub::Hub;
 // "−21 .. if it is too short"
 pub const TOO_SHORT: i64 = -21;
 
-// The hub afterwards, and the length written or −21.
+// The hub afterwards, and the length written; none where the buffer was too short.
 #[derive(Clone, Copy)]
 pub struct RunResult {
     pub hub: Hub,
-    pub result: i64,
+    pub length: Option<usize>,
 }
 
 // No hub, as before an accepted `O`: the hub of no devices. It stays the same hub until an `O` is accepted (`unopened` of `Wrote`).
@@ -38,23 +38,20 @@ pub fn no_hub() -> Hub
 pub fn run_part(hub: Hub, input: &[u8], out: &mut [u8]) -> RunResult
     requires { Valid hub }
     ensures { Runs (steps (hub_in hub) (lines_of input.now)) input.now hub result.hub
-        out.old out.new result.result }
+        out.old out.new result.length }
 {
     let room = out.len();
     if !running::is_ample(input, room) {
         let length = running::lines_length(hub, input, room);
         if room < length {
-            return RunResult {
-                hub,
-                result: TOO_SHORT,
-            };
+            return RunResult { hub, length: None };
         }
     }
     let ran = running::run_lines(hub, input, out, room);
     let next = ran.hub;
     RunResult {
         hub: next,
-        result: ran.at as i64,
+        length: Some(ran.at),
     }
 }
 
@@ -62,16 +59,13 @@ pub fn run_part(hub: Hub, input: &[u8], out: &mut [u8]) -> RunResult
 pub fn run_last(hub: Hub, input: &[u8], out: &mut [u8]) -> RunResult
     requires { Valid hub }
     ensures { Runs (run_from (hub_in hub) input.now) input.now hub result.hub
-        out.old out.new result.result }
+        out.old out.new result.length }
 {
     let room = out.len();
     if !running::is_ample(input, room) {
         let length = running::whole_length(hub, input, room);
         if room < length {
-            return RunResult {
-                hub,
-                result: TOO_SHORT,
-            };
+            return RunResult { hub, length: None };
         }
     }
     let ran = running::run_lines(hub, input, out, room);
@@ -80,7 +74,7 @@ pub fn run_last(hub: Hub, input: &[u8], out: &mut [u8]) -> RunResult
     let end = line_print::put_devices(out, ran.at, devices);
     RunResult {
         hub: next,
-        result: end as i64,
+        length: Some(end),
     }
 }
 
@@ -92,7 +86,10 @@ pub fn run(hub: &mut Hub, input: &[u8], out: &mut [u8]) -> i64
 {
     let written = run_last(*hub, input, out);
     *hub = written.hub;
-    written.result
+    match written.length {
+        Some(length) => length as i64,
+        None => TOO_SHORT,
+    }
 }
 
 // "called from a web server written in C, on two byte slices: the input, and a lent buffer for the output; the result is the length written

@@ -19,8 +19,8 @@ use hub_answers::Answer;
 use hub_state::Decision;
 use line_print::Devices;
 use line_read::{Call, Line};
-use rules_routine::limits::MAX_DEVICES;
 use rules_routine::Routine;
+use rules_routine::limits::MAX_DEVICES;
 
 // A call before an accepted `O` is not read: there is no hub, that is, one of no devices.
 pub fn heard(line: Line, devices: u8) -> Line
@@ -56,11 +56,8 @@ pub fn devices_of(hub: Hub) -> Devices
     let _ = hub::due_settings(hub, &mut due);
     let mut up = [true; MAX_DEVICES];
     let count = hub::device_count(hub);
-    let mut device: u8 = 0;
-    while device < count {
-        let d = device as usize;
-        up[d] = hub::is_up(hub, device);
-        device += 1;
+    for device in 0..count {
+        up[usize::from(device)] = hub::is_up(hub, device);
     }
     Devices { count, up, due }
 }

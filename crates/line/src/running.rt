@@ -87,12 +87,10 @@ fn ends_in(chunk: &[u8]) -> u8
     ensures { result ≡ times line_end chunk.now }
 {
     let mut count = 0u8;
-    let mut i = 0;
-    while i < chunk.len() {
-        if chunk[i] == LINE_END {
+    for byte in chunk {
+        if *byte == LINE_END {
             count += 1;
         }
-        i += 1;
     }
     count
 }
@@ -103,15 +101,8 @@ pub fn is_ample(input: &[u8], room: usize) -> bool
 {
     let most = room / MAX_TEXT;
     let mut count = 1;
-    let mut i = 0;
-    while i < input.len() {
-        let mut end = input.len();
-        if CHUNK_LENGTH < end - i {
-            end = i + CHUNK_LENGTH;
-        }
-        let ends = ends_in(&input[i..end]);
-        count += ends as usize;
-        i = end;
+    for chunk in input.chunks(CHUNK_LENGTH) {
+        count += usize::from(ends_in(chunk));
     }
     count < most
 }

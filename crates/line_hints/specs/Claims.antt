@@ -4,7 +4,6 @@ use Rattle.rules.specs.State.{State}
 use Rattle.line_rules.specs.Reading.{Line, LineCall, opening, calling, read_line}
 use Rattle.line_rules.specs.Program.{step, prints_unread}
 use Rattle.line_hints.specs.Why.{hint_of}
-use Rattle.line_hints.specs.declared.Hint.TheVariants.{Nothing}
 
 -- Was a hub opened?
 abbrev pub is_opened : Option State → Bool
@@ -18,5 +17,5 @@ pub data Answered : Option State → Line → Type 0 where
 
 -- Of every line: with a reason it prints `unread` and changes nothing; without one it is answered by a rule.
 pub record ToldExactly (h : Option State) (line : List ℕ) : Type 0 where
-  pub told_of_unread : hint_of (is_opened h) line ≢ Nothing → step h (read_line line) ≡ prints_unread h
-  pub answered_else : hint_of (is_opened h) line ≡ Nothing → Answered h (read_line line)
+  pub told_of_unread : hint_of (is_opened h) line ≢ None → step h (read_line line) ≡ prints_unread h
+  pub answered_else : hint_of (is_opened h) line ≡ None → Answered h (read_line line)

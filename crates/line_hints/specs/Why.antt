@@ -1,13 +1,15 @@
 -- Why a line prints `unread`: the first of these reasons that is so, in the order in which they are tested. Which lines print it is
 -- document 01's ("The line program") and said in crate `line_rules`; which reason is told of one is said here. Assumes nothing.
-use Rattle.std.specs.Prelude.{Bool, true, false, ◌&&◌, ◌||◌, List, [], ◌∷◌, ℕ, ◌-◌, ◌%◌, leb, ltb, eqb, length, get_or, if◌then◌else◌}
+use Rattle.std.specs.Prelude.{Bool, true, false, ◌&&◌, ◌||◌, List, [], ◌∷◌, ℕ, ◌-◌, ◌%◌, leb, ltb, eqb, length, get_or, drop, if◌then◌else◌}
+use Rattle.std.specs.Prelude.{Option, None, Some}
+use Rattle.std.specs.List.{list_any, list_all, zip}
 use Rattle.line_rules.specs.Text.{space, minus}
 use Rattle.line_rules.specs.Pieces.{words_of}
 use Rattle.rules_routine.specs.Limits.{max_line}
 use Rattle.line_rules.specs.Reading.{is_digit, Line, opening, calling, unread, read_line}
 use Rattle.line_read.specs.View.{letter_of}
 use Rattle.line_hints.specs.declared.Hint.{Hint}
-use Rattle.line_hints.specs.declared.Hint.TheVariants.{Nothing, TooLong, Empty, CarriageReturn, OtherByte, SpaceAtEnd, SpaceAtStart}
+use Rattle.line_hints.specs.declared.Hint.TheVariants.{TooLong, Empty, CarriageReturn, OtherByte, SpaceAtEnd, SpaceAtStart}
 use Rattle.line_hints.specs.declared.Hint.TheVariants.{SpacesTogether, LowerCase, NoCall, TooFew, TooMany, NoNumber, OutsideWidth}
 use Rattle.line_hints.specs.declared.Hint.TheVariants.{NoHub}
 
@@ -17,9 +19,8 @@ abbrev pub carriage_return : ℕ
 carriage_return = 13
 
 -- Does this byte stand in the line?
-unfoldable pub has_byte : ℕ → List ℕ → Bool
-has_byte byte [] = false
-has_byte byte (b ∷ bs) = eqb b byte || has_byte byte bs
+abbrev pub has_byte : ℕ → List ℕ → Bool
+has_byte byte line = list_any (λ b. eqb b byte) line
 
 -- The last of the printable characters of ASCII; the first is the space.
 abbrev pub last_printable : ℕ
@@ -29,9 +30,8 @@ last_printable = 126
 abbrev pub is_other : ℕ → Bool
 is_other b = ltb b space || ltb last_printable b
 
-unfoldable pub has_other : List ℕ → Bool
-has_other [] = false
-has_other (b ∷ bs) = is_other b || has_other bs
+abbrev pub has_other : List ℕ → Bool
+has_other line = list_any is_other line
 
 -- Of a line with bytes. (Of one without, 0.)
 abbrev pub first_byte : List ℕ → ℕ
@@ -41,29 +41,22 @@ abbrev pub last_byte : List ℕ → ℕ
 last_byte line = get_or line (length line - 1) 0
 
 -- "Single spaces part the words": do two stand side by side?
-unfoldable pub spaces_together : List ℕ → Bool
-spaces_together [] = false
-spaces_together (b ∷ bs) = (eqb b space && eqb (first_byte bs) space) || spaces_together bs
+abbrev pub spaces_together : List ℕ → Bool
+spaces_together line = list_any (λ p. eqb p.0 space && eqb p.1 space) (zip line (drop 1 line))
 
 -- ---- numbers
 
-unfoldable pub all_digits : List ℕ → Bool
-all_digits [] = true
-all_digits (b ∷ bs) = is_digit b && all_digits bs
-
 -- "a number is decimal digits"; one at least.
-unfoldable pub some_digits : List ℕ → Bool
-some_digits [] = false
-some_digits (b ∷ bs) = all_digits (b ∷ bs)
+abbrev pub some_digits : List ℕ → Bool
+some_digits word = ltb 0 (length word) && list_all is_digit word
 
 -- "perhaps with a minus before it": here of every word, so that −1 for an id is a number outside its width.
-unfoldable pub is_number : List ℕ → Bool
+abbrev pub is_number : List ℕ → Bool
 is_number [] = false
 is_number (b ∷ bs) = if eqb b minus then some_digits bs else some_digits (b ∷ bs)
 
-unfoldable pub all_numbers : List (List ℕ) → Bool
-all_numbers [] = true
-all_numbers (w ∷ ws) = is_number w && all_numbers ws
+abbrev pub all_numbers : List (List ℕ) → Bool
+all_numbers ws = list_all is_number ws
 
 -- ---- words behind the letter
 
@@ -132,12 +125,12 @@ why line =
     else by_words (words_of line)
 
 -- By what the line says. A call is read once a hub was opened: "before an accepted `O`, prints `unread`".
-abbrev pub hint_by : Bool → Line → List ℕ → Hint
-hint_by opened (opening n k first) line = Nothing
-hint_by true (calling c) line = Nothing
-hint_by false (calling c) line = NoHub
-hint_by opened unread line = why line
+abbrev pub hint_by : Bool → Line → List ℕ → Option Hint
+hint_by opened (opening n k first) line = None
+hint_by true (calling c) line = None
+hint_by false (calling c) line = Some NoHub
+hint_by opened unread line = Some (why line)
 
 -- What is told of a line, where a hub was opened before it or not.
-unfoldable pub hint_of : Bool → List ℕ → Hint
+unfoldable pub hint_of : Bool → List ℕ → Option Hint
 hint_of opened line = hint_by opened (read_line line) line

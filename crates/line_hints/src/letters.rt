@@ -9,40 +9,21 @@ use line_rules::letters::{CANCEL, DONE, FAIL, FAILED, OPEN, RESTART, SUBMIT, TUR
 // A letter's lower case stands so far behind it.
 const LOWER_CASE: u8 = 32;
 
+#[tactic(auto, unfolding(crate::specs::Why::is_letter))]
 fn is_letter(byte: u8) -> bool
     ensures { result ≡ is_letter byte }
 {
-    if byte == OPEN {
-        return true;
-    }
-    if byte == SUBMIT {
-        return true;
-    }
-    if byte == TURN {
-        return true;
-    }
-    if byte == DONE {
-        return true;
-    }
-    if byte == FAILED {
-        return true;
-    }
-    if byte == CANCEL {
-        return true;
-    }
-    if byte == FAIL {
-        return true;
-    }
-    byte == RESTART
+    matches!(
+        byte,
+        OPEN | SUBMIT | TURN | DONE | FAILED | CANCEL | FAIL | RESTART
+    )
 }
 
+#[tactic(auto, unfolding(crate::specs::Why::is_lower))]
 fn is_lower(byte: u8) -> bool
     ensures { result ≡ is_lower byte }
 {
-    if byte < LOWER_CASE {
-        return false;
-    }
-    is_letter(byte - LOWER_CASE)
+    LOWER_CASE <= byte && is_letter(byte - LOWER_CASE)
 }
 
 // As many words as the call has.
@@ -56,6 +37,7 @@ fn by_numbers(line: &[u8]) -> Hint
 }
 
 // A call with so many words.
+#[tactic(auto, unfolding(crate::specs::Why::by_count))]
 fn by_count(line: &[u8], expected: usize) -> Hint
     ensures { result ≡ by_count expected (words_from line.now behind_letter) }
 {
@@ -70,6 +52,7 @@ fn by_count(line: &[u8], expected: usize) -> Hint
 }
 
 // Three words for each command.
+#[tactic(auto, unfolding(crate::specs::Why::by_commands))]
 fn by_commands(line: &[u8]) -> Hint
     ensures { result ≡ by_commands (words_from line.now behind_letter) }
 {
@@ -79,23 +62,16 @@ fn by_commands(line: &[u8]) -> Hint
     by_numbers(line)
 }
 
+#[tactic(auto, unfolding(crate::specs::Why::by_letter))]
 pub fn by_letter(line: &[u8], byte: u8) -> Hint
     ensures { result ≡ by_letter byte (words_from line.now behind_letter) }
 {
-    if byte == OPEN {
-        return by_count(line, 3);
+    match byte {
+        OPEN => by_count(line, 3),
+        RESTART => by_count(line, 2),
+        SUBMIT => by_commands(line),
+        _ if is_letter(byte) => by_count(line, 1),
+        _ if is_lower(byte) => Hint::LowerCase,
+        _ => Hint::NoCall,
     }
-    if byte == RESTART {
-        return by_count(line, 2);
-    }
-    if byte == SUBMIT {
-        return by_commands(line);
-    }
-    if is_letter(byte) {
-        return by_count(line, 1);
-    }
-    if is_lower(byte) {
-        return Hint::LowerCase;
-    }
-    Hint::NoCall
 }

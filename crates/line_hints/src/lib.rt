@@ -13,10 +13,9 @@ use line_read::Line;
 use line_rules::SPACE;
 use rules_routine::limits::MAX_LINE;
 
-// Why a line is unread; `Nothing` of a line that is read.
+// Why a line is unread.
 #[derive(Clone, Copy)]
 pub enum Hint {
-    Nothing,
     TooLong,
     Empty,
     CarriageReturn,
@@ -53,6 +52,7 @@ fn by_words(line: &[u8]) -> Hint
 }
 
 // Of a line that is unread, whatever hub there is.
+#[tactic(auto, unfolding(crate::specs::Why::why))]
 fn why(line: &[u8]) -> Hint
     ensures { result ≡ whyOf line.now }
 {
@@ -81,19 +81,13 @@ fn why(line: &[u8]) -> Hint
 }
 
 // What is told of a line, where a hub was opened before it or not.
-pub fn of_line(line: &[u8], opened: bool) -> Hint
+pub fn of_line(line: &[u8], opened: bool) -> Option<Hint>
     ensures { result ≡ hint_of opened line.now }
 {
-    let read = line_read::read_line(line);
-    let said = read.line;
-    let Line::Unread = said else {
-        let Line::Calling(_) = said else {
-            return Hint::Nothing;
-        };
-        if opened {
-            return Hint::Nothing;
-        }
-        return Hint::NoHub;
-    };
-    why(line)
+    match line_read::read_line(line).line {
+        Line::Open(_, _, _) => None,
+        Line::Calling(_) if opened => None,
+        Line::Calling(_) => Some(Hint::NoHub),
+        Line::Unread => Some(why(line)),
+    }
 }

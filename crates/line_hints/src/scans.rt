@@ -11,46 +11,22 @@ const LAST_PRINTABLE: u8 = 126;
 pub fn has_carriage_return(line: &[u8]) -> bool
     ensures { result ≡ has_byte carriage_return line.now }
 {
-    let mut at = 0;
-    while at < line.len() {
-        if line[at] == CARRIAGE_RETURN {
-            return true;
-        }
-        at += 1;
-    }
-    false
+    line.contains(&CARRIAGE_RETURN)
 }
 
 // A byte that is no printable character.
 pub fn has_other(line: &[u8]) -> bool
     ensures { result ≡ has_other line.now }
 {
-    let mut at = 0;
-    while at < line.len() {
-        let byte = line[at];
-        if byte < SPACE {
-            return true;
-        }
-        if LAST_PRINTABLE < byte {
-            return true;
-        }
-        at += 1;
-    }
-    false
+    line.iter()
+        .any(|byte| *byte < SPACE || LAST_PRINTABLE < *byte)
 }
 
-// Two spaces side by side: one, and the byte before it was one.
+// Two spaces side by side.
 pub fn spaces_together(line: &[u8]) -> bool
     ensures { result ≡ spaces_together line.now }
 {
-    let mut at = 1;
-    while at < line.len() {
-        if line[at - 1] == SPACE {
-            if line[at] == SPACE {
-                return true;
-            }
-        }
-        at += 1;
-    }
-    false
+    line.iter()
+        .zip(line.iter().skip(1))
+        .any(|(one, next)| *one == SPACE && *next == SPACE)
 }

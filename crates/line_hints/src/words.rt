@@ -1,10 +1,10 @@
 // The words behind a line's letter: how many there are, and whether each is a number.
 ghost use Rattle.std.specs.Prelude.{◌≡◌, length};
-ghost use Rattle.line_read.specs.Places.{behind_letter, word_at, words_from};
+ghost use Rattle.line_read.specs.Places.{behind_letter, words_from};
 ghost use Rattle.line_hints.specs.Why.{some_digits, is_number, all_numbers};
 
 use line_read::BEHIND_LETTER;
-use line_rules::{DIGIT_0, DIGIT_9, MINUS, SPACE};
+use line_rules::MINUS;
 
 pub fn count(line: &[u8]) -> usize
     ensures { result ≡ length (words_from line.now behind_letter) }
@@ -18,37 +18,21 @@ pub fn count(line: &[u8]) -> usize
     words
 }
 
-// The word that begins at a place: digits, one at least.
-fn digits_at(line: &[u8], from: usize) -> bool
-    ensures { result ≡ some_digits (word_at line.now from) }
+// Digits, one at least.
+fn some_digits(word: &[u8]) -> bool
+    ensures { result ≡ some_digits word.now }
 {
-    let mut at = from;
-    while at < line.len() {
-        let byte = line[at];
-        if byte == SPACE {
-            return from < at;
-        }
-        if byte < DIGIT_0 {
-            return false;
-        }
-        if DIGIT_9 < byte {
-            return false;
-        }
-        at += 1;
-    }
-    from < at
+    !word.is_empty() && word.iter().all(|byte| byte.is_ascii_digit())
 }
 
-// The same, perhaps with a minus before it.
-fn number_at(line: &[u8], from: usize) -> bool
-    ensures { result ≡ is_number (word_at line.now from) }
+// The same, perhaps with a minus before them.
+fn is_number(word: &[u8]) -> bool
+    ensures { result ≡ is_number word.now }
 {
-    if from < line.len() {
-        if line[from] == MINUS {
-            return digits_at(line, from + 1);
-        }
+    match word {
+        [MINUS, digits @ ..] => some_digits(digits),
+        _ => some_digits(word),
     }
-    digits_at(line, from)
 }
 
 pub fn all_numbers(line: &[u8]) -> bool
@@ -56,10 +40,11 @@ pub fn all_numbers(line: &[u8]) -> bool
 {
     let mut at = BEHIND_LETTER;
     while at <= line.len() {
-        if !number_at(line, at) {
+        let end = line_read::word_end(line, at);
+        if !is_number(&line[at..end]) {
             return false;
         }
-        at = line_read::word_end(line, at) + 1;
+        at = end + 1;
     }
     true
 }

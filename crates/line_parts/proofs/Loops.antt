@@ -1,16 +1,18 @@
 -- The loops of the code: the search for the last byte 10, and the bytes that are moved to the front. Assumes nothing.
-use mathlib.Core.Path.{◌≡◌, sym, ap, ap₂, ◌∙◌}
+use mathlib.Core.Path.{◌≡◌, sym, ap, ◌∙◌}
 use mathlib.Core.Bool.{Bool}
 use mathlib.Core.Logic.{◌≢◌, inr}
 use mathlib.Core.List.{List, [], ◌∷◌, ◌++◌}
 use Prim.Native.Nat.{ℕ, zero, suc, ◌+◌, ◌-◌, ◌<◌, ◌≤◌, min}
-use native.Mathlib.Numerals.{add-one}
 use native.Mathlib.Omega.{arith}
 use borrow.Author.Tests.{ne_eqb, ltb-true, ltb-false}
 use lib.Dec.{ltb}
-use lib.ListN.{length, take, drop, get_or, set, length-take, length-drop, take-append-drop}
-use lib.Seq.{length-take-le, take_all, take-nil, drop-length, take-suc, drop-cons}
-use lib.Seq.{drop-set-lt, take-suc-set, get_or-drop, take-take, drop-drop}
+use lib.ListN.{length, take, drop, get_or, length-take, length-drop, take-append-drop}
+use lib.Seq.{length-take-le, take_all, drop-length, take-suc, drop-cons}
+use lib.Seq.{take-take, paste}
+use Rattle.std.specs.List.{copy_within}
+use Rattle.std.proofs.lemmas.List.{drop-take}
+use Rattle.std.proofs.lemmas.List.Edits.{take-paste}
 use Rattle.rules_routine.proofs.RoutineLaws.{by_test}
 use Rattle.line_rules.specs.Text.{line_end}
 use Rattle.line_rules.specs.Pieces.{reach}
@@ -55,35 +57,6 @@ none_here bs (suc at) h clear = absurd (omega arith)
 
 -- ---- bytes moved to the front
 
--- one more
-module _ (now first : List ℕ) (from i : ℕ) (long : length now ≡ length first) (inside : from + i < length first)
-    (moved : take i now ≡ take i (drop from first)) (still : drop i now ≡ drop i first) where
-  abbrev next : List ℕ
-  next = set now i (get_or now (from + i) 0)
-
-  byte_is : get_or now (from + i) 0 ≡ get_or (drop from first) i 0
-  byte_is =
-      let e : from + i ≡ i + from = omega arith in
-      ap (λ (k : ℕ). get_or now k 0) e ∙ sym (get_or-drop i now from 0) ∙ ap (λ (l : List ℕ). get_or l from 0) still ∙ get_or-drop i first from 0
-      ∙ sym (ap (λ (k : ℕ). get_or first k 0) e) ∙ sym (get_or-drop from first i 0)
-
-  pub one_moved : take (i + 1) next ≡ take (i + 1) (drop from first)
-  one_moved =
-      let left : i < length (drop from first) = omega (arith, length-drop from first) in
-      ap (λ (k : ℕ). take k next) (add-one i) ∙ take-suc-set now i (get_or now (from + i) 0) (omega arith)
-      ∙ ap₂ (λ (l : List ℕ) (b : ℕ). l ++ b ∷ []) moved byte_is
-      ∙ sym (ap (λ (k : ℕ). take k (drop from first)) (add-one i) ∙ take-suc (drop from first) i 0 left)
-
-  pub others_still : drop (i + 1) next ≡ drop (i + 1) first
-  others_still =
-      drop-set-lt (i + 1) now i (get_or now (from + i) 0) (omega arith) ∙ sym (drop-drop 1 i now) ∙ ap (drop 1) still ∙ drop-drop 1 i first
-
-drop-taken : (n m : ℕ) (l : List ℕ) → drop n (take m l) ≡ take (m - n) (drop n l)
-drop-taken zero m l = let e : m - 0 ≡ m = omega arith in rw e
-drop-taken (suc n) zero l = let e : 0 - suc n ≡ 0 = omega arith in rw e
-drop-taken (suc n) (suc m) [] = sym (take-nil (suc m - suc n))
-drop-taken (suc n) (suc m) (b ∷ l) = let e : suc m - suc n ≡ m - n = omega arith in rw e (drop-taken n m l)
-
 take_least : (a b : ℕ) (l : List ℕ) → take a (take b l) ≡ take (min b a) l
 take_least a b l =
     by_test (λ (_ : Bool). take a (take b l) ≡ take (min b a) l) (ltb b a)
@@ -97,8 +70,18 @@ take_least a b l =
     take-take a b l h ∙ ap (λ (k : ℕ). take k l) m)
 
 -- all that are pending
-pub all_moved : (now first : List ℕ) (from filled kept i : ℕ) → kept ≡ min (filled - from) (suc max_line) → i ≡ kept →
-    take i now ≡ take i (drop from first) → take kept now ≡ cut (drop from (take filled first))
-all_moved now first from filled kept i least all moved =
-    ap (λ (k : ℕ). take k now) (sym all) ∙ moved ∙ ap (λ (k : ℕ). take k (drop from first)) (all ∙ least)
-    ∙ sym (ap cut (drop-taken from filled first) ∙ take_least (suc max_line) (filled - from) (drop from first))
+pub all_moved : (now first : List ℕ) (from filled kept : ℕ) → from ≤ filled → filled ≤ length first → kept ≡ min (filled - from) (suc max_line) →
+    now ≡ copy_within first from (from + kept) 0 → take kept now ≡ cut (drop from (take filled first))
+all_moved now first from filled kept h k least moved =
+    let behind = drop from first in
+    let n : from + kept - from ≡ 0 + kept = omega arith in
+    let m : kept ≡ 0 + kept = omega arith in
+    let whole : from + (filled - from) ≡ filled = omega arith in
+    ap (take kept) moved ∙ (λ i. take (m i) (paste first 0 behind (n i)))
+    ∙ ap (λ (j : ℕ). take (0 + kept) (paste first 0 behind j)) (sym m)
+    ∙ take-paste first 0 behind kept (omega arith) (omega (arith, length-drop from first))
+    ∙ ap (λ (j : ℕ). take j behind) least
+    ∙ sym (
+    ap (λ (j : ℕ). cut (drop from (take j first))) (sym whole) ∙ ap cut (drop-take from (filled - from) first)
+    ∙ take_least (suc max_line) (filled - from) behind
+    )

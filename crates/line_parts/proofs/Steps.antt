@@ -1,17 +1,13 @@
 -- The steps' contracts, out of what their parts give. Assumes nothing.
-use Rattle.std.proofs.Common.{Option}
+use Rattle.std.proofs.Common.{Option, None, Some}
 use mathlib.Core.Path.{◌≡◌, sym, ap, ap₂, ◌∙◌}
 use mathlib.Core.List.{List, ◌++◌}
-use Prim.Native.Nat.{ℕ, suc, ◌+◌, ◌<◌, ◌≤◌, ◌^◌}
+use Prim.Native.Nat.{ℕ, suc, ◌+◌, ◌≤◌}
 use native.Mathlib.Omega.{arith}
 use borrow.Author.Tests.{le-ltb}
-use lib.Dec.{T}
-use lib.IntN.{ℤ, pos, nat_abs}
+use lib.IntN.{ℤ, pos, negsuc, nat_abs}
 use lib.ListN.{length, take, drop, length-take}
 use lib.Seq.{take-append_seam, take-take, take-add}
-use lib.Signed.{non_neg}
-use mir.Syntax.{w64}
-use mir.Val.{Fits}
 use Rattle.rules.specs.State.{State}
 use Rattle.line_rules.specs.Pieces.{lines_of}
 use Rattle.rules_routine.specs.Limits.{max_line}
@@ -19,7 +15,7 @@ use Rattle.line_rules.specs.Program.{Printed, before, steps, run_from, length_or
 use Rattle.line_rules.specs.Claims.{cut}
 use Rattle.hub.specs.declared.Hub.{Hub}
 use Rattle.line.specs.View.{hub_in}
-use Rattle.line.specs.Contract.{Ample, Runs}
+use Rattle.line.specs.Contract.{Ample, Runs, written_as}
 use Rattle.line_parts.specs.Parts.{unended, whole_lines, after, printed_after, pending_after}
 use Rattle.line_parts.specs.Contract.{room_for, Holds, part_of, TakesPart, TakesEnd}
 use Rattle.line_parts.proofs.PartLaws.{whole_first, unended-others, whole_within, after_more, pending_more, whole_text, lines_few}
@@ -30,11 +26,18 @@ use Rattle.line_parts.proofs.PartLaws.{whole_first, unended-others, whole_within
 pub ample : (input part out : List ℕ) → length part ≤ length input → room_for (length input) ≤ length out → Ample part (length out)
 ample input part out h room = omega (arith, lines_few part)
 
-module _ {p : Printed} {input : List ℕ} {h next : Hub} {out out' : List ℕ} {result : ℤ} (r : Runs p input h next out out' result)
-    (room : Ample input (length out)) where
-  pub length-written : result ≡ pos (length p.text)
+module _ {p : Printed} {input : List ℕ} {h next : Hub} {out out' : List ℕ} {written : Option ℕ}
+    (r : Runs p input h next out out' written) (room : Ample input (length out)) where
+  pub length-written : written ≡ Some (length p.text)
   unfolding length_or21
-  length-written = r.wrote.answers ∙ rw (le-ltb (length out) (length p.text) (r.enough room))
+  length-written = go written r.wrote.answers
+    where
+      fits : length_or21 p.text (length out) ≡ pos (length p.text)
+      fits = rw (le-ltb (length out) (length p.text) (r.enough room))
+
+      go : (o : Option ℕ) → written_as o ≡ length_or21 p.text (length out) → o ≡ Some (length p.text)
+      go None e = let z : negsuc 20 ≡ pos (length p.text) = e ∙ fits in cc
+      go (Some n) e = let z : pos n ≡ pos (length p.text) = e ∙ fits in ap (λ (k : ℤ). Some (nat_abs k)) z
 
   pub hub-written : hub_in next ≡ p.hub
   unfolding hub_with
@@ -48,10 +51,6 @@ module _ {p : Printed} {input : List ℕ} {h next : Hub} {out out' : List ℕ} {
 
   pub text-within : length p.text ≤ length out'
   text-within = omega (arith, ap length text-written, length-take (length p.text) out')
-
-  -- as an unsigned number
-  pub length-fits : length out < 2 ^ 63 → T (non_neg result) × Fits w64 (nat_abs result)
-  length-fits small = rw length-written (tt, record { fits = omega (arith, r.enough room) })
 
 -- ---- a part
 
@@ -85,7 +84,7 @@ module _ (h : Hub) (pending got : ℕ) (input : List ℕ) where
     pending_is : pending_after (read ++ part) ≡ cut (unended filled)
     pending_is = pending_more read part ∙ sym (ap (λ (l : List ℕ). cut (unended l)) filled_is)
 
-  module _ {out out' input' : List ℕ} {next : Hub} {result : ℤ} (r : Runs ran (whole_lines filled) h next out out' result)
+  module _ {out out' input' : List ℕ} {next : Hub} {written : Option ℕ} (r : Runs ran (whole_lines filled) h next out out' written)
       (room : Ample (whole_lines filled) (length out)) (kept : ℕ) (within : kept ≤ length input')
       (keeps : take kept input' ≡ cut (drop (length (whole_lines filled)) filled)) where
     pub takes_part : TakesPart h pending got input input' out' (record { hub = next; pending = kept; length = length ran.text })
@@ -105,8 +104,8 @@ module _ (h : Hub) (pending got : ℕ) (input : List ℕ) where
 
 -- ---- the end
 
-module _ (h : Hub) (pending : ℕ) (input : List ℕ) {out out' : List ℕ} {next : Hub} {result : ℤ}
-    (r : Runs (run_from (hub_in h) (take pending input)) (take pending input) h next out out' result)
+module _ (h : Hub) (pending : ℕ) (input : List ℕ) {out out' : List ℕ} {next : Hub} {written : Option ℕ}
+    (r : Runs (run_from (hub_in h) (take pending input)) (take pending input) h next out out' written)
     (room : Ample (take pending input) (length out)) where
   pub takes_end : TakesEnd h pending input out' (length (run_from (hub_in h) (take pending input)).text)
   takes_end = record {

@@ -41,7 +41,8 @@ pub struct AfterPart {
     pub length: usize,
 }
 
-// A part that was read behind the pending bytes: its whole lines are run, and the rest is pending.
+// A part that was read behind the pending bytes: its whole lines are run, and the rest is pending. There is room for what they print, so
+// that there is a length.
 pub fn take_part(
     hub: Hub,
     pending: usize,
@@ -56,7 +57,7 @@ pub fn take_part(
     let whole = whole::whole_length(&input[..filled]);
     let written = line::run_part(hub, &input[..whole], out);
     let next = written.hub;
-    let length = written.result as usize;
+    let length = written.length.unwrap_or(0);
     let kept = whole::keep(input, whole, filled);
     AfterPart {
         hub: next,
@@ -71,5 +72,5 @@ pub fn take_end(hub: Hub, pending: usize, input: &[u8], out: &mut [u8]) -> usize
     ensures { TakesEnd hub pending input.now out.new result }
 {
     let written = line::run_last(hub, &input[..pending], out);
-    written.result as usize
+    written.length.unwrap_or(0)
 }

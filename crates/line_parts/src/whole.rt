@@ -6,22 +6,14 @@ ghost use Rattle.line_parts.specs.Parts.{whole_lines};
 use line_rules::LINE_END;
 use rules_routine::limits::MAX_LINE;
 
-fn least(a: usize, b: usize) -> usize
-    ensures { result ≡ min a b }
-{
-    if a < b { a } else { b }
-}
-
 // How long the whole lines are: up to the last byte 10, and that byte.
 pub fn whole_length(bytes: &[u8]) -> usize
     ensures { result ≡ length (whole_lines bytes.now) }
 {
-    let mut at = bytes.len();
-    while 0 < at {
-        if bytes[at - 1] == LINE_END {
-            return at;
+    for at in (0..bytes.len()).rev() {
+        if bytes[at] == LINE_END {
+            return at + 1;
         }
-        at -= 1;
     }
     0
 }
@@ -32,11 +24,7 @@ pub fn keep(input: &mut [u8], from: usize, filled: usize) -> usize
     ensures { (result ≤ length input.new)
         × (take result input.new ≡ cut (drop from (take filled input.old))) }
 {
-    let kept = least(filled - from, MAX_LINE + 1);
-    let mut i = 0;
-    while i < kept {
-        input[i] = input[from + i];
-        i += 1;
-    }
+    let kept = (filled - from).min(MAX_LINE + 1);
+    input.copy_within(from..from + kept, 0);
     kept
 }

@@ -8,12 +8,11 @@ use native.Mathlib.Nat.{add-zero, zero-add}
 use native.Mathlib.Numerals.{add-one}
 use native.Mathlib.Omega.{arith}
 use borrow.Author.Tests.{ltb-true}
-use lib.Dec.{T}
-use lib.IntN.{ℤ, pos, negsuc, nat_abs, ◌-ℤ◌}
+use lib.IntN.{ℤ, pos, negsuc, nat_abs}
 use lib.ListN.{length, take, drop, get_or, length-append, length-map}
 use lib.Seq.{sets, sets-eq, length-sets, take_at, take-suc, length-take-le}
-use lib.Signed.{lt_z, non_neg}
-use mir.Syntax.{w16, w64}
+use lib.Signed.{lt_z}
+use mir.Syntax.{w16}
 use mir.Val.{SFits, to_z, of_z}
 use mir.Facts.{to_z-of_z}
 use Rattle.rules_routine.proofs.RoutineLaws.{sets_append}
@@ -24,7 +23,6 @@ use Rattle.hub_answers.specs.declared.Answer.TheVariants.{Aborted}
 use Rattle.hub_answers.specs.declared.PutBack.{PutBack}
 use Rattle.hub_answers.specs.declared.PutBacks.{PutBacks}
 use Rattle.line_rules.specs.Text.{minus, bytes, decimal, signed}
-use Rattle.line_rules.specs.Reading.{lowest16}
 use Rattle.line_rules.specs.Printing.{as_line, back_list, answer_text, answers_text}
 use Rattle.line_print.specs.Put.{half_text, max_text, Put, PutShort}
 use Rattle.line_print.specs.Texts.{PutBacksOnce, line_of, lines_from}
@@ -79,9 +77,6 @@ module _ {most : ℕ} {before after : List ℕ} {end : ℕ} {text : List ℕ} (p
       ap (take end) (p.put.is ∙ sets-eq text before 0 (omega (arith, p.short)))
       ∙ take_at text (drop (0 + length text) before) end (sym end_is)
 
-  pub end_fits : most ≤ length before → end ≤ length after
-  end_fits fits = omega (arith, p.short, end_is, same-room)
-
   -- and so it is put where it is copied to
   pub copied : {out out' : List ℕ} {at at' : ℕ} → most ≤ length before → Put out out' at at' (take end after) →
       PutShort most out out' at at' text
@@ -129,14 +124,6 @@ answers-append (a ∷ k) l =
 
 -- ---- the answers of an abort
 
--- there is one
-pub put_neither : {first : (Option ℕ)} (answer : Answer) (backs : PutBacks) {P : Type 0} → first ≡ None →
-    PutBacksOnce first answer (put_backs_of backs) →
-    ((i : ℕ) → answer ≡ Aborted i → ⊥) → P
-put_neither answer backs e k h =
-    let own = subst (λ (f : Option ℕ). PutBacksOnce f answer (put_backs_of backs)) e k in
-    absurd (h own.0 own.1)
-
 module _ {first : (Option ℕ)} (answer : Answer) (backs : PutBacks) {a b : List ℕ} {at m : ℕ} where
   -- the call's own
   pub put_own : (i : ℕ) → first ≡ None → answer ≡ Aborted i →
@@ -176,31 +163,12 @@ lines_more t d (suc n) =
 pub lines_next : (t : Devices) (n : ℕ) → lines_from t 0 (n + 1) ≡ lines_from t 0 n ++ line_of t n
 lines_next t n = ap (lines_from t 0) (add-one n) ∙ lines_more t 0 n ∙ ap (λ (k : ℕ). lines_from t 0 n ++ line_of t k) (zero-add n)
 
--- ---- a setting's size, as the code has it
-
--- a setting of 16 bits is one of 64
-pub wider : (v : ℤ) → SFits w16 v → SFits w64 v
-wider v h = record { sfits = omega (arith, h.sfits) }
+-- ---- a setting, as the code has it
 
 pub kept : (v : ℤ) → SFits w16 v → to_z w16 (of_z w16 v) ≡ v
 kept v h = to_z-of_z h
 
-pub size_fits : (v : ℤ) → SFits w16 v → nat_abs v ≤ lowest16
-size_fits (pos n) h = omega (arith, h.sfits)
-size_fits (negsuc n) h = omega (arith, h.sfits)
-
--- below 0 the size is 0 less the setting, and a minus stands before it
-pub less : (v : ℤ) → SFits w16 v → lt_z v (pos 0) ≡ true → pos 0 -ℤ to_z w64 (of_z w64 (to_z w16 (of_z w16 v))) ≡ pos (nat_abs v)
-less v h t = ap (λ (u : ℤ). pos 0 -ℤ to_z w64 (of_z w64 u)) (kept v h) ∙ ap (λ (u : ℤ). pos 0 -ℤ u) (to_z-of_z (wider v h)) ∙ negated v t
-  where
-    negated : (u : ℤ) → lt_z u (pos 0) ≡ true → pos 0 -ℤ u ≡ pos (nat_abs u)
-    negated (pos n) e = absurd (omega (arith, ltb-true n 0 e))
-    negated (negsuc n) e = ap pos (omega arith)
-
-pub size_below : (v : ℤ) → SFits w16 v → lt_z v (pos 0) ≡ true →
-    to_z w64 (of_z w64 (pos 0 -ℤ to_z w64 (of_z w64 (to_z w16 (of_z w16 v))))) ≡ pos (nat_abs v)
-size_below v h t = ap (λ (u : ℤ). to_z w64 (of_z w64 u)) (less v h t) ∙ to_z-of_z {w = w64} (record { sfits = omega (arith, size_fits v h) })
-
+-- below 0 a minus stands before its size
 pub signed_below : (v : ℤ) → lt_z v (pos 0) ≡ true → signed v ≡ minus ∷ decimal (nat_abs v)
 unfolding signed
 signed_below (pos n) h = absurd (omega (arith, ltb-true n 0 h))
@@ -210,7 +178,3 @@ pub signed_above : (v : ℤ) → lt_z v (pos 0) ≡ false → signed v ≡ decim
 unfolding signed
 signed_above (pos n) h = refl
 signed_above (negsuc n) h = let z : ◌≡◌ {A = ℕ} 0 1 = cc in absurd (omega arith)
-
-pub not_below : (v : ℤ) → lt_z v (pos 0) ≡ false → T (non_neg v)
-not_below (pos n) h = tt
-not_below (negsuc n) h = let z : ◌≡◌ {A = ℕ} 0 1 = cc in absurd (omega arith)

@@ -1,7 +1,7 @@
 -- Bytes stored in turn: copied from a text, and the digits of a number from the last to the first. Assumes nothing.
 use mathlib.Core.Path.{◌≡◌, refl, sym, ap, ap₂, ◌∙◌}
 use mathlib.Core.Bool.{Bool}
-use mathlib.Core.List.{List, [], ◌∷◌, ◌++◌}
+use mathlib.Core.List.{List, [], ◌∷◌, ◌++◌, append_assoc}
 use Prim.Native.Nat.{ℕ, zero, suc, ◌+◌, ◌-◌, ◌/◌, ◌%◌, ◌^◌, ◌≤◌, ◌<◌, min}
 use native.Mathlib.Nat.{pow-suc, one-le-pow}
 use native.Mathlib.Numerals.{add-one}
@@ -9,7 +9,7 @@ use native.Mathlib.Omega.{arith}
 use borrow.Author.Tests.{ltb-true, ltb-false}
 use lib.Dec.{ltb}
 use lib.ListN.{length, take, drop, get_or, set, length-append, take-append-drop}
-use lib.Seq.{sets, set_comm, set_out, take-suc, take_all, length-take-le, length-sets}
+use lib.Seq.{sets, set_comm, set_out, take-suc, take_all, length-take-le, length-sets, sets-eq, drop-drop}
 use Rattle.rules_routine.proofs.RoutineLaws.{by_test, sets_append}
 use Rattle.line_rules.specs.Text.{digit0, decimal}
 use Rattle.line_rules.proofs.TextLaws.{decimal_small, decimal_large}
@@ -40,6 +40,15 @@ copied_next t l m at i h e =
     ∙ sym (sets_append (take i t) b l at)
     ∙ ap (λ (k : List ℕ). sets l at k) (sym (take-suc t i 0 h))
     ∙ ap (λ (j : ℕ). sets l at (take j t)) (sym (add-one i))
+
+-- as it stands behind a copy into a part of what was there
+pub pasted : (l part t : List ℕ) (at k : ℕ) → at + length t ≤ length l → k ≡ length t → part ≡ t →
+    take at l ++ (part ++ drop k (drop at l)) ≡ sets l at t
+pasted l part t at k h e f =
+    ap₂ (λ (p : List ℕ) (j : ℕ). take at l ++ (p ++ drop j (drop at l))) f e
+    ∙ ap (λ (d : List ℕ). take at l ++ (t ++ d)) (drop-drop (length t) at l)
+    ∙ sym (append_assoc (take at l) t (drop (at + length t) l))
+    ∙ sym (sets-eq t l at h)
 
 -- what has no room changes nothing
 pub copied_all : (t l : List ℕ) (at k : ℕ) → k ≡ min (length t) (length l - at) → sets l at (take k t) ≡ sets l at t

@@ -6,7 +6,7 @@
 mod text;
 mod words;
 
-ghost use Rattle.std.specs.Prelude.{◌≡◌, ◌+◌, ◌-◌, ◌<◌, ◌≤◌, ◌^◌, min, length};
+ghost use Rattle.std.specs.Prelude.{◌+◌, ◌-◌, ◌<◌, ◌≤◌, ◌^◌, length};
 ghost use Rattle.rules_routine.specs.Limits.{max_devices};
 ghost use Rattle.rules.specs.Answers.{aborted};
 ghost use Rattle.line_rules.specs.Text.{bytes};
@@ -16,8 +16,8 @@ ghost use Rattle.line_print.specs.Put.{half_text, max_text, max_device_line, max
 ghost use Rattle.line_print.specs.Texts.{opening_text, PutBacksOnce, devices_text};
 
 use hub_answers::{Answer, PutBack, PutBacks};
-use rules_routine::limits::MAX_DEVICES;
 use rules_routine::Refusal;
+use rules_routine::limits::MAX_DEVICES;
 
 // The answers of a line are not longer: the size of the buffer that they are put into.
 pub const MAX_TEXT: usize = 800;
@@ -114,30 +114,14 @@ fn put_device(out: &mut [u8], at: usize, device: u8, up: bool, due: i16) -> usiz
     text::put_word(out, named, b" down\n")
 }
 
-// How many of the bytes have room from a place on.
-fn fitting(room: usize, at: usize, count: usize) -> usize
-    ensures { result ≡ min count (room - at) }
-{
-    if room <= at {
-        return 0;
-    }
-    let left = room - at;
-    if left < count {
-        return left;
-    }
-    count
-}
-
 // A text copied as far as there is room; the rest is counted and not put.
 pub fn put_text(out: &mut [u8], at: usize, text: &[u8]) -> usize
     requires { at + length text.now < 2 ^ 64 }
     ensures { Put out.old out.new at result text.now }
 {
-    let fit = fitting(out.len(), at, text.len());
-    let mut i = 0;
-    while i < fit {
-        out[at + i] = text[i];
-        i += 1;
+    if at < out.len() {
+        let fit = text.len().min(out.len() - at);
+        out[at..at + fit].copy_from_slice(&text[..fit]);
     }
     at + text.len()
 }
@@ -155,17 +139,12 @@ pub fn put_devices(out: &mut [u8], at: usize, devices: Devices) -> usize
     requires { (devices.count ≤ max_devices) × (at + max_end < 2 ^ 64) }
     ensures { PutShort max_end out.old out.new at result (devices_text devices) }
 {
-    let count = devices.count;
     let mut text = [0u8; MAX_DEVICE_LINE];
     let mut to = at;
-    let mut device: u8 = 0;
-    while device < count {
+    for device in 0..devices.count {
         let d = device as usize;
-        let up = devices.up[d];
-        let due = devices.due[d];
-        let end = put_device(&mut text, 0, device, up, due);
+        let end = put_device(&mut text, 0, device, devices.up[d], devices.due[d]);
         to = put_text(out, to, &text[..end]);
-        device += 1;
     }
     to
 }

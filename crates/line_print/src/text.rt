@@ -3,9 +3,7 @@ ghost use Rattle.std.specs.Prelude.{◌≡◌, [], ◌∷◌, ◌++◌, ◌+◌,
 ghost use Rattle.line_rules.specs.Text.{line_end, decimal, signed};
 ghost use Rattle.line_print.specs.Put.{max_digits, max_setting, Put, PutShort};
 
-use line_rules::{LINE_END, MINUS};
-
-const DIGIT_0: u64 = 48;
+use line_rules::{DIGIT_0, LINE_END, MINUS};
 
 pub fn put_byte(out: &mut [u8], at: usize, byte: u8) -> usize
     requires { at + 1 ≤ length out.old }
@@ -27,12 +25,11 @@ pub fn put_word(out: &mut [u8], at: usize, word: &[u8]) -> usize
     requires { at + length word.now ≤ length out.old }
     ensures { Put out.old out.new at result word.now }
 {
-    let mut i = 0;
-    while i < word.len() {
+    // Words are short: byte by byte takes fewer instructions than `copy_from_slice`.
+    for i in 0..word.len() {
         out[at + i] = word[i];
-        i += 1;
     }
-    at + i
+    at + word.len()
 }
 
 // How many decimal digits a number has. A power of ten that is at most a tenth of it can be taken ten times: it does not overflow.
@@ -55,11 +52,9 @@ fn put_digits(out: &mut [u8], at: usize, end: usize, n: u64) -> usize
     ensures { Put out.old out.new at result (decimal n) }
 {
     let mut left = n;
-    let mut k = end;
-    while at < k {
-        k -= 1;
-        out[k] = (DIGIT_0 + left % 10) as u8;
-        left = left / 10;
+    for k in (at..end).rev() {
+        out[k] = DIGIT_0 + (left % 10) as u8;
+        left /= 10;
     }
     end
 }
@@ -70,7 +65,7 @@ pub fn put_number(out: &mut [u8], at: usize, n: u64) -> usize
     ensures { Put out.old out.new at result (decimal n) }
 {
     if n < 10 {
-        return put_byte(out, at, (DIGIT_0 + n) as u8);
+        return put_byte(out, at, DIGIT_0 + n as u8);
     }
     let end = at + digits_of(n);
     put_digits(out, at, end, n)
@@ -83,10 +78,10 @@ pub fn put_setting(out: &mut [u8], at: usize, setting: i16) -> usize
 {
     if setting < 0 {
         let from = put_byte(out, at, MINUS);
-        let size = 0 - (setting as i64);
-        return put_number(out, from, size as u64);
+        let size = setting.unsigned_abs() as u64;
+        return put_number(out, from, size);
     }
-    put_number(out, at, setting as u64)
+    put_number(out, at, setting.unsigned_abs() as u64)
 }
 
 // A word and a number.

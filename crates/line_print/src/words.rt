@@ -39,11 +39,8 @@ fn put_backs(out: &mut [u8], at: usize, backs: PutBacks) -> usize
 {
     let count = backs.count;
     let mut to = put_one(out, at, b" back ", count as u64);
-    let mut i = 0;
-    while i < count {
-        let back = backs.items[i];
-        to = put_back(out, to, back);
-        i += 1;
+    for i in 0..count {
+        to = put_back(out, to, backs.items[i]);
     }
     to
 }
@@ -118,6 +115,7 @@ fn put_short_abort(out: &mut [u8], at: usize, id: u32, back: Option<PutBack>) ->
 }
 
 // An answer, without its line's end.
+#[tactic(auto, using(crate::proofs::PutLaws::within), unfolding(line_rules::specs::Printing::answer_text))]
 pub fn put_words(out: &mut [u8], at: usize, answer: Answer, back: Option<PutBack>) -> usize
     requires { at + half_text ≤ length out.old }
     ensures { PutShort max_answer out.old out.new at result (answer_text (answer_of answer (one_of back))) }

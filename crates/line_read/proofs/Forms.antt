@@ -21,7 +21,7 @@ use Rattle.line_rules.specs.Text.{space, same}
 use Rattle.line_rules.specs.Pieces.{words_of}
 use Rattle.rules_routine.specs.Limits.{max_line}
 use Rattle.line_rules.specs.Reading.{Line as Said, opening, calling, unread, highest8, highest32, number_up_to, setting}
-use Rattle.line_rules.specs.Reading.{opening_with, opening_line, command_before, commands, submit_line, submit_with, call_with, one_number}
+use Rattle.line_rules.specs.Reading.{opening_with, opening_line, command_before, commands, submit_line, call_with, one_number}
 use Rattle.line_rules.specs.Reading.{restart_with, restart_line, line_with, line_by, read_line}
 use Rattle.line_read.specs.Places.{behind_letter, word_at, word_end, words_from, command_behind}
 use Rattle.line_read.specs.declared.Call.TheVariants.{Submit}
@@ -204,13 +204,6 @@ module _ (line : List ℕ) (at : ℕ) where
 abbrev pub submit_from : Routine → Option (List Command) → LineRead
 submit_from r None = read_as unread
 submit_from r (Some cs) = record { line = Calling Submit; routine = together r cs }
-
-pub submit_all : (ws : List (List ℕ)) → submit_from no_routine (commands ws) ≡ read_as (submit_line ws)
-submit_all ws = go (commands ws)
-  where
-    go : (o : Option (List Command)) → submit_from no_routine o ≡ read_as (submit_with o)
-    go None = refl
-    go (Some cs) = refl
 
 pub submit-more : (r : Routine) (c : Command) (o : Option (List Command)) →
     submit_from r (command_behind c o) ≡ submit_from (with_command r c) o

@@ -4,16 +4,14 @@ use mathlib.Core.Path.{◌≡◌, refl, sym, ap, ◌∙◌}
 use mathlib.Core.Logic.{◌≢◌, ◌⊎◌, inl, inr}
 use mathlib.Core.Bool.{Bool, true, false}
 use mathlib.Core.List.{List, [], ◌∷◌}
-use Prim.Native.Nat.{ℕ, zero, suc, ◌+◌, ◌-◌, ◌*◌, ◌≤◌, ◌<◌}
+use Prim.Native.Nat.{ℕ, suc, ◌+◌, ◌-◌, ◌*◌, ◌≤◌, ◌<◌}
 use native.Mathlib.Numerals.{add-one}
 use native.Mathlib.Omega.{arith}
 use borrow.Author.Tests.{ltb-true, ltb-false, lt-ltb, le-ltb, le-leb, lt-leb, leb-true, leb-false, eqb-true, eqb-false, eq-eqb, ne_eqb}
 use lib.Dec.{ltb, leb, eqb}
-use lib.IntN.{ℤ, pos, negsuc, ◌-ℤ◌, +ℤ_idl}
+use lib.IntN.{ℤ, pos}
 use lib.ListN.{length, take, drop, get_or, length-drop, drop_of_length-le}
 use lib.Seq.{drop-cons, take_all, length-take-le}
-use mir.Syntax.{w16}
-use mir.Val.{SFits}
 use Rattle.std.specs.Prelude.{if◌then◌else◌}
 use Rattle.rules_routine.proofs.RoutineLaws.{by_test}
 use Rattle.line_rules.specs.Text.{space, minus, digit0}
@@ -276,15 +274,6 @@ module _ (line : List ℕ) (from : ℕ) where
   pub setting_plain : (from < length line → get_or line from 0 ≢ minus) → setting_at line from ≡ plain_held (number_at highest16 line from)
   unfolding setting_at number_at
   setting_plain n = rw (plain_word n) (plain-held (number_up_to highest16 (word_at line from)) (word_end line from))
-
--- a number with a minus before it
-pub minus_sub : (n : ℕ) → pos 0 -ℤ pos n ≡ minus_of n
-minus_sub zero = refl
-minus_sub (suc n) = +ℤ_idl (negsuc n)
-
-pub minus-fits : (n : ℕ) → n ≤ lowest16 → SFits w16 (minus_of n)
-minus-fits zero h = record { sfits = omega arith }
-minus-fits (suc n) h = record { sfits = omega arith }
 
 -- ---- what a thing looked for in the word at a place tells of the words from there on
 

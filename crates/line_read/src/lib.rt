@@ -53,6 +53,7 @@ pub fn line_end(input: &[u8], from: usize) -> usize
 }
 
 // Where the word that begins at a place of a line ends: at the next space, or at the end of the line.
+#[tactic(auto, unfolding(crate::specs::Places::word_end))]
 pub fn word_end(line: &[u8], from: usize) -> usize
     ensures { result ≡ word_end line.now from }
 {

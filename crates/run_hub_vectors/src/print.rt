@@ -2,7 +2,7 @@
 ghost use Rattle.hub.specs.Valid.{Valid};
 
 use hub::{Hub, Outcome};
-use hub_answers::{Answer, EventAbort, Placed, PutBacks, Sent};
+use hub_answers::{Answer, Placed, PutBacks, Sent};
 use rules_routine::limits::MAX_DEVICES;
 use run_book_print::{print_number, print_refusal, print_setting};
 use std::io;
@@ -11,15 +11,9 @@ use std::io;
 fn print_backs(rt: &impl Print, backs: PutBacks) -> io::Result<()> {
     let count = backs.count;
     print!(rt; " back {count}")?;
-    let mut i = 0;
-    while i < count {
-        if i < MAX_DEVICES {
-            let back = backs.items[i];
-            print_number(rt, back.device as u64)?;
-            let setting = back.setting;
-            print_setting(rt, setting)?;
-        }
-        i += 1;
+    for back in backs.items.iter().take(count) {
+        print_number(rt, u64::from(back.device))?;
+        print_setting(rt, back.setting)?;
     }
     Ok(())
 }
@@ -77,9 +71,8 @@ fn print_answer(rt: &impl Print, answer: Answer, backs: PutBacks) -> io::Result<
 pub fn print_outcome(rt: &impl Print, outcome: Outcome) -> io::Result<()> {
     let backs = outcome.put_backs;
     let first = outcome.first;
-    match first {
-        EventAbort::NoAbort => {}
-        EventAbort::Abort(id) => print_aborted(rt, id, backs)?,
+    if let Some(id) = first {
+        print_aborted(rt, id, backs)?;
     }
     let answer = outcome.answer;
     print_answer(rt, answer, backs)
@@ -98,17 +91,9 @@ pub fn print_devices(rt: &impl Print, hub: Hub) -> io::Result<()>
     requires { Valid hub }
 {
     let mut table = [0i16; MAX_DEVICES];
-    hub::due_settings(hub, &mut table);
-    let count = hub::device_count(hub);
-    let mut device: u8 = 0;
-    while device < count {
-        let d = device as usize;
-        if d < MAX_DEVICES {
-            let due = table[d];
-            let up = hub::is_up(hub, device);
-            print_device(rt, device, up, due)?;
-        }
-        device += 1;
+    let _ = hub::due_settings(hub, &mut table);
+    for (device, due) in (0..hub::device_count(hub)).zip(&table) {
+        print_device(rt, device, hub::is_up(hub, device), *due)?;
     }
     Ok(())
 }

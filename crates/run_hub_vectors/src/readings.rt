@@ -2,7 +2,6 @@
 ghost use Rattle.hub.specs.Valid.{Valid};
 
 use hub::Hub;
-use rules_routine::Verdict;
 use run_book_print::{print_refusal, print_setting};
 use std::io;
 
@@ -24,26 +23,19 @@ fn print_settings(rt: &impl Print, list: &[i16]) -> io::Result<()> {
     Ok(())
 }
 
-fn print_verdict(rt: &impl Print, verdict: Verdict) -> io::Result<()> {
-    if let Verdict::Refused(refusal) = verdict {
-        print_refusal(rt, refusal)?;
-        println!(rt)?;
-    }
-    Ok(())
-}
-
 // Lends the first entries of a list that holds the same number everywhere. Prints the refusal, if there is one, and then the whole list,
 // what was not lent of it included.
 pub fn print_list(rt: &impl Print, hub: Hub, lent: u8, before: i16) -> io::Result<()>
     requires { Valid hub }
 {
     let mut list = [before; ROOM];
-    let end = lent as usize;
-    if ROOM < end {
+    let Some(part) = list.get_mut(..usize::from(lent)) else {
         return Ok(());
+    };
+    if let Err(refusal) = hub::due_settings(hub, part) {
+        print_refusal(rt, refusal)?;
+        println!(rt)?;
     }
-    let verdict = hub::due_settings(hub, &mut list[..end]);
-    print_verdict(rt, verdict)?;
     print!(rt; "list")?;
     print_settings(rt, &list)?;
     println!(rt)

@@ -2,71 +2,53 @@
 // crate `line_parts` takes it, and what it prints is written before the next is read.
 #![tactic(auto)]
 
-ghost use Rattle.std.specs.Prelude.{suc, ◌<◌, ◌≤◌, length};
+ghost use Rattle.std.specs.Prelude.{suc, ◌<◌, ◌≤◌, length, IfSome};
 ghost use Rattle.rules_routine.specs.Limits.{max_line};
 ghost use Rattle.line_parts.specs.Contract.{room_for, Reached, Adds};
 
 use hub::Hub;
+use std::io;
 
-// How far the reading came: the hub, how many bytes are pending of a line whose end has not come, and whether all went well.
+// How far the reading came: the hub, and how many bytes are pending of a line whose end has not come.
 #[derive(Clone, Copy)]
 struct Read {
     hub: Hub,
     pending: usize,
-    good: bool,
 }
 
 // Writes what a part, or the end of the input, adds to what is printed.
-fn print(rt: &(impl Print + Eprint), text: &[u8]) -> bool
+fn print(rt: &(impl Print + Eprint), text: &[u8]) -> io::Result<()>
     requires { Adds text.now }
 {
     run_streams::write_out(rt, b"plot_hub", text)
 }
 
-// Part by part to the end of the input. Nothing says that an input ends, so the loop counts its turns down.
-fn read_all(rt: &(impl Input + Print + Eprint), input: &mut [u8], out: &mut [u8]) -> Read
+// Part by part to the end of the input; none where it cannot be read, or what it prints not written. Nothing says that an input ends, so
+// the loop counts its turns.
+fn read_all(rt: &(impl Input + Print + Eprint), input: &mut [u8], out: &mut [u8]) -> Option<Read>
     requires { (suc max_line < length input.old) × (room_for (length input.old) ≤ length out.old) }
-    ensures { Reached result.hub result.pending input.new }
+    ensures { IfSome result (λ read. Reached read.hub read.pending input.new) }
 {
     let mut hub = line::no_hub();
     let mut pending = 0usize;
-    let mut turns = u64::MAX;
-    while turns > 0 {
-        let got = run_streams::read_behind(rt, b"plot_hub", input, pending);
-        if got.count == 0 {
-            return Read {
-                hub,
-                pending,
-                good: got.good,
-            };
+    for _ in 0..u64::MAX {
+        let count = run_streams::read_behind(rt, b"plot_hub", input, pending).ok()?;
+        if count == 0 {
+            return Some(Read { hub, pending });
         }
-        let step = line_parts::take_part(hub, pending, got.count, input, out);
+        let step = line_parts::take_part(hub, pending, count, input, out);
         hub = step.hub;
         pending = step.pending;
-        let length = step.length;
-        if !print(rt, &out[..length]) {
-            return Read {
-                hub,
-                pending,
-                good: false,
-            };
-        }
-        turns -= 1;
+        print(rt, &out[..step.length]).ok()?;
     }
-    Read {
-        hub,
-        pending,
-        good: false,
-    }
+    None
 }
 
 fn main(rt: HostRuntime) {
     let mut input = line_parts::input_buffer();
     let mut out = line_parts::out_buffer();
-    let read = read_all(&rt, &mut input, &mut out);
-    if read.good {
-        let hub = read.hub;
-        let length = line_parts::take_end(hub, read.pending, &input, &mut out);
-        print(&rt, &out[..length]);
+    if let Some(read) = read_all(&rt, &mut input, &mut out) {
+        let length = line_parts::take_end(read.hub, read.pending, &input, &mut out);
+        let _ = print(&rt, &out[..length]);
     }
 }

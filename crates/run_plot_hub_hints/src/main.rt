@@ -8,7 +8,6 @@ ghost use Rattle.std.specs.Prelude.{◌+◌, ◌<◌, ◌≤◌, length};
 ghost use Rattle.hub.specs.Valid.{Valid};
 
 use hub::Hub;
-use line_hints::Hint;
 use line_print::MAX_TEXT;
 
 // What a line prints, and room to spare, with which it is not measured first.
@@ -63,8 +62,7 @@ fn take_line(rt: &impl Print, tally: Tally, line: &[u8], out: &mut [u8]) -> Tall
     let hub = tally.hub;
     let number = one_more(tally.lines);
     let opened = 0 < hub::device_count(hub);
-    let hint = line_hints::of_line(line, opened);
-    let Hint::Nothing = hint else {
+    if let Some(hint) = line_hints::of_line(line, opened) {
         let written = said::say(rt, number, hint).is_ok();
         return Tally {
             hub,
@@ -73,7 +71,7 @@ fn take_line(rt: &impl Print, tally: Tally, line: &[u8], out: &mut [u8]) -> Tall
             refused: tally.refused,
             good: tally.good && written,
         };
-    };
+    }
     let counted = Tally {
         hub,
         lines: number,

@@ -5,7 +5,6 @@ use std::io;
 
 fn put_reason(rt: &impl Print, hint: Hint) -> io::Result<()> {
     match hint {
-        Hint::Nothing => Ok(()),
         Hint::TooLong => println!(rt; "longer than {MAX_LINE} bytes"),
         Hint::Empty => println!(rt; "an empty line"),
         Hint::CarriageReturn => println!(rt; "a carriage return"),

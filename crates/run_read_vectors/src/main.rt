@@ -6,20 +6,8 @@ mod again;
 
 use std::io;
 
-fn run_all(rt: &impl Print, all: &[u8]) -> io::Result<()> {
-    let mut at = 0;
-    while at < all.len() {
-        let record = run_records::part_at(all, at);
-        let from = record.from;
-        let to = record.to;
-        again::read_again(rt, &all[from..to])?;
-        at = to;
-    }
-    Ok(())
-}
-
 fn main(rt: HostRuntime) -> io::Result<()> {
     let mut buffer = run_records::room();
     let n = run_records::load(&rt, &mut buffer);
-    run_all(&rt, &buffer[..n])
+    run_records::each(&buffer[..n], |record| again::read_again(&rt, record))
 }

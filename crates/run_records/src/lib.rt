@@ -2,55 +2,45 @@
 #![tactic(auto)]
 
 ghost use Rattle.std.specs.Prelude.{◌≡◌, ◌≤◌, ◌<◌, length};
-ghost use Rattle.run_records.specs.Within.{Within};
 
+use std::io;
 use std::io::Read;
-
-// A part of a slice: from a place up to, not including, another.
-#[derive(Clone, Copy)]
-pub struct Part {
-    pub from: usize,
-    pub to: usize,
-}
 
 // The byte at a place, 0 past the end.
 pub fn byte_at(bytes: &[u8], at: usize) -> usize
     ensures { result < 256 }
 {
-    if at < bytes.len() {
-        bytes[at] as usize
-    } else {
-        0
-    }
+    usize::from(bytes.get(at).copied().unwrap_or(0))
 }
 
 // The number of two bytes at a place.
 pub fn number_at(bytes: &[u8], at: usize) -> usize
     ensures { result < 65536 }
 {
-    if bytes.len() <= at {
-        return 0;
-    }
-    byte_at(bytes, at) + 256 * byte_at(bytes, at + 1)
+    byte_at(bytes, at) + 256 * byte_at(bytes, at.saturating_add(1))
 }
 
-// The part behind the length that stands at a place, cut off where the slice ends.
-pub fn part_at(bytes: &[u8], at: usize) -> Part
-    ensures { Within bytes.now at result.from result.to }
+// The part behind the length that stands first, cut off where the slice ends; and what is behind the part.
+pub fn part(bytes: &[u8]) -> (&[u8], &[u8])
+    ensures { 0 < length bytes.now → length result.1.now < length bytes.now }
 {
-    let end = bytes.len();
-    if end <= at {
-        return Part { from: end, to: end };
+    let Some((size, behind)) = bytes.split_at_checked(2) else {
+        return (&[], &[]);
+    };
+    behind.split_at(number_at(size, 0).min(behind.len()))
+}
+
+// Each record of a row in turn, up to the first for which the function fails.
+pub fn each<F: FnMut(&[u8]) -> io::Result<()>>(all: &[u8], mut run: F) -> io::Result<()>
+    requires { F.IsAlwaysCallable run }
+{
+    let mut rest = all;
+    while !rest.is_empty() {
+        let (record, behind) = part(rest);
+        run(record)?;
+        rest = behind;
     }
-    if end - at < 2 {
-        return Part { from: end, to: end };
-    }
-    let from = at + 2;
-    let n = number_at(bytes, at);
-    if end - from < n {
-        return Part { from, to: end };
-    }
-    Part { from, to: from + n }
+    Ok(())
 }
 
 // Room for the records of one run. The `ensures` keeps the array shut: only its length is known.

@@ -30,21 +30,9 @@ fn run_sitting(rt: &impl Print, sitting: &[u8], out: &mut [u8]) -> io::Result<()
     println!(rt; "end")
 }
 
-fn run_all(rt: &impl Print, all: &[u8], out: &mut [u8]) -> io::Result<()> {
-    let mut at = 0;
-    while at < all.len() {
-        let record = run_records::part_at(all, at);
-        let from = record.from;
-        let to = record.to;
-        run_sitting(rt, &all[from..to], out)?;
-        at = to;
-    }
-    Ok(())
-}
-
 fn main(rt: HostRuntime) -> io::Result<()> {
     let mut buffer = run_records::room();
     let n = run_records::load(&rt, &mut buffer);
     let mut out = key_room();
-    run_all(&rt, &buffer[..n], &mut out)
+    run_records::each(&buffer[..n], |sitting| run_sitting(&rt, sitting, &mut out))
 }

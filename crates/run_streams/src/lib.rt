@@ -2,8 +2,9 @@
 // it could not do.
 #![tactic(auto)]
 
-ghost use Rattle.std.specs.Prelude.{◌+◌, ◌≤◌, ◌≡◌, length, take};
+ghost use Rattle.std.specs.Prelude.{◌+◌, ◌≤◌, ◌≡◌, length, take, IfOk};
 
+use std::io;
 use std::io::Read;
 
 // What cannot be said on standard error is not said; nor is a name that is no text, which standard error does not take.
@@ -16,62 +17,45 @@ pub fn say_not_written(rt: &impl Eprint, program: &[u8]) {
     say(rt, program, "standard output cannot be written");
 }
 
-// How many bytes were read, 0 at the end of the input, and whether they could be read.
-#[derive(Clone, Copy)]
-pub struct Got {
-    pub count: usize,
-    pub good: bool,
-}
-
-// Reads into the input behind the pending bytes, which stay.
+// Reads into the input behind the pending bytes, which stay, also where it cannot be read. How many bytes were read, 0 at the end of the
+// input.
 pub fn read_behind(
     rt: &(impl Input + Eprint),
     program: &[u8],
     input: &mut [u8],
     pending: usize,
-) -> Got
+) -> io::Result<usize>
     requires { pending ≤ length input.old }
-    ensures { (pending + result.count ≤ length input.old)
-        × (take pending input.new ≡ take pending input.old) }
+    ensures inside { IfOk result (λ count. pending + count ≤ length input.old) }
+    ensures still { take pending input.new ≡ take pending input.old }
 {
-    match rt.reader().read(&mut input[pending..]) {
-        Ok(count) => Got { count, good: true },
-        Err(_) => {
-            say(rt, program, "standard input cannot be read");
-            Got {
-                count: 0,
-                good: false,
-            }
-        }
+    let got = rt.reader().read(&mut input[pending..]);
+    if got.is_err() {
+        say(rt, program, "standard input cannot be read");
     }
+    got
 }
 
-// Reads until the buffer is full or the input ends: how many bytes, and whether they could be read.
-pub fn read_full(rt: &(impl Input + Eprint), program: &[u8], input: &mut [u8]) -> Got
-    ensures { result.count ≤ length input.old }
+// Reads until the buffer is full or the input ends: how many bytes.
+pub fn read_full(rt: &(impl Input + Eprint), program: &[u8], input: &mut [u8]) -> io::Result<usize>
+    ensures { IfOk result (λ count. count ≤ length input.old) }
 {
     let mut filled = 0;
     while filled < input.len() {
-        let got = read_behind(rt, program, input, filled);
-        filled += got.count;
-        if got.count == 0 {
-            return Got {
-                count: filled,
-                good: got.good,
-            };
+        let count = read_behind(rt, program, input, filled)?;
+        if count == 0 {
+            return Ok(filled);
         }
+        filled += count;
     }
-    Got {
-        count: filled,
-        good: true,
-    }
+    Ok(filled)
 }
 
-// Whether all of a text could be written.
-pub fn write_out(rt: &(impl Print + Eprint), program: &[u8], text: &[u8]) -> bool {
-    let good = rt.write_all(text).is_ok();
-    if !good {
+// Writes a text.
+pub fn write_out(rt: &(impl Print + Eprint), program: &[u8], text: &[u8]) -> io::Result<()> {
+    let written = rt.write_all(text);
+    if written.is_err() {
         say_not_written(rt, program);
     }
-    good
+    written
 }

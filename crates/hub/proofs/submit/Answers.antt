@@ -1,11 +1,6 @@
 -- `hub::submit` meets its contract. Assumes nothing.
-use mathlib.Core.Path.{subst}
 use Rattle.rules.specs.Answers.{submit}
-use Rattle.hub.specs.Contract.{Gives}
 use Rattle.hub.proofs.submit.Goals as goal
 
 pub carried_out-requires : goal.carried_out-requires
 carried_out-requires c = (c.requires, record { call = submit _; no_limit = tt; decides = c.decide_submit-decision.ensures })
-
-pub returns : goal.returns
-returns c = subst (Gives _ _) c.decide_submit-decision.ensures.gives c.carried_out.ensures

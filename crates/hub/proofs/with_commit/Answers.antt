@@ -1,10 +1,7 @@
 -- `hub::with_commit` meets its contract. Assumes nothing.
-use Rattle.hub.proofs.CallLaws.{stay_moves, decided_ok}
+use Rattle.hub.proofs.CallLaws.{stay_moves}
 use Rattle.hub.proofs.with_commit.Goals as goal
 
-pub with_commit-next-requires : goal.with_commit-next-requires
-with_commit-next-requires c = (c.requires.0.in_order, decided_ok c.requires.1.1)
-
 pub returns : goal.returns
-returns c = let w = c.with_commit-next.ensures in
-    (w.0, w.1, stay_moves c.args.hub.state c.with_commit-next.result c.requires.0.in_order w.2)
+returns c = let w = c.with_commit-state.ensures in
+    (w.0, w.1, stay_moves c.args.hub.state c.with_commit-state.result c.requires.0.in_order w.2)

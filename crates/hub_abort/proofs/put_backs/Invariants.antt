@@ -10,7 +10,4 @@ use Rattle.hub_abort.proofs.put_backs.Given as goal
 
 abbrev pub invariant-loop-d : goal.invariant-loop-d
 invariant-loop-d l = let all = put_backs_from (is_back_by l.tables) (settings_of l.tables.after) in
-    (l.d ≤ l.count) × (l.backs.count ≤ l.d) × (put_backs_of l.backs ++ all l.d (l.count - l.d) ≡ all 0 l.count)
-
-abbrev pub decreases-loop-d : goal.decreases-loop-d
-decreases-loop-d l = l.count - l.d
+    (l.backs.count ≤ l.d) × (put_backs_of l.backs ++ all l.d (l.count - l.d) ≡ all 0 l.count)

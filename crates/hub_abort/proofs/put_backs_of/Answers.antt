@@ -3,7 +3,5 @@ use Rattle.hub_abort.proofs.PutBackLaws.{backs_are_by}
 use Rattle.hub_abort.proofs.put_backs_of.Goals as goal
 
 pub returns : goal.returns
-returns c = let a = c.args in (
-  c.put_backs.ensures.0,
-  backs_are_by a.state a.at a.down c.tables_of-tables.result c.tables_of-tables.ensures _ c.put_backs.ensures.1,
-)
+returns c = let a = c.args in
+    backs_are_by a.state a.at a.down c.tables_of-tables.result c.tables_of-tables.ensures _ c.put_backs.ensures

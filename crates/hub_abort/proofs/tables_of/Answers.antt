@@ -25,7 +25,7 @@ pub returns-then-device-lt-MAX_DEVICES : goal.returns-then-device-lt-MAX_DEVICES
 returns-then-device-lt-MAX_DEVICES c = let a = c.args in
     record {
       up_is = up-fails a.state _ c.if-device-lt-MAX_DEVICES.true (long (goal.at.returns-then-device-lt-MAX_DEVICES c).Start)
-        ∙ failing a.state (sym c.in-Some.is);
+          ∙ failing a.state (sym c.in-Some.is);
       others_are = c.in_flight_without-others.ensures ∙ left_flights a.state a.at c.requires.0 c.requires.1;
       own_are = c.own_flights-own.ensures;
       before_is = c.due_settings-before.ensures;

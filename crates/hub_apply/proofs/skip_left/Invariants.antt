@@ -1,5 +1,5 @@
 -- `hub_apply::skip_left` meets its contract. The loop: of those passed the ones left on the device are skipped. Assumes nothing.
-use Prim.Native.Nat.{◌-◌, ◌*◌, ◌≤◌}
+use Prim.Native.Nat.{◌*◌}
 use mathlib.Core.Path.{◌≡◌}
 use lib.ListN.{length}
 use Rattle.rules_routine.specs.Limits.{max_commands, max_sequence}
@@ -7,7 +7,4 @@ use Rattle.hub_apply.specs.Stages.{SkipsLeft}
 use Rattle.hub_apply.proofs.skip_left.Given as goal
 
 abbrev pub invariant-loop-k : goal.invariant-loop-k
-invariant-loop-k l = (l.from ≤ l.k) × (l.k ≤ l.end) × (length l.skipped ≡ max_sequence * max_commands) × SkipsLeft l.initial.skipped l.device l.wanted l.from l.k l.skipped
-
-abbrev pub decreases-loop-k : goal.decreases-loop-k
-decreases-loop-k l = l.end - l.k
+invariant-loop-k l = (length l.skipped ≡ max_sequence * max_commands) × SkipsLeft l.initial.skipped l.device l.wanted l.from l.k l.skipped

@@ -16,10 +16,10 @@ use Rattle.hub_due.proofs.after_done.Goals as goal
 
 -- the device of the next command
 below : (c : In-loop-k) → get_or c.args.device.now c.loop-k.k 0 < max_devices
-below c = let v = c.loop-k.invariant in c.requires.2 c.loop-k.k v.0 c.loop-k-test.true
+below c = c.requires.2 c.loop-k.k c.loop-k.auto.k c.loop-k-test.true
 
 pub loop-k-init : goal.loop-k-init
-loop-k-init c = (omega arith, c.requires.0, done_yet _ _ _ _ _ _ (search rules))
+loop-k-init c = done_yet _ _ _ _ _ _ (search rules)
 
 pub overflow_cast-d : goal.overflow_cast-d
 overflow_cast-d c = let b = below (goal.at.overflow_cast-d c).In-loop-k in omega arith
@@ -35,17 +35,11 @@ loop-k-preserved c = let v = c.loop-k.invariant in
     let at = get_or c.args.device.now c.loop-k.k 0 in
     let to = get_or c.args.setting.now c.loop-k.k (pos 0) in
     elim c.if-stage-k-eq-DONE.branch [
-      | then-stage-k-eq-DONE w ↦ let b : to_z w16 (of_z w16 to) ≡ to = search rules in (
-        omega (arith, v.0),
-        omega (arith, c.loop-k-test.true),
-        done_store v.2 c.loop-k-test.true (w.after-is ∙ ap (set c.loop-k.after at) b) w.if-stage-k-eq-DONE.true (below (goal.at.loop-k-preserved c).In-loop-k),
-      )
-      | else-stage-k-eq-DONE w ↦ (
-        omega (arith, v.0),
-        omega (arith, c.loop-k-test.true),
-        done_keep v.2 c.loop-k-test.true w.after-is w.if-stage-k-eq-DONE.false,
-      )
+      | then-stage-k-eq-DONE w ↦ let b : to_z w16 (of_z w16 to) ≡ to = search rules in
+          done_store v c.loop-k-test.true (w.after-is ∙ ap (set c.loop-k.after at) b) w.if-stage-k-eq-DONE.true (below (goal.at.loop-k-preserved c).In-loop-k)
+      | else-stage-k-eq-DONE w ↦
+          done_keep v c.loop-k-test.true w.after-is w.if-stage-k-eq-DONE.false
     ]
 
 pub returns : goal.returns
-returns c = done_all c.loop-k.invariant.2 c.loop-k-test.false
+returns c = done_all c.loop-k.invariant c.loop-k-test.false

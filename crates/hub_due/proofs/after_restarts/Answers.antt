@@ -1,6 +1,5 @@
 -- `hub_due::after_restarts` meets its contract. The loop's invariant: the devices below d are at their restarts' settings. Assumes nothing.
 use borrow.Author.Rules.{rules}
-use native.Mathlib.Omega.{arith}
 use mathlib.Core.Path.{◌≡◌, ap, ◌∙◌}
 use Prim.Native.Nat.{◌+◌, ◌*◌}
 use lib.IntN.{pos}
@@ -14,7 +13,7 @@ use Rattle.hub_due.proofs.after_restarts.Goals.{then-last-ne-NO_RESTART, else-la
 use Rattle.hub_due.proofs.after_restarts.Goals as goal
 
 pub loop-d-init : goal.loop-d-init
-loop-d-init c = (omega arith, restarts_yet _ _ _ (search rules))
+loop-d-init c = restarts_yet _ _ _ (search rules)
 
 pub loop-d-preserved : goal.loop-d-preserved
 loop-d-preserved c = let row = c.args.restarts.now in
@@ -23,15 +22,11 @@ loop-d-preserved c = let row = c.args.restarts.now in
     let r = get_or row (c.args.at * max_devices + d) (pos 0) in
     let b : to_z w16 (of_z w16 r) ≡ r = search rules in
     elim c.if-last-ne-NO_RESTART.branch [
-      | then-last-ne-NO_RESTART w ↦ (
-        omega (arith, c.loop-d-test.true),
-        restart_store v.1 r (w.after-is ∙ ap (set c.loop-d.after d) b) c.loop-d-test.true (restart-there row _ d c.requires.1 c.requires.0 c.loop-d-test.true w.if-last-ne-NO_RESTART.true),
-      )
-      | else-last-ne-NO_RESTART w ↦ (
-        omega (arith, c.loop-d-test.true),
-        restart_keep v.1 w.after-is (restart_absent row _ d c.requires.1 c.requires.0 c.loop-d-test.true b w.if-last-ne-NO_RESTART.false),
-      )
+      | then-last-ne-NO_RESTART w ↦
+          restart_store v r (w.after-is ∙ ap (set c.loop-d.after d) b) c.loop-d-test.true (restart-there row _ d c.requires.1 c.requires.0 c.loop-d-test.true w.if-last-ne-NO_RESTART.true)
+      | else-last-ne-NO_RESTART w ↦
+          restart_keep v w.after-is (restart_absent row _ d c.requires.1 c.requires.0 c.loop-d-test.true b w.if-last-ne-NO_RESTART.false)
     ]
 
 pub returns : goal.returns
-returns c = restarts_all c.loop-d.invariant.1 c.loop-d-test.false
+returns c = restarts_all c.loop-d.invariant c.loop-d-test.false

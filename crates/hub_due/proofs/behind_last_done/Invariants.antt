@@ -1,11 +1,7 @@
 -- `hub_due::behind_last_done` meets its contract. The loop's invariant: the commands from the k-th on leave the device as it was. Assumes
 -- nothing.
-use Prim.Native.Nat.{◌≤◌}
 use Rattle.hub_due.proofs.Places.{NoneFrom}
 use Rattle.hub_due.proofs.behind_last_done.Given as goal
 
 abbrev pub invariant-loop-k : goal.invariant-loop-k
-invariant-loop-k l = (l.from ≤ l.k) × (l.k ≤ l.end) × NoneFrom l.device l.stage l.from l.end l.wanted l.k
-
-abbrev pub decreases-loop-k : goal.decreases-loop-k
-decreases-loop-k l = l.k
+invariant-loop-k l = NoneFrom l.device l.stage l.from l.end l.wanted l.k

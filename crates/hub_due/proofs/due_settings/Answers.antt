@@ -1,4 +1,4 @@
--- `hub_due::due_settings` meets its contract: no taken slot has the number that is left out. Assumes nothing.
+-- `hub_due::due_settings` meets its contract. Assumes nothing.
 use mathlib.Core.Path.{◌∙◌}
 use Rattle.hub_due.proofs.Slots.{due_whole}
 use Rattle.hub_due.proofs.due_settings.Goals as goal

@@ -13,7 +13,7 @@ use Rattle.hub_sequence.proofs.WalkLaws.{walks_spot, walks_next, walks_less}
 use Rattle.hub_due.proofs.Slots.{within_self, walk-within, walk_here, answered_end, answered-devices, due_yet}
 use Rattle.hub_due.proofs.Slots.{due-more}
 use Rattle.hub_due.proofs.Slots.{due_left_out, due_end, due_but}
-use Rattle.hub_due.proofs.due_settings_without.Goals.{then-i-but, else-i-but}
+use Rattle.hub_due.proofs.due_settings_without.Goals.{then-i-left_out, else-i-left_out}
 use Rattle.hub_due.proofs.due_settings_without.Goals.{In-loop-i, Start}
 use Rattle.hub_due.proofs.due_settings_without.Goals as goal
 
@@ -63,12 +63,12 @@ loop-i-preserved c = let h = c.loop-i-test.true in
     let e = c.after_restarts-after.ensures in (
       (walks_next v.0 h).1,
       walk-within v.0 v.1 h,
-      elim c.if-i-but.branch [
-        | then-i-but w ↦ due-more v.0 v.2 h w.if-i-but.true w.table-is w.after_done-done.ensures e
-        | else-i-but w ↦ due_left_out v.0 v.2 h w.if-i-but.false w.table-is e
+      elim c.if-i-left_out.branch [
+        | then-i-left_out w ↦ due-more v.0 v.2 h w.if-i-left_out.true w.table-is w.after_done-done.ensures e
+        | else-i-left_out w ↦ due_left_out v.0 v.2 h w.if-i-left_out.false w.table-is e
       ],
     )
 
 pub returns : goal.returns
 returns c = let v = c.loop-i.invariant in
-    fun_ext (λ d. due_end v.0 v.2 c.loop-i-test.false d ∙ due_but _ c.requires d _)
+    fun_ext (λ d. due_end v.0 v.2 c.loop-i-test.false d ∙ due_but _ c.requires d _ _ c.unwrap_or-left_out.ensures)

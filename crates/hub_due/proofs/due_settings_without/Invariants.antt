@@ -7,7 +7,7 @@ use Rattle.hub_due.proofs.due_settings_without.Given as goal
 
 abbrev pub invariant-loop-i : goal.invariant-loop-i
 invariant-loop-i l = (Walks l.behind l.i) × (Within (along l.behind l.i) (along l.behind l.initial.i))
-    × (DueTo l.behind l.device l.stage l.setting l.restarts l.answered l.but l.initial.i l.initial.table l.i l.table)
+    × (DueTo l.behind l.device l.stage l.setting l.restarts l.answered l.left_out l.initial.i l.initial.table l.i l.table)
 
 abbrev pub decreases-loop-i : goal.decreases-loop-i
 decreases-loop-i l = length (along l.behind l.i)

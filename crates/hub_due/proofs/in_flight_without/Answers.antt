@@ -11,7 +11,7 @@ use Rattle.hub_sequence.proofs.WalkLaws.{walks_spot, walks_next, walks_less}
 use Rattle.hub_state.proofs.Members.{place-within, device-within}
 use Rattle.hub_due.proofs.Slots.{within_self, walk-within, walk_here, flights_along, flights_yet, flights_end}
 use Rattle.hub_due.proofs.Slots.{flights_left_out, flights_past, flights_to_do, flights_put}
-use Rattle.hub_due.proofs.in_flight_without.Goals.{then-i-but+then-answered-i+then-stage-k-eq-IN_FLIGHT, then-i-but+then-answered-i+else-stage-k-eq-IN_FLIGHT, then-i-but+else-answered-i, else-i-but}
+use Rattle.hub_due.proofs.in_flight_without.Goals.{then-i-but+then-answered-i+then-stage-k-eq-IN_FLIGHT, then-i-but+then-answered-i+else-stage-k-eq-IN_FLIGHT, else-i-but, else-i-but-via-then-i-but+else-answered-i, else-i-but-via-else-i-but}
 use Rattle.hub_due.proofs.in_flight_without.Goals.{In-loop-i}
 use Rattle.hub_due.proofs.in_flight_without.Goals as goal
 
@@ -75,8 +75,10 @@ loop-i-preserved c = let h = c.loop-i-test.true in
           (a, b, flights_put v.0 v.2 h w.busy-is w.if-i-but.true w.if-answered-i.true w.if-stage-k-eq-IN_FLIGHT.true (device l w.if-answered-i.true))
       | then-i-but+then-answered-i+else-stage-k-eq-IN_FLIGHT w ↦
           (a, b, flights_to_do v.0 v.2 h w.busy-is w.if-stage-k-eq-IN_FLIGHT.false)
-      | then-i-but+else-answered-i w ↦ (a, b, flights_past v.0 v.2 h w.busy-is w.if-answered-i.false)
-      | else-i-but w ↦ (a, b, flights_left_out v.0 v.2 h w.busy-is w.if-i-but.false)
+      | else-i-but u ↦ elim u.else-i-but.branch [
+        | else-i-but-via-then-i-but+else-answered-i w ↦ (a, b, flights_past v.0 v.2 h u.busy-is w.if-answered-i.false)
+        | else-i-but-via-else-i-but w ↦ (a, b, flights_left_out v.0 v.2 h u.busy-is w.if-i-but.false)
+      ]
     ]
 
 pub returns : goal.returns

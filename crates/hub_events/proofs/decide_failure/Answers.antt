@@ -21,9 +21,6 @@ returns-then-not-is_up c = let a = c.args in
     (failure_15 (state_of a.state) a.device c.if-state-device.false
     (sym c.is_up.ensures ∙ not-true c.is_up.result c.if-not-is_up.true-raw))
 
-pub halfway-half-requires : goal.halfway-half-requires
-halfway-half-requires c = (c.requires, omega (arith, c.requires.devices_fit, c.if-state-device.false))
-
 pub returns : goal.returns
 unfolding state_of
 returns c = let a = c.args in

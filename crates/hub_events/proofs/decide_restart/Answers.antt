@@ -34,9 +34,6 @@ returns-then-not-in_range c = let a = c.args in
     (restart_17 (state_of a.state) a.device a.setting c.if-state-device.false (sym c.is_up.ensures ∙ c.if-is_up.false)
     (ap in_range (sym z) ∙ sym c.in_range.ensures ∙ not-true c.in_range.result c.if-not-in_range.true-raw))
 
-pub halfway-half-requires : goal.halfway-half-requires
-halfway-half-requires c = (c.requires, omega (arith, c.requires.devices_fit, c.if-state-device.false))
-
 pub returns : goal.returns
 unfolding state_of
 returns c = let a = c.args in

@@ -1,6 +1,4 @@
 -- `hub_events::put_backs_if` meets its contract. Assumes nothing.
-use native.Mathlib.Omega.{arith}
-use Rattle.hub_answers.specs.View.{PutBacksOk}
 use Rattle.hub_events.proofs.EventLaws.{one_backs, skip_backs, none_backs}
 use Rattle.hub_events.proofs.put_backs_if.Goals.{in-Some+else-must_left, in_default}
 use Rattle.hub_events.proofs.put_backs_if.Goals as goal
@@ -12,11 +10,8 @@ returns-then-must_left c = let a = c.args in
 
 pub returns : goal.returns
 returns c = let a = c.args in
-    let n = c.no_put_backs in
-    let z = n.ensures.0 in
-    let fit : PutBacksOk n.result = omega (arith, z) in
+    let n = c.none in
     (elim c.match-slot.branch [
-      | in-Some+else-must_left w ↦ skip_backs a.state a.slot a.device _ n.result _ w.in-Some.is w.must_left.result w.must_left.ensures w.if-must_left.false fit
-          n.ensures.1
-      | in_default w ↦ none_backs a.state a.slot a.device _ n.result w.in_default.is fit n.ensures.1
+      | in-Some+else-must_left w ↦ skip_backs a.state a.slot a.device _ n.result _ w.in-Some.is w.must_left.result w.must_left.ensures w.if-must_left.false n.ensures.1
+      | in_default w ↦ none_backs a.state a.slot a.device _ n.result w.in_default.is n.ensures.1
     ])

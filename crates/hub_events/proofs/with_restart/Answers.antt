@@ -1,11 +1,10 @@
 -- `hub_events::with_restart` meets its contract. Assumes nothing.
-use borrow.Author.Rules.{rules}
 use mathlib.Core.Path.{sym, ap, subst, ◌∙◌}
 use lib.IntN.{ℤ}
 use lib.ListN.{get_or}
 use mir.Facts.{to_z-of_z}
 use Rattle.rules.specs.Attach.{one_restart, attach}
-use Rattle.hub_state.specs.View.{is_restart, state_of}
+use Rattle.hub_state.specs.View.{state_of}
 use Rattle.hub_events.proofs.EventLaws.{Stops, one-leaves, one_skips, none_stops, restart-leaves, restart-gives}
 use Rattle.hub_events.proofs.with_restart.Goals.{Joined-slot, in-Some+then-must_left, in-Some+else-must_left, in_default}
 use Rattle.hub_events.proofs.with_restart.Goals as goal
@@ -22,10 +21,6 @@ stops c =
           w.must_left.result w.must_left.ensures c.requires.0 w.if-must_left.false w.with_skips-next.result w.with_skips-next.ensures)
       | in_default w ↦ subst P (sym w.next-is) (none_stops a.state a.slot a.device c.requires.0 w.in_default.is)
     ]
-
-pub attach-with_it-requires : goal.attach-with_it-requires
-attach-with_it-requires c = let v = (stops (goal.at.attach-with_it-requires c).Joined-slot).0 in
-    (search (rules, v), c.requires.1, ap is_restart (to_z-of_z c.ranges.setting) ∙ c.requires.2)
 
 pub returns : goal.returns
 returns c = let a = c.args in

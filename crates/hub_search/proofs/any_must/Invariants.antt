@@ -7,6 +7,3 @@ use Rattle.hub_search.proofs.any_must.Given as goal
 
 abbrev pub invariant-loop-k : goal.invariant-loop-k
 invariant-loop-k l = any_at (must_at l.device l.tag l.stage l.end l.wanted) l.k (l.end - l.k) ≡ any_must l.device l.tag l.stage l.wanted l.from (l.end - l.from)
-
-abbrev pub decreases-loop-k : goal.decreases-loop-k
-decreases-loop-k l = l.end - l.k

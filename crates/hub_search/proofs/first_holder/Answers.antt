@@ -9,12 +9,12 @@ use Rattle.rules_routine.specs.Limits.{max_commands, max_sequence}
 use Rattle.hub_sequence.specs.Links.{Stands}
 use Rattle.hub_sequence.proofs.ReadLaws.{walks-behind}
 use Rattle.hub_state.proofs.Members.{answered_most}
-use Rattle.hub_search.proofs.Slots.{seeks_start, seeks_there, seeks_on, seeks_less, seeks_spot}
+use Rattle.hub_search.proofs.Slots.{seeks_start, seeks_there, seeks_on, seeks_less}
 use Rattle.hub_search.proofs.Commands.{bound_of, below_at, at_hit, at_on, at_end, below_here, below_other, below_bound}
 use Rattle.hub_search.proofs.SearchLaws.{below_start, below_left, holds-committed, holds_off, commands_fit}
 use Rattle.hub_search.proofs.SearchLaws.{holder_slot}
 use Rattle.hub_search.proofs.SearchLaws.{holder_nobody, holder_found}
-use Rattle.hub_search.proofs.first_holder.Goals.{In-ahead, Joined-condition, Joined-condition-2, else-condition, else-condition-2, else-device-k, else-not-committed-i, then-condition, then-condition-2, then-device-k+else-stage-k, then-not-committed-i+else-loop-k-test}
+use Rattle.hub_search.proofs.first_holder.Goals.{In-ahead, Joined-condition, Joined-condition-2, else-condition, else-condition-2, else-device-k-via-else-device-k, else-device-k-via-then-device-k+else-stage-k, else-not-committed-i, then-condition, then-condition-2, then-not-committed-i+else-loop-k-test}
 use Rattle.hub_search.proofs.first_holder.Goals as goal
 
 -- whom a command waits for, and whom a condition
@@ -45,14 +45,11 @@ ahead-init c = (refl, seeks_start _ _ _ (walks-behind _ c.requires.0.links_ok))
 pub bounds-committed-i : goal.bounds-committed-i
 bounds-committed-i c = (fits (goal.at.bounds-committed-i c).In-ahead).0
 
-pub overflow_mul-end : goal.overflow_mul-end
-overflow_mul-end c = let f = fits (goal.at.overflow_mul-end c).In-ahead in omega (arith, f.0)
+pub overflow_mul-start : goal.overflow_mul-start
+overflow_mul-start c = let f = fits (goal.at.overflow_mul-start c).In-ahead in omega (arith, f.0)
 
 pub bounds-counts-i : goal.bounds-counts-i
 bounds-counts-i c = (fits (goal.at.bounds-counts-i c).In-ahead).0
-
-pub overflow_cast-end : goal.overflow_cast-end
-overflow_cast-end c = let f = fits (goal.at.overflow_cast-end c).In-ahead in omega arith
 
 pub overflow_add-end : goal.overflow_add-end
 overflow_add-end c = let f = fits (goal.at.overflow_add-end c).In-ahead in omega arith
@@ -60,19 +57,13 @@ overflow_add-end c = let f = fits (goal.at.overflow_add-end c).In-ahead in omega
 pub bounds-answered-i : goal.bounds-answered-i
 bounds-answered-i c = (fits (goal.at.bounds-answered-i c).In-ahead).0
 
-pub overflow_cast-from : goal.overflow_cast-from
-overflow_cast-from c = let f = fits (goal.at.overflow_cast-from c).In-ahead in omega arith
-
-pub overflow_mul-k : goal.overflow_mul-k
-overflow_mul-k c = let f = fits (goal.at.overflow_mul-k c).In-ahead in omega (arith, f.0)
-
 -- where the commands of a slot are searched from
 from-fits : (c : Joined-condition-2) → c.if-condition-2.from ≤ max_commands
 from-fits c = let f = fits c.before.before in
     (elim c.if-condition-2.branch [ then-condition-2 w ↦ let e = w.from-is in omega (arith, e) | else-condition-2 w ↦ let e = w.from-is in omega (arith, e) ])
 
-pub overflow_add-k : goal.overflow_add-k
-overflow_add-k c = let f = fits (goal.at.overflow_add-k c).In-ahead in let g = from-fits (goal.at.overflow_add-k c).Joined-condition-2 in omega (arith, f.0, g)
+pub overflow_step-k : goal.overflow_step-k
+overflow_step-k c = let f = fits (goal.at.overflow_step-k c).In-ahead in let g = from-fits (goal.at.overflow_step-k c).Joined-condition-2 in omega (arith, f.0, g)
 
 pub loop-k-init : goal.loop-k-init
 loop-k-init c = let f = fits (goal.at.loop-k-init c).In-ahead in
@@ -82,34 +73,13 @@ loop-k-init c = let f = fits (goal.at.loop-k-init c).In-ahead in
       (elim c.if-condition-2.branch [ then-condition-2 w ↦ below_start _ _ _ _ _ _ w.from-is | else-condition-2 w ↦ below_left _ p.0 _ (at_slot (goal.at.loop-k-init c).In-ahead) _ _ _ p.3 (bound-is (goal.at.loop-k-init c).Joined-condition ∙ ap bound_of w.if-condition-2.false) w.from-is ]),
     )
 
-pub bounds-device-k : goal.bounds-device-k
-bounds-device-k c = omega (arith, c.loop-k-test.true, c.loop-k.invariant.1)
-
-pub bounds-stage-k : goal.bounds-stage-k
-bounds-stage-k c = omega (arith, c.loop-k-test.true, c.loop-k.invariant.1)
-
-pub offset_bounds-ids-i : goal.offset_bounds-ids-i
-offset_bounds-ids-i c = let f = fits (goal.at.offset_bounds-ids-i c).In-ahead in omega (arith, f.0)
-
-pub bounds-ids-i : goal.bounds-ids-i
-bounds-ids-i c = (fits (goal.at.bounds-ids-i c).In-ahead).0
-
-pub overflow_add-k-in-loop-k : goal.overflow_add-k-in-loop-k
-overflow_add-k-in-loop-k c = omega (arith, c.loop-k-test.true, c.loop-k.invariant.1)
-
-pub loop-k-smaller : goal.loop-k-smaller
-loop-k-smaller c = omega (arith, c.loop-k-test.true)
-
 pub loop-k-preserved : goal.loop-k-preserved
 loop-k-preserved c = let v = c.loop-k.invariant in
-    let o : below_at c.args.device.now c.args.stage.now c.if-condition.bound c.args.wanted c.loop-k.k ≡ false = (elim c.if-device-k.branch [ then-device-k+else-stage-k w ↦ below_bound _ _ _ _ _ w.if-stage-k.false | else-device-k w ↦ below_other _ _ _ _ _ w.if-device-k.false ]) in
+    let o : below_at c.args.device.now c.args.stage.now c.if-condition.bound c.args.wanted c.loop-k.k ≡ false = (elim c.else-device-k.branch [ else-device-k-via-then-device-k+else-stage-k w ↦ below_bound _ _ _ _ _ w.if-stage-k.false | else-device-k-via-else-device-k w ↦ below_other _ _ _ _ _ w.if-device-k.false ]) in
     (v.0, v.1, at_on _ _ _ c.loop-k-test.true o ∙ v.2)
 
 pub bounds-behind-i : goal.bounds-behind-i
 bounds-behind-i c = (fits (goal.at.bounds-behind-i c).In-ahead).0
-
-pub overflow_cast-i-in-ahead : goal.overflow_cast-i-in-ahead
-overflow_cast-i-in-ahead c = let s = seeks_spot c.ahead.invariant.1 (fits (goal.at.overflow_cast-i-in-ahead c).In-ahead).0 in omega arith
 
 pub ahead-smaller : goal.ahead-smaller
 ahead-smaller c = seeks_less c.ahead.invariant.1 (fits (goal.at.ahead-smaller c).In-ahead).0

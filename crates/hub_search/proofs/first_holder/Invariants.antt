@@ -16,9 +16,6 @@ invariant-loop-k l = (l.holder ≡ None)
     × (l.end ≤ max_sequence * max_commands)
     × (any_at (below_at l.device l.stage l.bound l.wanted) l.k (l.end - l.k) ≡ below_in l.counts l.device l.stage l.bound l.wanted l.i)
 
-abbrev pub decreases-loop-k : goal.decreases-loop-k
-decreases-loop-k l = l.end - l.k
-
 abbrev pub invariant-ahead : goal.invariant-ahead
 invariant-ahead l = (l.holder ≡ None)
     × Seeks (stop_at l.at (holds_in l.committed l.counts l.device l.stage l.bound l.wanted)) l.behind l.initial.i l.i

@@ -8,10 +8,10 @@ use mir.Val.{Fits}
 use Rattle.rules_routine.specs.Limits.{max_commands, max_sequence}
 use Rattle.hub_sequence.proofs.ReadLaws.{walks-behind}
 use Rattle.hub_search.specs.Contract.{highest_stage}
-use Rattle.hub_search.proofs.Slots.{seeks_start, seeks_there, seeks_on, seeks_less, seeks_spot}
+use Rattle.hub_search.proofs.Slots.{seeks_start, seeks_there, seeks_on, seeks_less}
 use Rattle.hub_search.proofs.SearchLaws.{halfway_committed, halfway_unbegun, halfway_finished, commands_fit, halfway_at}
 use Rattle.hub_search.proofs.SearchLaws.{halfway_nowhere}
-use Rattle.hub_search.proofs.halfway.Goals.{In-loop-i, Start, else-not-committed-i, then-not-committed-i+else-is_staged, then-not-committed-i+then-is_staged+else-is_staged-2}
+use Rattle.hub_search.proofs.halfway.Goals.{In-loop-i, Start, else-not-committed-i, then-not-committed-i+else-is_staged, else-is_staged-via-then-is_staged+else-is_staged-2, else-is_staged-via-else-is_staged}
 use Rattle.hub_search.proofs.halfway.Goals as goal
 
 -- the slot, and how many commands it has
@@ -29,21 +29,6 @@ stages-fit c j = let f : Fits w8 (get_or c.args.state.stage j 0) = search rules 
 pub loop-i-init : goal.loop-i-init
 loop-i-init c = seeks_start _ _ _ (walks-behind _ c.requires.links_ok)
 
-pub bounds-committed-i : goal.bounds-committed-i
-bounds-committed-i c = c.loop-i-test.true
-
-pub overflow_mul-from : goal.overflow_mul-from
-overflow_mul-from c = omega (arith, c.loop-i-test.true)
-
-pub bounds-counts-i : goal.bounds-counts-i
-bounds-counts-i c = c.loop-i-test.true
-
-pub overflow_cast-end : goal.overflow_cast-end
-overflow_cast-end c = let f = fits (goal.at.overflow_cast-end c).In-loop-i in omega arith
-
-pub overflow_add-end : goal.overflow_add-end
-overflow_add-end c = let f = fits (goal.at.overflow_add-end c).In-loop-i in omega arith
-
 pub is_staged-requires : goal.is_staged-requires
 is_staged-requires c = let f = fits (goal.at.is_staged-requires c).In-loop-i in (omega arith, omega arith)
 
@@ -54,18 +39,19 @@ pub returns-then-is_staged-2 : goal.returns-then-is_staged-2
 returns-then-is_staged-2 c = halfway_at _ c.requires _ (stages-fit (goal.at.returns-then-is_staged-2 c).Start) c.loop-i.invariant c.loop-i-test.true c.if-not-committed-i.true-raw c.is_staged.ensures
     c.is_staged-then-is_staged.ensures c.if-is_staged.true c.if-is_staged-2.true
 
-pub bounds-behind-i : goal.bounds-behind-i
-bounds-behind-i c = c.loop-i-test.true
-
-pub overflow_cast-i-in-loop-i : goal.overflow_cast-i-in-loop-i
-overflow_cast-i-in-loop-i c = let s = seeks_spot c.loop-i.invariant c.loop-i-test.true in omega arith
-
 pub loop-i-smaller : goal.loop-i-smaller
 loop-i-smaller c = seeks_less c.loop-i.invariant c.loop-i-test.true
 
 pub loop-i-preserved : goal.loop-i-preserved
 loop-i-preserved c = seeks_on c.loop-i.invariant c.loop-i-test.true
-    (elim c.if-not-committed-i.branch [ then-not-committed-i+then-is_staged+else-is_staged-2 w ↦ halfway_unbegun _ _ _ _ _ _ w.is_staged-then-is_staged.ensures w.if-is_staged-2.false | then-not-committed-i+else-is_staged w ↦ halfway_finished _ _ _ _ _ _ w.is_staged.ensures w.if-is_staged.false | else-not-committed-i w ↦ halfway_committed _ _ _ _ _ _ w.if-not-committed-i.false-raw ])
+    (elim c.if-not-committed-i.branch [
+      | then-not-committed-i+else-is_staged v ↦ elim v.else-is_staged.branch [
+        | else-is_staged-via-then-is_staged+else-is_staged-2 w ↦
+            halfway_unbegun _ _ _ _ _ _ w.is_staged-then-is_staged.ensures w.if-is_staged-2.false
+        | else-is_staged-via-else-is_staged w ↦ halfway_finished _ _ _ _ _ _ v.is_staged.ensures w.if-is_staged.false
+      ]
+      | else-not-committed-i w ↦ halfway_committed _ _ _ _ _ _ w.if-not-committed-i.false-raw
+    ])
 
 pub returns : goal.returns
 returns c = halfway_nowhere _ c.requires _ (stages-fit (goal.at.returns c).Start) c.loop-i.invariant c.loop-i-test.false

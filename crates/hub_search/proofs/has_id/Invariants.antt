@@ -7,6 +7,3 @@ use Rattle.hub_search.proofs.has_id.Given as goal
 
 abbrev pub invariant-loop-j : goal.invariant-loop-j
 invariant-loop-j l = any_at (on_at l.ids l.id) l.j (l.count - l.j) ≡ any_on l.ids l.id 0 l.count
-
-abbrev pub decreases-loop-j : goal.decreases-loop-j
-decreases-loop-j l = l.count - l.j

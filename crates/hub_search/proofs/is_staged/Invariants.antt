@@ -7,6 +7,3 @@ use Rattle.hub_search.proofs.is_staged.Given as goal
 
 abbrev pub invariant-loop-k : goal.invariant-loop-k
 invariant-loop-k l = any_at (staged_at l.device l.stage l.wanted l.low l.high) l.k (l.end - l.k) ≡ any_staged l.device l.stage l.wanted l.low l.high l.from (l.end - l.from)
-
-abbrev pub decreases-loop-k : goal.decreases-loop-k
-decreases-loop-k l = l.end - l.k

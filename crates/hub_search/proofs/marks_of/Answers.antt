@@ -24,34 +24,10 @@ fits : (c : In-loop-j) →
 fits c = device_fits _ (long c.before.before.before) c.requires.0 c.requires.1 _ c.loop-j-test.true
 
 pub loop-j-init : goal.loop-j-init
-loop-j-init c = (refl, omega arith, mark-none _)
-
-pub offset_bounds-commands-j : goal.offset_bounds-commands-j
-offset_bounds-commands-j c = let h = below (goal.at.offset_bounds-commands-j c).In-loop-j in omega arith
-
-pub bounds-commands-j : goal.bounds-commands-j
-bounds-commands-j c = below (goal.at.bounds-commands-j c).In-loop-j
-
-pub overflow_cast-d : goal.overflow_cast-d
-overflow_cast-d c = let h = fits (goal.at.overflow_cast-d c).In-loop-j in omega arith
-
-pub offset_bounds-marks-d : goal.offset_bounds-marks-d
-offset_bounds-marks-d c = let h = fits (goal.at.offset_bounds-marks-d c).In-loop-j in omega arith
+loop-j-init c = (refl, mark-none _)
 
 pub bounds-marks-d : goal.bounds-marks-d
 bounds-marks-d c = fits (goal.at.bounds-marks-d c).In-loop-j
-
-pub offset_bounds-wanted-j : goal.offset_bounds-wanted-j
-offset_bounds-wanted-j c = let h = below (goal.at.offset_bounds-wanted-j c).In-loop-j in omega arith
-
-pub bounds-wanted-j : goal.bounds-wanted-j
-bounds-wanted-j c = below (goal.at.bounds-wanted-j c).In-loop-j
-
-pub overflow_add-j : goal.overflow_add-j
-overflow_add-j c = let h = below (goal.at.overflow_add-j c).In-loop-j in omega arith
-
-pub loop-j-smaller : goal.loop-j-smaller
-loop-j-smaller c = omega (arith, c.loop-j-test.true)
 
 pub loop-j-preserved : goal.loop-j-preserved
 loop-j-preserved c = let v = c.loop-j.invariant in
@@ -59,8 +35,8 @@ loop-j-preserved c = let v = c.loop-j.invariant in
     let room : c.loop-j.j < length c.loop-j.wanted = omega (arith, v.0) in
     let held : c.loop-j.j < length c.args.routine.commands =
     omega (arith, long (goal.at.loop-j-preserved c).Start) in
-    (simp length-set v.0, omega (arith, c.loop-j-test.true), mark-more _ _ _ _ room held v.2)
+    (simp length-set v.0, mark-more _ _ _ _ room held v.1)
 
 pub returns : goal.returns
 returns c = let v = c.loop-j.invariant in
-    mark_all _ (long (goal.at.returns c).Start) c.requires.0 _ _ _ v.1 c.loop-j-test.false v.2
+    mark_all _ (long (goal.at.returns c).Start) c.requires.0 _ _ _ (omega arith) c.loop-j-test.false v.1

@@ -1,5 +1,4 @@
 -- `hub_search::marks_of` meets its contract. The loop: the marks of the first j commands are there. Assumes nothing.
-use Prim.Native.Nat.{◌-◌, ◌≤◌}
 use mathlib.Core.Path.{◌≡◌}
 use lib.ListN.{length, take}
 use Rattle.rules_routine.specs.Limits.{max_commands}
@@ -7,8 +6,5 @@ use Rattle.hub_search.specs.Contract.{marks_for}
 use Rattle.hub_search.proofs.marks_of.Given as goal
 
 abbrev pub invariant-loop-j : goal.invariant-loop-j
-invariant-loop-j l = (length l.wanted ≡ max_commands) × (l.j ≤ l.count)
+invariant-loop-j l = (length l.wanted ≡ max_commands)
     × (take l.j l.wanted ≡ marks_for l.marks (take l.j l.commands))
-
-abbrev pub decreases-loop-j : goal.decreases-loop-j
-decreases-loop-j l = l.count - l.j

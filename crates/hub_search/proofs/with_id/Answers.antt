@@ -1,7 +1,6 @@
 -- `hub_search::with_id` meets its contract. The loop seeks along the links. Assumes nothing.
-use native.Mathlib.Omega.{arith}
 use Rattle.hub_sequence.proofs.ReadLaws.{walks-behind}
-use Rattle.hub_search.proofs.Slots.{seeks_start, seeks_on, seeks_less, seeks_spot}
+use Rattle.hub_search.proofs.Slots.{seeks_start, seeks_on, seeks_less}
 use Rattle.hub_search.proofs.SearchLaws.{id_other, id_at, id_nowhere}
 use Rattle.hub_search.proofs.with_id.Goals as goal
 
@@ -10,9 +9,6 @@ loop-i-init c = seeks_start _ _ _ (walks-behind _ c.requires.links_ok)
 
 pub returns-then-ids-i : goal.returns-then-ids-i
 returns-then-ids-i c = id_at _ c.requires _ c.loop-i.invariant c.loop-i-test.true c.if-ids-i.true
-
-pub overflow_cast-i-in-loop-i : goal.overflow_cast-i-in-loop-i
-overflow_cast-i-in-loop-i c = let s = seeks_spot c.loop-i.invariant c.loop-i-test.true in omega arith
 
 pub loop-i-smaller : goal.loop-i-smaller
 loop-i-smaller c = seeks_less c.loop-i.invariant c.loop-i-test.true

@@ -1,5 +1,4 @@
 -- `hub_settle::moved_marks` meets its contract. Assumes nothing.
-use Prim.Native.Nat.{◌-◌, ◌≤◌}
 use mathlib.Core.Path.{◌≡◌}
 use mathlib.Core.List.{map}
 use lib.ListN.{length}
@@ -8,8 +7,5 @@ use Rattle.hub_settle.proofs.MarkLaws.{remark, remarked}
 use Rattle.hub_settle.proofs.moved_marks.Given as goal
 
 abbrev pub invariant-loop-d : goal.invariant-loop-d
-invariant-loop-d l = (l.d ≤ max_devices) × (length l.moved ≡ max_devices)
+invariant-loop-d l = (length l.moved ≡ max_devices)
     × (remarked l.from l.to l.d l.moved ≡ map (remark l.from l.to) l.initial.moved)
-
-abbrev pub decreases-loop-d : goal.decreases-loop-d
-decreases-loop-d l = max_devices - l.d

@@ -1,10 +1,6 @@
 -- `hub_turn::go_on` meets its contract. Assumes nothing.
 use mathlib.Core.Path.{◌≡◌, sym, ap, ◌∙◌, subst}
 use mathlib.Core.Bool.{Bool, true, false, not, not-not}
-use Prim.Native.Nat.{◌*◌, ◌≤◌, ◌<◌}
-use native.Mathlib.Omega.{arith}
-use lib.ListN.{get_or}
-use Rattle.rules_routine.specs.Limits.{max_commands, max_sequence}
 use Rattle.rules.specs.Progress.{begun, next_is_skipped}
 use Rattle.rules.specs.Settle.{settling}
 use Rattle.rules.specs.Turn.{skip_turn, proceed_up, proceed}
@@ -12,56 +8,23 @@ use Rattle.rules.proofs.Lists.{t≠f}
 use Rattle.hub_state.specs.View.{steps_at, state_of, there, member_at}
 use Rattle.hub_state.specs.Unanswered.{command_at}
 use Rattle.hub_state.specs.Contract.{Decides}
-use Rattle.hub_search.proofs.SearchLaws.{commands_fit}
-use Rattle.hub_turn.proofs.TurnLaws.{in_rows, device-read, skipped-is, counts_as, must-decides, skip_decides, proceed-skipped}
+use Rattle.hub_turn.proofs.TurnLaws.{device-read, skipped-is, counts_as, must-decides, skip_decides, proceed-skipped}
 use Rattle.hub_turn.proofs.TurnLaws.{proceed-up}
 use Rattle.hub_turn.proofs.TurnLaws.{proceed-must, proceed_skip}
-use Rattle.hub_turn.proofs.go_on.Goals.{After-is_skipped-skips, Joined-not-skips, Start, else-not-skips, then-not-skips+else-not-is_up, then-not-skips+then-not-is_up+else-counting_tag-eq-MUST}
+use Rattle.hub_turn.proofs.go_on.Goals.{After-is_skipped-skips, Joined-not-skips, else-not-skips, then-not-skips+else-not-is_up, then-not-skips+then-not-is_up+else-counting_tag-eq-MUST}
 use Rattle.hub_turn.proofs.go_on.Goals as goal
-
--- the place of the command is in the rows
-within : (c : Start) → c.args.k < max_sequence * max_commands
-within c = in_rows _ _ _ c.requires.0 c.requires.1 c.requires.2
-
--- the slot, and how many commands it has
-fits : (c : Start) → (c.args.at < max_sequence) × (get_or c.args.state.counts c.args.at 0 ≤ max_commands)
-fits c = commands_fit _ c.requires.0 _ c.requires.1
-
-pub bounds-device-k : goal.bounds-device-k
-bounds-device-k c = within (goal.at.bounds-device-k c).Start
-
-pub has_begun-begun-requires : goal.has_begun-begun-requires
-has_begun-begun-requires c = let p = c.requires in (p.0, p.1, p.4, p.6)
-
-pub is_skipped-skips-requires : goal.is_skipped-skips-requires
-is_skipped-skips-requires c = within (goal.at.is_skipped-skips-requires c).Start
-
-pub bounds-device-k-then-not-skips : goal.bounds-device-k-then-not-skips
-bounds-device-k-then-not-skips c = within (goal.at.bounds-device-k-then-not-skips c).Start
-
-pub bounds-counts-at : goal.bounds-counts-at
-bounds-counts-at c = (fits (goal.at.bounds-counts-at c).Start).0
-
-pub overflow_cast-end : goal.overflow_cast-end
-overflow_cast-end c = let f = fits (goal.at.overflow_cast-end c).Start in omega arith
-
-pub overflow_add-end : goal.overflow_add-end
-overflow_add-end c = let f = fits (goal.at.overflow_add-end c).Start in omega arith
-
-pub counting_tag-requires : goal.counting_tag-requires
-counting_tag-requires c = let f = fits (goal.at.counting_tag-requires c).Start in let i = within (goal.at.counting_tag-requires c).Start in (omega arith, omega arith)
 
 -- ---- what the code has found out
 begun-is : (c : After-is_skipped-skips) →
     let a = c.args in
     c.has_begun-begun.result ≡ begun (command_at a.state a.k).device (member_at a.state a.at)
 begun-is c = let h = c.args.state in
-    c.has_begun-begun.ensures ∙ ap (λ d. begun d (member_at h c.args.at)) (device-read h c.args.k _ c.requires.4)
+    c.has_begun-begun.ensures ∙ ap (λ d. begun d (member_at h c.args.at)) (device-read h c.args.k _ c.requires.4.device_is)
 
 is-skipped-is : (c : After-is_skipped-skips) →
     let a = c.args in
     c.is_skipped-skips.result ≡ next_is_skipped false (steps_at a.state a.at)
-is-skipped-is c = let p = c.requires in skipped-is _ _ _ p.2 _ _ p.5 p.6 c.is_skipped-skips.ensures
+is-skipped-is c = let p = c.requires in skipped-is _ _ _ p.2 _ _ p.4.tag_is p.4.stage_is c.is_skipped-skips.ensures
 
 un_not : (b : Bool) → not b ≡ true → b ≡ false
 un_not b e = sym (not-not b) ∙ ap not e
@@ -78,8 +41,8 @@ skipped : (c : Joined-not-skips) → c.is_skipped-skips.result ≡ next_is_skipp
 skipped c e t =
     let h = c.args.state in
     (elim c.if-not-skips.branch [
-      | then-not-skips+then-not-is_up+else-counting_tag-eq-MUST w ↦ proceed_skip h _ _ _ e (un_not _ w.if-not-skips.true-raw) _ (device-read h c.args.k _ c.requires.4) _ w.is_up.ensures
-          (un_not _ w.if-not-is_up.true-raw) _ (counts_as _ _ _ c.requires.2 _ c.requires.5 _ w.counting_tag.ensures) w.if-counting_tag-eq-MUST.false
+      | then-not-skips+then-not-is_up+else-counting_tag-eq-MUST w ↦ proceed_skip h _ _ _ e (un_not _ w.if-not-skips.true-raw) _ (device-read h c.args.k _ c.requires.4.device_is) _ w.is_up.ensures
+          (un_not _ w.if-not-is_up.true-raw) _ (counts_as _ _ _ c.requires.2 _ c.requires.4.tag_is _ w.counting_tag.ensures) w.if-counting_tag-eq-MUST.false
       | then-not-skips+else-not-is_up w ↦ absurd (t≠f (sym t ∙ w.skips-is ∙ un_not _ w.if-not-skips.true-raw))
       | else-not-skips w ↦ proceed-skipped h _ _ _ e (sym w.skips-is ∙ t)
     ])
@@ -93,7 +56,7 @@ goes-up c e f =
     let h = c.args.state in
     (elim c.if-not-skips.branch [
       | then-not-skips+then-not-is_up+else-counting_tag-eq-MUST w ↦ absurd (t≠f (sym w.skips-is ∙ f))
-      | then-not-skips+else-not-is_up w ↦ proceed-up h _ _ _ e (un_not _ w.if-not-skips.true-raw) _ (device-read h c.args.k _ c.requires.4) _ w.is_up.ensures
+      | then-not-skips+else-not-is_up w ↦ proceed-up h _ _ _ e (un_not _ w.if-not-skips.true-raw) _ (device-read h c.args.k _ c.requires.4.device_is) _ w.is_up.ensures
           (no_not _ w.if-not-is_up.false-raw)
       | else-not-skips w ↦ absurd (t≠f (sym (no_not _ w.if-not-skips.false-raw) ∙ sym w.skips-is ∙ f))
     ])
@@ -103,24 +66,21 @@ returns-then-counting_tag-eq-MUST c = let h = c.args.state in
     let k = c.args.k in
     let p = c.requires in
     subst (Decides _ _ _)
-    (proceed-must h _ _ _ (is-skipped-is (goal.at.returns-then-counting_tag-eq-MUST c).After-is_skipped-skips) (un_not _ c.if-not-skips.true-raw) _ (device-read h k _ p.4) _ c.is_up.ensures
-    (un_not _ c.if-not-is_up.true-raw) _ (counts_as _ _ _ p.2 _ p.5 _ c.counting_tag.ensures) c.if-counting_tag-eq-MUST.true)
+    (proceed-must h _ _ _ (is-skipped-is (goal.at.returns-then-counting_tag-eq-MUST c).After-is_skipped-skips) (un_not _ c.if-not-skips.true-raw) _ (device-read h k _ p.4.device_is) _ c.is_up.ensures
+    (un_not _ c.if-not-is_up.true-raw) _ (counts_as _ _ _ p.2 _ p.4.tag_is _ c.counting_tag.ensures) c.if-counting_tag-eq-MUST.true)
     (must-decides h _ k p.1 p.2 _ p.3 _ c.plain.ensures)
-
-pub bounds-device-k-then-skips : goal.bounds-device-k-then-skips
-bounds-device-k-then-skips c = within (goal.at.bounds-device-k-then-skips c).Start
 
 pub returns-then-skips : goal.returns-then-skips
 returns-then-skips c = let h = c.args.state in
     let k = c.args.k in
     let p = c.requires in
     subst (Decides _ _ _) (skipped (goal.at.returns-then-skips c).Joined-not-skips (is-skipped-is (goal.at.returns-then-skips c).After-is_skipped-skips) c.if-skips.true)
-    (skip_decides h c.args.at k p.1 p.2 _ _ _ (device-read h k _ p.4) (begun-is (goal.at.returns-then-skips c).After-is_skipped-skips) p.3 _ _ _ c.plain-then-skips.ensures
+    (skip_decides h c.args.at k p.1 p.2 _ _ _ (device-read h k _ p.4.device_is) (begun-is (goal.at.returns-then-skips c).After-is_skipped-skips) p.3 _ _ _ c.plain-then-skips.ensures
     c.staged-change.ensures)
 
 pub go_on_up-requires : goal.go_on_up-requires
 go_on_up-requires c = let p = c.requires in
-    (p.0, p.1, p.2, p.3, p.4, p.5, p.6, begun-is (goal.at.go_on_up-requires c).After-is_skipped-skips)
+    (p.0, p.1, p.2, p.3, p.4, begun-is (goal.at.go_on_up-requires c).After-is_skipped-skips)
 
 pub returns : goal.returns
 returns c = subst (Decides _ _ _) (goes-up (goal.at.returns c).Joined-not-skips (is-skipped-is (goal.at.returns c).After-is_skipped-skips) c.if-skips.false) c.go_on_up.ensures

@@ -7,7 +7,7 @@ use Rattle.line_rules.specs.Program.{end_text, run_from}
 use Rattle.line_print.specs.Put.{max_end, PutShort}
 use Rattle.line_print.proofs.PutLaws.{as_text}
 use Rattle.line.specs.View.{hub_in}
-use Rattle.line.proofs.Loops.{measured_past, measured_fits, wrote_none, whole_fits, whole_cast, whole_wrote}
+use Rattle.line.proofs.Loops.{measured_past, measured_fits, wrote_none, whole_fits, whole_wrote}
 use borrow.Author.Rules.{rules}
 use Rattle.line.proofs.run_last.Goals.{After-put_devices-end, then-not-is_ample+else-room-length, else-not-is_ample}
 use Rattle.line.proofs.run_last.Goals as goal
@@ -27,11 +27,6 @@ fits c =
       | else-not-is_ample w ↦ whole_fits _ _ _ _ _ _ c.run_lines-ran.ensures _ _ (ended c) (c.is_ample.ensures w.if-not-is_ample.false)
     ]
 
-fits_cast : (c : After-put_devices-end) → c.put_devices-end.result < 2 ^ 63
-fits_cast c =
-    let small : length c.args.out.now < 2 ^ 63 = search rules in
-    whole_cast _ _ _ _ _ _ c.run_lines-ran.ensures _ _ (ended c) refl small (fits c)
-
 pub returns-then-room-length : goal.returns-then-room-length
 returns-then-room-length c = let m = c.whole_length-length.ensures in
     record {
@@ -44,14 +39,9 @@ put_devices-end-requires c =
     let small : length c.args.out.now < 2 ^ 63 = search rules in
     (c.devices_of-devices.ensures.0, omega (arith, c.run_lines-ran.ensures.near, small))
 
-pub overflow_cast-result : goal.overflow_cast-result
-overflow_cast-result c = let h = fits_cast (goal.at.overflow_cast-result c).After-put_devices-end in
-    search rules
-
 pub returns : goal.returns
 returns c =
-    let small : length c.args.out.now < 2 ^ 63 = search rules in
     record {
-      wrote = whole_wrote _ _ _ _ _ _ c.run_lines-ran.ensures _ _ (ended (goal.at.returns c).After-put_devices-end) refl small (fits (goal.at.returns c).After-put_devices-end);
+      wrote = whole_wrote _ _ _ _ _ _ c.run_lines-ran.ensures _ _ (ended (goal.at.returns c).After-put_devices-end) refl (fits (goal.at.returns c).After-put_devices-end);
       enough = λ _. fits (goal.at.returns c).After-put_devices-end;
     }

@@ -1,11 +1,10 @@
 -- `line::run_part` meets its contract. Assumes nothing.
-use Prim.Native.Nat.{◌≤◌, ◌<◌, ◌^◌}
+use Prim.Native.Nat.{◌≤◌}
 use lib.ListN.{length}
 use Rattle.line_rules.specs.Pieces.{lines_of}
 use Rattle.line_rules.specs.Program.{steps}
 use Rattle.line.specs.View.{hub_in}
-use Rattle.line.proofs.Loops.{measured_past, measured_fits, lines_measured, cast_fits, wrote_none, wrote_all}
-use borrow.Author.Rules.{rules}
+use Rattle.line.proofs.Loops.{measured_past, measured_fits, lines_measured, wrote_none, wrote_all}
 use Rattle.line.proofs.run_part.Goals.{After-run_lines-ran, then-not-is_ample+else-room-length, else-not-is_ample}
 use Rattle.line.proofs.run_part.Goals as goal
 
@@ -25,18 +24,11 @@ returns-then-room-length c = let m = c.lines_length-length.ensures in
       enough = m.enough;
     }
 
-pub overflow_cast-result : goal.overflow_cast-result
-overflow_cast-result c =
-    let small : length c.args.out.now < 2 ^ 63 = search rules in
-    let h = cast_fits small (fits (goal.at.overflow_cast-result c).After-run_lines-ran) (c.run_lines-ran.ensures.fits (fits (goal.at.overflow_cast-result c).After-run_lines-ran)).1 in
-    search rules
-
 pub returns : goal.returns
 returns c =
-    let small : length c.args.out.now < 2 ^ 63 = search rules in
     let r = c.run_lines-ran.ensures in
     let f = r.fits (fits (goal.at.returns c).After-run_lines-ran) in
     record {
-      wrote = wrote_all _ _ _ _ _ _ small r.valid f.0 (fits (goal.at.returns c).After-run_lines-ran) f.1 r.unopened;
+      wrote = wrote_all _ _ _ _ _ _ r.valid f.0 (fits (goal.at.returns c).After-run_lines-ran) f.1 r.unopened;
       enough = λ _. fits (goal.at.returns c).After-run_lines-ran;
     }

@@ -1,5 +1,5 @@
 -- `line_print::put_aborts` meets its contract. Assumes nothing.
-use Rattle.line_print.proofs.PutLaws.{put_neither, put_own, put_both}
+use Rattle.line_print.proofs.PutLaws.{put_own, put_both}
 use Rattle.line_print.proofs.put_aborts.Goals as goal
 
 pub returns-in-Some : goal.returns-in-Some
@@ -7,6 +7,3 @@ returns-in-Some c = put_both c.args.answer c.args.backs _ c.in-Some.is c.require
 
 pub returns-in-Aborted : goal.returns-in-Aborted
 returns-in-Aborted c = put_own c.args.answer c.args.backs _ c.in_default.is c.in-Aborted.is c.put_abort.ensures
-
-pub returns-in_default-answer : goal.returns-in_default-answer
-returns-in_default-answer c = put_neither c.args.answer c.args.backs c.in_default.is c.requires.2 c.in_default-answer.not-Aborted

@@ -1,38 +1,31 @@
--- `line_print::put_text` meets its contract. The loop's invariant: the first i bytes are put. Assumes nothing.
+-- `line_print::put_text` meets its contract. Assumes nothing.
+use Prim.Native.Nat.{◌-◌, min}
 use mathlib.Core.Path.{◌≡◌, refl, ◌∙◌}
-use Prim.Native.Nat.{◌+◌, ◌<◌}
 use native.Mathlib.Omega.{arith}
-use lib.ListN.{length, get_or, length-set}
-use Rattle.line_print.proofs.Stores.{copied_next, copied_all}
+use lib.ListN.{length, take}
+use lib.Seq.{sets, length-take-le}
+use Rattle.line_print.proofs.Stores.{pasted, copied_all}
+use Rattle.line_print.proofs.put_text.Goals.{Joined-at-out, then-at-out, else-at-out}
 use Rattle.line_print.proofs.put_text.Goals as goal
 
-pub fitting-fit-requires : goal.fitting-fit-requires
-fitting-fit-requires c = tt
-
-pub loop-i-init : goal.loop-i-init
-loop-i-init c = (omega arith, refl, refl)
-
-pub bounds-text-i : goal.bounds-text-i
-bounds-text-i c = omega (arith, c.fitting-fit.ensures)
-
-pub bounds-out-at : goal.bounds-out-at
-bounds-out-at c = omega (arith, c.fitting-fit.ensures, c.loop-i.invariant.1)
-
-pub loop-i-preserved : goal.loop-i-preserved
-loop-i-preserved c = let a = c.args in
-    let h : c.loop-i.i < length a.text.now = omega (arith, c.fitting-fit.ensures) in (
-      omega arith,
-      length-set c.loop-i.out (a.at + c.loop-i.i) (get_or a.text.now c.loop-i.i 0) ∙ c.loop-i.invariant.1,
-      copied_next a.text.now a.out.now c.loop-i.out a.at c.loop-i.i h c.loop-i.invariant.2,
-    )
-
-pub shape_of-out : goal.shape_of-out
-shape_of-out c = c.loop-i.invariant.1
+-- what fits is copied
+copied : (c : Joined-at-out) → c.if-at-out.out ≡ sets c.args.out.now c.args.at c.args.text.now
+copied c =
+    let out = c.args.out.now in
+    let text = c.args.text.now in
+    let at = c.args.at in
+    elim c.if-at-out.branch [
+      | then-at-out w ↦
+          let fit = w.min-fit.result in
+          let n = length-take-le fit text (omega (arith, w.min-fit.ensures)) in
+          w.out-is
+          ∙ pasted out _ (take fit text) at _ (omega (arith, n, w.min-fit.ensures, w.if-at-out.true)) (omega (arith, n))
+          w.copy_from_slice.ensures.after
+          ∙ copied_all text out at fit w.min-fit.ensures
+      | else-at-out w ↦
+          let none : 0 ≡ min (length text) (length out - at) = omega (arith, w.if-at-out.false) in
+          w.out-is ∙ copied_all text out at 0 none
+    ]
 
 pub returns : goal.returns
-returns c = let a = c.args in
-    let e : c.loop-i.i ≡ c.fitting-fit.result = omega arith in
-    record {
-      is = c.loop-i.invariant.2 ∙ copied_all a.text.now a.out.now a.at c.loop-i.i (e ∙ c.fitting-fit.ensures);
-      ends = refl;
-    }
+returns c = record { is = copied (goal.at.returns c).Joined-at-out; ends = refl }

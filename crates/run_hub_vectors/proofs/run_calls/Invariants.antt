@@ -1,10 +1,9 @@
 -- `run_hub_vectors::run_calls` is safe and ends: the hub is valid at every call. Assumes nothing.
-use Rattle.std.proofs.Common.{length, ◌-◌}
 use Rattle.hub.specs.Valid.{Valid}
 use Rattle.run_hub_vectors.proofs.run_calls.Given as goal
 
-abbrev pub invariant-loop-at : goal.invariant-loop-at
-invariant-loop-at g l = Valid l.now
-
-abbrev pub decreases-loop-at : goal.decreases-loop-at
-decreases-loop-at g l = length l.bytes - l.at
+abbrev pub invariant-loop-call : goal.invariant-loop-call
+invariant-loop-call g l =
+    (goal.iterator-loop-call g).can_next l.call-iterator
+    × (goal.iterator-loop-call g).is_finite l.call-iterator
+    × Valid l.now

@@ -3,4 +3,4 @@ use Rattle.line_parts.proofs.Theorem.{adds_end}
 use Rattle.run_plot_hub.proofs.main.Goals as goal
 
 pub print-requires : goal.print-requires
-print-requires c = adds_end c.read_all-read.ensures c.take_end-length.ensures
+print-requires c = adds_end c.in-Some.ensures c.take_end-length.ensures

@@ -10,12 +10,12 @@ use Rattle.book_copy.specs.Rows.{with_count}
 use borrow.Author.Rules.{rules}
 use Rattle.book_copy.proofs.reading.with_count.Goals as goal
 
-pub returns-then-at-ge-MAX_ROUTINES : goal.returns-then-at-ge-MAX_ROUTINES
+pub returns-then-at-lt-MAX_ROUTINES : goal.returns-then-at-lt-MAX_ROUTINES
 unfolding with_count
-returns-then-at-ge-MAX_ROUTINES c = let r = c.args.rows in
-    let x : length r.counts ≡ max_routines = search (rules, length_mapped) in
-    rw (le-ltb r.routines max_routines c.if-at-ge-MAX_ROUTINES.true, set_out r.counts r.routines c.args.count (omega arith))
+returns-then-at-lt-MAX_ROUTINES c = rw (lt-ltb c.args.rows.routines max_routines c.if-at-lt-MAX_ROUTINES.true)
 
-pub returns : goal.returns
+pub returns-else-at-lt-MAX_ROUTINES : goal.returns-else-at-lt-MAX_ROUTINES
 unfolding with_count
-returns c = rw (lt-ltb c.args.rows.routines max_routines (omega arith))
+returns-else-at-lt-MAX_ROUTINES c = let r = c.args.rows in
+    let x : length r.counts ≡ max_routines = search (rules, length_mapped) in
+    rw (le-ltb r.routines max_routines c.if-at-lt-MAX_ROUTINES.false, set_out r.counts r.routines c.args.count (omega arith))

@@ -7,4 +7,4 @@ use Rattle.book_copy.proofs.reading.with_routine.Goals as goal
 pub returns : goal.returns
 unfolding with_routine
 returns c = let r = c.args.routine in
-    c.with_count.ensures ∙ ap₂ with_count c.with_commands-longer.ensures (sym (length-commands_of r))
+    c.with_count.ensures ∙ ap₂ with_count c.with_commands.ensures (sym (length-commands_of r))

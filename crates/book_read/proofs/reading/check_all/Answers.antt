@@ -1,6 +1,7 @@
 -- `book_read::reading::check_all` meets its contract. The loop's invariant: the check of the routines from the i-th on, at their place, is
 -- the check of all of them; and that place is in the book. Assumes nothing.
-use borrow.Author.Rules.{rules}
+use Rattle.std.proofs.Common.{Err}
+use Rattle.std.proofs.lemmas.Result.{err_from_is_err_and}
 use Prim.Native.Nat.{ℕ, ◌+◌, ◌-◌, ◌≤◌}
 use mathlib.Core.Path.{◌≡◌, sym, ap, ◌∙◌}
 use native.Mathlib.Omega.{arith}
@@ -8,13 +9,13 @@ use lib.ListN.{length}
 use Rattle.book_layout.specs.Layout.{pairs_end, length_at}
 use Rattle.book_layout.specs.Reading.{placed_checks}
 use Rattle.book_layout.proofs.LayoutLaws.{placed, checks_more, checks_refused, checks_left_over, checks_end}
-use Rattle.book_read.proofs.reading.check_all.Goals.{After-four_at-at, After-loop-i, In-Accepted}
+use Rattle.book_read.proofs.reading.check_all.Goals.{After-four_at-at, After-loop-i, In_ok-check_placed}
 use Rattle.book_read.proofs.reading.check_all.Goals as goal
 
 -- an accepted routine ends in the book
-moves : (c : In-Accepted) →
+moves : (c : In_ok-check_placed) →
     c.loop-i.at + length_at c.args.book.now c.loop-i.i ≤ length c.args.book.now
-moves c = (placed _ _ _ (sym c.check_placed-verdict.ensures ∙ c.in-Accepted.is)).inside
+moves c = (placed _ _ _ (sym c.check_placed.ensures ∙ c.in_ok-check_placed.was)).inside
 
 -- the length that its pair gives
 size : (c : After-four_at-at) →
@@ -30,31 +31,23 @@ all : (c : After-loop-i) →
 all c =
     let a = c.args in
     let n : 0 ≡ a.count - c.loop-i.i = omega arith in
-    ap (λ (k : ℕ). placed_checks a.book.now c.loop-i.i k c.loop-i.at) n ∙ c.loop-i.invariant.2
+    ap (λ (k : ℕ). placed_checks a.book.now c.loop-i.i k c.loop-i.at) n ∙ c.loop-i.invariant.1
 
-pub loop-i-init : goal.loop-i-init
-loop-i-init c = let a = c.args in
-    (search rules, c.requires.1, ap (λ (k : ℕ). placed_checks a.book.now 0 k (pairs_end a.count)) (omega arith))
-
-pub returns-in_default : goal.returns-in_default
-returns-in_default c = c.in_default.is
-    ∙ sym (checks_refused _ _ _ _ c.loop-i-test.true _ (sym c.check_placed-verdict.ensures ∙ c.in_default.is))
-    ∙ c.loop-i.invariant.2
-
-pub overflow_add-at-in-loop-i : goal.overflow_add-at-in-loop-i
-overflow_add-at-in-loop-i c = let h = moves (goal.at.overflow_add-at-in-loop-i c).In-Accepted in
-    let e = size (goal.at.overflow_add-at-in-loop-i c).After-four_at-at in
-    omega arith
+pub returns-in_err-check_placed : goal.returns-in_err-check_placed
+returns-in_err-check_placed c = let p = err_from_is_err_and c.from_residual.result c.from_residual.ensures.1 in
+    p.1
+    ∙ ap Err p.2
+    ∙ sym (checks_refused _ _ _ _ c.loop-i-test.true _ (sym c.check_placed.ensures ∙ c.in_err-check_placed.was))
+    ∙ c.loop-i.invariant.1
 
 pub loop-i-preserved : goal.loop-i-preserved
 loop-i-preserved c = let a = c.args in
-    let h = moves (goal.at.loop-i-preserved c).In-Accepted in
+    let h = moves (goal.at.loop-i-preserved c).In_ok-check_placed in
     let e = size (goal.at.loop-i-preserved c).After-four_at-at in (
       omega arith,
-      omega arith,
       ap (λ (k : ℕ). placed_checks a.book.now (c.loop-i.i + 1) (a.count - (c.loop-i.i + 1)) (c.loop-i.at + k)) e
-          ∙ sym (checks_more _ _ _ _ c.loop-i-test.true (sym c.check_placed-verdict.ensures ∙ c.in-Accepted.is))
-          ∙ c.loop-i.invariant.2,
+          ∙ sym (checks_more _ _ _ _ c.loop-i-test.true (sym c.check_placed.ensures ∙ c.in_ok-check_placed.was))
+          ∙ c.loop-i.invariant.1,
     )
 
 pub returns-then-at-book : goal.returns-then-at-book

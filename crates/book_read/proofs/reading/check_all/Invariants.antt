@@ -8,7 +8,4 @@ use Rattle.book_layout.specs.Reading.{placed_checks}
 use Rattle.book_read.proofs.reading.check_all.Given as goal
 
 abbrev pub invariant-loop-i : goal.invariant-loop-i
-invariant-loop-i l = (l.i ≤ l.count) × (l.at ≤ length l.book) × (placed_checks l.book l.i (l.count - l.i) l.at ≡ placed_checks l.book 0 l.count (pairs_end l.count))
-
-abbrev pub decreases-loop-i : goal.decreases-loop-i
-decreases-loop-i l = l.count - l.i
+invariant-loop-i l = (l.at ≤ length l.book) × (placed_checks l.book l.i (l.count - l.i) l.at ≡ placed_checks l.book 0 l.count (pairs_end l.count))

@@ -1,4 +1,5 @@
 -- `book_read::reading::next_pair` meets its contract: each way out is one of the laws of `pair_next`. Assumes nothing.
+use Rattle.std.proofs.Common.{Some, Ok}
 use Prim.Native.Nat.{ℕ, ◌+◌, ◌*◌, ◌-◌, ◌/◌, ◌<◌}
 use mathlib.Core.Bool.{true}
 use mathlib.Core.Path.{◌≡◌, sym, ap, ap₂, ◌∙◌}
@@ -8,9 +9,10 @@ use Rattle.rules_routine.specs.declared.Routine.{Routine}
 use Rattle.book_layout.specs.Numbers.{four_at}
 use Rattle.book_layout.specs.Layout.{count_size, pair_size, offset_size, command_size, pair_place, pairs_end, count-of, length_at, commands_at}
 use Rattle.book_layout.specs.Reading.{length_fits}
-use Rattle.book_layout.specs.declared.Item.TheVariants.{Handed}
 use Rattle.book_layout.proofs.LayoutLaws.{fits_in_fours, book-fits, pair_handed, pair-past, pair-between}
 use Rattle.book_read.proofs.reading.next_pair.Goals.{After-four_at-size, After-two_at}
+use Rattle.book_read.proofs.reading.next_pair.Goals.{then-pairs_end-position-via-then-pairs_end-position}
+use Rattle.book_read.proofs.reading.next_pair.Goals.{then-pairs_end-position-via-else-pairs_end-position+then-position-ne-COUNT_SIZE}
 use Rattle.book_read.proofs.reading.next_pair.Goals as goal
 
 -- the count that the head gives
@@ -22,12 +24,16 @@ count c = c.two_at.ensures.0
 before : (c : After-two_at) → c.args.position < count_size + pair_size * c.two_at.result → c.args.position < pairs_end (count-of c.args.book.now)
 before c h = let e = count c in omega arith
 
+-- where no pair begins
 pub returns-then-pairs_end-position : goal.returns-then-pairs_end-position
-returns-then-pairs_end-position c = let e = count (goal.at.returns-then-pairs_end-position c).After-two_at in
-    c.ended.ensures ∙ sym (pair-past _ _ (omega arith))
-
-pub returns-then-position-ne-COUNT_SIZE : goal.returns-then-position-ne-COUNT_SIZE
-returns-then-position-ne-COUNT_SIZE c = c.ended-then-position-ne-COUNT_SIZE.ensures ∙ sym (pair-between _ _ (before (goal.at.returns-then-position-ne-COUNT_SIZE c).After-two_at (omega arith)) c.if-position-ne-COUNT_SIZE.true)
+returns-then-pairs_end-position c = let p = (goal.at.returns-then-pairs_end-position c).After-two_at in
+    let e = count p in
+    elim c.then-pairs_end-position.branch [
+      | then-pairs_end-position-via-then-pairs_end-position w ↦
+          let h = w.if-pairs_end-position.true in sym (pair-past _ _ (omega arith))
+      | then-pairs_end-position-via-else-pairs_end-position+then-position-ne-COUNT_SIZE w ↦
+          sym (pair-between _ _ (before p w.if-pairs_end-position.false) w.if-position-ne-COUNT_SIZE.true)
+    ]
 
 -- the length that the pair gives fits, since the whole book is accepted
 fits : (c : After-four_at-size) → c.args.position < pairs_end (count-of c.args.book.now) →
@@ -51,5 +57,5 @@ returns c = let a = c.args in
     let f = c.four_at-from.ensures.0 in
     let s = c.four_at-size.ensures.0 in
     let r = c.routine_at-routine.ensures ∙ ap₂ (λ (n m : ℕ). routine_of (commands_at a.book.now n (m / command_size))) f s in
-    ap (λ (q : Routine). record { item = Handed; routine = q; position = a.position + pair_size }) r
+    ap (λ (q : Routine). record { item = Ok (Some q); position = a.position + pair_size }) r
     ∙ sym (pair_handed _ _ (before (goal.at.returns c).After-two_at (omega arith)) c.if-position-ne-COUNT_SIZE.false)

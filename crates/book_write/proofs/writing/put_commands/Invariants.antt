@@ -1,6 +1,6 @@
 -- `book_write::writing::put_commands` meets its contract. The loop's invariant: what is left to write, written into the buffer as it is,
 -- gives what all of it gives. Assumes nothing.
-use Prim.Native.Nat.{◌+◌, ◌*◌, ◌-◌, ◌≤◌}
+use Prim.Native.Nat.{◌+◌, ◌*◌, ◌-◌}
 use mathlib.Core.Path.{◌≡◌}
 use lib.ListN.{length}
 use lib.Seq.{sets}
@@ -9,9 +9,6 @@ use Rattle.book_layout.specs.Writing.{commands_lent}
 use Rattle.book_write.proofs.writing.put_commands.Given as goal
 
 abbrev pub invariant-loop-i : goal.invariant-loop-i
-invariant-loop-i l = (l.i ≤ l.count) × (length l.out ≡ length l.initial.out)
+invariant-loop-i l = (length l.out ≡ length l.initial.out)
     × (sets l.out (l.from + command_size * l.i) (commands_bytes (commands_lent l.devices l.tags l.settings l.i (l.count - l.i)))
     ≡ sets l.initial.out l.from (commands_bytes (commands_lent l.devices l.tags l.settings 0 l.count)))
-
-abbrev pub decreases-loop-i : goal.decreases-loop-i
-decreases-loop-i l = l.count - l.i

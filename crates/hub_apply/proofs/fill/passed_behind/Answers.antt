@@ -5,12 +5,9 @@ use mathlib.Core.Path.{◌≡◌}
 use lib.ListN.{length, length-set}
 use Rattle.rules_routine.specs.Limits.{max_sequence}
 use Rattle.hub_sequence.proofs.WalkLaws.{walks_next, walks_less}
-use Rattle.hub_apply.proofs.FillLaws.{passes_none, room_left, passes_running, passes_committed, passes_all}
+use Rattle.hub_apply.proofs.FillLaws.{room_left, passes_running, passes_committed, passes_all}
 use Rattle.hub_apply.proofs.fill.passed_behind.Goals.{then-not-committed-i, else-not-committed-i}
 use Rattle.hub_apply.proofs.fill.passed_behind.Goals as goal
-
-pub loop-i-init : goal.loop-i-init
-loop-i-init c = let p = c.requires in (search rules, p.walks, passes_none _ _ _)
 
 pub overflow_add-passed : goal.overflow_add-passed
 overflow_add-passed c = let v = c.loop-i.invariant in

@@ -1,7 +1,7 @@
 -- `hub_settle::attach::attach` meets its contract. Assumes nothing.
 use Rattle.std.proofs.Common.{Some, None}
 use borrow.Author.Rules.{rules}
-use Prim.Native.Nat.{◌+◌, ◌*◌, ◌<◌}
+use Prim.Native.Nat.{◌*◌, ◌<◌}
 use native.Mathlib.Omega.{arith}
 use mathlib.Core.Path.{◌≡◌, subst}
 use mir.Val.{to_z, of_z}
@@ -34,9 +34,6 @@ returns-then-id-eq0 c = let a = c.args in
       tables_in_place a.state _ _ _ _,
     )
 
-pub with_id-requires : goal.with_id-requires
-with_id-requires c = c.requires.0
-
 pub returns-in_default : goal.returns-in_default
 returns-in_default c = let f : Finds c.args.state (has_id c.args.id) None =
     subst (Finds c.args.state (has_id c.args.id)) c.in_default.is c.with_id.ensures in
@@ -46,26 +43,9 @@ found : (c : In-Some) → Finds c.args.state (has_id c.args.id) (Some c.in-Some.
 found c =
     subst (Finds c.args.state (has_id c.args.id)) c.in-Some.is c.with_id.ensures
 
--- its slot, and the place in the row
+-- its slot
 slot : (c : In-Some) → c.in-Some.to < max_sequence
 slot c = stands-slot _ _ c.requires.0.links_ok (found c).place_ok
-
-place : (c : In-Some) → c.in-Some.to * max_devices + c.args.device < max_sequence * max_devices
-place c = let h = slot c in
-    let d = c.requires.1 in
-    omega arith
-
-pub overflow_mul-setting : goal.overflow_mul-setting
-overflow_mul-setting c = let h = slot (goal.at.overflow_mul-setting c).In-Some in omega arith
-
-pub overflow_add-setting : goal.overflow_add-setting
-overflow_add-setting c = let h = place (goal.at.overflow_add-setting c).In-Some in omega arith
-
-pub offset_bounds-changed-to : goal.offset_bounds-changed-to
-offset_bounds-changed-to c = let h = place (goal.at.offset_bounds-changed-to c).In-Some in omega arith
-
-pub bounds-changed-to : goal.bounds-changed-to
-bounds-changed-to c = place (goal.at.bounds-changed-to c).In-Some
 
 pub returns : goal.returns
 returns c = let a = c.args in

@@ -1,7 +1,6 @@
 -- `hub_settle::leave::moved_restarts` meets its contract. Assumes nothing.
 use borrow.Author.Rules.{rules}
 use Prim.Native.Nat.{◌+◌, ◌*◌}
-use native.Mathlib.Omega.{arith}
 use mathlib.Core.Path.{◌≡◌, sym, ap, subst, ◌∙◌}
 use mir.Val.{to_z, of_z}
 use mir.Syntax.{w16}
@@ -9,12 +8,9 @@ use lib.IntN.{pos}
 use lib.ListN.{length, get_or, set, length-set}
 use Rattle.rules_routine.specs.Limits.{max_devices, max_sequence}
 use Rattle.hub_due.proofs.Tables.{restart-bits, no_restart-bits}
-use Rattle.hub_settle.proofs.RestartLaws.{MovedUpTo, moved_none, moved_some, moved_skip, moved_all}
+use Rattle.hub_settle.proofs.RestartLaws.{MovedUpTo, moved_some, moved_skip, moved_all}
 use Rattle.hub_settle.proofs.leave.moved_restarts.Goals.{then-restart-ne-NO_RESTART, else-restart-ne-NO_RESTART}
 use Rattle.hub_settle.proofs.leave.moved_restarts.Goals as goal
-
-pub loop-d-init : goal.loop-d-init
-loop-d-init c = (search rules, search rules, moved_none _ _ _)
 
 pub loop-d-preserved : goal.loop-d-preserved
 loop-d-preserved c = let a = c.args in
@@ -30,18 +26,16 @@ loop-d-preserved c = let a = c.args in
     let h = c.loop-d-test.true in
     elim c.if-restart-ne-NO_RESTART.branch [
       | then-restart-ne-NO_RESTART w ↦ let e : c.if-restart-ne-NO_RESTART.moved ≡ set r p x = w.moved-is ∙ ap (set r p) b in (
-        omega arith,
-        ap length e ∙ length-set r p x ∙ v.1,
+        ap length e ∙ length-set r p x ∙ v.0,
         subst (MovedUpTo a.row a.from a.to (d + 1)) (sym e)
-            (moved_some a.row a.from a.to d r (pos 0) i j h n v.1 v.2 (restart-bits x w.if-restart-ne-NO_RESTART.true)),
+            (moved_some a.row a.from a.to d r (pos 0) i j h n v.0 v.1 (restart-bits x w.if-restart-ne-NO_RESTART.true)),
       )
       | else-restart-ne-NO_RESTART w ↦ (
-        omega arith,
-        ap length w.moved-is ∙ v.1,
+        ap length w.moved-is ∙ v.0,
         subst (MovedUpTo a.row a.from a.to (d + 1)) (sym w.moved-is)
-            (moved_skip a.row a.from a.to d r (pos 0) i j h n v.1 v.2 (no_restart-bits x b w.if-restart-ne-NO_RESTART.false)),
+            (moved_skip a.row a.from a.to d r (pos 0) i j h n v.0 v.1 (no_restart-bits x b w.if-restart-ne-NO_RESTART.false)),
       )
     ]
 
 pub returns : goal.returns
-returns c = let l = c.loop-d in moved_all _ _ _ l.d l.moved c.loop-d-test.false l.invariant.2
+returns c = let l = c.loop-d in moved_all _ _ _ l.d l.moved c.loop-d-test.false l.invariant.1

@@ -1,5 +1,5 @@
 -- `hub_settle::leave::moved_restarts` meets its contract. Assumes nothing.
-use Prim.Native.Nat.{◌-◌, ◌*◌, ◌≤◌}
+use Prim.Native.Nat.{◌*◌}
 use mathlib.Core.Path.{◌≡◌}
 use lib.ListN.{length}
 use Rattle.rules_routine.specs.Limits.{max_devices, max_sequence}
@@ -7,8 +7,5 @@ use Rattle.hub_settle.proofs.RestartLaws.{MovedUpTo}
 use Rattle.hub_settle.proofs.leave.moved_restarts.Given as goal
 
 abbrev pub invariant-loop-d : goal.invariant-loop-d
-invariant-loop-d l = (l.d ≤ max_devices) × (length l.moved ≡ max_sequence * max_devices)
+invariant-loop-d l = (length l.moved ≡ max_sequence * max_devices)
     × MovedUpTo l.row l.from l.to l.d l.moved
-
-abbrev pub decreases-loop-d : goal.decreases-loop-d
-decreases-loop-d l = max_devices - l.d

@@ -1,23 +1,16 @@
 -- `hub_settle::settle::settle` meets its contract. The loop's invariant: what is settled so far settles to what the whole settles
 -- to. Assumes nothing.
-use borrow.Author.Rules.{rules}
-use Prim.Native.Nat.{◌*◌, ◌≤◌}
+use Prim.Native.Nat.{◌≤◌}
 use native.Mathlib.Omega.{arith}
-use mathlib.Core.Path.{◌≡◌}
-use lib.ListN.{length, get_or}
-use Rattle.rules_routine.specs.Limits.{max_devices, max_commands, max_sequence}
-use Rattle.rules_routine.proofs.RoutineLaws.{length_mapped}
+use lib.ListN.{get_or}
+use Rattle.rules_routine.specs.Limits.{max_commands}
 use Rattle.hub_sequence.specs.Links.{Stands}
 use Rattle.hub_state.specs.declared.HubState.{HubState}
 use Rattle.hub_settle.proofs.StateLaws.{tables_in}
 use Rattle.hub_settle.proofs.SettleLaws.{answered_fit, done_fit, stands-first, settling-none, settling-more, settling-runs}
 use Rattle.hub_settle.proofs.SettleLaws.{settling_empty}
-use Rattle.hub_settle.proofs.settle.settle.Goals.{At-loop-i, In-loop-i, Start}
+use Rattle.hub_settle.proofs.settle.settle.Goals.{At-loop-i, In-loop-i}
 use Rattle.hub_settle.proofs.settle.settle.Goals as goal
-
--- the length of the row of restarts
-long : (c : Start) → length c.args.state.restarts ≡ max_sequence * max_devices
-long c = search (rules, length_mapped)
 
 -- the state as the loop has it
 abbrev now : At-loop-i → HubState
@@ -37,48 +30,16 @@ few c =
 pub loop-i-init : goal.loop-i-init
 loop-i-init c = settling-none c.args.state c.requires
 
-pub bounds-committed-i : goal.bounds-committed-i
-bounds-committed-i c = c.loop-i-test.true
-
-pub overflow_mul-from : goal.overflow_mul-from
-overflow_mul-from c = let h = c.loop-i-test.true in omega arith
-
-pub bounds-answered-i : goal.bounds-answered-i
-bounds-answered-i c = c.loop-i-test.true
-
-pub overflow_cast-end : goal.overflow_cast-end
-overflow_cast-end c = let h = few (goal.at.overflow_cast-end c).In-loop-i in omega arith
-
-pub overflow_add-end : goal.overflow_add-end
-overflow_add-end c = let h = few (goal.at.overflow_add-end c).In-loop-i in
-    let i = c.loop-i-test.true in
-    omega arith
-
 pub after_done-done-requires : goal.after_done-done-requires
 after_done-done-requires c = let h = few (goal.at.after_done-done-requires c).In-loop-i in
     let i = c.loop-i-test.true in
     (omega arith, omega arith, done_fit (now (goal.at.after_done-done-requires c).At-loop-i) c.loop-i.i c.loop-i.invariant.valid (stands (goal.at.after_done-done-requires c).In-loop-i))
 
-pub after_restarts-after-requires : goal.after_restarts-after-requires
-after_restarts-after-requires c = (c.loop-i-test.true, long (goal.at.after_restarts-after-requires c).Start)
-
-pub offset_bounds-ids-i : goal.offset_bounds-ids-i
-offset_bounds-ids-i c = let h = c.loop-i-test.true in omega arith
-
-pub bounds-ids-i : goal.bounds-ids-i
-bounds-ids-i c = c.loop-i-test.true
-
 pub moved_marks-moved-requires : goal.moved_marks-moved-requires
 moved_marks-moved-requires c = (c.loop-i.invariant.valid.slots_ok c.loop-i.i (stands (goal.at.moved_marks-moved-requires c).In-loop-i)).has-id
 
-pub overflow_cast-i-in-loop-i : goal.overflow_cast-i-in-loop-i
-overflow_cast-i-in-loop-i c = let h = c.loop-i-test.true in omega arith
-
 pub leave-left-requires : goal.leave-left-requires
 leave-left-requires c = record { valid = c.loop-i.invariant.valid.links_ok; stands = stands (goal.at.leave-left-requires c).In-loop-i }
-
-pub loop-i-smaller : goal.loop-i-smaller
-loop-i-smaller c = let h = c.leave-left.ensures.taken in omega arith
 
 pub loop-i-preserved : goal.loop-i-preserved
 loop-i-preserved c = settling-more c.args.state (now (goal.at.loop-i-preserved c).At-loop-i) c.loop-i.i c.loop-i.invariant c.after_done-done.result c.after_restarts-after.result

@@ -1,20 +1,15 @@
 -- `hub_state::is_up` meets its contract. Assumes nothing.
-use mathlib.Core.Path.{◌≡◌}
 use native.Mathlib.Omega.{arith}
-use borrow.Author.Rules.{rules}
-use lib.ListN.{length}
-use Rattle.rules_routine.specs.Limits.{max_devices}
-use Rattle.rules_routine.proofs.RoutineLaws.{length_mapped}
-use Rattle.hub_state.proofs.Members.{up-read, up-past}
-use Rattle.hub_state.proofs.readers.is_up.Goals.{Start}
+use mathlib.Core.Path.{ap, ◌∙◌}
+use mathlib.Core.Bool.{true}
+use lib.ListN.{get_or}
+use Rattle.std.specs.Option.{unwrap_or}
+use Rattle.hub_state.specs.View.{state_of}
 use Rattle.hub_state.proofs.readers.is_up.Goals as goal
 
--- the row's length
-long : (c : Start) → length c.args.state.up ≡ max_devices
-long c = search (rules, length_mapped)
-
-pub returns-then-at-ge-MAX_DEVICES : goal.returns-then-at-ge-MAX_DEVICES
-returns-then-at-ge-MAX_DEVICES c = let n = long (goal.at.returns-then-at-ge-MAX_DEVICES c).Start in up-past _ _ (omega (arith, n, c.if-at-ge-MAX_DEVICES.true))
-
 pub returns : goal.returns
-returns c = let n = long (goal.at.returns c).Start in up-read _ _ _ (omega (arith, n, c.if-at-ge-MAX_DEVICES.false))
+unfolding state_of
+returns c = c.unwrap_or.ensures
+    ∙ ap (λ o. unwrap_or o true) c.copied.ensures
+    ∙ c.get.ensures.lookup.4 (omega arith) true
+    ∙ ap (λ d. get_or c.args.state.up d true) c.from.ensures

@@ -1,5 +1,5 @@
 -- `line::lines::devices_of` meets its contract. The loop's invariant: of the first devices it is known which are up. Assumes nothing.
-use mathlib.Core.Path.{◌≡◌, refl, ap, ◌∙◌}
+use mathlib.Core.Path.{ap, ◌∙◌}
 use mathlib.Core.List.{List}
 use Prim.Native.Nat.{◌<◌, ◌≤◌}
 use native.Mathlib.Omega.{arith}
@@ -17,30 +17,22 @@ few : (c : After-device_count-count) → c.device_count-count.result ≤ max_dev
 few c =
     omega (arith, c.requires.in_order.devices_fit, devices_are c.args.hub, c.device_count-count.ensures)
 
-pub slice_bounds-due_settings-end : goal.slice_bounds-due_settings-end
-slice_bounds-due_settings-end c = refl
-
-pub loop-device-init : goal.loop-device-init
-loop-device-init c = (omega arith, refl, λ d h. absurd (omega arith))
-
-pub bounds-up-d : goal.bounds-up-d
-bounds-up-d c = omega (arith, few (goal.at.bounds-up-d c).After-device_count-count, c.loop-device-test.true)
+pub bounds-up-from : goal.bounds-up-from
+bounds-up-from c = omega (arith, few (goal.at.bounds-up-from c).After-device_count-count, c.loop-device-test.true, c.from.ensures)
 
 pub loop-device-preserved : goal.loop-device-preserved
 loop-device-preserved c = let n = c.loop-device.device in
-    let h : n < length c.loop-device.up = omega (arith, few (goal.at.loop-device-preserved c).After-device_count-count, c.loop-device-test.true, c.loop-device.invariant.1) in (
-      omega (arith, c.loop-device-test.true),
-      length-set c.loop-device.up n c.is_up.result ∙ c.loop-device.invariant.1,
-      up_more (view c.args.hub) c.loop-device.up n c.is_up.result h c.is_up.ensures c.loop-device.invariant.2,
+    let h : n < length c.loop-device.up = omega (arith, few (goal.at.loop-device-preserved c).After-device_count-count, c.loop-device-test.true, c.loop-device.invariant.0) in (
+      length-set c.loop-device.up c.from.result c.is_up.result ∙ c.loop-device.invariant.0,
+      rw c.from.ensures (up_more (view c.args.hub) c.loop-device.up n c.is_up.result h c.is_up.ensures c.loop-device.invariant.1),
     )
 
 pub returns : goal.returns
-returns c = let h = c.args.hub in
-    let all : c.loop-device.device ≡ (view h).devices = omega (arith, c.device_count-count.ensures, c.loop-device.invariant.0, c.loop-device-test.false) in (
-      few (goal.at.returns c).After-device_count-count,
-      devices-told h _ c.device_count-count.ensures
-          (λ d k. c.loop-device.invariant.2 d (omega arith))
-          (λ d k.
-          ap (λ (t : List ℤ). get_or t d (pos 0)) c.due_settings.ensures.leaves
-          ∙ list_entry (view h) _ (omega (arith, c.requires.in_order.devices_fit, devices_are h)) d k),
-    )
+returns c = let h = c.args.hub in (
+  few (goal.at.returns c).After-device_count-count,
+  devices-told h _ c.device_count-count.ensures
+      (λ d k. c.loop-device.invariant.1 d (omega (arith, c.loop-device-test.false, c.device_count-count.ensures)))
+      (λ d k.
+      ap (λ (t : List ℤ). get_or t d (pos 0)) c.due_settings.ensures.leaves
+      ∙ list_entry (view h) _ (omega (arith, c.requires.in_order.devices_fit, devices_are h)) d k),
+)

@@ -4,23 +4,15 @@ use mathlib.Core.Path.{◌≡◌, ap}
 use native.Mathlib.Omega.{arith}
 use lib.ListN.{length}
 use Rattle.line_read.specs.Places.{word_end, words_from}
-use Rattle.line_read.proofs.WordLaws.{word_ends, word_inside, words_none}
-use Rattle.line_hints.proofs.ReasonLaws.{one_word}
+use Rattle.line_read.proofs.WordLaws.{words_none}
+use Rattle.line_hints.proofs.ReasonLaws.{word_stands, one_word}
 use borrow.Author.Rules.{rules}
 use Rattle.line_hints.proofs.words.count.Goals.{After-word_end-at}
 use Rattle.line_hints.proofs.words.count.Goals as goal
 
 -- where the word ends
-ended : (c : After-word_end-at) →
-    (c.loop-at.at ≤ c.word_end-at.result) × (c.word_end-at.result ≤ length c.args.line.now)
-ended c =
-    let line = c.args.line.now in
-    let at = c.loop-at.at in
-    let inside = word_inside line at (omega (arith, c.loop-at-test.true)) in
-    (omega (arith, word_ends line at, c.word_end-at.ensures), omega (arith, inside, c.word_end-at.ensures))
-
-pub loop-at-init : goal.loop-at-init
-loop-at-init c = (omega arith, omega arith)
+ended : (c : After-word_end-at) → (c.loop-at.at ≤ c.word_end-at.result) × (c.word_end-at.result ≤ length c.args.line.now)
+ended c = word_stands _ _ _ c.word_end-at.ensures (omega arith)
 
 pub overflow_add-at : goal.overflow_add-at
 overflow_add-at c = let r = ended (goal.at.overflow_add-at c).After-word_end-at in search rules

@@ -4,9 +4,6 @@ use Rattle.line_rules.proofs.TextLaws.{decimal-short}
 use Rattle.line_print.proofs.PutLaws.{short_then, exactly, reaches}
 use Rattle.line_print.proofs.text.put_two.Goals as goal
 
-pub put_word-from-requires : goal.put_word-from-requires
-put_word-from-requires c = omega (arith, reaches c.put_one-named.ensures)
-
 pub put_number-requires : goal.put_number-requires
 put_number-requires c = omega (arith, reaches c.put_one-named.ensures, c.put_word-from.ensures.ends, decimal-short 20 c.args.m (omega arith) (omega arith))
 

@@ -13,7 +13,3 @@ pub returns-in-None : goal.returns-in-None
 unfolding back_list back_text decimal digits
 returns-in-None c = as_text (ap (λ (b : Option PutBack). back_text (one_of b)) (sym c.in-None.is))
     (within (omega arith) (exactly c.put_word.ensures))
-
-pub returns-in-Some : goal.returns-in-Some
-returns-in-Some c = as_text (ap (λ (b : Option PutBack). back_text (one_of b)) (sym c.in-Some.is))
-    c.put_one_back.ensures

@@ -29,24 +29,19 @@ first c =
 pub loop-i-init : goal.loop-i-init
 unfolding back_list
 loop-i-init c = (
-  omega arith,
   refl,
   record { put = put-none c.put_one-to.new.out c.put_one-to.result; short = omega arith },
 )
 
 pub put_back-to-requires : goal.put_back-to-requires
-put_back-to-requires c = omega (arith, c.requires, reaches (first (goal.at.put_back-to-requires c).After-put_one-to), reaches c.loop-i.invariant.2)
+put_back-to-requires c = omega (arith, c.requires, reaches (first (goal.at.put_back-to-requires c).After-put_one-to), reaches c.loop-i.invariant.1)
 
 pub loop-i-preserved : goal.loop-i-preserved
 loop-i-preserved c = let h : c.loop-i.i < length c.args.backs.items = omega (arith, long (goal.at.loop-i-preserved c).Start) in (
-  omega arith,
-  c.put_back-to.auto.out ∙ c.loop-i.invariant.1,
+  c.put_back-to.auto.out ∙ c.loop-i.invariant.0,
   as_text (sym (backs_next c.args.backs.items c.loop-i.i _ h))
-      (within (omega arith) (short_then c.loop-i.invariant.2 c.put_back-to.ensures)),
+      (within (omega arith) (short_then c.loop-i.invariant.1 c.put_back-to.ensures)),
 )
-
-pub shape_of-out : goal.shape_of-out
-shape_of-out c = c.loop-i.invariant.1 ∙ c.put_one-to.auto.out
 
 pub returns : goal.returns
 unfolding back_text
@@ -55,4 +50,4 @@ returns c = let b = c.args.backs in
     let e : c.loop-i.i ≡ b.count = omega arith in
     as_text
     (ap₂ (λ (n i : ℕ). (bytes " back " ++ decimal n) ++ back_list (map back_of (take i b.items))) (sym (backs_count b h)) e)
-    (within (omega arith) (short_then (first (goal.at.returns c).After-put_one-to) c.loop-i.invariant.2))
+    (within (omega arith) (short_then (first (goal.at.returns c).After-put_one-to) c.loop-i.invariant.1))

@@ -4,24 +4,13 @@ use native.Mathlib.Omega.{arith}
 use mir.Syntax.{w16}
 use mir.Val.{to_z, of_z}
 use Rattle.line_rules.specs.Printing.{answer_text}
-use Rattle.line_print.proofs.PutLaws.{short_then, exactly, within, reaches}
+use Rattle.line_print.proofs.PutLaws.{short_then, exactly, within}
 use borrow.Author.Rules.{rules}
 use Rattle.line_print.proofs.words.put_sent.Goals.{Start}
 use Rattle.line_print.proofs.words.put_sent.Goals as goal
 
 held : (c : Start) → to_z w16 (of_z w16 c.args.sent.command.setting) ≡ c.args.sent.command.setting
 held c = search rules
-
-pub put_word-from-requires : goal.put_word-from-requires
-put_word-from-requires c = omega (arith, c.requires, reaches c.put_two-named.ensures)
-
-pub put_setting-requires : goal.put_setting-requires
-put_setting-requires c = omega (
-  arith,
-  c.requires,
-  reaches c.put_two-named.ensures,
-  c.put_word-from.ensures.ends,
-)
 
 pub returns : goal.returns
 unfolding answer_text

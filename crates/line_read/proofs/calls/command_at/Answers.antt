@@ -13,8 +13,7 @@ use Rattle.line_read.proofs.calls.command_at.Goals as goal
 
 -- the words, as they are found
 device : (c : In_ok-device) →
-    let a = c.args in
-    WordSays (number_up_to highest8) a.line.now a.from c.in_ok-device.device c.in_ok-device.device_end
+    WordSays (number_up_to highest8) c.args.line.now c.args.from c.in_ok-device.device c.in_ok-device.device_end
 device c = number_says highest8 _ _ _ _ (sym c.number_at.ensures ∙ c.in_ok-device.was)
 
 tag : (c : In_ok-tag) →
@@ -41,8 +40,10 @@ pub overflow_add-tag_end : goal.overflow_add-tag_end
 overflow_add-tag_end c = let t = tag (goal.at.overflow_add-tag_end c).In_ok-tag in search rules
 
 pub returns-in_err-setting : goal.returns-in_err-setting
-returns-in_err-setting c = let none = no_setting _ _ (sym c.setting_at.ensures ∙ c.in_err-setting.was) in
-    rw c.from_residual-in_err-setting.ensures (λ _. command-two _ _ (device (goal.at.returns-in_err-setting c).In_ok-device) (tag (goal.at.returns-in_err-setting c).In_ok-tag) none)
+returns-in_err-setting c =
+    let p = goal.at.returns-in_err-setting c in
+    let none = no_setting _ _ (sym c.setting_at.ensures ∙ c.in_err-setting.was) in
+    rw c.from_residual-in_err-setting.ensures (λ _. command-two _ _ (device p.In_ok-device) (tag p.In_ok-tag) none)
 
 pub overflow_cast-command : goal.overflow_cast-command
 overflow_cast-command c = omega (arith, number_bound highest8 _ _ _ _ (sym c.number_at.ensures ∙ c.in_ok-device.was))
@@ -52,9 +53,10 @@ overflow_cast-command-2 c = omega (arith, number_bound highest8 _ _ _ _ (sym c.n
 
 pub returns : goal.returns
 returns c =
-    let d = device (goal.at.returns c).In_ok-device in
-    let t = tag (goal.at.returns c).In_ok-tag in
-    let v = value (goal.at.returns c).In_ok-setting in
+    let p = goal.at.returns c in
+    let d = device p.In_ok-device in
+    let t = tag p.In_ok-tag in
+    let v = value p.In_ok-setting in
     let z = c.in_ok-setting.setting in
     let e : to_z w16 (of_z w16 z) ≡ z = search rules in
     rw e (omega (arith, d.begins, t.begins, v.begins), v.ends, command_all _ _ d t v)

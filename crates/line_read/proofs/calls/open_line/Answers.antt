@@ -26,23 +26,32 @@ first : (c : In_ok-first) →
 first c = number_says highest32 _ _ _ _ (sym c.number_at-3.ensures ∙ c.in_ok-first.was)
 
 pub returns-in_err-devices : goal.returns-in_err-devices
-returns-in_err-devices c = rw c.from_residual.ensures (sym (ap held_as (open_none _ _ (no_number highest8 _ _ (sym c.number_at.ensures ∙ c.in_err-devices.was)))))
+returns-in_err-devices c =
+    let none = no_number highest8 _ _ (sym c.number_at.ensures ∙ c.in_err-devices.was) in
+    rw c.from_residual.ensures (sym (ap held_as (open_none _ _ none)))
 
 pub overflow_add-devices_end : goal.overflow_add-devices_end
 overflow_add-devices_end c = let d = devices (goal.at.overflow_add-devices_end c).In_ok-devices in search rules
 
 pub returns-in_err-pass_limit : goal.returns-in_err-pass_limit
-returns-in_err-pass_limit c = rw c.from_residual-in_err-pass_limit.ensures (sym (ap held_as (open_one _ _ (devices (goal.at.returns-in_err-pass_limit c).In_ok-devices) (no_number highest8 _ _ (sym c.number_at-2.ensures ∙ c.in_err-pass_limit.was)))))
+returns-in_err-pass_limit c =
+    let p = goal.at.returns-in_err-pass_limit c in
+    let none = no_number highest8 _ _ (sym c.number_at-2.ensures ∙ c.in_err-pass_limit.was) in
+    rw c.from_residual-in_err-pass_limit.ensures (sym (ap held_as (open_one _ _ (devices p.In_ok-devices) none)))
 
 pub overflow_add-limit_end : goal.overflow_add-limit_end
 overflow_add-limit_end c = let k = limit (goal.at.overflow_add-limit_end c).In_ok-pass_limit in search rules
 
 pub returns-in_err-first : goal.returns-in_err-first
-returns-in_err-first c = let none = no_number highest32 _ _ (sym c.number_at-3.ensures ∙ c.in_err-first.was) in
-    rw c.from_residual-in_err-first.ensures (sym (ap held_as (open_two _ _ (devices (goal.at.returns-in_err-first c).In_ok-devices) (limit (goal.at.returns-in_err-first c).In_ok-pass_limit) none)))
+returns-in_err-first c =
+    let p = goal.at.returns-in_err-first c in
+    let none = no_number highest32 _ _ (sym c.number_at-3.ensures ∙ c.in_err-first.was) in
+    rw c.from_residual-in_err-first.ensures (sym (ap held_as (open_two _ _ (devices p.In_ok-devices) (limit p.In_ok-pass_limit) none)))
 
 pub returns-then-end-line : goal.returns-then-end-line
-returns-then-end-line c = sym (ap held_as (open_more _ _ (devices (goal.at.returns-then-end-line c).In_ok-devices) (limit (goal.at.returns-then-end-line c).In_ok-pass_limit) (first (goal.at.returns-then-end-line c).In_ok-first) c.if-end-line.true))
+returns-then-end-line c =
+    let p = goal.at.returns-then-end-line c in
+    sym (ap held_as (open_more _ _ (devices p.In_ok-devices) (limit p.In_ok-pass_limit) (first p.In_ok-first) c.if-end-line.true))
 
 pub overflow_cast-result : goal.overflow_cast-result
 overflow_cast-result c = omega (arith, number_bound highest8 _ _ _ _ (sym c.number_at.ensures ∙ c.in_ok-devices.was))
@@ -54,4 +63,6 @@ pub overflow_cast-result-3 : goal.overflow_cast-result-3
 overflow_cast-result-3 c = omega (arith, number_bound highest32 _ _ _ _ (sym c.number_at-3.ensures ∙ c.in_ok-first.was))
 
 pub returns : goal.returns
-returns c = sym (ap held_as (open_all _ _ (devices (goal.at.returns c).In_ok-devices) (limit (goal.at.returns c).In_ok-pass_limit) (first (goal.at.returns c).In_ok-first) c.if-end-line.false))
+returns c =
+    let p = goal.at.returns c in
+    sym (ap held_as (open_all _ _ (devices p.In_ok-devices) (limit p.In_ok-pass_limit) (first p.In_ok-first) c.if-end-line.false))

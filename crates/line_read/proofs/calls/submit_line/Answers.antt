@@ -5,11 +5,8 @@ use native.Mathlib.Omega.{arith}
 use Rattle.rules_routine.specs.declared.Routine.{Routine}
 use Rattle.line_rules.specs.Reading.{commands}
 use Rattle.line_read.specs.Places.{words_from}
-use Rattle.line_read.proofs.Forms.{submit_from, submit_all, submit-more, submit_end}
+use Rattle.line_read.proofs.Forms.{submit_from, submit-more, submit_end}
 use Rattle.line_read.proofs.calls.submit_line.Goals as goal
-
-pub loop-at-init : goal.loop-at-init
-loop-at-init c = rw c.empty-routine.ensures (submit_all _)
 
 pub loop-at-preserved : goal.loop-at-preserved
 loop-at-preserved c =

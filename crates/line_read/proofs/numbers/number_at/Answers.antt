@@ -28,12 +28,13 @@ returns-then-not-is_ascii_digit c =
 
 pub returns-then-highest-value : goal.returns-then-highest-value
 returns-then-highest-value c =
-    sym (number_missing c.args.highest _ _ _ _ (rw (sym c.from.ensures) at (read-on (goal.at.returns-then-highest-value c).Else-not-is_ascii_digit))
-    (digits_large _ _ _ c.if-highest-value.true))
+    let on = rw (sym c.from.ensures) at (read-on (goal.at.returns-then-highest-value c).Else-not-is_ascii_digit) in
+    sym (number_missing c.args.highest _ _ _ _ on (digits_large _ _ _ c.if-highest-value.true))
 
 pub loop-at-preserved : goal.loop-at-preserved
 loop-at-preserved c =
-    (rw (add-one c.loop-at.at, c.from.ensures) (read-on (goal.at.loop-at-preserved c).Else-not-is_ascii_digit), c.if-highest-value.false, omega arith)
+    let on = read-on (goal.at.loop-at-preserved c).Else-not-is_ascii_digit in
+    (rw (add-one c.loop-at.at, c.from.ensures) on, c.if-highest-value.false, omega arith)
 
 pub returns : goal.returns
 returns c =

@@ -6,4 +6,3 @@ use Rattle.line_read.proofs.numbers.number_at.Given as goal
 
 abbrev pub invariant-loop-at : goal.invariant-loop-at
 invariant-loop-at l = Left l.line l.from l.at l.value × (l.value ≤ l.highest) × (l.at ≤ max (length l.line) l.from)
-

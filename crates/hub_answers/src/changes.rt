@@ -1,0 +1,12 @@
+// Which answers leave the hub as it was.
+ghost use Rattle.std.specs.Prelude.{◌≡◌};
+ghost use Rattle.hub_answers.specs.View.{changes_nothing};
+
+use crate::Answer;
+
+// A refusal and a wait do, so that nothing settles after them.
+pub fn changes_nothing(answer: Answer) -> bool
+    ensures { result ≡ changes_nothing answer }
+{
+    matches!(answer, Answer::Refused(_) | Answer::Wait(_, _))
+}
