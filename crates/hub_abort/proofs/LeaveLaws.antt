@@ -168,14 +168,14 @@ module _ (h : HubState) (x : ℕ) (v : StateOk h) (s : Stands h.links x) where
       after_members d (map (member_at h) slots_behind)
       (after_restart ((member_at h x).restarts d) (after_members d (map (member_at h) slots_ahead) v))
 
-  due_but : (d : ℕ) → due_without h x d ≡ due_around d (settings_of h.settled_at d)
+  due_but : (d : ℕ) → due_without h (Some x) d ≡ due_around d (settings_of h.settled_at d)
   unfolding due_without after_member
   due_but d =
       let v = settings_of h.settled_at d in
       ap (λ (l : List Member). after_members d l v) but_whole
       ∙ members_after_++ d (map (member_at h) slots_ahead) (none_done (member_at h x) ∷ map (member_at h) slots_behind) v
 
-  pub left_due : due_without h x ≡ due (leave (state_of h) (there h x))
+  pub left_due : due_without h (Some x) ≡ due (leave (state_of h) (there h x))
   unfolding there
   left_due =
       fun_ext

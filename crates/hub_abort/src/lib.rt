@@ -83,7 +83,7 @@ fn tables_of(state: HubState, at: usize, down: Option<u8>) -> Tables
     ensures { TablesAre state at down result }
 {
     let before = hub_due::due_settings(state);
-    let after = hub_due::due_settings_without(state, at);
+    let after = hub_due::due_settings_without(state, Some(at));
     let others = hub_due::in_flight_without(state, at);
     let own = own_flights(state, at);
     let mut up = state.up;
