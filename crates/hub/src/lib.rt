@@ -311,7 +311,7 @@ pub fn with_restart(hub: Hub, device: u8, setting: i16, slot: Option<usize>) -> 
     Hub { state }
 }
 
-// What a decision puts back: by the abort that it brings, or by its answer.
+// What a decision puts back: by the abort that it brings, or by its answer. (That it fits, every `PutBacks` tells; callers cite it here.)
 pub fn put_backs(hub: Hub, decision: Decision) -> PutBacks
     requires { (Valid hub) × (WasDecidedOn hub decision) }
     ensures { (PutBacksOk result) × (put_backs_of result ≡ put_backs_of_decision hub.state decision) }

@@ -30,8 +30,8 @@ pub struct Tables {
 }
 
 impl Tables {
-    // "A device that is up, with no command of another routine in flight on it, is sent its due setting exactly if that changed by the abort
-    // or R had a command in flight on it"
+    // "A device that is up, with no command of another routine in flight on it, is sent its due setting exactly if that changed by the
+    // abort or R had a command in flight on it"
     fn is_put_back(&self, d: usize) -> bool
         requires { d < max_devices }
         ensures { result ≡ is_back_by self.now d }

@@ -33,21 +33,9 @@ pub fn leave(state: HubState, at: usize) -> HubState
     ensures { LeavesHub state at result }
 {
     let ids = state.ids;
-    let passed = state.passed;
-    let committed = state.committed;
-    let counts = state.counts;
-    let answered = state.answered;
-    let due_then = state.due_then;
-    let device = state.device;
-    let tag = state.tag;
-    let setting = state.setting;
-    let stage = state.stage;
-    let up = state.up;
-    let marks = state.mark;
-    let mut settled = state.settled_at;
+    let mut settled_at = state.settled_at;
     let mut restarts = state.restarts;
-    let links_before = state.links;
-    let ahead = links_before.ahead;
+    let ahead = state.links.ahead;
     let before = ahead[at] as usize;
     let mut to: u32 = 0;
     if before < MAX_SEQUENCE {
@@ -55,29 +43,16 @@ pub fn leave(state: HubState, at: usize) -> HubState
         let moved = moved_restarts(restarts, at, before);
         restarts = moved;
     } else {
-        let after = hub_due::after_restarts(settled, &restarts, at);
-        settled = after;
+        let after = hub_due::after_restarts(settled_at, &restarts, at);
+        settled_at = after;
     }
-    let mark = moved_marks(marks, ids[at], to);
-    let links = order::leave(links_before, at as u8);
+    let mark = moved_marks(state.mark, ids[at], to);
+    let links = order::leave(state.links, at as u8);
     HubState {
-        devices: state.devices,
-        pass_limit: state.pass_limit,
-        next_id: state.next_id,
         links,
-        ids,
-        passed,
-        committed,
-        counts,
-        answered,
-        due_then,
-        device,
-        tag,
-        setting,
-        stage,
         restarts,
-        settled_at: settled,
-        up,
+        settled_at,
         mark,
+        ..state
     }
 }

@@ -29,21 +29,13 @@ pub fn settle(state: HubState) -> HubState
     requires { StateOk state }
     ensures { SettlesHub state result }
 {
-    let devices = state.devices;
-    let pass_limit = state.pass_limit;
-    let next_id = state.next_id;
     let ids = state.ids;
-    let passed = state.passed;
     let committed = state.committed;
-    let counts = state.counts;
     let answered = state.answered;
-    let due_then = state.due_then;
     let device = state.device;
-    let tag = state.tag;
     let setting = state.setting;
     let stage = state.stage;
     let restarts = state.restarts;
-    let up = state.up;
     let mut links = state.links;
     let mut settled = state.settled_at;
     let mut mark = state.mark;
@@ -64,23 +56,9 @@ pub fn settle(state: HubState) -> HubState
         i = links.first as usize;
     }
     HubState {
-        devices,
-        pass_limit,
-        next_id,
         links,
-        ids,
-        passed,
-        committed,
-        counts,
-        answered,
-        due_then,
-        device,
-        tag,
-        setting,
-        stage,
-        restarts,
         settled_at: settled,
-        up,
         mark,
+        ..state
     }
 }

@@ -1,8 +1,15 @@
 -- `hub_abort::tables_of` meets its contract. Assumes nothing.
 use Rattle.std.proofs.Common.{ℕ, Option, ap, sym}
 use borrow.Author.Rules.{rules}
-use Rattle.hub_state.specs.View.{state_of}
-use Rattle.hub_abort.specs.PutBacks.{down_if}
+use Rattle.rules.specs.Tables.{any_of}
+use Rattle.rules.specs.Progress.{in_flight_on}
+use Rattle.rules.specs.Due.{due}
+use Rattle.hub_sequence.specs.Links.{Stands}
+use Rattle.hub_state.specs.View.{settings_of, flags_of, up_of, member_at, state_of}
+use Rattle.hub_state.specs.Valid.{StateOk}
+use Rattle.hub_due.specs.Contract.{members_without, due_without}
+use Rattle.hub_abort.specs.PutBacks.{down_if, TablesAre}
+use Rattle.hub_abort.specs.declared.Tables.{Tables}
 use Rattle.hub_state.specs.declared.HubState.{HubState}
 use mathlib.Core.Path.{◌≡◌, ◌∙◌}
 use lib.ListN.{length}
@@ -21,34 +28,35 @@ long c = search (rules, length_mapped)
 failing : (h : HubState) {o p : Option ℕ} → o ≡ p → (down_if (state_of h) o).up ≡ (down_if (state_of h) p).up
 failing h e = ap (λ (o : Option ℕ). (down_if (state_of h) o).up) e
 
+-- the tables, once it is known which devices are up
+tables_by : (h : HubState) (x : ℕ) (down : Option ℕ) (t : Tables) → StateOk h → Stands h.links x →
+    up_of t.up ≡ (down_if (state_of h) down).up → flags_of t.others ≡ (λ d. any_of (in_flight_on d) (members_without h x)) →
+    flags_of t.own ≡ (λ d. in_flight_on d (member_at h x)) → settings_of t.before ≡ due (state_of h) →
+    settings_of t.after ≡ due_without h x →
+    TablesAre h x down t
+tables_by h x down t v s u o w b a = record {
+  up_is = u;
+  others_are = o ∙ left_flights h x v s;
+  own_are = w;
+  before_is = b;
+  after_is = a ∙ left_due h x v s;
+}
+
 pub returns-then-device-lt-MAX_DEVICES : goal.returns-then-device-lt-MAX_DEVICES
 returns-then-device-lt-MAX_DEVICES c = let a = c.args in
-    record {
-      up_is = up-fails a.state _ c.if-device-lt-MAX_DEVICES.true (long (goal.at.returns-then-device-lt-MAX_DEVICES c).Start)
-          ∙ failing a.state (sym c.in-Some.is);
-      others_are = c.in_flight_without-others.ensures ∙ left_flights a.state a.at c.requires.0 c.requires.1;
-      own_are = c.own_flights-own.ensures;
-      before_is = c.due_settings-before.ensures;
-      after_is = c.due_settings_without-after.ensures ∙ left_due a.state a.at c.requires.0 c.requires.1;
-    }
+    tables_by a.state a.at a.down _ c.requires.0 c.requires.1
+    (up-fails a.state _ c.if-device-lt-MAX_DEVICES.true (long (goal.at.returns-then-device-lt-MAX_DEVICES c).Start)
+    ∙ failing a.state (sym c.in-Some.is))
+    c.in_flight_without-others.ensures c.own_flights-own.ensures c.due_settings-before.ensures c.due_settings_without-after.ensures
 
 pub returns-else-device-lt-MAX_DEVICES : goal.returns-else-device-lt-MAX_DEVICES
 returns-else-device-lt-MAX_DEVICES c = let a = c.args in
-    record {
-      up_is = up_stays a.state _ c.if-device-lt-MAX_DEVICES.false ∙ failing a.state (sym c.in-Some.is);
-      others_are = c.in_flight_without-others.ensures ∙ left_flights a.state a.at c.requires.0 c.requires.1;
-      own_are = c.own_flights-own.ensures;
-      before_is = c.due_settings-before.ensures;
-      after_is = c.due_settings_without-after.ensures ∙ left_due a.state a.at c.requires.0 c.requires.1;
-    }
+    tables_by a.state a.at a.down _ c.requires.0 c.requires.1
+    (up_stays a.state _ c.if-device-lt-MAX_DEVICES.false ∙ failing a.state (sym c.in-Some.is))
+    c.in_flight_without-others.ensures c.own_flights-own.ensures c.due_settings-before.ensures c.due_settings_without-after.ensures
 
 pub returns-in_default : goal.returns-in_default
 unfolding state_of
 returns-in_default c = let a = c.args in
-    record {
-      up_is = failing a.state (sym c.in_default.is);
-      others_are = c.in_flight_without-others.ensures ∙ left_flights a.state a.at c.requires.0 c.requires.1;
-      own_are = c.own_flights-own.ensures;
-      before_is = c.due_settings-before.ensures;
-      after_is = c.due_settings_without-after.ensures ∙ left_due a.state a.at c.requires.0 c.requires.1;
-    }
+    tables_by a.state a.at a.down _ c.requires.0 c.requires.1 (failing a.state (sym c.in_default.is))
+    c.in_flight_without-others.ensures c.own_flights-own.ensures c.due_settings-before.ensures c.due_settings_without-after.ensures

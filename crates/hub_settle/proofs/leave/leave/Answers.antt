@@ -18,11 +18,11 @@ returns c = let h = c.args.state in
     let b = get_or h.links.ahead at 0 in
     elim c.if-before-lt-MAX_SEQUENCE.branch [
       | then-before-lt-MAX_SEQUENCE w ↦
-          leaves-behind h at c.leave-links.result c.if-before-lt-MAX_SEQUENCE.restarts c.if-before-lt-MAX_SEQUENCE.settled c.moved_marks-mark.result c.requires.0 c.requires.1
-          c.leave-links.ensures b refl c.if-before-lt-MAX_SEQUENCE.to c.moved_marks-mark.ensures w.if-before-lt-MAX_SEQUENCE.true w.to-is w.settled-is
+          leaves-behind h at c.leave-links.result c.if-before-lt-MAX_SEQUENCE.restarts c.if-before-lt-MAX_SEQUENCE.settled_at c.moved_marks-mark.result c.requires.0 c.requires.1
+          c.leave-links.ensures b refl c.if-before-lt-MAX_SEQUENCE.to c.moved_marks-mark.ensures w.if-before-lt-MAX_SEQUENCE.true w.to-is w.settled_at-is
           (subst (MovesRestarts h.restarts at b) (sym w.restarts-is) w.moved_restarts-moved.ensures)
       | else-before-lt-MAX_SEQUENCE w ↦
-          leaves-first h at c.leave-links.result c.if-before-lt-MAX_SEQUENCE.restarts c.if-before-lt-MAX_SEQUENCE.settled c.moved_marks-mark.result c.requires.0 c.requires.1
+          leaves-first h at c.leave-links.result c.if-before-lt-MAX_SEQUENCE.restarts c.if-before-lt-MAX_SEQUENCE.settled_at c.moved_marks-mark.result c.requires.0 c.requires.1
           c.leave-links.ensures b refl c.if-before-lt-MAX_SEQUENCE.to c.moved_marks-mark.ensures w.if-before-lt-MAX_SEQUENCE.false w.to-is
-          (ap settings_of w.settled-is ∙ w.after_restarts-after.ensures) w.restarts-is
+          (ap settings_of w.settled_at-is ∙ w.after_restarts-after.ensures) w.restarts-is
     ]

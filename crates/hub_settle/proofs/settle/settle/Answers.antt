@@ -9,7 +9,7 @@ use Rattle.hub_state.specs.declared.HubState.{HubState}
 use Rattle.hub_settle.proofs.StateLaws.{tables_in}
 use Rattle.hub_settle.proofs.SettleLaws.{answered_fit, done_fit, stands-first, settling-none, settling-more, settling-runs}
 use Rattle.hub_settle.proofs.SettleLaws.{settling_empty}
-use Rattle.hub_settle.proofs.settle.settle.Goals.{At-loop-i, In-loop-i}
+use Rattle.hub_settle.proofs.settle.settle.Goals.{At-loop-i, In-loop-i, else-loop-i-test, then-loop-i-test+then-not-committed-i}
 use Rattle.hub_settle.proofs.settle.settle.Goals as goal
 
 -- the state as the loop has it
@@ -48,8 +48,9 @@ loop-i-preserved c = settling-more c.args.state (now (goal.at.loop-i-preserved c
     c.moved_marks-moved.ensures
     c.leave-left.ensures
 
-pub returns-after-loop-i : goal.returns-after-loop-i
-returns-after-loop-i c = settling_empty c.args.state (now (goal.at.returns-after-loop-i c).At-loop-i) c.loop-i.i c.loop-i.invariant c.loop-i-test.false
-
-pub returns-then-not-committed-i : goal.returns-then-not-committed-i
-returns-then-not-committed-i c = settling-runs c.args.state (now (goal.at.returns-then-not-committed-i c).At-loop-i) c.loop-i.i c.loop-i.invariant c.loop-i-test.true (c.if-not-committed-i.true)
+pub returns : goal.returns
+returns c = elim c.loop-i-test.branch [
+  | else-loop-i-test w ↦ settling_empty c.args.state (now (goal.at.returns c).At-loop-i) c.loop-i.i c.loop-i.invariant w.loop-i-test.false
+  | then-loop-i-test+then-not-committed-i w ↦ settling-runs c.args.state (now (goal.at.returns c).At-loop-i) c.loop-i.i c.loop-i.invariant
+      w.loop-i-test.true w.if-not-committed-i.true
+]
