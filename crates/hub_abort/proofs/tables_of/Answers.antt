@@ -1,5 +1,5 @@
 -- `hub_abort::tables_of` meets its contract. Assumes nothing.
-use Rattle.std.proofs.Common.{ℕ, Option, ap, sym}
+use Rattle.std.proofs.Common.{Some, ℕ, Option, ap, sym}
 use borrow.Author.Rules.{rules}
 use Rattle.rules.specs.Tables.{any_of}
 use Rattle.rules.specs.Progress.{in_flight_on}
@@ -32,7 +32,7 @@ failing h e = ap (λ (o : Option ℕ). (down_if (state_of h) o).up) e
 tables_by : (h : HubState) (x : ℕ) (down : Option ℕ) (t : Tables) → StateOk h → Stands h.links x →
     up_of t.up ≡ (down_if (state_of h) down).up → flags_of t.others ≡ (λ d. any_of (in_flight_on d) (members_without h x)) →
     flags_of t.own ≡ (λ d. in_flight_on d (member_at h x)) → settings_of t.before ≡ due (state_of h) →
-    settings_of t.after ≡ due_without h x →
+    settings_of t.after ≡ due_without h (Some x) →
     TablesAre h x down t
 tables_by h x down t v s u o w b a = record {
   up_is = u;
