@@ -143,10 +143,6 @@ pub record DoneTo (device stage : List ℕ) (setting : List ℤ) (from end : ℕ
       (d : ℕ) → after_places device stage setting d k (end - k) (settings_of after d) ≡ after_places device stage setting d from (end - from)
       (settings_of table d)
 
-pub done_yet : (device stage : List ℕ) (setting : List ℤ) (from end : ℕ) (table : List ℤ) → length table ≡ max_devices →
-    DoneTo device stage setting from end table from table
-done_yet device stage setting from end table l = record { long = l; same = λ d. refl }
-
 module _ {device stage : List ℕ} {setting : List ℤ} {from end : ℕ} {table : List ℤ} {k : ℕ} {after : List ℤ}
     (t : DoneTo device stage setting from end table k after) where
   -- no command is left

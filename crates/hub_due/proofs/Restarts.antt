@@ -13,7 +13,7 @@ use Rattle.rules.specs.Due.{after_restart}
 use Rattle.rules.specs.Attach.{settle_restarts}
 use Rattle.hub_state.specs.View.{settings_of, no_restart, restarts_at}
 use Rattle.hub_state.proofs.Rows.{restarts-past, restarts-read, restart_some, restart-none}
-use Rattle.hub_due.proofs.Tables.{set-put, no_restart-bits, restart-bits, new_below, below_none, below_put, below_same}
+use Rattle.hub_due.proofs.Tables.{set-put, no_restart-bits, restart-bits, new_below, below_put, below_same}
 use Rattle.hub_due.proofs.Tables.{below_all}
 
 -- ---- the entry of a device in a slot
@@ -39,9 +39,6 @@ after row x table = settle_restarts (restarts_at row x) (settings_of table)
 pub record RestartsTo (row : List ℤ) (x : ℕ) (table : List ℤ) (d : ℕ) (now : List ℤ) : Type 0 where
   pub long : length now ≡ max_devices
   pub same : (e : ℕ) → settings_of now e ≡ new_below d (after row x table) (settings_of table) e
-
-pub restarts_yet : (row : List ℤ) (x : ℕ) (table : List ℤ) → length table ≡ max_devices → RestartsTo row x table 0 table
-restarts_yet row x table l = record { long = l; same = λ e. sym (below_none (after row x table) (settings_of table) e) }
 
 module _ {row : List ℤ} {x : ℕ} {table : List ℤ} {d : ℕ} {now : List ℤ} (t : RestartsTo row x table d now) where
   pub restart_store : {next : List ℤ} (v : ℤ) → next ≡ set now d v → d < max_devices → restarts_at row x d ≡ Some v →

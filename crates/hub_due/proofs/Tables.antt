@@ -48,10 +48,6 @@ abbrev pub new_below {ℓ} : {A : Type ℓ} → ℕ → (ℕ → A) → (ℕ →
 new_below i new old d = cond (ltb d i) (new d) (old d)
 
 module _ {ℓ} {A : Type ℓ} (new old : ℕ → A) where
-  -- at first none is
-  pub below_none : (d : ℕ) → new_below 0 new old d ≡ old d
-  below_none d = ap (λ t. cond t (new d) (old d)) (le-ltb d 0 (omega arith))
-
   -- one more is new: the others are as they were
   below_more : (i d : ℕ) → d ≢ i → new_below i new old d ≡ new_below (i + 1) new old d
   below_more i d n = ap (λ t. cond t (new d) (old d)) (go (ltb d i) refl)

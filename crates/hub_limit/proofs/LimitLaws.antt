@@ -13,7 +13,6 @@ use Rattle.rules.specs.State.{State}
 use Rattle.rules.specs.Answers.{limited}
 use Rattle.rules.specs.Settle.{settle}
 use Rattle.rules.specs.Limit.{new_limit_check, with_pass_limit}
-use Rattle.rules.proofs.Lists.{t≠f}
 use Rattle.rules.proofs.LimitLaws.{limit_passes, limit-turned-down}
 use Rattle.hub_state.specs.View.{steps_at, member_at, members_of, state_of}
 use Rattle.hub_state.specs.Valid.{StateOk}

@@ -10,8 +10,8 @@ ghost use Rattle.hub_state.specs.Unmoved.{Unmoved};
 ghost use Rattle.hub_limit.specs.Contract.{Limits};
 
 use hub_state::HubState;
-use rules_routine::limits::{HIGHEST_PASS_LIMIT, MAX_DEVICES};
 use rules_routine::Refusal;
+use rules_routine::limits::{HIGHEST_PASS_LIMIT, MAX_DEVICES};
 
 // "N not 1 to 32", then "K above 8": of an opening, and of a new pass limit on a hub with so many devices.
 pub fn check(devices: u8, pass_limit: u8) -> Result<(), Refusal>

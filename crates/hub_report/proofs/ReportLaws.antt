@@ -2,7 +2,6 @@
 use Rattle.rules_routine.specs.declared.refusals.Refusal.TheVariants.{NotRunning, NothingInFlight, ReportCodeOutOfRange}
 use Rattle.rules_routine.specs.declared.refusals.Refusal.{Refusal}
 use Rattle.hub_answers.specs.declared.PutBack.{PutBack}
-use Rattle.rules_routine.specs.Refusals.{numbered}
 use Rattle.std.proofs.Common.{Option, None, Some}
 use mathlib.Core.Path.{◌≡◌, refl, sym, ap, ◌∙◌, subst}
 use mathlib.Core.Logic.{◌≢◌}

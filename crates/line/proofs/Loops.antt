@@ -391,7 +391,8 @@ module _ (h : Hub) (input : List ℕ) (room : ℕ) (buffer out : List ℕ) (s : 
     unfolding run_from
     whole_wrote same fits =
         let here : length lines.text ≤ room = omega (arith, whole_long) in
-        wrote_all (run_from (hub_in h) input) h s.hub buffer buffer' end r.valid (r.fits here).0 (omega (arith, same)) (whole_put here) r.unopened
+        wrote_all (run_from (hub_in h) input) h s.hub buffer buffer' end r.valid (r.fits here).0 (omega (arith, same)) (whole_put here)
+        r.unopened
 
 -- ---- the length as a signed number
 

@@ -1,5 +1,6 @@
 -- The contracts of the line program's calls. Assumes nothing.
-use Rattle.std.specs.Prelude.{◌≡◌, Bool, true, false, List, ℕ, suc, ◌+◌, ◌-◌, ◌*◌, ◌<◌, ◌≤◌, ℤ, pos, negsuc, length, take, drop, None, Option, Some}
+use Rattle.std.specs.Prelude.{◌≡◌, Bool, true, false, List, ℕ, suc, ◌+◌, ◌-◌, ◌*◌, ◌<◌, ◌≤◌, ℤ, pos, negsuc}
+use Rattle.std.specs.Prelude.{length, take, drop, Option, None, Some}
 use Rattle.hub_answers.specs.declared.Answer.{Answer}
 use Rattle.hub_answers.specs.declared.Answer.TheVariants.{Refused, Placed, Wait, Sent, Done, Skipped, Committed, Aborted, Down, Up}
 use Rattle.hub_answers.specs.declared.Answer.TheVariants.{Limited}
@@ -59,7 +60,9 @@ pub record RunsLines (h : Hub) (input : List ℕ) (room : ℕ) (buffer buffer' :
       (hub_in s.hub ≡ (steps (hub_in h) (lines_of input)).hub) × Put buffer buffer' 0 s.at (steps (hub_in h) (lines_of input)).text
   pub past : room < length (steps (hub_in h) (lines_of input)).text → room < s.at
   pub unopened : hub_in s.hub ≡ None → s.hub ≡ h
-  pub ample : max_text * length (lines_of input) ≤ room → length (steps (hub_in h) (lines_of input)).text ≤ max_text * length (lines_of input)
+  pub ample :
+      max_text * length (lines_of input) ≤ room →
+      length (steps (hub_in h) (lines_of input)).text ≤ max_text * length (lines_of input)
 
 -- How long the text of an input is, if there is room for it; else a number past the room. Ample room is room for it.
 pub record Measures (text input : List ℕ) (room long : ℕ) : Type 0 where

@@ -4,7 +4,7 @@
 
 mod said;
 
-ghost use Rattle.std.specs.Prelude.{◌+◌, ◌<◌, ◌≤◌, length};
+ghost use Rattle.std.specs.Prelude.{◌+◌, ◌<◌, ◌≤◌, length, IfSome};
 ghost use Rattle.hub.specs.Valid.{Valid};
 
 use hub::Hub;
@@ -16,7 +16,7 @@ const OUT_ROOM: usize = 4 * MAX_TEXT;
 // The first byte of `refused`, and of no other answer.
 const REFUSED: u8 = 114;
 
-// The hub after the lines so far, how many there were, and whether all could be written.
+// The hub after the lines so far, how many there were, and how many of them were unread and refused; and whether all could be written.
 #[derive(Clone, Copy)]
 struct Tally {
     hub: Hub,
@@ -26,170 +26,111 @@ struct Tally {
     good: bool,
 }
 
-fn one_more(count: u64) -> u64 {
-    if count == u64::MAX {
-        return count;
-    }
-    count + 1
-}
-
-// A line of which nothing is told is run.
-fn run_line(tally: Tally, line: &[u8], out: &mut [u8]) -> Tally
-    requires { (Valid tally.hub) × (0 < length out.old) }
+// No line.
+fn none() -> Tally
     ensures { Valid result.hub }
-{
-    let hub = tally.hub;
-    let written = line::run_part(hub, line, out);
-    let next = written.hub;
-    let mut refused = tally.refused;
-    if out[0] == REFUSED {
-        refused = one_more(refused);
-    }
-    Tally {
-        hub: next,
-        lines: tally.lines,
-        unread: tally.unread,
-        refused,
-        good: tally.good,
-    }
-}
-
-// A line, the next one.
-fn take_line(rt: &impl Print, tally: Tally, line: &[u8], out: &mut [u8]) -> Tally
-    requires { (Valid tally.hub) × (0 < length out.old) }
-    ensures { Valid result.hub }
-{
-    let hub = tally.hub;
-    let number = one_more(tally.lines);
-    let opened = 0 < hub::device_count(hub);
-    if let Some(hint) = line_hints::of_line(line, opened) {
-        let written = said::say(rt, number, hint).is_ok();
-        return Tally {
-            hub,
-            lines: number,
-            unread: one_more(tally.unread),
-            refused: tally.refused,
-            good: tally.good && written,
-        };
-    }
-    let counted = Tally {
-        hub,
-        lines: number,
-        unread: tally.unread,
-        refused: tally.refused,
-        good: tally.good,
-    };
-    run_line(counted, line, out)
-}
-
-// Whole lines in turn.
-fn take_lines(rt: &impl Print, tally: Tally, input: &[u8], out: &mut [u8]) -> Tally
-    requires { (Valid tally.hub) × (0 < length out.old) }
-    ensures { Valid result.hub }
-{
-    let mut so_far = tally;
-    let mut from = 0;
-    while from < input.len() {
-        let end = line_read::line_end(input, from);
-        so_far = take_line(rt, so_far, &input[from..end], out);
-        from = end + 1;
-    }
-    so_far
-}
-
-// The lines so far, and how many bytes are pending of a line whose end has not come.
-#[derive(Clone, Copy)]
-struct Taken {
-    tally: Tally,
-    pending: usize,
-}
-
-// The bytes read so far behind the lines that were taken: the whole lines of them are taken, and the rest is pending.
-fn take_part(
-    rt: &impl Print,
-    tally: Tally,
-    filled: usize,
-    input: &mut [u8],
-    out: &mut [u8],
-) -> Taken
-    requires { (Valid tally.hub) × (filled ≤ length input.old) × (0 < length out.old) }
-    ensures { (Valid result.tally.hub) × (result.pending ≤ length input.new) }
-{
-    let whole = line_parts::whole::whole_length(&input[..filled]);
-    let taken = take_lines(rt, tally, &input[..whole], out);
-    let pending = line_parts::whole::keep(input, whole, filled);
-    Taken {
-        tally: taken,
-        pending,
-    }
-}
-
-// The lines of all whole pieces, how many bytes are pending, and whether all could be read.
-#[derive(Clone, Copy)]
-struct Read {
-    tally: Tally,
-    pending: usize,
-    good: bool,
-}
-
-// Part by part to the end of the input. Nothing says that an input ends, so the loop counts its turns down. What cannot be read is told
-// under the name of the command.
-fn read_all(rt: &(impl Input + Print + Eprint), input: &mut [u8], out: &mut [u8]) -> Read
-    requires { 0 < length out.old }
-    ensures { (Valid result.tally.hub) × (result.pending ≤ length input.new) }
 {
     let hub = line::no_hub();
-    let mut tally = Tally {
+    Tally {
         hub,
         lines: 0,
         unread: 0,
         refused: 0,
         good: true,
-    };
-    let mut pending = 0usize;
-    let mut turns = u64::MAX;
-    while turns > 0 {
-        let got = run_streams::read_behind(rt, b"plot_hub", input, pending);
-        if got.count == 0 {
-            return Read {
-                tally,
-                pending,
-                good: got.good,
-            };
-        }
-        let taken = take_part(rt, tally, pending + got.count, input, out);
-        tally = taken.tally;
-        pending = taken.pending;
-        turns -= 1;
-    }
-    Read {
-        tally,
-        pending,
-        good: false,
     }
 }
 
-// The line whose end has not come, if there is one.
-fn take_last(rt: &impl Print, tally: Tally, pending: &[u8], out: &mut [u8]) -> Tally
-    requires { (Valid tally.hub) × (0 < length out.old) }
-    ensures { Valid result.hub }
+// A line of which nothing is told is run.
+fn run_line(tally: &mut Tally, line: &[u8], out: &mut [u8])
+    requires { (Valid tally.old.hub) × (0 < length out.old) }
+    ensures { Valid tally.new.hub }
 {
-    if pending.len() == 0 {
-        return tally;
+    let written = line::run_part(tally.hub, line, out);
+    tally.hub = written.hub;
+    if out[0] == REFUSED {
+        tally.refused = tally.refused.saturating_add(1);
     }
-    take_line(rt, tally, pending, out)
+}
+
+// A line, the next one.
+fn take_line(rt: &impl Print, tally: &mut Tally, line: &[u8], out: &mut [u8])
+    requires { (Valid tally.old.hub) × (0 < length out.old) }
+    ensures { Valid tally.new.hub }
+{
+    tally.lines = tally.lines.saturating_add(1);
+    let opened = 0 < hub::device_count(tally.hub);
+    match line_hints::of_line(line, opened) {
+        Some(hint) => {
+            tally.unread = tally.unread.saturating_add(1);
+            tally.good &= said::say(rt, tally.lines, hint).is_ok();
+        }
+        None => run_line(tally, line, out),
+    }
+}
+
+// Whole lines in turn.
+fn take_lines(rt: &impl Print, tally: &mut Tally, input: &[u8], out: &mut [u8])
+    requires { (Valid tally.old.hub) × (0 < length out.old) }
+    ensures { Valid tally.new.hub }
+{
+    let mut from = 0;
+    while from < input.len() {
+        let end = line_read::line_end(input, from);
+        take_line(rt, tally, &input[from..end], out);
+        from = end + 1;
+    }
+}
+
+// The bytes read so far behind the lines that were taken: the whole lines of them are taken, and the rest is pending. How many bytes are.
+fn take_part(
+    rt: &impl Print,
+    tally: &mut Tally,
+    filled: usize,
+    input: &mut [u8],
+    out: &mut [u8],
+) -> usize
+    requires { (Valid tally.old.hub) × (filled ≤ length input.old) × (0 < length out.old) }
+    ensures { (Valid tally.new.hub) × (result ≤ length input.new) }
+{
+    let whole = line_parts::whole::whole_length(&input[..filled]);
+    take_lines(rt, tally, &input[..whole], out);
+    line_parts::whole::keep(input, whole, filled)
+}
+
+// Part by part to the end of the input: how many bytes are pending; none where it cannot be read, which is told under the name of the
+// command. Nothing says that an input ends, so the loop counts its turns.
+fn read_all(
+    rt: &(impl Input + Print + Eprint),
+    tally: &mut Tally,
+    input: &mut [u8],
+    out: &mut [u8],
+) -> Option<usize>
+    requires { (Valid tally.old.hub) × (0 < length out.old) }
+    ensures valid { Valid tally.new.hub }
+    ensures inside { IfSome result (λ pending. pending ≤ length input.new) }
+{
+    let mut pending = 0usize;
+    for _ in 0..u64::MAX {
+        let count = run_streams::read_behind(rt, b"plot_hub", input, pending).ok()?;
+        if count == 0 {
+            return Some(pending);
+        }
+        pending = take_part(rt, tally, pending + count, input, out);
+    }
+    None
 }
 
 fn main(rt: HostRuntime) {
     let mut input = line_parts::input_buffer();
     let mut out = [0u8; OUT_ROOM];
-    let read = read_all(&rt, &mut input, &mut out);
-    if read.good {
-        let pending = read.pending;
-        let tally = read.tally;
-        let all = take_last(&rt, tally, &input[..pending], &mut out);
-        let told = said::sum_up(&rt, all.lines, all.unread, all.refused).is_ok();
-        if !(all.good && told) {
+    let mut tally = none();
+    if let Some(pending) = read_all(&rt, &mut tally, &mut input, &mut out) {
+        // The line whose end has not come, if there is one.
+        if 0 < pending {
+            take_line(&rt, &mut tally, &input[..pending], &mut out);
+        }
+        let told = said::sum_up(&rt, tally.lines, tally.unread, tally.refused).is_ok();
+        if !(tally.good && told) {
             run_streams::say_not_written(&rt, b"plot_hub");
         }
     }

@@ -1,7 +1,6 @@
 -- `hub_due::after_done` meets its contract. The loop's invariant: the commands from the k-th on leave each device as all of them do.
 -- Assumes nothing.
 use borrow.Author.Rules.{rules}
-use native.Mathlib.Omega.{arith}
 use mathlib.Core.Path.{◌≡◌, ap, ◌∙◌}
 use Prim.Native.Nat.{◌<◌}
 use lib.IntN.{pos}
@@ -9,7 +8,7 @@ use lib.ListN.{get_or, set}
 use mir.Val.{to_z, of_z}
 use mir.Syntax.{w16}
 use Rattle.rules_routine.specs.Limits.{max_devices}
-use Rattle.hub_due.proofs.Places.{done_yet, done_all, done_store, done_keep}
+use Rattle.hub_due.proofs.Places.{done_all, done_store, done_keep}
 use Rattle.hub_due.proofs.after_done.Goals.{then-stage-k-eq-DONE, else-stage-k-eq-DONE}
 use Rattle.hub_due.proofs.after_done.Goals.{In-loop-k}
 use Rattle.hub_due.proofs.after_done.Goals as goal
@@ -17,18 +16,6 @@ use Rattle.hub_due.proofs.after_done.Goals as goal
 -- the device of the next command
 below : (c : In-loop-k) → get_or c.args.device.now c.loop-k.k 0 < max_devices
 below c = c.requires.2 c.loop-k.k c.loop-k.auto.k c.loop-k-test.true
-
-pub loop-k-init : goal.loop-k-init
-loop-k-init c = done_yet _ _ _ _ _ _ (search rules)
-
-pub overflow_cast-d : goal.overflow_cast-d
-overflow_cast-d c = let b = below (goal.at.overflow_cast-d c).In-loop-k in omega arith
-
-pub offset_bounds-after-d : goal.offset_bounds-after-d
-offset_bounds-after-d c = let b = below (goal.at.offset_bounds-after-d c).In-loop-k in omega arith
-
-pub bounds-after-d : goal.bounds-after-d
-bounds-after-d c = below (goal.at.bounds-after-d c).In-loop-k
 
 pub loop-k-preserved : goal.loop-k-preserved
 loop-k-preserved c = let v = c.loop-k.invariant in

@@ -7,13 +7,10 @@ use lib.ListN.{get_or, set}
 use mir.Val.{to_z, of_z}
 use mir.Syntax.{w16}
 use Rattle.rules_routine.specs.Limits.{max_devices}
-use Rattle.hub_due.proofs.Restarts.{restart-there, restart_absent, restarts_yet, restart_store, restart_keep}
+use Rattle.hub_due.proofs.Restarts.{restart-there, restart_absent, restart_store, restart_keep}
 use Rattle.hub_due.proofs.Restarts.{restarts_all}
 use Rattle.hub_due.proofs.after_restarts.Goals.{then-last-ne-NO_RESTART, else-last-ne-NO_RESTART}
 use Rattle.hub_due.proofs.after_restarts.Goals as goal
-
-pub loop-d-init : goal.loop-d-init
-loop-d-init c = restarts_yet _ _ _ (search rules)
 
 pub loop-d-preserved : goal.loop-d-preserved
 loop-d-preserved c = let row = c.args.restarts.now in

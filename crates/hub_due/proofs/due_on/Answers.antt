@@ -14,7 +14,7 @@ use Rattle.rules_routine.proofs.RoutineLaws.{length_mapped}
 use Rattle.rules.specs.Due.{after_members}
 use Rattle.hub_sequence.specs.Links.{back_of, Stands}
 use Rattle.hub_sequence.proofs.ReadLaws.{walks-ahead}
-use Rattle.hub_sequence.proofs.WalkLaws.{walks_spot, walks_next, walks_less}
+use Rattle.hub_sequence.proofs.WalkLaws.{walks_next, walks_less}
 use Rattle.hub_state.specs.View.{restarts_at, members_of}
 use Rattle.hub_state.proofs.Rows.{restarts-past}
 use Rattle.hub_due.proofs.Restarts.{restart-there, restart_absent}
@@ -70,17 +70,8 @@ returns-then-restart-ne-NO_RESTART c = let v = c.loop-i.invariant in
     b ∙ back-restart v.0 v.2 c.loop-i-test.true r
     (restart-there _ _ _ (long (goal.at.returns-then-restart-ne-NO_RESTART c).Start) c.loop-i-test.true c.if-d-lt-MAX_DEVICES.true c.if-restart-ne-NO_RESTART.true) ∙ whole (goal.at.returns-then-restart-ne-NO_RESTART c).Start
 
-pub overflow_cast-end : goal.overflow_cast-end
-overflow_cast-end c = let h = ends (goal.at.overflow_cast-end c).In-loop-i in omega arith
-
-pub overflow_add-end : goal.overflow_add-end
-overflow_add-end c = let h = ends (goal.at.overflow_add-end c).In-loop-i in omega arith
-
 pub behind_last_done-k-requires : goal.behind_last_done-k-requires
 behind_last_done-k-requires c = (omega arith, ends (goal.at.behind_last_done-k-requires c).In-loop-i)
-
-pub offset_bounds-setting-k : goal.offset_bounds-setting-k
-offset_bounds-setting-k c = let h = ends (goal.at.offset_bounds-setting-k c).In-loop-i in omega (arith, c.behind_last_done-k.ensures.within)
 
 pub bounds-setting-k : goal.bounds-setting-k
 bounds-setting-k c = let h = ends (goal.at.bounds-setting-k c).In-loop-i in omega (arith, c.behind_last_done-k.ensures.within)
@@ -90,10 +81,6 @@ returns-then-from-k c = let v = c.loop-i.invariant in
     let r = get_or c.args.setting.now (c.behind_last_done-k.result - 1) (pos 0) in
     let b : to_z w16 (of_z w16 r) ≡ r = search rules in
     b ∙ back_found v.0 v.2 c.loop-i-test.true (absent (goal.at.returns-then-from-k c).Joined-d-lt-MAX_DEVICES (long (goal.at.returns-then-from-k c).Start)) c.behind_last_done-k.ensures c.if-from-k.true ∙ whole (goal.at.returns-then-from-k c).Start
-
-pub overflow_cast-i-in-loop-i : goal.overflow_cast-i-in-loop-i
-overflow_cast-i-in-loop-i c = let s = walks_spot (walks_next c.loop-i.invariant.0 c.loop-i-test.true).1 in
-    omega arith
 
 pub loop-i-smaller : goal.loop-i-smaller
 loop-i-smaller c = walks_less c.loop-i.invariant.0 c.loop-i-test.true

@@ -1,25 +1,19 @@
 -- `hub_due::due_settings_without` meets its contract. The loop's invariant: the slots that are left leave each device as all slots do.
 -- Assumes nothing.
-use borrow.Author.Rules.{rules}
 use native.Mathlib.Omega.{arith}
-use mathlib.Core.Path.{◌≡◌, ◌∙◌, fun_ext}
+use mathlib.Core.Path.{◌∙◌, fun_ext}
 use Prim.Native.Nat.{◌+◌, ◌*◌, ◌≤◌}
-use lib.ListN.{length, get_or}
-use Rattle.rules_routine.specs.Limits.{max_devices, max_commands, max_sequence}
-use Rattle.rules_routine.proofs.RoutineLaws.{length_mapped}
+use lib.ListN.{get_or}
+use Rattle.rules_routine.specs.Limits.{max_commands, max_sequence}
 use Rattle.hub_sequence.specs.Links.{Stands}
 use Rattle.hub_sequence.proofs.ReadLaws.{walks-behind}
-use Rattle.hub_sequence.proofs.WalkLaws.{walks_spot, walks_next, walks_less}
+use Rattle.hub_sequence.proofs.WalkLaws.{walks_next, walks_less}
 use Rattle.hub_due.proofs.Slots.{within_self, walk-within, walk_here, answered_end, answered-devices, due_yet}
 use Rattle.hub_due.proofs.Slots.{due-more}
 use Rattle.hub_due.proofs.Slots.{due_left_out, due_end, due_but}
 use Rattle.hub_due.proofs.due_settings_without.Goals.{then-i-left_out, else-i-left_out}
-use Rattle.hub_due.proofs.due_settings_without.Goals.{In-loop-i, Start}
+use Rattle.hub_due.proofs.due_settings_without.Goals.{In-loop-i}
 use Rattle.hub_due.proofs.due_settings_without.Goals as goal
-
--- the row of restarts
-long : (c : Start) → length c.args.state.restarts ≡ max_sequence * max_devices
-long c = search (rules, length_mapped)
 
 -- the slot that the walk has come to is taken
 stands : (c : In-loop-i) →
@@ -38,21 +32,8 @@ ends c = answered_end c.args.state _ c.requires (stands c)
 pub loop-i-init : goal.loop-i-init
 loop-i-init c = (walks-behind _ c.requires.links_ok, within_self _, due_yet _ _ _ _ _ _ _ _ _)
 
-pub overflow_cast-end : goal.overflow_cast-end
-overflow_cast-end c = let h = ends (goal.at.overflow_cast-end c).In-loop-i in omega arith
-
-pub overflow_add-end : goal.overflow_add-end
-overflow_add-end c = let h = ends (goal.at.overflow_add-end c).In-loop-i in omega arith
-
 pub after_done-done-requires : goal.after_done-done-requires
 after_done-done-requires c = (omega arith, ends (goal.at.after_done-done-requires c).In-loop-i, answered-devices c.args.state _ c.requires (stands (goal.at.after_done-done-requires c).In-loop-i))
-
-pub after_restarts-after-requires : goal.after_restarts-after-requires
-after_restarts-after-requires c = (c.loop-i-test.true, long (goal.at.after_restarts-after-requires c).Start)
-
-pub overflow_cast-i-in-loop-i : goal.overflow_cast-i-in-loop-i
-overflow_cast-i-in-loop-i c = let s = walks_spot (walks_next c.loop-i.invariant.0 c.loop-i-test.true).1 in
-    omega arith
 
 pub loop-i-smaller : goal.loop-i-smaller
 loop-i-smaller c = walks_less c.loop-i.invariant.0 c.loop-i-test.true

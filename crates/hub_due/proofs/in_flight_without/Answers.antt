@@ -1,13 +1,12 @@
 -- `hub_due::in_flight_without` meets its contract. The loop's invariant: with the slots that are left, the row has the devices that all
 -- slots give. Assumes nothing.
-use native.Mathlib.Omega.{arith}
 use mathlib.Core.Path.{◌∙◌, fun_ext}
 use Prim.Native.Nat.{◌+◌, ◌*◌, ◌<◌}
 use lib.ListN.{get_or}
 use Rattle.rules_routine.specs.Limits.{max_devices, max_commands, max_sequence}
 use Rattle.hub_sequence.specs.Links.{Stands}
 use Rattle.hub_sequence.proofs.ReadLaws.{walks-behind}
-use Rattle.hub_sequence.proofs.WalkLaws.{walks_spot, walks_next, walks_less}
+use Rattle.hub_sequence.proofs.WalkLaws.{walks_next, walks_less}
 use Rattle.hub_state.proofs.Members.{place-within, device-within}
 use Rattle.hub_due.proofs.Slots.{within_self, walk-within, walk_here, flights_along, flights_yet, flights_end}
 use Rattle.hub_due.proofs.Slots.{flights_left_out, flights_past, flights_to_do, flights_put}
@@ -39,27 +38,11 @@ device c t = device-within c.args.state _ c.requires (stands c) _ t
 pub loop-i-init : goal.loop-i-init
 loop-i-init c = (walks-behind _ c.requires.links_ok, within_self _, flights_yet _ _ _ _ _ _ _)
 
-pub overflow_cast-k : goal.overflow_cast-k
-overflow_cast-k c = let h = place (goal.at.overflow_cast-k c).In-loop-i c.if-answered-i.true in omega arith
-
-pub overflow_add-k : goal.overflow_add-k
-overflow_add-k c = let h = place (goal.at.overflow_add-k c).In-loop-i c.if-answered-i.true in omega arith
-
 pub bounds-stage-k : goal.bounds-stage-k
 bounds-stage-k c = place (goal.at.bounds-stage-k c).In-loop-i c.if-answered-i.true
 
-pub bounds-device-k : goal.bounds-device-k
-bounds-device-k c = place (goal.at.bounds-device-k c).In-loop-i c.if-answered-i.true
-
-pub overflow_cast-d : goal.overflow_cast-d
-overflow_cast-d c = let h = device (goal.at.overflow_cast-d c).In-loop-i c.if-answered-i.true in omega arith
-
 pub bounds-busy-d : goal.bounds-busy-d
 bounds-busy-d c = device (goal.at.bounds-busy-d c).In-loop-i c.if-answered-i.true
-
-pub overflow_cast-i-in-loop-i : goal.overflow_cast-i-in-loop-i
-overflow_cast-i-in-loop-i c = let s = walks_spot (walks_next c.loop-i.invariant.0 c.loop-i-test.true).1 in
-    omega arith
 
 pub loop-i-smaller : goal.loop-i-smaller
 loop-i-smaller c = walks_less c.loop-i.invariant.0 c.loop-i-test.true

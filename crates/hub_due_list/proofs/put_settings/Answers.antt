@@ -40,6 +40,7 @@ returns c = let n = c.args.state.devices in
       leaves = rw (le-ltb (length list) n c.if-list-count.false)
           (ap (λ (l : List ℤ). l ++ drop n list)
           (c.copy_from_slice.ensures.after
-          ∙ entries table 0 table n (λ k. let e : 0 + k ≡ k = omega arith in ap (settings_of table) e) (omega (arith, long, c.requires.devices_fit))
+          ∙ entries table 0 table n (λ k. let e : 0 + k ≡ k = omega arith in ap (settings_of table) e)
+          (omega (arith, long, c.requires.devices_fit))
           ∙ ap (λ (f : ℕ → ℤ). settings_from f 0 n) c.due_settings-table.ensures));
     }

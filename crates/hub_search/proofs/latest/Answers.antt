@@ -5,7 +5,8 @@ use Rattle.rules_routine.proofs.RoutineLaws.{length-commands_of}
 use Rattle.hub_sequence.proofs.ReadLaws.{walks-ahead}
 use Rattle.hub_search.proofs.Slots.{seeks_start, seeks_on, seeks_less}
 use Rattle.hub_search.proofs.SearchLaws.{blocks-committed, blocks-few, latest_marked, latest_passed, latest_none}
-use Rattle.hub_search.proofs.latest.Goals.{else-not-committed-x-via-else-not-committed-x, else-not-committed-x-via-then-not-committed-x+else-limit-passed}
+use Rattle.hub_search.proofs.latest.Goals.{else-not-committed-x-via-else-not-committed-x}
+use Rattle.hub_search.proofs.latest.Goals.{else-not-committed-x-via-then-not-committed-x+else-limit-passed}
 use Rattle.hub_search.proofs.latest.Goals as goal
 
 pub loop-i-init : goal.loop-i-init
@@ -28,7 +29,10 @@ loop-i-smaller c = seeks_less c.loop-i.invariant c.loop-i-test.true
 pub loop-i-preserved : goal.loop-i-preserved
 loop-i-preserved c = let o = sym c.has_id.ensures ∙ c.if-has_id.false in
     seeks_on c.loop-i.invariant c.loop-i-test.true
-    (elim c.else-not-committed-x.branch [ else-not-committed-x-via-then-not-committed-x+else-limit-passed w ↦ blocks-few _ _ _ _ _ _ _ o w.if-limit-passed.false | else-not-committed-x-via-else-not-committed-x w ↦ blocks-committed _ _ _ _ _ _ _ o w.if-not-committed-x.false-raw ])
+    (elim c.else-not-committed-x.branch [
+      | else-not-committed-x-via-then-not-committed-x+else-limit-passed w ↦ blocks-few _ _ _ _ _ _ _ o w.if-limit-passed.false
+      | else-not-committed-x-via-else-not-committed-x w ↦ blocks-committed _ _ _ _ _ _ _ o w.if-not-committed-x.false-raw
+    ])
 
 pub returns : goal.returns
 returns c = let p = c.requires in

@@ -17,5 +17,5 @@ slice_bounds-take_lines-end-2 g c =
     let n = near c.args.filled _ c.args.input.now c.whole_length-whole.ensures c.requires.1 in
     simp length-take (omega (arith, c.requires.1))
 
-pub keep-pending-requires : goal.keep-pending-requires
-keep-pending-requires g c = (near c.args.filled _ c.args.input.now c.whole_length-whole.ensures c.requires.1, c.requires.1)
+pub keep-requires : goal.keep-requires
+keep-requires g c = (near c.args.filled _ c.args.input.now c.whole_length-whole.ensures c.requires.1, c.requires.1)

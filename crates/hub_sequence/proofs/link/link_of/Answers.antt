@@ -6,8 +6,5 @@ use Rattle.hub_sequence.proofs.link.link_of.Goals as goal
 pub returns-then-at-eq-NONE : goal.returns-then-at-eq-NONE
 returns-then-at-eq-NONE c = sym (link_end _ _ _ c.if-at-eq-NONE.true)
 
-pub bounds-row-i : goal.bounds-row-i
-bounds-row-i c = c.requires c.if-at-eq-NONE.false
-
 pub returns : goal.returns
 returns c = sym (link_row _ _ _ c.if-at-eq-NONE.false)

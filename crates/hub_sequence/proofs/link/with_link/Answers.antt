@@ -3,9 +3,6 @@ use mathlib.Core.Path.{sym}
 use Rattle.hub_sequence.proofs.Tables.{row_none, row_slot}
 use Rattle.hub_sequence.proofs.link.with_link.Goals as goal
 
-pub bounds-changed-i : goal.bounds-changed-i
-bounds-changed-i c = c.requires c.if-at-ne-NONE.true
-
 pub returns-then-at-ne-NONE : goal.returns-then-at-ne-NONE
 returns-then-at-ne-NONE c = sym (row_slot _ _ _ c.if-at-ne-NONE.true)
 

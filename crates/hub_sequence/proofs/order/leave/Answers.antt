@@ -30,9 +30,6 @@ with_link-ahead_now-requires c = rw c.link_of-next.ensures (spot_next _ _ c.requ
 pub with_link-behind_now-requires : goal.with_link-behind_now-requires
 with_link-behind_now-requires c = spot_taken _ _ c.requires
 
-pub overflow_sub-result : goal.overflow_sub-result
-overflow_sub-result c = some_taken _ _ c.requires
-
 pub returns : goal.returns
 returns c = let h = some_taken _ _ c.requires in
     leaves _ _ _ c.requires (long-behind (goal.at.returns c).Start) (long-ahead (goal.at.returns c).Start) c.link_of-before.ensures c.link_of-next.ensures

@@ -1,9 +1,6 @@
 -- `hub_state::id_ahead` meets its contract. Assumes nothing.
-use Rattle.hub_state.proofs.Members.{stands_below, id_in_row, id-not_in_row}
+use Rattle.hub_state.proofs.Members.{id_in_row, id-not_in_row}
 use Rattle.hub_state.proofs.readers.id_ahead.Goals as goal
-
-pub bounds-ahead-at : goal.bounds-ahead-at
-bounds-ahead-at c = stands_below _ _ c.requires.0 c.requires.1
 
 pub returns-then-before-lt-MAX_SEQUENCE : goal.returns-then-before-lt-MAX_SEQUENCE
 returns-then-before-lt-MAX_SEQUENCE c = id_in_row _ _ c.requires.0 c.requires.1 c.if-before-lt-MAX_SEQUENCE.true

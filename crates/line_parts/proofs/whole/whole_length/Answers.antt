@@ -8,7 +8,8 @@ loop-at-init c = none_at_end c.args.bytes.now
 
 pub returns-then-bytes-at-eq-LINE_END : goal.returns-then-bytes-at-eq-LINE_END
 returns-then-bytes-at-eq-LINE_END c =
-    omega (arith, c.loop-at-test.true, last-here _ _ c.loop-at-test.true c.loop-at.auto.at c.if-bytes-at-eq-LINE_END.true c.loop-at.invariant)
+    let is = last-here _ _ c.loop-at-test.true c.loop-at.auto.at c.if-bytes-at-eq-LINE_END.true c.loop-at.invariant in
+    omega (arith, c.loop-at-test.true)
 
 pub loop-at-preserved : goal.loop-at-preserved
 loop-at-preserved c = none_before _ _ c.loop-at-test.true c.loop-at.auto.at c.if-bytes-at-eq-LINE_END.false c.loop-at.invariant
