@@ -35,8 +35,8 @@ fn first_unanswered<'a>(stage: &'a [u8; STEPS], from: usize, end: usize) -> usiz
     end
 }
 
-// The first command that is not answered comes to a stage, and its device to the routine's mark if that begins it. (All rows are named: with
-// `..state` here, and only here, a busy line takes a sixth more instructions.)
+// The first command that is not answered comes to a stage, and its device to the routine's mark if that begins it. (All rows are named:
+// with `..state` here, and only here, a busy line takes a sixth more instructions.)
 pub fn with_stage(state: HubState, change: Staged) -> HubState
     requires { (StateOk state) × (StageOk state change) }
     ensures { (StateOk result) × (state_of result ≡ staged state change) × (InPlace state result) }

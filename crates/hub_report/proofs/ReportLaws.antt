@@ -162,8 +162,10 @@ module _ (h : HubState) (x k : ℕ) (s : Stands h.links x) (o : NextInFlight h x
         let t = status-skipped skipped_code (pos 0) (omega arith) in
         let w : staged h (answered skipped_code was_skipped t) ≡ skipped_state (state_of h) f = answered-state skipped_code was_skipped t in
         let n : now ≡ due (skipped_state (state_of h) f) d = u ∙ sym (due-skipped (state_of h) f d (there_whole h x v s)) in
-        let l : one_of b ≡ back_if_changed (command_at h k).device (due (skipped_state (state_of h) f) (command_at h k).device) (due_then_at h x)
-        = p ∙ (λ j. back_if_changed d (n j) (m j)) ∙ ap (λ (g : ℕ). back_if_changed g (due (skipped_state (state_of h) f) g) (due_then_at h x)) q in
+        let l : one_of b ≡ back_if_changed (command_at h k).device (due (skipped_state (state_of h) f) (command_at h k).device)
+        (due_then_at h x)
+        = p ∙ (λ j. back_if_changed d (n j) (m j))
+        ∙ ap (λ (g : ℕ). back_if_changed g (due (skipped_state (state_of h) f) g) (due_then_at h x)) q in
         subst (λ (g : Change). Decides h [] (skip_decision b g) (settling (skip_report (state_of h) f (flight_at h x k))))
         (sym a)
         (skip_decides h [] _ i b (answered skipped_code was_skipped t) (answered_ok skipped_code was_skipped t refl)
@@ -205,7 +207,8 @@ module _ (h : HubState) (i code : ℕ) (p : Option ℕ) (f : Finds h (runs i) p)
 
   module _ (x : ℕ) (e : p ≡ Some x) where
     -- the command in flight decides
-    report_at : (o : Option Flight) → flight (steps_at h x) ≡ o → report_flight (state_of h) (there h x) code o ≡ report_of (state_of h) i code
+    report_at : (o : Option Flight) → flight (steps_at h x) ≡ o →
+        report_flight (state_of h) (there h x) code o ≡ report_of (state_of h) i code
     unfolding report_of
     report_at o q =
         let l = ap (λ (m : Member). m.steps) (there-it h x) ∙ member_steps h x in
@@ -219,7 +222,8 @@ module _ (h : HubState) (i code : ℕ) (p : Option ℕ) (f : Finds h (runs i) p)
 
     module _ (k : ℕ) (o : NextInFlight h x k) where
       -- 13: a code that there is not
-      pub report_code : code_failed < code → y ≡ plainly (Refused ReportCodeOutOfRange) NoChange → Decides h [] y (report_of (state_of h) i code)
+      pub report_code : code_failed < code → y ≡ plainly (Refused ReportCodeOutOfRange) NoChange →
+          Decides h [] y (report_of (state_of h) i code)
       report_code l z = refuses ReportCodeOutOfRange z (rw (lt-ltb code_failed code l) at (report_at _ o.flight_is))
 
       report_on : code ≤ code_failed → reported (state_of h) (there h x) (flight_at h x k) code ≡ report_of (state_of h) i code

@@ -11,18 +11,10 @@ use Rattle.hub_sequence.specs.Contract.{Joins}
 use Rattle.hub_sequence.specs.declared.Links.{Links}
 use Rattle.hub_sequence.specs.declared.Joined.{Joined}
 use Rattle.hub_sequence.proofs.Tables.{by_less}
-use Rattle.hub_sequence.proofs.Lists.{same_self, past-within, within-slot, count-append, placed_split}
+use Rattle.hub_sequence.proofs.Lists.{same_self, past-within, count-append, placed_split}
 use Rattle.hub_sequence.proofs.ReadLaws.{walks_of, walks-behind}
 
 module _ {row : List ℕ} {x : ℕ} (t : Walks row x) where
-  -- a number that a walk comes to is a slot or none
-  pub walks_spot : x ≤ none
-  walks_spot = spot t.chain t.slots
-    where
-      spot : {l : List ℕ} → Chain (λ y. get_or row y 0) x l → ((w : ℕ) → count w l ≤ within w) → x ≤ none
-      spot (stop e) s = omega arith
-      spot (more c) s = let h : x < max_sequence = within-slot x (omega (arith, s x, same_self x)) in omega arith
-
   pub walks_end : max_sequence ≤ x → along row x ≡ []
   walks_end h = ends t.chain t.slots
     where

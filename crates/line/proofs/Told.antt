@@ -24,22 +24,6 @@ use Rattle.line_print.specs.Texts.{PutBacksOnce}
 use Rattle.line_print.proofs.PutLaws.{within, as_text, answers_one}
 use Rattle.line.specs.Contract.{is_abort}
 
--- an answer that is no abort
-pub no_abort : (a : Answer) {f : (Option ℕ)} → f ≡ None → ((i : ℕ) → a ≡ Aborted i → ⊥) → is_abort f a ≡ false
-no_abort (Refused x) e h = ap (λ (f : Option ℕ). is_abort f (Refused x)) e
-no_abort (Placed x) e h = ap (λ (f : Option ℕ). is_abort f (Placed x)) e
-no_abort (Wait i j) e h = ap (λ (f : Option ℕ). is_abort f (Wait i j)) e
-no_abort (Sent x) e h = ap (λ (f : Option ℕ). is_abort f (Sent x)) e
-no_abort (Done i) e h = ap (λ (f : Option ℕ). is_abort f (Done i)) e
-no_abort (Skipped i) e h = ap (λ (f : Option ℕ). is_abort f (Skipped i)) e
-no_abort (Committed i) e h = ap (λ (f : Option ℕ). is_abort f (Committed i)) e
-no_abort (Aborted i) e h = absurd (h i refl)
-no_abort (Down d i) e h = ap (λ (f : Option ℕ). is_abort f (Down d i)) e
-no_abort (Up d i) e h = ap (λ (f : Option ℕ). is_abort f (Up d i)) e
-no_abort (Limited k) e h = ap (λ (f : Option ℕ). is_abort f (Limited k)) e
-no_abort (Held i) e h = ap (λ (f : Option ℕ). is_abort f (Held i)) e
-no_abort (NotHeld i) e h = ap (λ (f : Option ℕ). is_abort f (NotHeld i)) e
-
 -- ---- the answers of a decision
 
 -- where a routine aborts, what is put back stands beside that alone

@@ -124,7 +124,7 @@ answers-append (a ∷ k) l =
 
 -- ---- the answers of an abort
 
-module _ {first : (Option ℕ)} (answer : Answer) (backs : PutBacks) {a b : List ℕ} {at m : ℕ} where
+module _ {first : Option ℕ} (answer : Answer) (backs : PutBacks) {a b : List ℕ} {at m : ℕ} where
   -- the call's own
   pub put_own : (i : ℕ) → first ≡ None → answer ≡ Aborted i →
       PutShort half_text a b at m (as_line (answer_text (aborted i (put_backs_of backs)))) →

@@ -34,18 +34,6 @@ settings_entry table d (suc n) (suc k) l z h =
     let e : suc d + k ≡ d + suc k = omega arith in
     settings_entry table (suc d) n k l z (omega arith) ∙ ap table e
 
--- They are stored one by one: the next, and the end.
-pub settings-next : (table : ℕ → ℤ) (l : List ℤ) (d n : ℕ) → d < n →
-    sets l d (settings_from table d (n - d)) ≡ sets (set l d (table d)) (d + 1) (settings_from table (d + 1) (n - (d + 1)))
-settings-next table l d n h =
-    let e : n - d ≡ suc (n - (d + 1)) = omega arith in
-    let f : suc d ≡ d + 1 = omega arith in
-    ap (λ (k : ℕ). sets l d (settings_from table d k)) e
-    ∙ ap (λ (k : ℕ). sets (set l d (table d)) k (settings_from table k (n - (d + 1)))) f
-
-pub settings_end : (table : ℕ → ℤ) (l : List ℤ) (d n : ℕ) → n ≤ d → sets l d (settings_from table d (n - d)) ≡ l
-settings_end table l d n h = let e : n - d ≡ 0 = omega arith in ap (λ (k : ℕ). sets l d (settings_from table d k)) e
-
 -- ---- the two ways out
 
 module _ (s : State) (list : List ℤ) where
@@ -60,19 +48,10 @@ module _ (s : State) (list : List ℤ) where
   unfolding list_check
   list-accepted h = rw (le-ltb (length list) s.devices h) refl
 
-  -- the list afterwards, and the same as one made by stores
+  -- the list afterwards
   list-is : s.devices ≤ length list → list_after s list ≡ all_due s ++ drop s.devices list
   unfolding list_after
   list-is h = rw (le-ltb (length list) s.devices h) refl
-
-  pub list_stored : s.devices ≤ length list → sets list 0 (settings_from (due s) 0 s.devices) ≡ list_after s list
-  unfolding all_due
-  list_stored h =
-      let n = length-settings (due s) 0 s.devices in
-      let e : 0 + length (settings_from (due s) 0 s.devices) ≡ s.devices = omega (arith, n) in
-      sets-eq (settings_from (due s) 0 s.devices) list 0 (omega (arith, n))
-      ∙ ap (λ (k : ℕ). settings_from (due s) 0 s.devices ++ drop k list) e
-      ∙ sym (list-is h)
 
   -- its entries
   pub list_entry : s.devices ≤ length list → (d : ℕ) → d < s.devices → get_or (list_after s list) d (pos 0) ≡ due s d

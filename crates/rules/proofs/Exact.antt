@@ -340,7 +340,7 @@ module _ (s : State) (i : ℕ) where
   turn_flown : (f : Found) → FirstIn (RunsUnder i) s.sequence f.it → {o : Option Flight} → Flown f.it.steps o →
       Verdicted s (turn i) (turn_flight s f o)
   turn_flown f p (on_way x y q) = record {
-    verdict = Err (TurnInFlight);
+    verdict = Err TurnInFlight;
     made = passed (λ h. some_not-none (RunsUnder i) s.sequence f.it p (turn-none-said h)) (broken (one_flies (f.it, p, y, q)));
     judged = refl;
   }
@@ -357,7 +357,7 @@ module _ (s : State) (i : ℕ) where
           some_not-none InFlight h.0.steps h.2 h.3 (subst (λ (m : Member). NoneOf InFlight m.steps) (sym e) n)
 
   turn_located : {o : Option Found} → Located (RunsUnder i) s.sequence o → Verdicted s (turn i) (turn_found s o)
-  turn_located (missing n) = record { verdict = Err (NotRunning); made = broken (turn_of_none n); judged = refl }
+  turn_located (missing n) = record { verdict = Err NotRunning; made = broken (turn_of_none n); judged = refl }
   turn_located (located f p) = turn_flown f p (see_flight f.it.steps)
 
   -- a cancel
@@ -365,7 +365,7 @@ module _ (s : State) (i : ℕ) where
   cancel-none-said (cancel_of_none h) = h
 
   cancel_located : {o : Option Found} → Located (RunsUnder i) s.sequence o → Verdicted s (cancel i) (cancel_found s o)
-  cancel_located (missing n) = record { verdict = Err (NotRunning); made = broken (cancel_of_none n); judged = refl }
+  cancel_located (missing n) = record { verdict = Err NotRunning; made = broken (cancel_of_none n); judged = refl }
   cancel_located (located f p) = record {
     verdict = (Ok tt);
     made = passed (λ h. some_not-none (RunsUnder i) s.sequence f.it p (cancel-none-said h)) Made.none;
@@ -411,7 +411,7 @@ module _ (s : State) (i : ℕ) where
             some_not-none InFlight f.it.steps y q (subst (λ (m : Member). NoneOf InFlight m.steps) e h.2)
 
     report_located : {o : Option Found} → Located (RunsUnder i) s.sequence o → Verdicted s (report i code) (report_found s code o)
-    report_located (missing n) = record { verdict = Err (NotRunning); made = broken (report_on_none n); judged = refl }
+    report_located (missing n) = record { verdict = Err NotRunning; made = broken (report_on_none n); judged = refl }
     report_located (located f p) = report_flown f p (see_flight f.it.steps)
 
 -- the routine that a call names

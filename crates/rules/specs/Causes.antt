@@ -3,7 +3,10 @@
 -- number under its cause alone. The same of the reading of all due settings (`exact-list`). Causes 4 to 7 and 22, and what "each under its
 -- cause alone" means, stand in `specs/Causes.antt` of crate `rules_routine`. Assumes nothing.
 use Rattle.rules_routine.specs.Refusals.{Verdict}
-use Rattle.rules_routine.specs.declared.refusals.Refusal.TheVariants.{DevicesOutOfRange, PassLimitOutOfRange, FirstIdZero, SequenceFull, IdsUsedUp, NotRunning, TurnInFlight, NothingInFlight, ReportCodeOutOfRange, EventDevice, FailureOfDown, RestartOfUp, RestartSetting, NoRoom}
+use Rattle.rules_routine.specs.declared.refusals.Refusal.TheVariants.{DevicesOutOfRange, PassLimitOutOfRange, FirstIdZero, SequenceFull}
+use Rattle.rules_routine.specs.declared.refusals.Refusal.TheVariants.{IdsUsedUp, NotRunning, TurnInFlight, NothingInFlight}
+use Rattle.rules_routine.specs.declared.refusals.Refusal.TheVariants.{ReportCodeOutOfRange, EventDevice, FailureOfDown, RestartOfUp}
+use Rattle.rules_routine.specs.declared.refusals.Refusal.TheVariants.{RestartSetting, NoRoom}
 use Rattle.std.specs.Prelude.{◌≡◌, true, false, ◌⊎◌, List, [], ◌∷◌, ◌++◌, ℕ, ◌<◌, ◌≤◌, ℤ, pos, length, get_or, Ok, Err}
 use Rattle.rules_routine.specs.Limits.{max_devices, highest_pass_limit, max_sequence, highest_id}
 use Rattle.rules_routine.specs.Causes.{NoneOf, FirstIn, Exactly, itself, OutOfRange, RoutineCause, routine_causes}
@@ -172,5 +175,6 @@ ExactListing =
 abbrev pub IdsDiffer : Type 0
 IdsDiffer =
     (n k first : ℕ) (s : State) → open_of n k first ≡ opened s → (acts : List Act) →
-    (ahead : List Member) (m : Member) (behind : List Member) → (world_after_all (new_world s) acts).state.sequence ≡ ahead ++ (m ∷ behind) →
+    (ahead : List Member) (m : Member) (behind : List Member) → (world_after_all (new_world s) acts).state.sequence ≡ ahead
+    ++ (m ∷ behind) →
     NoneOf (λ other. other.id ≡ m.id) (ahead ++ behind)

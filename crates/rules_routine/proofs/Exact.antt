@@ -1,7 +1,12 @@
 -- Tests in turn, and what comes of them: how `Exactly` (specs/Causes.antt) is proved of a call; and `exact-routine`, `numbers_differ`.
 -- Assumes nothing.
 use Rattle.std.proofs.Common.{Ok, Err, Option, None, Some}
-use Rattle.rules_routine.specs.declared.refusals.Refusal.TheVariants.{DevicesOutOfRange, PassLimitOutOfRange, FirstIdZero, CommandCount, DeviceNotBelow, SettingOutOfRange, TagOutOfRange, SequenceFull, IdsUsedUp, NotRunning, TurnInFlight, NothingInFlight, ReportCodeOutOfRange, EventDevice, FailureOfDown, RestartOfUp, RestartSetting, BookCutShort, BookMisplaced, BookLength, NoRoom, ConditionAlone}
+use Rattle.rules_routine.specs.declared.refusals.Refusal.TheVariants.{DevicesOutOfRange, PassLimitOutOfRange, FirstIdZero, CommandCount}
+use Rattle.rules_routine.specs.declared.refusals.Refusal.TheVariants.{DeviceNotBelow, SettingOutOfRange, TagOutOfRange, SequenceFull}
+use Rattle.rules_routine.specs.declared.refusals.Refusal.TheVariants.{IdsUsedUp, NotRunning, TurnInFlight, NothingInFlight}
+use Rattle.rules_routine.specs.declared.refusals.Refusal.TheVariants.{ReportCodeOutOfRange, EventDevice, FailureOfDown, RestartOfUp}
+use Rattle.rules_routine.specs.declared.refusals.Refusal.TheVariants.{RestartSetting, BookCutShort, BookMisplaced, BookLength, NoRoom}
+use Rattle.rules_routine.specs.declared.refusals.Refusal.TheVariants.{ConditionAlone}
 use Prim.Native.Nat.{ℕ, zero, suc, ◌+◌, ◌≤◌, ◌<◌}
 use mathlib.Core.Path.{◌≡◌, refl, sym, ap, subst, ◌∙◌}
 use mathlib.Core.Bool.{Bool, true, false, not, ◌&&◌, ◌||◌}

@@ -1,11 +1,14 @@
--- The table of document 01, "When a call is turned down", with the numbers of document 02. A refusal is its cause: the enum `Refusal` of the
--- code has a case for each row. Assumes nothing.
+-- The table of document 01, "When a call is turned down", with the numbers of document 02. A refusal is its cause: the enum `Refusal` of
+-- the code has a case for each row. Assumes nothing.
 use Rattle.std.specs.Prelude.{Bool, ℕ, eqb, Option, None, Some, Result, Ok, Err, if◌then◌else◌}
 use Rattle.rules_routine.specs.declared.refusals.Refusal.{Refusal}
 use Rattle.rules_routine.specs.declared.refusals.Refusal.TheVariants.{DevicesOutOfRange, PassLimitOutOfRange, FirstIdZero, CommandCount}
-use Rattle.rules_routine.specs.declared.refusals.Refusal.TheVariants.{DeviceNotBelow, SettingOutOfRange, TagOutOfRange, SequenceFull, IdsUsedUp}
-use Rattle.rules_routine.specs.declared.refusals.Refusal.TheVariants.{NotRunning, TurnInFlight, NothingInFlight, ReportCodeOutOfRange, EventDevice}
-use Rattle.rules_routine.specs.declared.refusals.Refusal.TheVariants.{FailureOfDown, RestartOfUp, RestartSetting, BookCutShort, BookMisplaced}
+use Rattle.rules_routine.specs.declared.refusals.Refusal.TheVariants.{DeviceNotBelow, SettingOutOfRange, TagOutOfRange, SequenceFull}
+use Rattle.rules_routine.specs.declared.refusals.Refusal.TheVariants.{IdsUsedUp}
+use Rattle.rules_routine.specs.declared.refusals.Refusal.TheVariants.{NotRunning, TurnInFlight, NothingInFlight, ReportCodeOutOfRange}
+use Rattle.rules_routine.specs.declared.refusals.Refusal.TheVariants.{EventDevice}
+use Rattle.rules_routine.specs.declared.refusals.Refusal.TheVariants.{FailureOfDown, RestartOfUp, RestartSetting, BookCutShort}
+use Rattle.rules_routine.specs.declared.refusals.Refusal.TheVariants.{BookMisplaced}
 use Rattle.rules_routine.specs.declared.refusals.Refusal.TheVariants.{BookLength, NoRoom, ConditionAlone}
 
 -- The table: the number of each cause,

@@ -1,8 +1,10 @@
 -- Document 01, "Things and ranges": a routine is 1 to 8 commands, each with a device, a tag and a setting; and what turns one down, with
 -- the conditions of document 02, item 4.
 -- Assumes nothing.
-use Rattle.rules_routine.specs.declared.refusals.Refusal.TheVariants.{CommandCount, DeviceNotBelow, SettingOutOfRange, TagOutOfRange, ConditionAlone}
-use Rattle.std.specs.Prelude.{Bool, not, ◌&&◌, ◌||◌, List, [], ◌∷◌, ◌++◌, ℕ, suc, ◌+◌, ◌-◌, ◌^◌, leb, ltb, eqb, pos, length, take, set, replicate, if◌then◌else◌, Ok}
+use Rattle.rules_routine.specs.declared.refusals.Refusal.TheVariants.{CommandCount, DeviceNotBelow, SettingOutOfRange, TagOutOfRange}
+use Rattle.rules_routine.specs.declared.refusals.Refusal.TheVariants.{ConditionAlone}
+use Rattle.std.specs.Prelude.{Bool, not, ◌&&◌, ◌||◌, List, [], ◌∷◌, ◌++◌, ℕ, suc, ◌+◌, ◌-◌, ◌^◌, leb, ltb, eqb, pos, length, take, set}
+use Rattle.std.specs.Prelude.{replicate, if◌then◌else◌, Ok}
 use Rattle.rules_routine.specs.Limits.{max_commands}
 use Rattle.rules_routine.specs.Range.{in_range}
 use Rattle.rules_routine.specs.Refusals.{refuse◌when◌, ◌and_then◌, Verdict}

@@ -1,5 +1,5 @@
-// What turns a call down: document 01's table, "When a call is turned down", and document 02. The table itself is `number_of` and `index_of`
-// (`specs/Refusals.antt`), in the same order.
+// What turns a call down: document 01's table, "When a call is turned down", and document 02. The table itself is `number_of` and
+// `index_of` (`specs/Refusals.antt`), in the same order.
 ghost use Rattle.std.specs.Prelude.{◌≡◌};
 ghost use Rattle.rules_routine.specs.Refusals.{number_of, index_of};
 
