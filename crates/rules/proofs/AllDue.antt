@@ -9,8 +9,8 @@ use native.Mathlib.Omega.{arith}
 use borrow.Author.Tests.{lt-ltb, le-ltb, ltb-true, ltb-false}
 use lib.Dec.{ltb}
 use lib.IntN.{ℤ, pos}
-use lib.ListN.{length, get_or, set, drop, length-append, length-drop}
-use lib.Seq.{sets, sets-eq, get_or-append-add, get_or-drop}
+use lib.ListN.{length, get_or, drop, length-append, length-drop}
+use lib.Seq.{get_or-append-add, get_or-drop}
 use Rattle.rules_routine.specs.Refusals.{refuse◌when◌}
 use Rattle.rules_routine.specs.Causes.{itself}
 use Rattle.rules_routine.specs.declared.refusals.Refusal.{Refusal}
