@@ -237,12 +237,6 @@ as-call h r {d} {cs} {c} {x} e f w =
     subst (λ (y : Call). Decides h.state (commands_of r) d (result_of (view h) (call_in y r))) (sym e)
     (subst (λ (l : List Command). Decides h.state l d (result_of (view h) (call_in x r))) f w)
 
--- what is heard by a hub with devices
-pub heard_some : (l : Line) (n : ℕ) → n ≢ 0 → l ≡ heard_of l n
-heard_some (Open a b d) n e = refl
-heard_some (Calling c) n e = rw (ne_eqb n 0 e)
-heard_some Unread n e = refl
-
 -- ---- one line done: its text, and the hub that it leaves
 
 pub record Does (h : Hub) (q : Said) (next : Hub) (text : List ℕ) : Type 0 where
