@@ -53,12 +53,12 @@ use Rattle.line_rules.specs.Reading.{unread}
 use Rattle.line_rules.specs.Printing.{as_line, answers_text}
 use Rattle.line_rules.specs.Program.{prints_unread, prints_opening, prints_result, prints_call, step}
 use Rattle.line_print.specs.Texts.{opening_text}
-use Rattle.line_read.specs.View.{together, call_as, routine_as, read_as}
+use Rattle.line_read.specs.View.{together, call_as, read_as}
 use Rattle.line_read.specs.declared.Call.{Call}
 use Rattle.line_read.specs.declared.Call.TheVariants.{Submit, Turn, Report, Cancel, Fail as Failure, Restart as Restarted}
 use Rattle.line_read.specs.declared.Line.{Line}
 use Rattle.line_read.specs.declared.Line.TheVariants.{Open, Calling, Unread}
-use Rattle.line.specs.View.{hub_in, heard_of, call_in, FitsCall}
+use Rattle.line.specs.View.{hub_in, heard_of, call_in, commands_in}
 use Rattle.std.specs.Prelude.{is_ok}
 
 -- ---- a submission's commands, put together one by one
@@ -105,7 +105,7 @@ submit-together s cs =
     let h = ltb-false max_commands (length cs) e in
     ap (λ (r : Routine). submit_of s (commands_of r)) (together-held [] cs (omega arith)) ∙ ap (submit_of s) (routine_of-commands cs h))
 
-same-call : (s : State) (c : LineCall) → result_of s (call_in (call_as c) (routine_as c)) ≡ result_of s (as_call c)
+same-call : (s : State) (c : LineCall) → result_of s (call_in (call_as c)) ≡ result_of s (as_call c)
 same-call s (submits cs) = submit-together s cs
 same-call s (turns i) = refl
 same-call s (reports i code) = refl
@@ -122,7 +122,7 @@ hub_if t h = if t then None else Some (view h)
 abbrev heard_if : Bool → LineCall → Line
 heard_if t c = if t then Unread else Calling (call_as c)
 
-pub line-unread : (h : Hub) (q : Said) → heard_of (read_as q).line (view h).devices ≡ Unread → step (hub_in h) q ≡ prints_unread (hub_in h)
+pub line-unread : (h : Hub) (q : Said) → heard_of (read_as q) (view h).devices ≡ Unread → step (hub_in h) q ≡ prints_unread (hub_in h)
 unfolding step hub_in
 line-unread h (opening n k first) e = let z : ◌≡◌ {A = ℕ} 0 1 = cc in absurd (omega arith)
 line-unread h (calling c) e =
@@ -132,7 +132,7 @@ line-unread h (calling c) e =
     e
 line-unread h unread e = refl
 
-pub line-opening : (h : Hub) (q : Said) (n k first : ℕ) → heard_of (read_as q).line (view h).devices ≡ Open n k first →
+pub line-opening : (h : Hub) (q : Said) (n k first : ℕ) → heard_of (read_as q) (view h).devices ≡ Open n k first →
     step (hub_in h) q ≡ prints_opening (hub_in h) (open_of n k first)
 unfolding step
 line-opening h (opening m l i) n k first e =
@@ -149,21 +149,21 @@ line-opening h (calling c) n k first e =
 line-opening h unread n k first e = let z : ◌≡◌ {A = ℕ} 0 1 = cc in absurd (omega arith)
 
 -- a call is heard by a hub that has devices
-pub line-calling : (h : Hub) (q : Said) (call : Call) → heard_of (read_as q).line (view h).devices ≡ Calling call →
-    ((view h).devices ≢ 0) × (step (hub_in h) q ≡ prints_result (result_of (view h) (call_in call (read_as q).routine)))
+pub line-calling : (h : Hub) (q : Said) (call : Call) → heard_of (read_as q) (view h).devices ≡ Calling call →
+    ((view h).devices ≢ 0) × (step (hub_in h) q ≡ prints_result (result_of (view h) (call_in call)))
 unfolding step hub_in
 line-calling h (opening n k first) call e = let z : ◌≡◌ {A = ℕ} 0 1 = cc in absurd (omega arith)
 line-calling h (calling c) call e =
     by_test
     (λ (t : Bool). heard_if t c ≡ Calling call →
-    ((view h).devices ≢ 0) × (prints_call (hub_if t h) (as_call c) ≡ prints_result (result_of (view h) (call_in call (routine_as c)))))
+    ((view h).devices ≢ 0) × (prints_call (hub_if t h) (as_call c) ≡ prints_result (result_of (view h) (call_in call))))
     (eqb (view h).devices 0)
     (λ _ f. let z : ◌≡◌ {A = ℕ} 0 1 = cc in absurd (omega arith))
     (λ t f.
     let same : call_as c ≡ call = cc in (
       eqb-false (view h).devices 0 t,
       ap prints_result
-          (sym (same-call (view h) c) ∙ ap (λ (x : Call). result_of (view h) (call_in x (routine_as c))) same),
+          (sym (same-call (view h) c) ∙ ap (λ (x : Call). result_of (view h) (call_in x)) same),
     ))
     e
 line-calling h unread call e = let z : ◌≡◌ {A = ℕ} 0 1 = cc in absurd (omega arith)
@@ -204,38 +204,20 @@ opened_some n k first s = go (open_check n k first) refl
 
 -- ---- what the call that a line makes comes to
 
--- a call that is no submission has no commands beside it
-fits-held : (c : LineCall) → FitsCall (call_as c) (routine_as c)
+-- nobody joins by a call that is no submission
+pub none_joins : (c : Call) → ((r : Routine) → c ≡ Submit r → ⊥) → commands_of no_routine ≡ commands_in c
 unfolding commands_of routine_of
-fits-held (submits cs) = tt
-fits-held (turns i) = refl
-fits-held (reports i code) = refl
-fits-held (fails d) = refl
-fits-held (restarts d v) = refl
-fits-held (cancels i) = refl
-
-pub fits_line : (h : Hub) (q : Said) (call : Call) (r : Routine) → heard_of (read_as q).line (view h).devices ≡ Calling call →
-    r ≡ (read_as q).routine → FitsCall call r
-fits_line h (opening n k first) call r e f = let z : ◌≡◌ {A = ℕ} 0 1 = cc in absurd (omega arith)
-fits_line h (calling c) call r e f =
-    by_test (λ (t : Bool). heard_if t c ≡ Calling call → FitsCall call r) (eqb (view h).devices 0)
-    (λ _ k. let z : ◌≡◌ {A = ℕ} 0 1 = cc in absurd (omega arith))
-    (λ _ k.
-    let same : call_as c ≡ call = cc in
-    subst (λ (x : Call). FitsCall x r) same (subst (λ (x : Routine). FitsCall (call_as c) x) (sym f) (fits-held c)))
-    e
-fits_line h unread call r e f = let z : ◌≡◌ {A = ℕ} 0 1 = cc in absurd (omega arith)
-
-pub fits_as : (r : Routine) {c x : Call} → c ≡ x → FitsCall c r → FitsCall x r
-fits_as r e k = subst (λ (y : Call). FitsCall y r) e k
+none_joins (Submit r) n = absurd (n r refl)
+none_joins (Turn i) n = refl
+none_joins (Report i code) n = refl
+none_joins (Cancel i) n = refl
+none_joins (Failure d) n = refl
+none_joins (Restarted d v) n = refl
 
 -- which call it is
-pub as-call : (h : Hub) (r : Routine) {d : Decision} {cs : List Command} {c x : Call} → c ≡ x → cs ≡ commands_of r →
-    Decides h.state cs d (result_of (view h) (call_in x r)) →
-    Decides h.state (commands_of r) d (result_of (view h) (call_in c r))
-as-call h r {d} {cs} {c} {x} e f w =
-    subst (λ (y : Call). Decides h.state (commands_of r) d (result_of (view h) (call_in y r))) (sym e)
-    (subst (λ (l : List Command). Decides h.state l d (result_of (view h) (call_in x r))) f w)
+pub as-call : (h : Hub) {d : Decision} {c x : Call} → c ≡ x → Decides h.state (commands_in x) d (result_of (view h) (call_in x)) →
+    Decides h.state (commands_in c) d (result_of (view h) (call_in c))
+as-call h {d} {c} {x} e w = subst (λ (y : Call). Decides h.state (commands_in y) d (result_of (view h) (call_in y))) (sym e) w
 
 -- ---- one line done: its text, and the hub that it leaves
 
@@ -244,12 +226,12 @@ pub record Does (h : Hub) (q : Said) (next : Hub) (text : List ℕ) : Type 0 whe
   pub is : step (hub_in h) q ≡ record { hub = hub_in next; text = text }
   pub unopened : hub_in next ≡ None → next ≡ h
 
-pub does_unread : (h : Hub) (q : Said) → Valid h → heard_of (read_as q).line (view h).devices ≡ Unread →
+pub does_unread : (h : Hub) (q : Said) → Valid h → heard_of (read_as q) (view h).devices ≡ Unread →
     Does h q h (as_line (bytes "unread"))
 does_unread h q v e = record { valid = v; is = line-unread h q e; unopened = λ _. refl }
 
 -- an opening: the verdict is the rules'
-module _ (h : Hub) (q : Said) (n k first : ℕ) (e : heard_of (read_as q).line (view h).devices ≡ Open n k first) (v : Verdict)
+module _ (h : Hub) (q : Said) (n k first : ℕ) (e : heard_of (read_as q) (view h).devices ≡ Open n k first) (v : Verdict)
     (same : v ≡ open_check n k first) where
   pub does_open : (o : Opened) → Opens n k first o → is_ok v ≡ true → Does h q o.hub (opening_text v)
   unfolding open_of
@@ -281,18 +263,18 @@ module _ (h : Hub) (q : Said) (n k first : ℕ) (e : heard_of (read_as q).line (
 -- ---- a call: its change is made, and then the hub settles
 
 -- no line makes a new pass limit
-keeps_limit : (c : Call) (r : Routine) → KeepsLimit (call_in c r)
-keeps_limit Submit r = tt
-keeps_limit (Turn i) r = tt
-keeps_limit (Report i code) r = tt
-keeps_limit (Cancel i) r = tt
-keeps_limit (Failure d) r = tt
-keeps_limit (Restarted d v) r = tt
+keeps_limit : (c : Call) → KeepsLimit (call_in c)
+keeps_limit (Submit r) = tt
+keeps_limit (Turn i) = tt
+keeps_limit (Report i code) = tt
+keeps_limit (Cancel i) = tt
+keeps_limit (Failure d) = tt
+keeps_limit (Restarted d v) = tt
 
 -- what was decided on the hub, for those who ask
-pub decided_on : (h : Hub) (c : Call) (r : Routine) {d : Decision} →
-    Decides h.state (commands_of r) d (result_of (view h) (call_in c r)) → DecidedOn h (commands_of r) d
-decided_on h c r k = record { call = call_in c r; no_limit = keeps_limit c r; decides = k }
+pub decided_on : (h : Hub) (c : Call) {d : Decision} → Decides h.state (commands_in c) d (result_of (view h) (call_in c)) →
+    DecidedOn h (commands_in c) d
+decided_on h c k = record { call = call_in c; no_limit = keeps_limit c; decides = k }
 
 -- an applier makes the change
 pub carries_nothing : (h : Hub) (cs : List Command) {c : Change} → Valid h → c ≡ Nothing → Carries h cs c h
@@ -335,30 +317,27 @@ settled_unless (Abort x) r n = refl
 settled_unless (Fail d x) r n = refl
 settled_unless (Restart d v x) r n = refl
 
-module _ (h : Hub) (q : Said) (call : Call) (e : heard_of (read_as q).line (view h).devices ≡ Calling call) {r : Routine}
-    (f : r ≡ (read_as q).routine) (d : Decision)
-    (w : Decides h.state (commands_of r) d (result_of (view h) (call_in call r))) (made : Hub)
-    (m : Carries h (commands_of r) d.change made) where
+module _ (h : Hub) (q : Said) (call : Call) (e : heard_of (read_as q) (view h).devices ≡ Calling call) (d : Decision)
+    (w : Decides h.state (commands_in call) d (result_of (view h) (call_in call))) (made : Hub)
+    (m : Carries h (commands_in call) d.change made) where
   abbrev told : List Answer
   told = told_by h.state d
 
-  does_call : (next : Hub) → Valid next → record { state = view next; answers = told } ≡ result_of (view h) (call_in call r) →
+  does_call : (next : Hub) → Valid next → record { state = view next; answers = told } ≡ result_of (view h) (call_in call) →
       Does h q next (answers_text told)
   does_call next valid gives =
       let l = line-calling h q call e in
-      let g : record { state = view next; answers = told } ≡ result_of (view h) (call_in call (read_as q).routine) =
-      gives ∙ ap (λ (x : Routine). result_of (view h) (call_in call x)) f in
       let same : (view next).devices ≡ (view h).devices =
-      ap (λ (x : Result). x.state.devices) g ∙ devices-kept (view h) (call_in call (read_as q).routine) in
+      ap (λ (x : Result). x.state.devices) gives ∙ devices-kept (view h) (call_in call) in
       let there = hub_some next (subst (λ (n : ℕ). n ≢ 0) (sym same) l.0) in
       record {
         valid = valid;
-        is = l.1 ∙ ap prints_result (sym g) ∙ ap (λ (s : Option State). record { hub = s; text = answers_text told }) (sym there);
+        is = l.1 ∙ ap prints_result (sym gives) ∙ ap (λ (s : Option State). record { hub = s; text = answers_text told }) (sym there);
         unopened = λ z. not_none there z;
       }
 
   settles_by : changes_nothing d.answer ≡ false →
-      record { state = settle (view made); answers = told } ≡ result_of (view h) (call_in call r)
+      record { state = settle (view made); answers = told } ≡ result_of (view h) (call_in call)
   settles_by t =
       ap (λ (s : State). record { state = settle s; answers = told }) m.gives
       ∙ sym (settled_unless d.change _ (w.something_told t))
@@ -380,9 +359,9 @@ module _ (h : Hub) (q : Said) (call : Call) (e : heard_of (read_as q).line (view
   -- a refusal or a wait
   pub does_same : Valid h → changes_nothing d.answer ≡ true → Does h q made (answers_text told)
   does_same valid t =
-      let None = w.nothing_told t in
-      does_call made (subst Valid (sym (m.same_hub None)) valid)
+      let still = w.nothing_told t in
+      does_call made (subst Valid (sym (m.same_hub still)) valid)
       (ap (λ (s : State). record { state = s; answers = told }) m.gives
       ∙ sym (ap (λ (c : Change). settled_unless_nothing c
-      (record { state = applied_to h.state (commands_of r) d.change; answers = told })) None)
+      (record { state = applied_to h.state (commands_in call) d.change; answers = told })) still)
       ∙ w.gives)

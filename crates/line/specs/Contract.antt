@@ -72,11 +72,10 @@ pub record Measures (text input : List ℕ) (room long : ℕ) : Type 0 where
 
 -- ---- one line
 
--- The line that begins at a place: where it ends, what of it a hub of so many devices hears, and the routine beside that.
+-- The line that begins at a place: where it ends, and what of it a hub of so many devices hears.
 pub record ReadsNext (input : List ℕ) (from devices : ℕ) (r : NextLine) : Type 0 where
   pub ends : r.end ≡ from + reach line_end (drop from input)
-  pub hears : r.said ≡ heard_of (read_as (read_line (take (r.end - from) (drop from input)))).line devices
-  pub beside : r.routine ≡ (read_as (read_line (take (r.end - from) (drop from input)))).routine
+  pub hears : r.said ≡ heard_of (read_as (read_line (take (r.end - from) (drop from input)))) devices
 
 -- Does a routine abort by this call: before its answer, or by the call itself?
 abbrev pub is_abort : Option ℕ → Answer → Bool

@@ -1,7 +1,7 @@
 -- A hub read as the hub of the last accepted `O`, and a line's call as one of the rules. Assumes nothing.
-use Rattle.std.specs.Prelude.{◌≡◌, [], ℕ, eqb, if◌then◌else◌, Option, None, Some}
+use Rattle.std.specs.Prelude.{◌≡◌, List, [], ℕ, eqb, if◌then◌else◌, Option, None, Some}
 use Rattle.rules_routine.specs.Routine.{commands_of}
-use Rattle.rules_routine.specs.declared.Routine.{Routine}
+use Rattle.rules_routine.specs.declared.Command.{Command}
 use Rattle.rules.specs.State.{State}
 use Rattle.rules.specs.Answers.{Call as Told, submit, turn, report, failure, restart, cancel}
 use Rattle.line_read.specs.declared.Line.{Line}
@@ -21,20 +21,20 @@ heard_of (Open n k first) devices = Open n k first
 heard_of (Calling c) devices = if eqb devices 0 then Unread else Calling c
 heard_of Unread devices = Unread
 
--- For each case of the enum which call it is. A submission's commands stand beside it.
-abbrev pub call_in : Call → Routine → Told
-call_in Submit r = submit (commands_of r)
-call_in (Turn i) r = turn i
-call_in (Report i code) r = report i code
-call_in (Cancel i) r = cancel i
-call_in (Fail d) r = failure d
-call_in (Restart d v) r = restart d v
+-- For each case of the enum which call it is.
+abbrev pub call_in : Call → Told
+call_in (Submit r) = submit (commands_of r)
+call_in (Turn i) = turn i
+call_in (Report i code) = report i code
+call_in (Cancel i) = cancel i
+call_in (Fail d) = failure d
+call_in (Restart d v) = restart d v
 
--- A call that is no submission has no commands beside it.
-abbrev pub FitsCall : Call → Routine → Type 0
-FitsCall Submit r = Unit {0}
-FitsCall (Turn i) r = commands_of r ≡ []
-FitsCall (Report i code) r = commands_of r ≡ []
-FitsCall (Cancel i) r = commands_of r ≡ []
-FitsCall (Fail d) r = commands_of r ≡ []
-FitsCall (Restart d v) r = commands_of r ≡ []
+-- The commands of the routine that joins by it.
+abbrev pub commands_in : Call → List Command
+commands_in (Submit r) = commands_of r
+commands_in (Turn i) = []
+commands_in (Report i code) = []
+commands_in (Cancel i) = []
+commands_in (Fail d) = []
+commands_in (Restart d v) = []

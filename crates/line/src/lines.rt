@@ -11,7 +11,7 @@ ghost use Rattle.line_print.specs.Texts.{devices_text};
 ghost use Rattle.hub.specs.View.{view};
 ghost use Rattle.hub.specs.Valid.{Valid};
 ghost use Rattle.hub.specs.Decided.{WasDecidedOn};
-ghost use Rattle.line.specs.View.{hub_in, heard_of, call_in, FitsCall};
+ghost use Rattle.line.specs.View.{hub_in, heard_of, call_in, commands_in};
 ghost use Rattle.line.specs.Contract.{ReadsNext, is_abort};
 
 use hub::Hub;
@@ -33,17 +33,27 @@ pub fn heard(line: Line, devices: u8) -> Line
 }
 
 // What the call that a line makes comes to.
-pub fn decided(hub: Hub, call: Call, routine: Routine) -> Decision
-    requires { (Valid hub) × (FitsCall call routine) }
-    ensures { Decides hub.state (commands_of routine) result (result_of (view hub) (call_in call routine)) }
+pub fn decided(hub: Hub, call: Call) -> Decision
+    requires { Valid hub }
+    ensures { Decides hub.state (commands_in call) result (result_of (view hub) (call_in call)) }
 {
     match call {
-        Call::Submit => hub::decide_submit(hub, routine),
+        Call::Submit(routine) => hub::decide_submit(hub, routine),
         Call::Turn(id) => hub::decide_turn(hub, id),
         Call::Report(id, code) => hub::decide_report(hub, id, code),
         Call::Cancel(id) => hub::decide_cancel(hub, id),
         Call::Fail(device) => hub::decide_failure(hub, device),
         Call::Restart(device, setting) => hub::decide_restart(hub, device, setting),
+    }
+}
+
+// The routine that joins by a call: that of a submission.
+pub fn routine_in(call: Call) -> Routine
+    ensures { commands_of result ≡ commands_in call }
+{
+    match call {
+        Call::Submit(routine) => routine,
+        _ => rules_routine::empty(),
     }
 }
 
@@ -62,11 +72,10 @@ pub fn devices_of(hub: Hub) -> Devices
     Devices { count, up, due }
 }
 
-// A line: what of it is heard, the routine that it submits, and where it ends.
+// A line: what of it is heard, and where it ends.
 #[derive(Clone, Copy)]
 pub struct NextLine {
     pub said: Line,
-    pub routine: Routine,
     pub end: usize,
 }
 
@@ -76,11 +85,8 @@ pub fn next_line(input: &[u8], from: usize, devices: u8) -> NextLine
     ensures { ReadsNext input.now from devices result }
 {
     let end = line_read::line_end(input, from);
-    let read = line_read::read_line(&input[from..end]);
-    let line = read.line;
-    let routine = read.routine;
-    let said = heard(line, devices);
-    NextLine { said, routine, end }
+    let said = heard(line_read::read_line(&input[from..end]), devices);
+    NextLine { said, end }
 }
 
 // Is this the decision of an abort, or of an event that brings one?

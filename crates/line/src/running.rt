@@ -41,7 +41,6 @@ pub fn run_lines(hub: Hub, input: &[u8], out: &mut [u8], room: usize) -> Lines
             return Lines { hub: now, at };
         }
         let next = lines::next_line(input, from, hub::device_count(now));
-        let routine = next.routine;
         let said = next.said;
         let mut printed = 0;
         match said {
@@ -54,7 +53,8 @@ pub fn run_lines(hub: Hub, input: &[u8], out: &mut [u8], room: usize) -> Lines
                 }
             }
             Line::Calling(call) => {
-                let decision = lines::decided(now, call, routine);
+                let routine = lines::routine_in(call);
+                let decision = lines::decided(now, call);
                 let answer = decision.answer;
                 let change = decision.change;
                 printed = lines::put_answers(&mut text, now, decision);

@@ -3,7 +3,7 @@ use Rattle.std.proofs.Common.{None, Some}
 use Rattle.line_read.specs.View.{read_as}
 use Rattle.line_read.specs.declared.Call.{Call}
 use Rattle.line_read.specs.declared.Line.TheVariants.{Open, Calling, Unread}
-use Rattle.line_read.specs.declared.LineRead.{LineRead}
+use Rattle.line_read.specs.declared.Line.{Line}
 use Rattle.line_rules.specs.Reading.{Line as Said, opening, calling, unread, read_line}
 use Rattle.line_hints.specs.Why.{why, hint_by, hint_of}
 use Rattle.line_hints.specs.declared.Hint.TheVariants.{NoHub}
@@ -85,43 +85,40 @@ module _ (line : List ℕ) where
 -- ---- what a line says, as it is held
 
 module _ (opened : Bool) (said : Said) (line : List ℕ) where
-  says_unread : (read_as said).line ≡ Unread → hint_by opened said line ≡ Some (why line)
+  says_unread : read_as said ≡ Unread → hint_by opened said line ≡ Some (why line)
   says_unread e = go said e
     where
-      go : (q : Said) → (read_as q).line ≡ Unread → hint_by opened q line ≡ Some (why line)
+      go : (q : Said) → read_as q ≡ Unread → hint_by opened q line ≡ Some (why line)
       go (opening n k first) e = cc
       go (calling c) e = cc
       go unread e = refl
 
-  says_call : (c : Call) → (read_as said).line ≡ Calling c → hint_by opened said line ≡ (if opened then None else Some NoHub)
+  says_call : (c : Call) → read_as said ≡ Calling c → hint_by opened said line ≡ (if opened then None else Some NoHub)
   says_call c e = go opened said e
     where
-      go : (o : Bool) (q : Said) → (read_as q).line ≡ Calling c → hint_by o q line ≡ (if o then None else Some NoHub)
+      go : (o : Bool) (q : Said) → read_as q ≡ Calling c → hint_by o q line ≡ (if o then None else Some NoHub)
       go o (opening n k first) e = cc
       go true (calling x) e = refl
       go false (calling x) e = refl
       go o unread e = cc
 
-  says_opening : (n k first : ℕ) → (read_as said).line ≡ Open n k first → hint_by opened said line ≡ None
+  says_opening : (n k first : ℕ) → read_as said ≡ Open n k first → hint_by opened said line ≡ None
   says_opening n k first e = go said e
     where
-      go : (q : Said) → (read_as q).line ≡ Open n k first → hint_by opened q line ≡ None
+      go : (q : Said) → read_as q ≡ Open n k first → hint_by opened q line ≡ None
       go (opening m j i) e = refl
       go (calling c) e = cc
       go unread e = cc
 
-module _ (opened : Bool) (line : List ℕ) (read : LineRead) (is : read ≡ read_as (read_line line)) where
-  same_line : read.line ≡ (read_as (read_line line)).line
-  same_line = ap (λ (r : LineRead). r.line) is
-
-  pub told-unread : read.line ≡ Unread → hint_of opened line ≡ Some (why line)
+module _ (opened : Bool) (line : List ℕ) (read : Line) (is : read ≡ read_as (read_line line)) where
+  pub told-unread : read ≡ Unread → hint_of opened line ≡ Some (why line)
   unfolding hint_of
-  told-unread e = says_unread opened (read_line line) line (sym same_line ∙ e)
+  told-unread e = says_unread opened (read_line line) line (sym is ∙ e)
 
-  pub told-call : (c : Call) → read.line ≡ Calling c → hint_of opened line ≡ (if opened then None else Some NoHub)
+  pub told-call : (c : Call) → read ≡ Calling c → hint_of opened line ≡ (if opened then None else Some NoHub)
   unfolding hint_of
-  told-call c e = says_call opened (read_line line) line c (sym same_line ∙ e)
+  told-call c e = says_call opened (read_line line) line c (sym is ∙ e)
 
-  pub told-opening : (n k first : ℕ) → read.line ≡ Open n k first → hint_of opened line ≡ None
+  pub told-opening : (n k first : ℕ) → read ≡ Open n k first → hint_of opened line ≡ None
   unfolding hint_of
-  told-opening n k first e = says_opening opened (read_line line) line n k first (sym same_line ∙ e)
+  told-opening n k first e = says_opening opened (read_line line) line n k first (sym is ∙ e)

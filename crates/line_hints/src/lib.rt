@@ -84,7 +84,7 @@ fn why(line: &[u8]) -> Hint
 pub fn of_line(line: &[u8], opened: bool) -> Option<Hint>
     ensures { result ≡ hint_of opened line.now }
 {
-    match line_read::read_line(line).line {
+    match line_read::read_line(line) {
         Line::Open(_, _, _) => None,
         Line::Calling(_) if opened => None,
         Line::Calling(_) => Some(Hint::NoHub),

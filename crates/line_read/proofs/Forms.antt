@@ -26,14 +26,9 @@ use Rattle.line_rules.specs.Reading.{restart_with, restart_line, line_with, line
 use Rattle.line_read.specs.Places.{behind_letter, word_at, word_end, words_from, command_behind}
 use Rattle.line_read.specs.declared.Call.TheVariants.{Submit}
 use Rattle.line_read.specs.declared.Line.{Line}
-use Rattle.line_read.specs.declared.Line.TheVariants.{Calling}
-use Rattle.line_read.specs.declared.LineRead.{LineRead}
+use Rattle.line_read.specs.declared.Line.TheVariants.{Calling, Unread}
 use Rattle.line_read.specs.View.{together, letter_of, read_as, id_call_with, id_line}
 use Rattle.line_read.proofs.WordLaws.{word_past, word_none, word_more, words_none, words_first, words_all, WordSays, NotFirst}
-
--- A line that was read, as it is read without its routine.
-abbrev pub held_as : Said → Line
-held_as said = (read_as said).line
 
 -- ---- words behind one that was read
 
@@ -201,9 +196,9 @@ module _ (line : List ℕ) (at : ℕ) where
           rw (a.words, b.words, c.words, a.says, b.says, c.says) (before-behind d t v (commands (words_from line (last + 1))))
 
 -- a submission whose commands behind those of a routine are these
-abbrev pub submit_from : Routine → Option (List Command) → LineRead
-submit_from r None = read_as unread
-submit_from r (Some cs) = record { line = Calling Submit; routine = together r cs }
+abbrev pub submit_from : Routine → Option (List Command) → Line
+submit_from r None = Unread
+submit_from r (Some cs) = Calling (Submit (together r cs))
 
 pub submit-more : (r : Routine) (c : Command) (o : Option (List Command)) →
     submit_from r (command_behind c o) ≡ submit_from (with_command r c) o
@@ -212,7 +207,7 @@ submit-more r c None = refl
 submit-more r c (Some cs) = refl
 
 pub submit_end : (line : List ℕ) (at : ℕ) (r : Routine) → length line < at →
-    submit_from r (commands (words_from line at)) ≡ record { line = Calling Submit; routine = r }
+    submit_from r (commands (words_from line at)) ≡ Calling (Submit r)
 unfolding commands together
 submit_end line at r h = rw (words_none line at h)
 
@@ -335,73 +330,6 @@ module _ (line : List ℕ) where
   pub letter_alone : 1 < length line → get_or line 1 0 ≡ space →
       line_by (words_of line) ≡ line_with (get_or line 0 0 ∷ []) (words_from line behind_letter)
   letter_alone h s = byte_alone (omega arith) (word_none line 1 h s)
-
--- ---- beside a line that submits nothing there is the empty routine
-
-open_routine : (ws : List (List ℕ)) → (read_as (opening_line ws)).routine ≡ no_routine
-unfolding opening_line
-open_routine [] = refl
-open_routine (n ∷ []) = refl
-open_routine (n ∷ k ∷ []) = refl
-open_routine (n ∷ k ∷ first ∷ []) = go (number_up_to highest8 n) (number_up_to highest8 k) (number_up_to highest32 first)
-  where
-    go : (n k first : Option ℕ) → (read_as (opening_with n k first)).routine ≡ no_routine
-    go None k first = refl
-    go (Some n) None first = refl
-    go (Some n) (Some k) None = refl
-    go (Some n) (Some k) (Some first) = refl
-open_routine (n ∷ k ∷ first ∷ w ∷ ws) = refl
-
-restart-routine : (ws : List (List ℕ)) → (read_as (restart_line ws)).routine ≡ no_routine
-unfolding restart_line
-restart-routine [] = refl
-restart-routine (d ∷ []) = refl
-restart-routine (d ∷ v ∷ []) = go (number_up_to highest8 d) (setting v)
-  where
-    go : (d : Option ℕ) (v : Option ℤ) → (read_as (restart_with d v)).routine ≡ no_routine
-    go None v = refl
-    go (Some d) None = refl
-    go (Some d) (Some v) = refl
-restart-routine (d ∷ v ∷ w ∷ ws) = refl
-
-one-routine : (highest : ℕ) (says : Option ℕ → Said) → ((o : Option ℕ) → (read_as (says o)).routine ≡ no_routine) →
-    (ws : List (List ℕ)) → (read_as (one_number highest says ws)).routine ≡ no_routine
-unfolding one_number
-one-routine highest says h [] = refl
-one-routine highest says h (w ∷ []) = h (number_up_to highest w)
-one-routine highest says h (w ∷ v ∷ ws) = refl
-
-fail_routine : (o : Option ℕ) → (read_as (call_with fails o)).routine ≡ no_routine
-fail_routine None = refl
-fail_routine (Some d) = refl
-
-id-routine : (letter : ℕ) (o : Option ℕ) → (read_as (id_call_with letter o)).routine ≡ no_routine
-id-routine letter None = refl
-id-routine letter (Some i) =
-    by_if P (eqb letter (letter_of "N")) (λ _. refl)
-    (λ _. by_if P (eqb letter (letter_of "D")) (λ _. refl)
-    (λ _. by_if P (eqb letter (letter_of "B")) (λ _. refl) (λ _. by_if P (eqb letter (letter_of "C")) (λ _. refl) (λ _. refl))))
-  where
-    P : Said → Type 0
-    P said = (read_as said).routine ≡ no_routine
-
-pub plain_routine : (letter : ℕ) (ws : List (List ℕ)) → letter ≢ letter_of "S" → (read_as (line_with (letter ∷ []) ws)).routine ≡ no_routine
-plain_routine letter ws h = go (eqb letter (letter_of "O")) (eqb letter (letter_of "F")) (eqb letter (letter_of "R")) refl refl refl
-  where
-    routine_of : Said → Routine
-    routine_of said = (read_as said).routine
-
-    go : (o f r : Bool) → eqb letter (letter_of "O") ≡ o → eqb letter (letter_of "F") ≡ f → eqb letter (letter_of "R") ≡ r →
-        routine_of (line_with (letter ∷ []) ws) ≡ no_routine
-    go true f r a b c = ap routine_of (letter_open letter ws (eqb-true letter (letter_of "O") a)) ∙ open_routine ws
-    go false true r a b c =
-        ap routine_of (letter_fail letter ws (eqb-true letter (letter_of "F") b))
-        ∙ one-routine highest8 (call_with fails) fail_routine ws
-    go false false true a b c = ap routine_of (letter_restart letter ws (eqb-true letter (letter_of "R") c)) ∙ restart-routine ws
-    go false false false a b c =
-        ap routine_of (letter_other letter ws (eqb-false letter (letter_of "O") a) h (eqb-false letter (letter_of "F") b)
-        (eqb-false letter (letter_of "R") c))
-        ∙ one-routine highest32 (id_call_with letter) (id-routine letter) ws
 
 -- ---- a line that is not too long
 

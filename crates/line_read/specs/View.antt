@@ -11,7 +11,7 @@ use Rattle.line_rules.specs.Reading.{unread, highest32, one_number}
 use Rattle.line_read.specs.declared.Call.{Call}
 use Rattle.line_read.specs.declared.Call.TheVariants.{Submit, Turn, Report, Cancel, Fail, Restart}
 use Rattle.line_read.specs.declared.Line.TheVariants.{Open, Calling, Unread}
-use Rattle.line_read.specs.declared.LineRead.{LineRead}
+use Rattle.line_read.specs.declared.Line.{Line}
 
 -- A routine put together command by command, behind those that it holds. It counts past the eighth and holds eight: a longer one is turned
 -- down for its count.
@@ -20,25 +20,17 @@ together r [] = r
 together r (c ∷ cs) = together (with_command r c) cs
 
 abbrev pub call_as : LineCall → Call
-call_as (submits cs) = Submit
+call_as (submits cs) = Submit (together no_routine cs)
 call_as (turns i) = Turn i
 call_as (reports i code) = Report i code
 call_as (fails d) = Fail d
 call_as (restarts d v) = Restart d v
 call_as (cancels i) = Cancel i
 
-abbrev pub routine_as : LineCall → Routine
-routine_as (submits cs) = together no_routine cs
-routine_as (turns i) = no_routine
-routine_as (reports i code) = no_routine
-routine_as (fails d) = no_routine
-routine_as (restarts d v) = no_routine
-routine_as (cancels i) = no_routine
-
-abbrev pub read_as : Said → LineRead
-read_as (opening n k first) = record { line = Open n k first; routine = no_routine }
-read_as (calling c) = record { line = Calling (call_as c); routine = routine_as c }
-read_as unread = record { line = Unread; routine = no_routine }
+abbrev pub read_as : Said → Line
+read_as (opening n k first) = Open n k first
+read_as (calling c) = Calling (call_as c)
+read_as unread = Unread
 
 -- ---- lines with an id
 

@@ -2,15 +2,14 @@
 // behind the last would begin past it.
 ghost use Rattle.std.specs.Option.{unwrap_or};
 ghost use Rattle.std.specs.Prelude.{◌≡◌, [], ◌∷◌, ◌≢◌};
-ghost use Rattle.rules_routine.specs.Routine.{no_routine};
 ghost use Rattle.line_rules.specs.Pieces.{words_of};
-ghost use Rattle.line_rules.specs.Reading.{highest8, unread as notRead, opening_line, restart_line, submit_line, call_with, one_number};
+ghost use Rattle.line_rules.specs.Reading.{highest8, opening_line, restart_line, submit_line, call_with, one_number};
 ghost use Rattle.line_rules.specs.Reading.{fails, line_with, line_by};
 ghost use Rattle.line_read.specs.View.{letter_of, id_call, id_line, read_as};
 ghost use Rattle.line_read.specs.Places.{behind_letter, words_from, CommandAt};
 
 use crate::numbers::{number_at, setting_at};
-use crate::{BEHIND_LETTER, Call, Line, LineRead};
+use crate::{BEHIND_LETTER, Call, Line};
 use line_rules::SPACE;
 use line_rules::letters::{CANCEL, DONE, FAIL, FAILED, OPEN, RESTART, SUBMIT, TURN};
 use rules_routine::Command;
@@ -19,25 +18,9 @@ use rules_routine::reports::{CODE_DONE, CODE_FAILED};
 
 const HIGHEST_8: u64 = 255;
 
-fn without_routine(line: Line) -> LineRead
-    ensures { (result.line ≡ line) × (result.routine ≡ no_routine) }
-{
-    let none = rules_routine::empty();
-    LineRead {
-        line,
-        routine: none,
-    }
-}
-
-pub fn unread() -> LineRead
-    ensures { result ≡ read_as notRead }
-{
-    without_routine(Line::Unread)
-}
-
 // "`O` N K first"
 fn open_line(line: &[u8]) -> Option<Line>
-    ensures { unwrap_or result Line.Unread ≡ (read_as (opening_line (words_from line.now behind_letter))).line }
+    ensures { unwrap_or result Line.Unread ≡ read_as (opening_line (words_from line.now behind_letter)) }
 {
     let (devices, devices_end) = number_at(line, BEHIND_LETTER, HIGHEST_8)?;
     let (pass_limit, limit_end) = number_at(line, devices_end + 1, HIGHEST_8)?;
@@ -50,7 +33,7 @@ fn open_line(line: &[u8]) -> Option<Line>
 
 // "`R` device setting"
 fn restart_line(line: &[u8]) -> Option<Line>
-    ensures { unwrap_or result Line.Unread ≡ (read_as (restart_line (words_from line.now behind_letter))).line }
+    ensures { unwrap_or result Line.Unread ≡ read_as (restart_line (words_from line.now behind_letter)) }
 {
     let (device, device_end) = number_at(line, BEHIND_LETTER, HIGHEST_8)?;
     let (setting, end) = setting_at(line, device_end + 1)?;
@@ -62,7 +45,7 @@ fn restart_line(line: &[u8]) -> Option<Line>
 
 // "`F` device"
 fn fail_line(line: &[u8]) -> Option<Line>
-    ensures { unwrap_or result Line.Unread ≡ (read_as (one_number highest8 (call_with fails) (words_from line.now behind_letter))).line }
+    ensures { unwrap_or result Line.Unread ≡ read_as (one_number highest8 (call_with fails) (words_from line.now behind_letter)) }
 {
     let (device, end) = number_at(line, BEHIND_LETTER, HIGHEST_8)?;
     if end < line.len() {
@@ -73,7 +56,7 @@ fn fail_line(line: &[u8]) -> Option<Line>
 
 // The call of a letter that an id follows.
 fn id_call(letter: u8, id: u32) -> Option<Line>
-    ensures { unwrap_or result Line.Unread ≡ (read_as (id_call letter id)).line }
+    ensures { unwrap_or result Line.Unread ≡ read_as (id_call letter id) }
 {
     match letter {
         TURN => Some(Line::Calling(Call::Turn(id))),
@@ -86,7 +69,7 @@ fn id_call(letter: u8, id: u32) -> Option<Line>
 
 // "`N` id (turn), `D` id (done), `B` id (failed), `C` id (cancel)"
 fn id_line(line: &[u8], letter: u8) -> Option<Line>
-    ensures { unwrap_or result Line.Unread ≡ (read_as (id_line letter (words_from line.now behind_letter))).line }
+    ensures { unwrap_or result Line.Unread ≡ read_as (id_line letter (words_from line.now behind_letter)) }
 {
     let (id, end) = number_at(line, BEHIND_LETTER, HIGHEST_ID)?;
     if end < line.len() {
@@ -111,28 +94,23 @@ fn command_at(line: &[u8], from: usize) -> Option<(Command, usize)>
 }
 
 // "`S` device tag setting repeated"; "`S` alone is a routine of 0 commands".
-fn submit_line(line: &[u8]) -> LineRead
-    ensures { result ≡ read_as (submit_line (words_from line.now behind_letter)) }
+fn submit_line(line: &[u8]) -> Option<Line>
+    ensures { unwrap_or result Line.Unread ≡ read_as (submit_line (words_from line.now behind_letter)) }
 {
     let mut routine = rules_routine::empty();
     let mut at = BEHIND_LETTER;
     while at <= line.len() {
-        let Some((command, end)) = command_at(line, at) else {
-            return unread();
-        };
+        let (command, end) = command_at(line, at)?;
         routine = rules_routine::with_command(routine, command);
         at = end + 1;
     }
-    LineRead {
-        line: Line::Calling(Call::Submit),
-        routine,
-    }
+    Some(Line::Calling(Call::Submit(routine)))
 }
 
 // The lines that hold no routine.
 fn plain_line(line: &[u8], letter: u8) -> Option<Line>
     requires { letter ≢ letter_of "S" }
-    ensures { unwrap_or result Line.Unread ≡ (read_as (line_with (letter ∷ []) (words_from line.now behind_letter))).line }
+    ensures { unwrap_or result Line.Unread ≡ read_as (line_with (letter ∷ []) (words_from line.now behind_letter)) }
 {
     match letter {
         OPEN => open_line(line),
@@ -143,21 +121,18 @@ fn plain_line(line: &[u8], letter: u8) -> Option<Line>
 }
 
 // A letter alone is the first word, or there is another shape.
-pub fn by_letter(line: &[u8]) -> LineRead
-    ensures { result ≡ read_as (line_by (words_of line.now)) }
+pub fn by_letter(line: &[u8]) -> Option<Line>
+    ensures { unwrap_or result Line.Unread ≡ read_as (line_by (words_of line.now)) }
 {
-    if line.len() == 0 {
-        return unread();
+    if line.is_empty() {
+        return None;
     }
-    if 1 < line.len() {
-        if line[1] != SPACE {
-            return unread();
-        }
+    if 1 < line.len() && line[1] != SPACE {
+        return None;
     }
     let letter = line[0];
     if letter == SUBMIT {
         return submit_line(line);
     }
-    let said = plain_line(line, letter).unwrap_or(Line::Unread);
-    without_routine(said)
+    plain_line(line, letter)
 }

@@ -19,10 +19,10 @@ use rules_routine::limits::MAX_LINE;
 // Where the words behind a line's letter begin.
 pub const BEHIND_LETTER: usize = 2;
 
-// The calls that lines make. The commands of a submission stand beside it.
+// The calls that lines make.
 #[derive(Clone, Copy)]
 pub enum Call {
-    Submit,
+    Submit(Routine),
     Turn(u32),
     Report(u32, u8),
     Cancel(u32),
@@ -36,13 +36,6 @@ pub enum Line {
     Open(u8, u8, u32),
     Calling(Call),
     Unread,
-}
-
-// What a line says, and the routine that it submits; without a submission the empty one.
-#[derive(Clone, Copy)]
-pub struct LineRead {
-    pub line: Line,
-    pub routine: Routine,
 }
 
 // Where the line that begins at a place ends: at the next byte 10, or at the end of the input.
@@ -61,11 +54,11 @@ pub fn word_end(line: &[u8], from: usize) -> usize
 }
 
 // What a line says. Shape and widths come before any rule.
-pub fn read_line(line: &[u8]) -> LineRead
+pub fn read_line(line: &[u8]) -> Line
     ensures { result ≡ read_as (read_line line.now) }
 {
     if MAX_LINE < line.len() {
-        return calls::unread();
+        return Line::Unread;
     }
-    calls::by_letter(line)
+    calls::by_letter(line).unwrap_or(Line::Unread)
 }

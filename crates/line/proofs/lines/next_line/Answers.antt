@@ -1,7 +1,7 @@
 -- `line::lines::next_line` meets its contract. Assumes nothing.
 use mathlib.Core.Path.{ap, ◌∙◌}
 use native.Mathlib.Omega.{arith}
-use Rattle.line_read.specs.declared.LineRead.{LineRead}
+use Rattle.line_read.specs.declared.Line.{Line}
 use Rattle.line.specs.View.{heard_of}
 use Rattle.line.proofs.Loops.{end_within}
 use Rattle.line.proofs.lines.next_line.Goals as goal
@@ -16,6 +16,5 @@ pub returns : goal.returns
 returns c = let a = c.args in
     record {
       ends = c.line_end-end.ensures;
-      hears = c.heard-said.ensures ∙ ap (λ (x : LineRead). heard_of x.line a.devices) c.read_line-read.ensures;
-      beside = ap (λ (x : LineRead). x.routine) c.read_line-read.ensures;
+      hears = c.heard-said.ensures ∙ ap (λ (x : Line). heard_of x a.devices) c.read_line.ensures;
     }

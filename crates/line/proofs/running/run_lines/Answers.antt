@@ -1,6 +1,6 @@
 -- `line::running::run_lines` meets its contract. The loop's invariant: the lines up to a place are done, and what is left gives the rest.
 -- Assumes nothing.
-use mathlib.Core.Path.{◌≡◌, refl, sym, ap, ◌∙◌}
+use mathlib.Core.Path.{◌≡◌, refl, sym, ap, subst, ◌∙◌}
 use mathlib.Core.List.{List}
 use Prim.Native.Nat.{ℕ, ◌-◌}
 use native.Mathlib.Omega.{arith}
@@ -8,7 +8,7 @@ use mir.Syntax.{w16}
 use mir.Val.{to_z, of_z}
 use lib.IntN.{ℤ}
 use lib.ListN.{length, take, drop}
-use Rattle.rules_routine.specs.Routine.{commands_of}
+use Rattle.rules_routine.specs.declared.Command.{Command}
 use Rattle.rules_routine.specs.declared.Routine.{Routine}
 use Rattle.rules.specs.Calls.{result_of}
 use Rattle.hub_state.specs.Contract.{Decides}
@@ -26,8 +26,8 @@ use Rattle.hub.specs.Valid.{Valid}
 use Rattle.hub.specs.Carrying.{Carries}
 use Rattle.hub.specs.Decided.{DecidedOn, Decided}
 use Rattle.hub.specs.declared.Hub.{Hub}
-use Rattle.line.specs.View.{heard_of, call_in}
-use Rattle.line.proofs.LineLaws.{does_unread, does_open, does_not_open, does_settle, does_change, does_same, fits_line}
+use Rattle.line.specs.View.{heard_of, call_in, commands_in}
+use Rattle.line.proofs.LineLaws.{does_unread, does_open, does_not_open, does_settle, does_change, does_same}
 use Rattle.line.proofs.LineLaws.{decided_on, carries_nothing, carries, carries_as}
 use Rattle.line.proofs.Loops.{Prints, prints, printed_fits, printed_long, goes}
 use Rattle.line.proofs.Loops.{ran_none, ran_more, ran_length, ran_past, ran_all, end_within}
@@ -46,61 +46,55 @@ use Rattle.line.proofs.running.run_lines.Goals as goal
 abbrev says : List ℕ → ℕ → ℕ → Said
 says input from end = read_line (take (end - from) (drop from input))
 
--- what is known of it: what of it is heard, the routine beside that, and that the hub is as it may be
-record Heard (h : Hub) (q : Said) (line : Line) (routine : Routine) : Type 0 where
-  hears : heard_of (read_as q).line (view h).devices ≡ line
-  beside : routine ≡ (read_as q).routine
+-- what is known of it: what of it is heard, and that the hub is as it may be
+record Heard (h : Hub) (q : Said) (line : Line) : Type 0 where
+  hears : heard_of (read_as q) (view h).devices ≡ line
   valid : Valid h
 
 heard : (c : After-next_line-next) →
     Heard c.loop-from.now (says c.args.input.now c.loop-from.from c.next_line-next.result.end) c.next_line-next.result.said
-    c.next_line-next.result.routine
 heard c =
     let q = says c.args.input.now c.loop-from.from c.next_line-next.result.end in
     record {
-      hears = sym (c.next_line-next.ensures.hears ∙ ap (λ (n : ℕ). heard_of (read_as q).line n) c.device_count.ensures);
-      beside = c.next_line-next.ensures.beside;
+      hears = sym (c.next_line-next.ensures.hears ∙ ap (λ (n : ℕ). heard_of (read_as q) n) c.device_count.ensures);
       valid = c.loop-from.invariant.1.valid;
     }
 
 -- ---- a call
 
 -- what is known of what it comes to
-record Comes (h : Hub) (q : Said) (call : Call) (routine : Routine) (d : Decision) : Type 0 where
-  calls : heard_of (read_as q).line (view h).devices ≡ Calling call
-  beside : routine ≡ (read_as q).routine
+record Comes (h : Hub) (q : Said) (call : Call) (d : Decision) : Type 0 where
+  calls : heard_of (read_as q) (view h).devices ≡ Calling call
   valid : Valid h
-  decides : Decides h.state (commands_of routine) d (result_of (view h) (call_in call routine))
+  decides : Decides h.state (commands_in call) d (result_of (view h) (call_in call))
 
-comes : {h : Hub} {q : Said} {line : Line} {routine : Routine} (x : Heard h q line routine) (call : Call) → line ≡ Calling call →
-    {d : Decision} → Decides h.state (commands_of routine) d (result_of (view h) (call_in call routine)) → Comes h q call routine d
-comes x call e w = record { calls = x.hears ∙ e; beside = x.beside; valid = x.valid; decides = w }
+comes : {h : Hub} {q : Said} {line : Line} (x : Heard h q line) (call : Call) → line ≡ Calling call →
+    {d : Decision} → Decides h.state (commands_in call) d (result_of (view h) (call_in call)) → Comes h q call d
+comes x call e w = record { calls = x.hears ∙ e; valid = x.valid; decides = w }
 
 -- it was decided on the hub, and its change can be made
-decided_now : {h : Hub} {q : Said} {call : Call} {routine : Routine} {d : Decision} → Comes h q call routine d →
-    DecidedOn h (commands_of routine) d
-decided_now x = decided_on _ _ _ x.decides
+decided_now : {h : Hub} {q : Said} {call : Call} {d : Decision} → Comes h q call d →
+    DecidedOn h (commands_in call) d
+decided_now x = decided_on _ _ x.decides
 
-change_is : {h : Hub} {q : Said} {call : Call} {routine : Routine} {d : Decision} → Comes h q call routine d → (c : Change) →
-    d.change ≡ c → Decided h (commands_of routine) c
+change_is : {h : Hub} {q : Said} {call : Call} {d : Decision} → Comes h q call d → (c : Change) →
+    d.change ≡ c → Decided h (commands_in call) c
 change_is x c e = record { decision = _; made = decided_now x; change_is = e }
 
 came : (c : After-decided-decision) →
-    Heard c.loop-from.now (says c.args.input.now c.loop-from.from c.next_line-next.result.end) c.next_line-next.result.said
-    c.next_line-next.result.routine →
-    Comes c.loop-from.now (says c.args.input.now c.loop-from.from c.next_line-next.result.end) c.in-Calling.call
-    c.next_line-next.result.routine c.decided-decision.result
+    Heard c.loop-from.now (says c.args.input.now c.loop-from.from c.next_line-next.result.end) c.next_line-next.result.said →
+    Comes c.loop-from.now (says c.args.input.now c.loop-from.from c.next_line-next.result.end) c.in-Calling.call c.decided-decision.result
 came c x = comes x _ c.in-Calling.is c.decided-decision.ensures
 
 -- and is made
 made : (c : Joined-change) → Valid c.loop-from.now →
-    Carries c.loop-from.now (commands_of c.next_line-next.result.routine) c.decided-decision.result.change c.match-change.now
+    Carries c.loop-from.now (commands_in c.in-Calling.call) c.decided-decision.result.change c.match-change.now
 made c h =
     elim c.match-change.branch [
       | in-Nothing v ↦ carries_as v.now-is (carries_nothing _ _ h v.in-Nothing.is)
       | in-Stage v ↦ carries_as v.now-is (carries _ _ (Stage _) v.in-Stage.is refl v.with_stage-now.ensures)
       | in-Commit v ↦ carries_as v.now-is (carries _ _ (Commit _) v.in-Commit.is refl v.with_commit-now.ensures)
-      | in-Join v ↦ carries_as v.now-is (carries _ _ (Join _) v.in-Join.is refl v.with_routine-now.ensures)
+      | in-Join v ↦ carries_as v.now-is (carries _ _ (Join _) v.in-Join.is refl (rw c.routine_in-routine.ensures at v.with_routine-now.ensures))
       | in-Abort v ↦ carries_as v.now-is (carries _ _ (Abort _) v.in-Abort.is refl v.with_abort-now.ensures)
       | in-Fail v ↦ carries_as v.now-is (carries _ _ (Fail _ _) v.in-Fail.is refl v.with_failure-now.ensures)
       | in-Restart v ↦
@@ -111,8 +105,7 @@ made c h =
 -- ---- each way that the line can go
 
 line-prints : (c : Joined-said) →
-    Heard c.loop-from.now (says c.args.input.now c.loop-from.from c.next_line-next.result.end) c.next_line-next.result.said
-    c.next_line-next.result.routine →
+    Heard c.loop-from.now (says c.args.input.now c.loop-from.from c.next_line-next.result.end) c.next_line-next.result.said →
     length c.loop-from.text ≡ max_text →
     Prints c.loop-from.now (says c.args.input.now c.loop-from.from c.next_line-next.result.end) c.match-said.now c.match-said.text
     c.match-said.printed
@@ -130,12 +123,12 @@ line-prints c x room =
           w.put_opening-printed.ensures room w.now-is w.text-is w.printed-is
       | in-Calling+then-not-changes_nothing+then-settles w ↦
           let y = comes x _ w.in-Calling.is w.decided-decision.ensures in
-          let m : Carries c.loop-from.now (commands_of c.next_line-next.result.routine) w.decided-decision.result.change w.match-change.now =
+          let m : Carries c.loop-from.now (commands_in w.in-Calling.call) w.decided-decision.result.change w.match-change.now =
           elim w.match-change.branch [
             | in-Nothing v ↦ carries_as v.now-is (carries_nothing _ _ x.valid v.in-Nothing.is)
             | in-Stage v ↦ carries_as v.now-is (carries _ _ (Stage _) v.in-Stage.is refl v.with_stage-now.ensures)
             | in-Commit v ↦ carries_as v.now-is (carries _ _ (Commit _) v.in-Commit.is refl v.with_commit-now.ensures)
-            | in-Join v ↦ carries_as v.now-is (carries _ _ (Join _) v.in-Join.is refl v.with_routine-now.ensures)
+            | in-Join v ↦ carries_as v.now-is (carries _ _ (Join _) v.in-Join.is refl (rw w.routine_in-routine.ensures at v.with_routine-now.ensures))
             | in-Abort v ↦ carries_as v.now-is (carries _ _ (Abort _) v.in-Abort.is refl v.with_abort-now.ensures)
             | in-Fail v ↦ carries_as v.now-is (carries _ _ (Fail _ _) v.in-Fail.is refl v.with_failure-now.ensures)
             | in-Restart v ↦
@@ -143,17 +136,17 @@ line-prints c x room =
                 carries_as v.now-is (carries _ _ (Restart _ _ _) v.in-Restart.is refl (rw held at v.with_restart-now.ensures))
           ] in
           prints
-          (does_settle _ _ _ y.calls y.beside _ y.decides _ m (sym w.changes_nothing.ensures ∙ w.if-not-changes_nothing.true) w.settle-now.result
+          (does_settle _ _ _ y.calls _ y.decides _ m (sym w.changes_nothing.ensures ∙ w.if-not-changes_nothing.true) w.settle-now.result
           (w.settle-now.ensures.0, w.settle-now.ensures.1))
           w.put_answers-printed.ensures room w.now-is w.text-is w.printed-is
       | in-Calling+else-not-changes_nothing w ↦
           let y = comes x _ w.in-Calling.is w.decided-decision.ensures in
-          let m : Carries c.loop-from.now (commands_of c.next_line-next.result.routine) w.decided-decision.result.change w.match-change.now =
+          let m : Carries c.loop-from.now (commands_in w.in-Calling.call) w.decided-decision.result.change w.match-change.now =
           elim w.match-change.branch [
             | in-Nothing v ↦ carries_as v.now-is (carries_nothing _ _ x.valid v.in-Nothing.is)
             | in-Stage v ↦ carries_as v.now-is (carries _ _ (Stage _) v.in-Stage.is refl v.with_stage-now.ensures)
             | in-Commit v ↦ carries_as v.now-is (carries _ _ (Commit _) v.in-Commit.is refl v.with_commit-now.ensures)
-            | in-Join v ↦ carries_as v.now-is (carries _ _ (Join _) v.in-Join.is refl v.with_routine-now.ensures)
+            | in-Join v ↦ carries_as v.now-is (carries _ _ (Join _) v.in-Join.is refl (rw w.routine_in-routine.ensures at v.with_routine-now.ensures))
             | in-Abort v ↦ carries_as v.now-is (carries _ _ (Abort _) v.in-Abort.is refl v.with_abort-now.ensures)
             | in-Fail v ↦ carries_as v.now-is (carries _ _ (Fail _ _) v.in-Fail.is refl v.with_failure-now.ensures)
             | in-Restart v ↦
@@ -163,10 +156,10 @@ line-prints c x room =
           prints
           (elim w.else-not-changes_nothing.branch [
             | else-not-changes_nothing-via-then-not-changes_nothing+else-settles v ↦
-                does_change _ _ _ y.calls y.beside _ y.decides _ m (sym w.changes_nothing.ensures ∙ v.if-not-changes_nothing.true)
+                does_change _ _ _ y.calls _ y.decides _ m (sym w.changes_nothing.ensures ∙ v.if-not-changes_nothing.true)
                 (sym v.settles.ensures ∙ v.if-settles.false)
             | else-not-changes_nothing-via-else-not-changes_nothing v ↦
-                does_same _ _ _ y.calls y.beside _ y.decides _ m x.valid (sym w.changes_nothing.ensures ∙ v.if-not-changes_nothing.false)
+                does_same _ _ _ y.calls _ y.decides _ m x.valid (sym w.changes_nothing.ensures ∙ v.if-not-changes_nothing.false)
           ])
           w.put_answers-printed.ensures room w.now-is w.text-is w.printed-is
       | in-Unread w ↦
@@ -191,8 +184,7 @@ pub put_opening-printed-requires : goal.put_opening-printed-requires
 put_opening-printed-requires c = omega (arith, c.loop-from.invariant.0)
 
 pub decided-decision-requires : goal.decided-decision-requires
-decided-decision-requires c = let x = heard (goal.at.decided-decision-requires c).After-next_line-next in
-    (x.valid, fits_line _ _ _ _ (x.hears ∙ c.in-Calling.is) x.beside)
+decided-decision-requires c = (heard (goal.at.decided-decision-requires c).After-next_line-next).valid
 
 pub slice_bounds-put_answers-end : goal.slice_bounds-put_answers-end
 slice_bounds-put_answers-end c = sym c.loop-from.invariant.0
@@ -219,7 +211,8 @@ with_failure-now-requires c = let x = heard (goal.at.with_failure-now-requires c
 
 pub with_routine-now-requires : goal.with_routine-now-requires
 with_routine-now-requires c = let x = heard (goal.at.with_routine-now-requires c).After-next_line-next in
-    (x.valid, change_is (came (goal.at.with_routine-now-requires c).After-decided-decision x) (Join _) c.in-Join.is)
+    (x.valid, subst (λ (cs : List Command). Decided c.loop-from.now cs (Join c.in-Join.after)) (sym c.routine_in-routine.ensures)
+    (change_is (came (goal.at.with_routine-now-requires c).After-decided-decision x) (Join _) c.in-Join.is))
 
 pub with_restart-now-requires : goal.with_restart-now-requires
 with_restart-now-requires c = let x = heard (goal.at.with_restart-now-requires c).After-next_line-next in

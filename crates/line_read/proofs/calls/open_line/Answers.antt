@@ -5,7 +5,8 @@ use native.Mathlib.Omega.{arith}
 use Rattle.line_rules.specs.Reading.{highest8, highest32, number_up_to}
 use Rattle.line_read.specs.Places.{behind_letter}
 use Rattle.line_read.proofs.WordLaws.{WordSays, no_number, number_says, number_bound}
-use Rattle.line_read.proofs.Forms.{held_as, open_none, open_one, open_two, open_more, open_all}
+use Rattle.line_read.specs.View.{read_as}
+use Rattle.line_read.proofs.Forms.{open_none, open_one, open_two, open_more, open_all}
 use borrow.Author.Rules.{rules}
 use Rattle.line_read.proofs.calls.open_line.Goals.{In_ok-devices, In_ok-first, In_ok-pass_limit}
 use Rattle.line_read.proofs.calls.open_line.Goals as goal
@@ -28,7 +29,7 @@ first c = number_says highest32 _ _ _ _ (sym c.number_at-3.ensures ∙ c.in_ok-f
 pub returns-in_err-devices : goal.returns-in_err-devices
 returns-in_err-devices c =
     let none = no_number highest8 _ _ (sym c.number_at.ensures ∙ c.in_err-devices.was) in
-    rw c.from_residual.ensures (sym (ap held_as (open_none _ _ none)))
+    rw c.from_residual.ensures (sym (ap read_as (open_none _ _ none)))
 
 pub overflow_add-devices_end : goal.overflow_add-devices_end
 overflow_add-devices_end c = let d = devices (goal.at.overflow_add-devices_end c).In_ok-devices in search rules
@@ -37,7 +38,7 @@ pub returns-in_err-pass_limit : goal.returns-in_err-pass_limit
 returns-in_err-pass_limit c =
     let p = goal.at.returns-in_err-pass_limit c in
     let none = no_number highest8 _ _ (sym c.number_at-2.ensures ∙ c.in_err-pass_limit.was) in
-    rw c.from_residual-in_err-pass_limit.ensures (sym (ap held_as (open_one _ _ (devices p.In_ok-devices) none)))
+    rw c.from_residual-in_err-pass_limit.ensures (sym (ap read_as (open_one _ _ (devices p.In_ok-devices) none)))
 
 pub overflow_add-limit_end : goal.overflow_add-limit_end
 overflow_add-limit_end c = let k = limit (goal.at.overflow_add-limit_end c).In_ok-pass_limit in search rules
@@ -46,12 +47,12 @@ pub returns-in_err-first : goal.returns-in_err-first
 returns-in_err-first c =
     let p = goal.at.returns-in_err-first c in
     let none = no_number highest32 _ _ (sym c.number_at-3.ensures ∙ c.in_err-first.was) in
-    rw c.from_residual-in_err-first.ensures (sym (ap held_as (open_two _ _ (devices p.In_ok-devices) (limit p.In_ok-pass_limit) none)))
+    rw c.from_residual-in_err-first.ensures (sym (ap read_as (open_two _ _ (devices p.In_ok-devices) (limit p.In_ok-pass_limit) none)))
 
 pub returns-then-end-line : goal.returns-then-end-line
 returns-then-end-line c =
     let p = goal.at.returns-then-end-line c in
-    sym (ap held_as (open_more _ _ (devices p.In_ok-devices) (limit p.In_ok-pass_limit) (first p.In_ok-first) c.if-end-line.true))
+    sym (ap read_as (open_more _ _ (devices p.In_ok-devices) (limit p.In_ok-pass_limit) (first p.In_ok-first) c.if-end-line.true))
 
 pub overflow_cast-result : goal.overflow_cast-result
 overflow_cast-result c = omega (arith, number_bound highest8 _ _ _ _ (sym c.number_at.ensures ∙ c.in_ok-devices.was))
@@ -65,4 +66,4 @@ overflow_cast-result-3 c = omega (arith, number_bound highest32 _ _ _ _ (sym c.n
 pub returns : goal.returns
 returns c =
     let p = goal.at.returns c in
-    sym (ap held_as (open_all _ _ (devices p.In_ok-devices) (limit p.In_ok-pass_limit) (first p.In_ok-first) c.if-end-line.false))
+    sym (ap read_as (open_all _ _ (devices p.In_ok-devices) (limit p.In_ok-pass_limit) (first p.In_ok-first) c.if-end-line.false))

@@ -10,10 +10,10 @@ use Rattle.line_read.proofs.calls.submit_line.Goals as goal
 
 pub loop-at-preserved : goal.loop-at-preserved
 loop-at-preserved c =
-    let rest = commands (words_from c.args.line.now (c.in-Some.end + 1)) in
+    let rest = commands (words_from c.args.line.now (c.in_ok-command.end + 1)) in
     ap (λ (r : Routine). submit_from r rest) c.with_command-routine.ensures
-    ∙ sym (submit-more c.loop-at.routine c.in-Some.command rest)
-    ∙ sym (ap (submit_from c.loop-at.routine) c.in-Some.ensures.2)
+    ∙ sym (submit-more c.loop-at.routine c.in_ok-command.command rest)
+    ∙ sym (ap (submit_from c.loop-at.routine) c.in_ok-command.ensures.2)
     ∙ c.loop-at.invariant
 
 pub returns : goal.returns
