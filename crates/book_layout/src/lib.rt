@@ -43,7 +43,7 @@ pub fn setting_of(lower: u8, upper: u8) -> i16
     }
 }
 
-// The way back, the number of a setting's two bytes, its 16 bits. The setting
+// The way back, by cases too: the number of a setting's two bytes, its 16 bits. The setting
 // 0 or above: itself;
 // below 0: that and 65,536.
 pub fn bits_of(setting: i16) -> u16

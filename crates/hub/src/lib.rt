@@ -41,8 +41,8 @@ pub struct Hub {
     state: HubState,
 }
 
-// What an opening gives: whether it is accepted, and then the hub. An enum holds no array, so that a hub stands beside
-// a refusal too: the one of no devices.
+// What an opening gives: whether it is accepted, and a hub. One stands beside a refusal too, that of no devices, and no `Result` holds it:
+// `Opens` says which, and the theorems about chains of calls speak of it.
 #[derive(Clone, Copy)]
 pub struct Opened {
     pub verdict: Result<(), Refusal>,

@@ -51,7 +51,7 @@ pub struct PutBack {
     pub setting: i16,
 }
 
-// The first `count` of the items, by rising device.
+// The first `count` of the items, by rising device. (No heap: an array, and how much of it counts.)
 #[derive(Clone, Copy)]
 pub struct PutBacks {
     pub items: [PutBack; MAX_DEVICES],

@@ -33,7 +33,8 @@ pub const NOT_HELD: u8 = 5;
 // the stack that include/plot_hub.h promises.
 pub const NO_RESTART: i16 = 32767;
 
-// The hub: a row has an entry for each slot of the sequence, for each command of a slot, for each slot and device, or for each device.
+// The hub: a row has an entry for each slot of the sequence, for each command of a slot, for each slot and device, or for each device. Rows
+// side by side and no row of structs: a call takes out of the state the rows that it reads, and no more is copied.
 #[derive(Clone, Copy)]
 pub struct HubState {
     // N.

@@ -166,9 +166,9 @@ pub ran_all : {h : Hub} {input buffer out : List ℕ} {room : ℕ} {s : Lines} {
     length input ≤ from → RunsLines h input room buffer out s
 unfolding steps
 ran_all {h} {input} {buffer} {out} {room} {s} {from} r end =
-    let None = lines_none input from end in
+    let ended = lines_none input from end in
     let whole : steps (hub_in h) (lines_of input) ≡ record { hub = hub_in s.hub; text = r.text } =
-    r.left ∙ ap (λ (l : List (List ℕ)). before r.text (steps (hub_in s.hub) l)) None
+    r.left ∙ ap (λ (l : List (List ℕ)). before r.text (steps (hub_in s.hub) l)) ended
     ∙ ap (λ (t : List ℕ). record { hub = hub_in s.hub; text = t }) (append-nil r.text) in
     let long : s.at ≡ length (steps (hub_in h) (lines_of input)).text =
     r.put.ends ∙ zero-add (length r.text) ∙ sym (ap (λ (p : Printed). length p.text) whole) in
@@ -181,7 +181,7 @@ ran_all {h} {input} {buffer} {out} {room} {s} {from} r end =
       );
       past = λ k. omega (arith, long);
       unopened = r.unopened;
-      ample = λ _. let k = ap length None in omega (arith, long, r.short, r.counted);
+      ample = λ _. let k = ap length ended in omega (arith, long, r.short, r.counted);
     }
 
 -- ---- how many lines there are

@@ -1,5 +1,5 @@
 -- A hub read as the hub of the last accepted `O`, and a line's call as one of the rules. Assumes nothing.
-use Rattle.std.specs.Prelude.{◌≡◌, List, [], ℕ, eqb, if◌then◌else◌, Option, None, Some}
+use Rattle.std.specs.Prelude.{List, [], ℕ, eqb, if◌then◌else◌, Option, None, Some}
 use Rattle.rules_routine.specs.Routine.{commands_of}
 use Rattle.rules_routine.specs.declared.Command.{Command}
 use Rattle.rules.specs.State.{State}

@@ -21,6 +21,7 @@ pub const INPUT_ROOM: usize = MAX_LINE + 1 + MAX_PART;
 
 pub const OUT_ROOM: usize = MAX_TEXT * (INPUT_ROOM + 2);
 
+// (Not one function with a const parameter: each contract names the length by the definition of its own.)
 pub fn input_buffer() -> [u8; INPUT_ROOM]
     ensures { input_room ≡ length result }
 {

@@ -126,7 +126,8 @@ pub fn put_text(out: &mut [u8], at: usize, text: &[u8]) -> usize
     at + text.len()
 }
 
-// What the device lines tell: how many devices there are, and of each whether it is up and its due setting.
+// What the device lines tell: how many devices there are, and of each whether it is up and its due setting, as the hub's readings give
+// them.
 #[derive(Clone, Copy)]
 pub struct Devices {
     pub count: u8,

@@ -32,7 +32,8 @@ pub fn put_word(out: &mut [u8], at: usize, word: &[u8]) -> usize
     at + word.len()
 }
 
-// How many decimal digits a number has. A power of ten that is at most a tenth of it can be taken ten times: it does not overflow.
+// How many decimal digits a number has, power by power. A power of ten that is at most a tenth of it can be taken ten times: it does not
+// overflow.
 fn digits_of(n: u64) -> usize
     ensures { result ≡ length (decimal n) }
 {

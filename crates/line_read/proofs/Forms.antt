@@ -11,23 +11,22 @@ use lib.Dec.{eqb}
 use lib.IntN.{ℤ}
 use lib.ListN.{length, get_or}
 use Rattle.std.specs.Prelude.{if◌then◌else◌}
-use Rattle.rules_routine.specs.Routine.{no_routine, with_command}
+use Rattle.rules_routine.specs.Routine.{with_command}
 use Rattle.rules_routine.specs.declared.Command.{Command}
 use Rattle.rules_routine.specs.declared.Routine.{Routine}
 use Rattle.line_rules.specs.Reading.{LineCall, turns, reports, fails, restarts, cancels}
 use Rattle.rules.specs.Report.{code_done, code_failed}
-use Rattle.rules.proofs.Lists.{by_if}
 use Rattle.line_rules.specs.Text.{space, same}
 use Rattle.line_rules.specs.Pieces.{words_of}
 use Rattle.rules_routine.specs.Limits.{max_line}
 use Rattle.line_rules.specs.Reading.{Line as Said, opening, calling, unread, highest8, highest32, number_up_to, setting}
-use Rattle.line_rules.specs.Reading.{opening_with, opening_line, command_before, commands, submit_line, call_with, one_number}
-use Rattle.line_rules.specs.Reading.{restart_with, restart_line, line_with, line_by, read_line}
+use Rattle.line_rules.specs.Reading.{opening_line, command_before, commands, submit_line, call_with, one_number}
+use Rattle.line_rules.specs.Reading.{restart_line, line_with, line_by, read_line}
 use Rattle.line_read.specs.Places.{behind_letter, word_at, word_end, words_from, command_behind}
 use Rattle.line_read.specs.declared.Call.TheVariants.{Submit}
 use Rattle.line_read.specs.declared.Line.{Line}
 use Rattle.line_read.specs.declared.Line.TheVariants.{Calling, Unread}
-use Rattle.line_read.specs.View.{together, letter_of, read_as, id_call_with, id_line}
+use Rattle.line_read.specs.View.{together, letter_of, id_call_with, id_line}
 use Rattle.line_read.proofs.WordLaws.{word_past, word_none, word_more, words_none, words_first, words_all, WordSays, NotFirst}
 
 -- ---- words behind one that was read

@@ -504,14 +504,14 @@ module _ (k x p : ℕ) (b : ℕ → ℤ) (f : ℕ → ℕ) (mark-0 : f 0 ≡ 0) 
   goes_first i n y z w =
       let l = row p i n in
       let s = hub k x l b f in
-      let None = none-blocks l i n y in
+      let free = none-blocks l i n y in
       let check : submit_check s asking ≡ (Ok tt) =
       ap (λ c. refuse SequenceFull when leb max_sequence c and_then refuse IdsUsedUp when ltb highest_id x) (row_length p i n)
       ∙ ap (λ (t : Bool). refuse SequenceFull when t and_then refuse IdsUsedUp when ltb highest_id x) (lt-leb max_sequence n z)
       ∙ ap (λ (t : Bool). refuse IdsUsedUp when t) (le-ltb highest_id x w) in
       let at : place s asking ≡ hub k (suc x) (waiter 0 x ∷ row (suc p) i n) b f =
-      ap (λ a. hub k (suc x) (a ++ (waiter 0 x ∷ map pass (past_last (blocks s asking) l))) b f) (free-up_to (blocks s asking) l None)
-      ∙ ap (λ a. hub k (suc x) (waiter 0 x ∷ map pass a) b f) (free-past (blocks s asking) l None)
+      ap (λ a. hub k (suc x) (a ++ (waiter 0 x ∷ map pass (past_last (blocks s asking) l))) b f) (free-up_to (blocks s asking) l free)
+      ∙ ap (λ a. hub k (suc x) (waiter 0 x ∷ map pass a) b f) (free-past (blocks s asking) l free)
       ∙ ap (λ a. hub k (suc x) (waiter 0 x ∷ a) b f) (row_passed p i n) in
       ap (λ (v : Verdict). (unless_refused v s
       (settling (record { state = place s asking; answers = placed x (last_id_or 0 (up_to_last (blocks s asking) l)) ∷ [] }))).state) check

@@ -26,7 +26,7 @@ pub struct Command {
     pub setting: i16,
 }
 
-// The first `count` of the commands; a count above MAX_COMMANDS is a routine that is turned down.
+// The first `count` of the commands; a count above MAX_COMMANDS, which no slice of them could have, is a routine that is turned down.
 #[derive(Clone, Copy)]
 pub struct Routine {
     pub commands: [Command; MAX_COMMANDS],

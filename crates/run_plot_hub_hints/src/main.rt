@@ -16,7 +16,8 @@ const OUT_ROOM: usize = 4 * MAX_TEXT;
 // The first byte of `refused`, and of no other answer.
 const REFUSED: u8 = 114;
 
-// The hub after the lines so far, how many there were, and how many of them were unread and refused; and whether all could be written.
+// The hub after the lines so far, how many there were, and how many of them were unread and refused; and whether all could be written:
+// they go on being counted where it could not.
 #[derive(Clone, Copy)]
 struct Tally {
     hub: Hub,

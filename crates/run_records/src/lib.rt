@@ -50,7 +50,7 @@ pub fn room() -> [u8; 2097152]
     [0; 2097152]
 }
 
-// Reads until the buffer is full, the input ends or a read fails; how much was read.
+// Reads until the buffer is full, the input ends or a read fails; how much was read, which is no index.
 fn read_full<R: Read>(reader: &mut R, buffer: &mut [u8]) -> usize
     ensures { result ≤ length buffer.new }
 {

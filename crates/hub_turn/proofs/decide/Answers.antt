@@ -19,9 +19,13 @@ opened c = subst (UnansweredIs _ _) c.in-ToDo.is c.unanswered_at-open.ensures
 
 pub next_turn-requires : goal.next_turn-requires
 next_turn-requires c = let f = c.running.ensures in
-    let e = c.in-Some.is in
-    (c.requires, stands_at _ _ _ f _ e, opened (goal.at.next_turn-requires c).In-ToDo, found-id _ _ _ f _ e,
-     record { device_is = refl; tag_is = refl; stage_is = refl })
+    let e = c.in-Some.is in (
+      c.requires,
+      stands_at _ _ _ f _ e,
+      opened (goal.at.next_turn-requires c).In-ToDo,
+      found-id _ _ _ f _ e,
+      record { device_is = refl; tag_is = refl; stage_is = refl },
+    )
 
 pub returns-in-Nothing : goal.returns-in-Nothing
 returns-in-Nothing c = turn_commits c.args.state c.args.id _ c.running.ensures _ _ c.in-Some.is

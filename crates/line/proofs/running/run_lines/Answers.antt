@@ -9,7 +9,6 @@ use mir.Val.{to_z, of_z}
 use lib.IntN.{ℤ}
 use lib.ListN.{length, take, drop}
 use Rattle.rules_routine.specs.declared.Command.{Command}
-use Rattle.rules_routine.specs.declared.Routine.{Routine}
 use Rattle.rules.specs.Calls.{result_of}
 use Rattle.hub_state.specs.Contract.{Decides}
 use Rattle.hub_state.specs.declared.Change.{Change}
@@ -210,9 +209,11 @@ with_failure-now-requires c = let x = heard (goal.at.with_failure-now-requires c
     (x.valid, (_, change_is (came (goal.at.with_failure-now-requires c).After-decided-decision x) (Fail _ _) c.in-Fail.is))
 
 pub with_routine-now-requires : goal.with_routine-now-requires
-with_routine-now-requires c = let x = heard (goal.at.with_routine-now-requires c).After-next_line-next in
-    (x.valid, subst (λ (cs : List Command). Decided c.loop-from.now cs (Join c.in-Join.after)) (sym c.routine_in-routine.ensures)
-    (change_is (came (goal.at.with_routine-now-requires c).After-decided-decision x) (Join _) c.in-Join.is))
+with_routine-now-requires c = let x = heard (goal.at.with_routine-now-requires c).After-next_line-next in (
+  x.valid,
+  subst (λ (cs : List Command). Decided c.loop-from.now cs (Join c.in-Join.after)) (sym c.routine_in-routine.ensures)
+      (change_is (came (goal.at.with_routine-now-requires c).After-decided-decision x) (Join _) c.in-Join.is),
+)
 
 pub with_restart-now-requires : goal.with_restart-now-requires
 with_restart-now-requires c = let x = heard (goal.at.with_restart-now-requires c).After-next_line-next in
