@@ -1,13 +1,9 @@
 -- Laws for the proofs of a new pass limit. Assumes nothing.
 use Rattle.std.proofs.Common.{Ok, Err}
 use Rattle.rules_routine.specs.Refusals.{Verdict}
-use Rattle.rules_routine.specs.declared.refusals.Refusal.TheVariants.{DevicesOutOfRange, PassLimitOutOfRange}
 use mathlib.Core.Path.{◌≡◌, refl, sym, ap, ◌∙◌}
 use mathlib.Core.List.{[], ◌∷◌}
-use Prim.Native.Nat.{ℕ, ◌<◌, ◌≤◌}
-use native.Mathlib.Omega.{arith}
-use borrow.Author.Tests.{lt-ltb, le-ltb, eq-eqb, ne_eqb}
-use Rattle.rules_routine.specs.Limits.{max_devices, highest_pass_limit}
+use Prim.Native.Nat.{ℕ}
 use Rattle.rules_routine.specs.declared.refusals.Refusal.{Refusal}
 use Rattle.rules.specs.State.{State}
 use Rattle.rules.specs.Answers.{limited}
@@ -20,20 +16,6 @@ use Rattle.hub_state.specs.Unmoved.{Unmoved}
 use Rattle.hub_state.specs.declared.HubState.{HubState}
 use Rattle.hub_state.proofs.UnmovedLaws.{in_place, itself_in_place}
 use Rattle.hub_limit.specs.Contract.{Limits}
-
--- one law for each way out of the check
-module _ (n k : ℕ) where
-  pub no_devices : n ≡ 0 → new_limit_check n k ≡ Err DevicesOutOfRange
-  no_devices h = simp (eq-eqb n 0 h)
-
-  pub many_devices : max_devices < n → new_limit_check n k ≡ Err DevicesOutOfRange
-  many_devices h = simp (ne_eqb n 0 (λ e. omega arith), lt-ltb max_devices n h)
-
-  pub limit_out : 0 < n → n ≤ max_devices → highest_pass_limit < k → new_limit_check n k ≡ Err PassLimitOutOfRange
-  limit_out h m l = simp (ne_eqb n 0 (λ e. omega arith), le-ltb max_devices n m, lt-ltb highest_pass_limit k l)
-
-  pub limit_fine : 0 < n → n ≤ max_devices → k ≤ highest_pass_limit → new_limit_check n k ≡ Ok tt
-  limit_fine h m l = simp (ne_eqb n 0 (λ e. omega arith), le-ltb max_devices n m, le-ltb highest_pass_limit k l)
 
 -- the rows with another pass limit
 abbrev with_limit : HubState → ℕ → HubState

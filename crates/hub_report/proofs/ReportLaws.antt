@@ -7,14 +7,13 @@ use mathlib.Core.Path.{◌≡◌, refl, sym, ap, ◌∙◌, subst}
 use mathlib.Core.Logic.{◌≢◌}
 use mathlib.Core.Bool.{Bool, true, false, ◌&&◌}
 use mathlib.Core.List.{List, [], ◌∷◌, ◌++◌}
-use Prim.Native.Nat.{ℕ, ◌*◌, ◌<◌, ◌≤◌}
+use Prim.Native.Nat.{ℕ, ◌<◌, ◌≤◌}
 use native.Mathlib.Omega.{arith}
 use borrow.Author.Tests.{lt-ltb, le-ltb, eq-eqb, ne_eqb}
 use lib.Dec.{eqb}
 use lib.IntN.{ℤ, pos}
 use lib.ListN.{length, get_or}
 use Rattle.std.specs.Prelude.{if◌then◌else◌}
-use Rattle.rules_routine.specs.Limits.{max_commands, max_sequence}
 use Rattle.rules_routine.specs.Routine.{must_tag}
 use Rattle.rules_routine.proofs.RoutineLaws.{by_test, any_default}
 use Rattle.rules.specs.State.{Status, to-do, in_flight, was_done, was_skipped, was_held, was_not_held, Step, Member, State}
@@ -43,7 +42,7 @@ use Rattle.hub_state.specs.declared.Change.{Change}
 use Rattle.hub_state.specs.declared.Change.TheVariants.{Nothing as NoChange, Abort}
 use Rattle.hub_state.specs.declared.Decision.{Decision}
 use Rattle.hub_state.proofs.Rows.{status-done, status-skipped}
-use Rattle.hub_state.proofs.Members.{there-it, there_whole, member_steps, place-within}
+use Rattle.hub_state.proofs.Members.{there-it, there_whole, member_steps}
 use Rattle.hub_state.proofs.DecisionLaws.{refused-decides, stage_decides, skip_decides, abort-decides}
 use Rattle.hub_search.specs.Contract.{Finds}
 use Rattle.hub_report.specs.Contract.{answered_by, flight_at}
@@ -115,9 +114,6 @@ pub due-read : (table : List ℤ) (d : ℕ) (z : ℤ) (t : ℕ → ℤ) → sett
 due-read table d z t e i = any_default table d z (pos 0) i ∙ (λ j. e j d)
 
 module _ (h : HubState) (x k : ℕ) (s : Stands h.links x) (o : NextInFlight h x k) where
-  pub in_rows : StateOk h → k < max_sequence * max_commands
-  in_rows v = subst (λ (i : ℕ). i < max_sequence * max_commands) (sym o.place) (place-within h x v s (answered_at h x) o.not_all)
-
   module _ (i : ℕ) (r : i ≡ (member_at h x).id) where
     id-there : i ≡ (there h x).it.id
     id-there = r ∙ ap (λ (m : Member). m.id) (sym (there-it h x))

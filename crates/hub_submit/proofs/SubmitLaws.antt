@@ -146,27 +146,16 @@ last-slot : (h : HubState) (x : ℕ) (l : List ℕ) → last_or none l ≡ x →
 last-slot h x [] e n = absurd (n (sym e))
 last-slot h x (y ∷ l) e n = ap (λ (z : ℕ). get_or h.ids z 0) (sym e) ∙ last_id h y l
 
-through_none : (l : List ℕ) → ahead_of_place none none l ≡ []
-through_none [] = refl
-through_none (y ∷ l) = refl
+module _ (h : HubState) (x : ℕ) (n : x ≡ none → ⊥) (p : StandsOrNone h.links x) where
+  -- a routine, in its slot
+  stands : Stands h.links x
+  stands = let o = same_other x none n in omega (arith, p, o)
 
-module _ (h : HubState) (x : ℕ) where
-  -- it follows the settled part
-  pub id-none : x ≡ none → 0 ≡ last_id_or 0 (map (member_at h) (ahead_of_place x none (slots_of h.links)))
-  id-none e =
-      sym (ap (λ (l : List ℕ). last_id_or 0 (map (member_at h) l))
-      (ap (λ (z : ℕ). ahead_of_place z none (slots_of h.links)) e ∙ through_none (slots_of h.links)))
+  pub slot_below : StateOk h → x < max_sequence
+  slot_below v = stands_below h x v stands
 
-  module _ (n : x ≡ none → ⊥) (p : StandsOrNone h.links x) where
-    -- a routine, in its slot
-    stands : Stands h.links x
-    stands = let o = same_other x none n in omega (arith, p, o)
-
-    pub slot_below : StateOk h → x < max_sequence
-    slot_below v = stands_below h x v stands
-
-    pub id-slot : get_or h.ids x 0 ≡ last_id_or 0 (map (member_at h) (ahead_of_place x none (slots_of h.links)))
-    id-slot = last-slot h x (ahead_of_place x none (slots_of h.links)) (through_last x (slots_of h.links) p) n
+  pub id-slot : get_or h.ids x 0 ≡ last_id_or 0 (map (member_at h) (ahead_of_place x none (slots_of h.links)))
+  id-slot = last-slot h x (ahead_of_place x none (slots_of h.links)) (through_last x (slots_of h.links) p) n
 
 -- ---- the submit
 

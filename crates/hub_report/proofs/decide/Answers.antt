@@ -1,5 +1,5 @@
 -- `hub_report::decide` meets its contract. Assumes nothing.
-use mathlib.Core.Path.{refl, subst}
+use mathlib.Core.Path.{subst}
 use Rattle.hub_state.specs.Unanswered.{NextInFlight, UnansweredIs}
 use Rattle.hub_search.proofs.Found.{stands_at, found-id}
 use Rattle.hub_report.proofs.ReportLaws.{done-decides, idle, report_nowhere, report-idle, report_code, report-done, report_failed}
@@ -9,9 +9,6 @@ use Rattle.hub_report.proofs.decide.Goals as goal
 pub returns-in_default : goal.returns-in_default
 returns-in_default c = report_nowhere c.args.state c.args.id c.args.code _ c.running.ensures _
     c.in_default.is c.refused.ensures
-
-pub unanswered_at-open-requires : goal.unanswered_at-open-requires
-unanswered_at-open-requires c = (c.requires, stands_at _ _ _ c.running.ensures _ c.in-Some.is, refl)
 
 pub returns-in_default-open : goal.returns-in_default-open
 returns-in_default-open c = report-idle c.args.state c.args.id c.args.code _ c.running.ensures _ _ c.in-Some.is

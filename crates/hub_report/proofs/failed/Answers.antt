@@ -1,11 +1,8 @@
 -- `hub_report::failed` meets its contract. Assumes nothing.
 use mathlib.Core.Path.{sym, ◌∙◌, subst}
 use Rattle.hub_state.specs.Contract.{Decides}
-use Rattle.hub_report.proofs.ReportLaws.{tag_read, in_rows, must-decides, failed_must, failed_other}
+use Rattle.hub_report.proofs.ReportLaws.{tag_read, must-decides, failed_must, failed_other}
 use Rattle.hub_report.proofs.failed.Goals as goal
-
-pub bounds-tags-k : goal.bounds-tags-k
-bounds-tags-k c = let p = c.requires in in_rows _ _ _ p.1 p.2 p.0
 
 pub returns-then-tags-k-eq-MUST : goal.returns-then-tags-k-eq-MUST
 returns-then-tags-k-eq-MUST c = let h = c.args.state in
@@ -13,9 +10,6 @@ returns-then-tags-k-eq-MUST c = let h = c.args.state in
     let p = c.requires in
     subst (Decides _ _ _) (failed_must _ _ _ (sym (tag_read h k) ∙ c.if-tags-k-eq-MUST.true))
     (must-decides h c.args.at k p.1 p.2 c.args.id p.3 _ c.plain.ensures)
-
-pub skip-requires : goal.skip-requires
-skip-requires c = c.requires
 
 pub returns : goal.returns
 returns c = subst (Decides _ _ _) (failed_other _ _ _ (λ e. c.if-tags-k-eq-MUST.false (tag_read c.args.state c.args.k ∙ e))) c.skip.ensures

@@ -7,32 +7,16 @@ use mir.Val.{to_z, of_z}
 use mir.Syntax.{w16}
 use lib.IntN.{pos}
 use lib.ListN.{length, get_or}
-use Rattle.rules_routine.specs.Limits.{max_devices, max_sequence}
+use Rattle.rules_routine.specs.Limits.{max_devices}
 use Rattle.rules_routine.proofs.RoutineLaws.{length_mapped}
 use Rattle.rules.specs.Report.{back_if_changed}
-use Rattle.hub_state.proofs.Members.{stands_below}
-use Rattle.hub_report.proofs.ReportLaws.{device-read, due-read, in_rows, skips}
+use Rattle.hub_report.proofs.ReportLaws.{device-read, due-read, skips}
 use Rattle.hub_report.proofs.skip.Goals.{Start}
 use Rattle.hub_report.proofs.skip.Goals as goal
 
--- the slot, and the device of the command in flight
-below : (c : Start) → c.args.at < max_sequence
-below c = stands_below _ _ c.requires.0 c.requires.1
-
+-- the device of the command in flight
 fits : (c : Start) → get_or c.args.state.device c.args.k 0 < max_devices
 fits c = subst (λ (d : _). d < max_devices) (sym (device-read c.args.state c.args.k)) c.requires.2.device_fits
-
-pub bounds-device-k : goal.bounds-device-k
-bounds-device-k c = let p = c.requires in in_rows _ _ _ p.1 p.2 p.0
-
-pub offset_bounds-dues-at : goal.offset_bounds-dues-at
-offset_bounds-dues-at c = let i = below (goal.at.offset_bounds-dues-at c).Start in omega arith
-
-pub bounds-dues-at : goal.bounds-dues-at
-bounds-dues-at c = below (goal.at.bounds-dues-at c).Start
-
-pub offset_bounds-table-d : goal.offset_bounds-table-d
-offset_bounds-table-d c = let i = fits (goal.at.offset_bounds-table-d c).Start in omega arith
 
 pub bounds-table-d : goal.bounds-table-d
 bounds-table-d c = fits (goal.at.bounds-table-d c).Start

@@ -3,8 +3,5 @@ use mathlib.Core.Path.{sym, ◌∙◌}
 use Rattle.hub_submit.proofs.SubmitLaws.{submit-turned-down}
 use Rattle.hub_submit.proofs.decide.Goals as goal
 
-pub place-requires : goal.place-requires
-place-requires c = (c.requires, sym c.check.ensures ∙ c.in-Ok.is)
-
 pub returns-in-Err : goal.returns-in-Err
 returns-in-Err c = submit-turned-down c.args.state _ _ _ (sym c.check.ensures ∙ c.in-Err.is) c.refused.ensures

@@ -1,9 +1,6 @@
 -- `hub_submit::id_in` meets its contract. Assumes nothing.
-use Rattle.hub_submit.proofs.SubmitLaws.{id-none, slot_below, id-slot}
+use Rattle.hub_submit.proofs.SubmitLaws.{slot_below, id-slot}
 use Rattle.hub_submit.proofs.id_in.Goals as goal
-
-pub returns-then-slot-eq-NONE : goal.returns-then-slot-eq-NONE
-returns-then-slot-eq-NONE c = id-none c.args.state c.args.slot c.if-slot-eq-NONE.true
 
 pub bounds-ids-i : goal.bounds-ids-i
 bounds-ids-i c = slot_below c.args.state c.args.slot c.if-slot-eq-NONE.false c.requires.1 c.requires.0

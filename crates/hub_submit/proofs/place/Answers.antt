@@ -18,9 +18,6 @@ latest-latest-requires c = let f = fine_routine c.args.state (commands_of c.args
     let n = length-commands_of c.args.routine in
     (c.requires.0, omega (arith, f.0, n), f.1)
 
-pub id_in-after-requires : goal.id_in-after-requires
-id_in-after-requires c = (c.requires.0, c.latest-latest.ensures.place)
-
 pub overflow_cast-answer : goal.overflow_cast-answer
 overflow_cast-answer c = let f = fine_id c.args.state (commands_of c.args.routine) c.requires.1 c.requires.0 in
     search rules
