@@ -274,7 +274,12 @@ class Page:
                     texts[definition.place] = definition, self.value(definition)
         order = re.findall(r"^(\w+)[^:#\n]*:", self.book.text("crates.txt"), re.M)
         parts, last = [], None
-        for definition, text in sorted(texts.values(), key=lambda v: (order.index(v[0].scope[0]), v[0].scope[1] != "lib", v[0].item.line)):
+
+        def place(value):
+            (crate, module), line = value[0].scope, value[0].item.line
+            return order.index(crate), module != "lib", module, line
+
+        for definition, text in sorted(texts.values(), key=place):
             crate, module = definition.scope
             if (crate, module) != last:
                 last = crate, module
