@@ -1,7 +1,7 @@
 // Records of test vectors: two bytes of length, low first, and then so many bytes; within a record, parts of the same form.
 #![tactic(auto)]
 
-ghost use Rattle.std.specs.Prelude.{◌≡◌, ◌≤◌, ◌<◌, length};
+ghost use Rattle.std.specs.Prelude.{◌≡◌, ◌≤◌, ◌<◌, ◌+◌, length};
 
 use std::io;
 use std::io::Read;
@@ -22,7 +22,8 @@ pub fn number_at(bytes: &[u8], at: usize) -> usize
 
 // The part behind the length that stands first, cut off where the slice ends; and what is behind the part.
 pub fn part(bytes: &[u8]) -> (&[u8], &[u8])
-    ensures { 0 < length bytes.now → length result.1.now < length bytes.now }
+    ensures inside { length result.0.now + length result.1.now ≤ length bytes.now }
+    ensures further { 0 < length bytes.now → length result.1.now < length bytes.now }
 {
     let Some((size, behind)) = bytes.split_at_checked(2) else {
         return (&[], &[]);
