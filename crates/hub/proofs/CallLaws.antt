@@ -62,8 +62,8 @@ rests_as h v e f = record { in_order = v; at_rest = ap (λ (t : State). first_co
 
 -- ---- what was decided can be applied
 
-pub decided_ok : {h : Hub} {cs : List Command} {c : Change} → Decided h cs c → ChangeOk h.state cs c
-decided_ok {h} {cs} k = subst (ChangeOk h.state cs) k.change_is k.made.decides.change_ok
+pub decided_ok : {h : Hub} {cs : List Command} {c : Change} → Decided h cs c → ChangeOk h.state.rows cs c
+decided_ok {h} {cs} k = subst (ChangeOk h.state.rows cs) k.change_is k.made.decides.change_ok
 
 -- ---- a decision with another word for its result
 
@@ -95,62 +95,63 @@ abbrev pub Wraps : Hub → Decision → PutBacks → Outcome → Type 0
 Wraps r d backs o = (o.hub ≡ r) × (o.first ≡ d.first) × (o.answer ≡ d.answer) × (o.put_backs ≡ backs)
 
 module _ (h : Hub) (cs : List Command) (d : Decision) (backs : PutBacks) (n : Hub) (v : Valid h)
-    (k : Decides h.state cs d (result_by h.state cs d))
-    (are : put_backs_of backs ≡ put_backs_of_decision h.state d)
+    (k : Decides h.state.rows cs d (result_by h.state.rows cs d))
+    (are : put_backs_of backs ≡ put_backs_of_decision h.state.rows d)
     (c : Carries h cs d.change n) where
-  told : (r : Hub) (o : Outcome) → Wraps r d backs o → answers_in o ≡ told_by h.state d
+  told : (r : Hub) (o : Outcome) → Wraps r d backs o → answers_in o ≡ told_by h.state.rows d
   told r o w = λ i.
       let b = (ap put_backs_of w.3 ∙ are) i in
       event_abort_of (w.1 i) b ++ (answer_of (w.2 i) b ∷ [])
 
   -- what is given, where this is the hub in the end
   wraps_gives : (r : Hub) (o : Outcome) → Wraps r d backs o → Valid r →
-      record { state = view r; answers = told_by h.state d } ≡ result_by h.state cs d → Unmoved h.state r.state →
-      (changes_nothing d.answer ≡ true → r ≡ h) → Gives h o (result_by h.state cs d)
+      record { state = view r; answers = told_by h.state.rows d } ≡ result_by h.state.rows cs d → Unmoved h.state.rows r.state.rows →
+      (changes_nothing d.answer ≡ true → r ≡ h) → Gives h o (result_by h.state.rows cs d)
   wraps_gives r o w z e u s = record {
     valid = subst Valid (sym w.0) z;
     gives = (λ i. record { state = view (w.0 i); answers = told r o w i }) ∙ e;
     put_backs_fit = o.put_backs.within;
     put_backs_told = ap put_backs_of w.3 ∙ are ∙ k.put_backs_told ∙ sym (ap put_backs_in (told r o w));
-    unmoved = subst (λ (x : Hub). Unmoved h.state x.state) (sym w.0) u;
+    unmoved = subst (λ (x : Hub). Unmoved h.state.rows x.state.rows) (sym w.0) u;
     same_hub = λ t. w.0 ∙ s (sym (ap changes_nothing w.2) ∙ t);
   }
 
   -- the result where something changes
   settled_result : changes_nothing d.answer ≡ false →
-      result_by h.state cs d ≡ record { state = settle (view n); answers = told_by h.state d }
+      result_by h.state.rows cs d ≡ record { state = settle (view n); answers = told_by h.state.rows d }
   settled_result f =
-      settles-change d.change (record { state = applied_to h.state cs d.change; answers = told_by h.state d })
+      settles-change d.change (record { state = applied_to h.state.rows cs d.change; answers = told_by h.state.rows d })
       (k.something_told f)
-      ∙ ap (λ (s : State). record { state = settle s; answers = told_by h.state d }) (sym c.gives)
+      ∙ ap (λ (s : State). record { state = settle s; answers = told_by h.state.rows d }) (sym c.gives)
 
   -- the first is committed
   pub settled-gives : (r : Hub) (o : Outcome) → Wraps r d backs o → changes_nothing d.answer ≡ false → Valid r →
-      view r ≡ settle (view n) → OnlySettle n.state r.state → Gives h o (result_by h.state cs d)
+      view r ≡ settle (view n) → OnlySettle n.state.rows r.state.rows → Gives h o (result_by h.state.rows cs d)
   settled-gives r o w f z g q =
       wraps_gives r o w z
-      (ap (λ (s : State). record { state = s; answers = told_by h.state d }) g ∙ sym (settled_result f))
-      (settle_then h.state n.state r.state c.moves_nobody.unmoved c.moves_nobody.joined_run q.only_leave
+      (ap (λ (s : State). record { state = s; answers = told_by h.state.rows d }) g ∙ sym (settled_result f))
+      (settle_then h.state.rows n.state.rows r.state.rows c.moves_nobody.unmoved c.moves_nobody.joined_run q.only_leave
       q.left_committed)
       (λ t. t≠f (sym t ∙ f))
 
   -- it is not
   pub idle-gives : (o : Outcome) → Wraps n d backs o → changes_nothing d.answer ≡ false → first_committed (view n).sequence ≡ false →
-      Gives h o (result_by h.state cs d)
+      Gives h o (result_by h.state.rows cs d)
   idle-gives o w f e =
       wraps_gives n o w (record { in_order = c.in_order; at_rest = e })
-      (ap (λ (s : State). record { state = s; answers = told_by h.state d }) (sym (settle-idle (view n) e)) ∙ sym (settled_result f))
+      (ap (λ (s : State). record { state = s; answers = told_by h.state.rows d }) (sym (settle-idle (view n) e)) ∙ sym (settled_result f))
       c.moves_nobody.unmoved
       (λ t. t≠f (sym t ∙ f))
 
   -- a refusal or a wait
-  pub same_gives : (o : Outcome) → Wraps n d backs o → changes_nothing d.answer ≡ true → Gives h o (result_by h.state cs d)
+  pub same_gives : (o : Outcome) → Wraps n d backs o → changes_nothing d.answer ≡ true → Gives h o (result_by h.state.rows cs d)
   same_gives o w t =
       let nothing = k.nothing_told t in
       let same = c.same_hub nothing in
       wraps_gives n o w (subst Valid (sym same) v)
-      (ap (λ (s : State). record { state = s; answers = told_by h.state d }) (ap view same)
-      ∙ sym (ap (λ (x : Change). settled_unless_nothing x (record { state = applied_to h.state cs x; answers = told_by h.state d }))
+      (ap (λ (s : State). record { state = s; answers = told_by h.state.rows d }) (ap view same)
+      ∙ sym (ap (λ (x : Change). settled_unless_nothing x
+      (record { state = applied_to h.state.rows cs x; answers = told_by h.state.rows d }))
       nothing))
       c.moves_nobody.unmoved
       (λ _. same)
@@ -175,8 +176,8 @@ itself_moves h v = stay_moves h h v (itself_in_place h)
 pub carries_nothing : {h : Hub} {cs : List Command} {c : Change} → c ≡ Nothing → Valid h → Carries h cs c h
 carries_nothing {h} {cs} e v = record {
   in_order = v.in_order;
-  gives = sym (ap (applied_to h.state cs) e);
-  moves_nobody = itself_moves h.state v.in_order;
+  gives = sym (ap (applied_to h.state.rows cs) e);
+  moves_nobody = itself_moves h.state.rows v.in_order;
   same_hub = λ _. refl;
 }
 
@@ -187,14 +188,15 @@ unfolding commands_of routine_of
 no_commands r e = sym (ap commands_of e)
 
 pub decided_none : {h : Hub} {d : Decision} (c : Call) (r : Routine) → KeepsLimit c → r ≡ no_routine →
-    Decides h.state [] d (result_of (view h) c) → DecidedOn h (commands_of r) d
+    Decides h.state.rows [] d (result_of (view h) c) → DecidedOn h (commands_of r) d
 decided_none {h} {d} c r n e k = record {
   call = c;
   no_limit = n;
-  decides = subst (λ (cs : List Command). Decides h.state cs d (result_of (view h) c)) (no_commands r e) k;
+  decides = subst (λ (cs : List Command). Decides h.state.rows cs d (result_of (view h) c)) (no_commands r e) k;
 }
 
-pub gives_none : {h : Hub} {o : Outcome} {d : Decision} {result : Result} (r : Routine) → r ≡ no_routine → Decides h.state [] d result →
-    Gives h o (result_by h.state (commands_of r) d) → Gives h o result
+pub gives_none : {h : Hub} {o : Outcome} {d : Decision} {result : Result} (r : Routine) → r ≡ no_routine →
+    Decides h.state.rows [] d result →
+    Gives h o (result_by h.state.rows (commands_of r) d) → Gives h o result
 gives_none {h} {o} {d} r e k g =
-    subst (Gives h o) (ap (λ (cs : List Command). result_by h.state cs d) (sym (no_commands r e)) ∙ k.gives) g
+    subst (Gives h o) (ap (λ (cs : List Command). result_by h.state.rows cs d) (sym (no_commands r e)) ∙ k.gives) g

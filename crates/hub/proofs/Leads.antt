@@ -41,11 +41,11 @@ settles_as h cs (Fail d x) l e = refl
 settles_as h cs (Restart d v x) l e = refl
 
 decided_state : (h : Hub) (cs : List Command) (c : Change) → Valid h → (k : Decided h cs c) →
-    settle (applied_to h.state cs c) ≡ (result_of (view h) k.made.call).state
+    settle (applied_to h.state.rows cs c) ≡ (result_of (view h) k.made.call).state
 decided_state h cs c v k =
     let d = k.decision in
-    ap (λ (x : Change). settle (applied_to h.state cs x)) (sym k.change_is)
-    ∙ settles_as h.state cs d.change (told_by h.state d) (idles h v)
+    ap (λ (x : Change). settle (applied_to h.state.rows cs x)) (sym k.change_is)
+    ∙ settles_as h.state.rows cs d.change (told_by h.state.rows d) (idles h v)
     ∙ ap (λ (r : Result). r.state) k.made.decides.gives
 
 -- a call on a hub that the rules reach

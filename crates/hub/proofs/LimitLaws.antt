@@ -12,7 +12,7 @@ use Rattle.rules.specs.Limit.{new_limit_check, with_pass_limit, limit_of}
 use Rattle.hub_answers.specs.View.{put_backs_of}
 use Rattle.hub_answers.specs.declared.PutBacks.{PutBacks}
 use Rattle.hub_state.specs.View.{first_committed}
-use Rattle.hub_state.specs.declared.HubState.{HubState}
+use Rattle.hub_state.specs.declared.valid.ValidState.{ValidState}
 use Rattle.rules.proofs.Lists.{t≠f}
 use Rattle.hub_answers.specs.declared.Answer.TheVariants.{Limited as NowLimited}
 use Rattle.hub_limit.specs.Contract.{Limits}
@@ -35,7 +35,7 @@ limit_rests s k f = go (new_limit_check s.devices k)
 
 module _ (h : Hub) (k : ℕ) (b : PutBacks) (v : Valid h) (e : put_backs_of b ≡ []) where
   -- it is in force
-  pub limits_hub : (s : HubState) → Limits h.state k (Ok s) →
+  pub limits_hub : (s : ValidState) → Limits h.state.rows k (Ok s) →
       Limited h k (record { hub = record { state = s }; first = None; answer = NowLimited k; put_backs = b })
   limits_hub s g = record {
     valid = rests_as _ g.valid (ap (λ (r : Result). r.state) g.gives) (limit_rests (view h) k v.at_rest);

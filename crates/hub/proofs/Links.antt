@@ -33,13 +33,13 @@ map-onto f (x ∷ l) m = map-onto f l (x ∷ m)
 keeps : (h : Hub) (s : State) → Valid h → view h ≡ s → KeepsPacked h s.sequence
 unfolding state_of members_of
 keeps h s v e =
-    let k = h.state.links in
+    let k = h.state.rows.links in
     let l = slots_of k in
     let back = back_reversed k v.in_order.links_ok in
-    let read : map (member_at h.state) l ≡ s.sequence = ap (λ (t : State). t.sequence) e in
+    let read : map (member_at h.state.rows) l ≡ s.sequence = ap (λ (t : State). t.sequence) e in
     record {
       read = read;
-      read_back = ap (map (member_at h.state)) back ∙ map-onto (member_at h.state) l [] ∙ ap reverse read;
+      read_back = ap (map (member_at h.state.rows)) back ∙ map-onto (member_at h.state.rows) l [] ∙ ap reverse read;
       once = v.in_order.links_ok.once;
       once_back = λ x. ap (count x) back
           ∙ (let i = count-reverse-onto x l [] in let z : count x (reverse_aux l []) ≡ count x l = omega arith in z);
@@ -74,7 +74,7 @@ links_are_the_sequence n k first o op accepted acts ch =
 -- ---- nobody is moved
 
 unmoved_at : (h : Hub) (before later : List HubAct) (c : HubCall) (p : Outcome) (v : ℤ) → Chain h (before ++ (called c p v ∷ later)) →
-    Unmoved (hub_after h before).state p.hub.state
+    Unmoved (hub_after h before).state.rows p.hub.state.rows
 unmoved_at h [] later c p v ch = (met h c p ch.0).unmoved
 unmoved_at h (called d q w ∷ l) later c p v ch = unmoved_at q.hub l later c p v ch.1
 unmoved_at h (device_takes d j ∷ l) later c p v ch = unmoved_at h l later c p v ch

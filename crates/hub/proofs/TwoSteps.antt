@@ -34,7 +34,7 @@ pub applied_meets : AppliedMeets
 applied_meets h c o v a =
     let k = decides-itself a.decides in
     let answer = a.decision.answer in
-    let P = Gives h o (result_by h.state a.commands a.decision) in
+    let P = Gives h o (result_by h.state.rows a.commands a.decision) in
     meets h c o
     (subst (Gives h o) a.decides.gives
     (by_test (λ (_ : Bool). P) (changes_nothing answer)

@@ -36,6 +36,6 @@ pub record OnlySettle (h r : HubState) : Type 0 where
 -- The change of a decision on hub h is carried out; where it changes nothing it is the same hub, whole.
 pub record Carries (h : Hub) (cs : List Command) (c : Change) (r : Hub) : Type 0 where
   pub in_order : InOrder r
-  pub gives : view r ≡ applied_to h.state cs c
-  pub moves_nobody : MovesNobody h.state r.state
+  pub gives : view r ≡ applied_to h.state.rows cs c
+  pub moves_nobody : MovesNobody h.state.rows r.state.rows
   pub same_hub : c ≡ Nothing → r ≡ h

@@ -35,7 +35,7 @@ pub record Gives (h : Hub) (o : Outcome) (result : Result) : Type 0 where
   pub gives : result_in o ≡ result
   pub put_backs_fit : PutBacksOk o.put_backs
   pub put_backs_told : put_backs_of o.put_backs ≡ put_backs_in (answers_in o)
-  pub unmoved : Unmoved h.state o.hub.state
+  pub unmoved : Unmoved h.state.rows o.hub.state.rows
   pub same_hub : changes_nothing o.answer ≡ true → o.hub ≡ h
 
 abbrev pub Submitted : Hub → Routine → Outcome → Type 0

@@ -15,7 +15,7 @@ use Rattle.hub.specs.declared.Hub.{Hub}
 pub record DecidedOn (h : Hub) (cs : List Command) (d : Decision) : Type 0 where
   pub call : Call
   pub no_limit : KeepsLimit call
-  pub decides : Decides h.state cs d (result_of (view h) call)
+  pub decides : Decides h.state.rows cs d (result_of (view h) call)
 
 -- The change was decided on this hub: it is that of a decision made on it.
 pub record Decided (h : Hub) (cs : List Command) (c : Change) : Type 0 where

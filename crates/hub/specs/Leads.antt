@@ -21,7 +21,7 @@ pub data Leads (from : Hub) : Hub → Type 0 where
   here : Leads from from
   by_call : {h : Hub} → Leads from h → Valid h → (c : HubCall) (o : Outcome) → Meets h c o → Leads from o.hub
   by_applier : {h : Hub} → Leads from h → Valid h → (cs : List Command) (c : Change) → Decided h cs c → (m : Hub) → InOrder m →
-      view m ≡ applied_to h.state cs c → Leads from m
+      view m ≡ applied_to h.state.rows cs c → Leads from m
   by_settling : {h : Hub} → Leads from h → InOrder h → (r : Hub) → Valid r → view r ≡ settle (view h) → Leads from r
 
 abbrev pub StaysOnChain : Type 0

@@ -38,18 +38,18 @@ packed_answers s (c ∷ l) = (result_of s c).answers ∷ packed_answers (result_
 
 -- The routine in each slot, in the order in which the slots are met along the links, from the first on and from the last on.
 abbrev pub along_links : Hub → List Member
-along_links h = map (member_at h.state) (slots_of h.state.links)
+along_links h = map (member_at h.state.rows) (slots_of h.state.rows.links)
 
 abbrev pub back_links : Hub → List Member
-back_links h = map (member_at h.state) (back_of h.state.links)
+back_links h = map (member_at h.state.rows) (back_of h.state.rows.links)
 
 -- The links of the hub keep this packed list. `once`: each slot is met along the links or is free, just one of the two and that once, and
 -- no other number is.
 pub record KeepsPacked (h : Hub) (packed : List Member) : Type 0 where
   pub read : along_links h ≡ packed
   pub read_back : back_links h ≡ reverse packed
-  pub once : (x : ℕ) → count x (slots_of h.state.links) + count x (free_of h.state.links) ≡ within x
-  pub once_back : (x : ℕ) → count x (back_of h.state.links) ≡ count x (slots_of h.state.links)
+  pub once : (x : ℕ) → count x (slots_of h.state.rows.links) + count x (free_of h.state.rows.links) ≡ within x
+  pub once_back : (x : ℕ) → count x (back_of h.state.rows.links) ≡ count x (slots_of h.state.rows.links)
 
 -- From the opening's hub h on, the answers and the links are those of the packed list.
 abbrev pub LinksKeep : ℕ → ℕ → ℕ → Hub → List HubAct → Type 0
@@ -70,4 +70,4 @@ abbrev pub NothingMoves : Type 0
 NothingMoves =
     (n k first : ℕ) (o : Opened) → Opens n k first o → o.verdict ≡ Ok tt →
     (before later : List HubAct) (c : HubCall) (p : Outcome) (v : ℤ) → Chain o.hub (before ++ (called c p v ∷ later)) →
-    Unmoved (hub_after o.hub before).state p.hub.state
+    Unmoved (hub_after o.hub before).state.rows p.hub.state.rows

@@ -28,7 +28,7 @@ use Rattle.hub.specs.declared.Outcome.{Outcome}
 pub record SettlesTo (a : Answer) (m r : Hub) : Type 0 where
   pub settled :
       changes_nothing a ≡ false → first_committed (view m).sequence ≡ true →
-      (Valid r) × (view r ≡ settle (view m)) × (OnlySettle m.state r.state)
+      (Valid r) × (view r ≡ settle (view m)) × (OnlySettle m.state.rows r.state.rows)
   pub idle : changes_nothing a ≡ false → first_committed (view m).sequence ≡ false → r ≡ m
   pub same : changes_nothing a ≡ true → r ≡ m
 
@@ -39,14 +39,14 @@ pub record AppliedFor (h : Hub) (c : HubCall) (o : Outcome) : Type 0 where
   pub commands : List Command  -- those of a routine that joins
   pub decision : Decision
   pub no_limit : KeepsLimit (call_of c)
-  pub decides : Decides h.state commands decision (result_of (view h) (call_of c))
+  pub decides : Decides h.state.rows commands decision (result_of (view h) (call_of c))
   pub made : Hub
   pub carries : Carries h commands decision.change made
   pub settles : SettlesTo decision.answer made o.hub
   pub first_is : o.first ≡ decision.first
   pub answer_is : o.answer ≡ decision.answer
   pub put_backs_fit : PutBacksOk o.put_backs
-  pub put_backs_are : put_backs_of o.put_backs ≡ put_backs_of_decision h.state decision
+  pub put_backs_are : put_backs_of o.put_backs ≡ put_backs_of_decision h.state.rows decision
 
 -- It is what the contract of the call gives.
 abbrev pub AppliedMeets : Type 0

@@ -7,7 +7,7 @@ use Rattle.hub.specs.declared.Hub.{Hub}
 
 -- Its rows and links are in order. That much an applier gives: a routine may have to settle yet.
 abbrev pub InOrder : Hub → Type 0
-InOrder h = StateOk h.state
+InOrder h = StateOk h.state.rows
 
 -- And nothing has to settle. Document 01, "Settling": "After each call, while the first in the sequence is committed".
 pub record Valid (h : Hub) : Type 0 where

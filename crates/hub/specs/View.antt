@@ -9,7 +9,7 @@ use Rattle.hub.specs.declared.Hub.{Hub}
 use Rattle.hub.specs.declared.Outcome.{Outcome}
 
 abbrev pub view : Hub → State
-view h = state_of h.state
+view h = state_of h.state.rows
 
 abbrev pub answers_in : Outcome → List Told
 answers_in o = answers_of o.first o.answer o.put_backs

@@ -2,7 +2,6 @@
 ghost use Rattle.std.specs.Prelude.{◌≡◌};
 ghost use Rattle.rules_routine.specs.Routine.{commands_of};
 ghost use Rattle.hub_answers.specs.View.{put_backs_of};
-ghost use Rattle.hub_state.specs.Valid.{StateOk};
 ghost use Rattle.hub_state.specs.Contract.{result_by, put_backs_of_decision};
 ghost use Rattle.hub.specs.Valid.{Valid};
 ghost use Rattle.hub.specs.Contract.{Gives};
@@ -11,13 +10,13 @@ ghost use Rattle.hub.specs.Decided.{DecidedOn, Decided};
 
 use crate::{Hub, Outcome};
 use hub_answers::PutBacks;
-use hub_state::{Change, Decision, HubState};
+use hub_state::{Change, Decision, ValidState};
 use rules_routine::Routine;
 
 // What a decision puts back. What an abort does is read off the rows as they are.
-pub fn put_backs_of(state: HubState, decision: Decision) -> PutBacks
-    requires { (StateOk state) × (LeavingOk state decision.change) }
-    ensures { put_backs_of result ≡ put_backs_of_decision state decision }
+pub fn put_backs_of(state: ValidState, decision: Decision) -> PutBacks
+    requires { LeavingOk state.rows decision.change }
+    ensures { put_backs_of result ≡ put_backs_of_decision state.rows decision }
 {
     match decision.change {
         Change::Nothing | Change::Stage(_) | Change::Commit(_) | Change::Join(_) =>
@@ -48,7 +47,7 @@ fn changed(hub: Hub, change: Change, routine: Routine) -> Hub
 // first: a refusal and a wait change nothing.
 pub fn carried_out(hub: Hub, decision: Decision, routine: Routine) -> Outcome
     requires { (Valid hub) × (DecidedOn hub (commands_of routine) decision) }
-    ensures { Gives hub result (result_by hub.state (commands_of routine) decision) }
+    ensures { Gives hub result (result_by hub.state.rows (commands_of routine) decision) }
 {
     let put_backs = crate::put_backs(hub, decision);
     let mut next = changed(hub, decision.change, routine);

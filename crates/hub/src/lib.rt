@@ -32,13 +32,13 @@ ghost use Rattle.hub.specs.Carrying.{MovesNobody, OnlySettle};
 ghost use Rattle.hub.specs.Decided.{Decided, WasDecidedOn, WasDecided};
 
 use hub_answers::{Answer, PutBacks};
-use hub_state::{Decision, HubState, Staged, readers};
+use hub_state::{Decision, Staged, ValidState, readers};
 use rules_routine::{Refusal, Routine};
 
 // A hub. Others hold it and hand it on; nobody else can make one, look into it or change it.
 #[derive(Clone, Copy)]
 pub struct Hub {
-    state: HubState,
+    state: ValidState,
 }
 
 // What an opening gives: whether it is accepted, and a hub. One stands beside a refusal too, that of no devices, and no `Result` holds it:
@@ -163,14 +163,14 @@ pub fn limit(hub: Hub, pass_limit: u8) -> Outcome
 pub fn device_count(hub: Hub) -> u8
     ensures { result ≡ (view hub).devices }
 {
-    hub.state.devices
+    hub.state.rows.devices
 }
 
 // Is a device up? One that the hub does not have stands as at the opening.
 pub fn is_up(hub: Hub, device: u8) -> bool
     ensures { result ≡ (view hub).up device }
 {
-    readers::is_up(hub.state, device)
+    readers::is_up(hub.state.rows, device)
 }
 
 // The due setting of a device. One that the hub does not have stands as at the opening.
@@ -179,9 +179,9 @@ pub fn due_setting(hub: Hub, device: u8) -> i16
     ensures { result ≡ due (view hub) device }
 {
     let state = hub.state;
-    let devices = state.device;
-    let stages = state.stage;
-    let settings = state.setting;
+    let devices = state.rows.device;
+    let stages = state.rows.stage;
+    let settings = state.rows.setting;
     hub_due::due_setting(state, &devices, &stages, &settings, device)
 }
 
@@ -209,7 +209,7 @@ pub fn closed() -> Hub
 // What a submission comes to.
 pub fn decide_submit(hub: Hub, routine: Routine) -> Decision
     requires { Valid hub }
-    ensures { Decides hub.state (commands_of routine) result (submit_of (view hub) (commands_of routine)) }
+    ensures { Decides hub.state.rows (commands_of routine) result (submit_of (view hub) (commands_of routine)) }
 {
     hub_submit::decide(hub.state, routine)
 }
@@ -217,7 +217,7 @@ pub fn decide_submit(hub: Hub, routine: Routine) -> Decision
 // What a turn comes to.
 pub fn decide_turn(hub: Hub, id: u32) -> Decision
     requires { Valid hub }
-    ensures { Decides hub.state [] result (turn_of (view hub) id) }
+    ensures { Decides hub.state.rows [] result (turn_of (view hub) id) }
 {
     hub_turn::decide(hub.state, id)
 }
@@ -225,7 +225,7 @@ pub fn decide_turn(hub: Hub, id: u32) -> Decision
 // What a report comes to.
 pub fn decide_report(hub: Hub, id: u32, code: u8) -> Decision
     requires { Valid hub }
-    ensures { Decides hub.state [] result (report_of (view hub) id code) }
+    ensures { Decides hub.state.rows [] result (report_of (view hub) id code) }
 {
     hub_report::decide(hub.state, id, code)
 }
@@ -233,7 +233,7 @@ pub fn decide_report(hub: Hub, id: u32, code: u8) -> Decision
 // What a cancel comes to.
 pub fn decide_cancel(hub: Hub, id: u32) -> Decision
     requires { Valid hub }
-    ensures { Decides hub.state [] result (cancel_of (view hub) id) }
+    ensures { Decides hub.state.rows [] result (cancel_of (view hub) id) }
 {
     hub_abort::cancel::decide(hub.state, id)
 }
@@ -241,7 +241,7 @@ pub fn decide_cancel(hub: Hub, id: u32) -> Decision
 // What a failure comes to.
 pub fn decide_failure(hub: Hub, device: u8) -> Decision
     requires { Valid hub }
-    ensures { Decides hub.state [] result (failure_of (view hub) device) }
+    ensures { Decides hub.state.rows [] result (failure_of (view hub) device) }
 {
     hub_events::decide_failure(hub.state, device)
 }
@@ -249,7 +249,7 @@ pub fn decide_failure(hub: Hub, device: u8) -> Decision
 // What a restart comes to.
 pub fn decide_restart(hub: Hub, device: u8, setting: i16) -> Decision
     requires { Valid hub }
-    ensures { Decides hub.state [] result (restart_of (view hub) device setting) }
+    ensures { Decides hub.state.rows [] result (restart_of (view hub) device setting) }
 {
     hub_events::decide_restart(hub.state, device, setting)
 }
@@ -257,7 +257,7 @@ pub fn decide_restart(hub: Hub, device: u8, setting: i16) -> Decision
 // A command comes to a stage.
 pub fn with_stage(hub: Hub, change: Staged) -> Hub
     requires { (Valid hub) × (WasDecided hub (Stage change)) }
-    ensures { (InOrder result) × (view result ≡ staged hub.state change) × (MovesNobody hub.state result.state) }
+    ensures { (InOrder result) × (view result ≡ staged hub.state.rows change) × (MovesNobody hub.state.rows result.state.rows) }
 {
     let state = hub_apply::with_stage(hub.state, change);
     Hub { state }
@@ -266,7 +266,7 @@ pub fn with_stage(hub: Hub, change: Staged) -> Hub
 // The routine in a slot commits.
 pub fn with_commit(hub: Hub, at: usize) -> Hub
     requires { (Valid hub) × (WasDecided hub (Commit at)) }
-    ensures { (InOrder result) × (view result ≡ committed_at hub.state at) × (MovesNobody hub.state result.state) }
+    ensures { (InOrder result) × (view result ≡ committed_at hub.state.rows at) × (MovesNobody hub.state.rows result.state.rows) }
 {
     let state = hub_apply::with_commit(hub.state, at);
     Hub { state }
@@ -275,8 +275,8 @@ pub fn with_commit(hub: Hub, at: usize) -> Hub
 // A routine joins the sequence behind a slot.
 pub fn with_routine(hub: Hub, after: u8, routine: Routine) -> Hub
     requires { (Valid hub) × (Decided hub (commands_of routine) (Join after)) }
-    ensures { (InOrder result) × (view result ≡ joined_behind hub.state (commands_of routine) after)
-        × (MovesNobody hub.state result.state) }
+    ensures { (InOrder result) × (view result ≡ joined_behind hub.state.rows (commands_of routine) after)
+        × (MovesNobody hub.state.rows result.state.rows) }
 {
     let state = hub_apply::with_routine(hub.state, after, routine);
     Hub { state }
@@ -285,7 +285,8 @@ pub fn with_routine(hub: Hub, after: u8, routine: Routine) -> Hub
 // The routine in a slot aborts.
 pub fn with_abort(hub: Hub, at: usize) -> Hub
     requires { (Valid hub) × (WasDecided hub (Abort at)) }
-    ensures { (InOrder result) × (view result ≡ leave (view hub) (there hub.state at)) × (MovesNobody hub.state result.state) }
+    ensures { (InOrder result) × (view result ≡ leave (view hub) (there hub.state.rows at))
+        × (MovesNobody hub.state.rows result.state.rows) }
 {
     let state = hub_settle::leave::leave(hub.state, at);
     Hub { state }
@@ -294,8 +295,8 @@ pub fn with_abort(hub: Hub, at: usize) -> Hub
 // A device fails; the routine in a slot, if there is one, aborts by that or loses what is left there.
 pub fn with_failure(hub: Hub, device: u8, slot: Option<usize>) -> Hub
     requires { (Valid hub) × (WasDecided hub (Fail device slot)) }
-    ensures { (InOrder result) × (view result ≡ stopped_by device (down_with (view hub) device) (found_at hub.state slot))
-        × (MovesNobody hub.state result.state) }
+    ensures { (InOrder result) × (view result ≡ stopped_by device (down_with (view hub) device) (found_at hub.state.rows slot))
+        × (MovesNobody hub.state.rows result.state.rows) }
 {
     let state = hub_events::with_failure(hub.state, device, slot);
     Hub { state }
@@ -304,8 +305,8 @@ pub fn with_failure(hub: Hub, device: u8, slot: Option<usize>) -> Hub
 // A device restarts; the routine in a slot, if there is one, aborts by that or loses what is left there.
 pub fn with_restart(hub: Hub, device: u8, setting: i16, slot: Option<usize>) -> Hub
     requires { (Valid hub) × (WasDecided hub (Restart device setting slot)) }
-    ensures { (InOrder result) × (view result ≡ up_with (stopped_by device (view hub) (found_at hub.state slot)) device setting)
-        × (MovesNobody hub.state result.state) }
+    ensures { (InOrder result) × (view result ≡ up_with (stopped_by device (view hub) (found_at hub.state.rows slot)) device setting)
+        × (MovesNobody hub.state.rows result.state.rows) }
 {
     let state = hub_events::with_restart(hub.state, device, setting, slot);
     Hub { state }
@@ -314,14 +315,13 @@ pub fn with_restart(hub: Hub, device: u8, setting: i16, slot: Option<usize>) -> 
 // What a decision puts back: by the abort that it brings, or by its answer. (That it fits, every `PutBacks` tells; callers cite it here.)
 pub fn put_backs(hub: Hub, decision: Decision) -> PutBacks
     requires { (Valid hub) × (WasDecidedOn hub decision) }
-    ensures { (PutBacksOk result) × (put_backs_of result ≡ put_backs_of_decision hub.state decision) }
+    ensures { (PutBacksOk result) × (put_backs_of result ≡ put_backs_of_decision hub.state.rows decision) }
 {
     carrying::put_backs_of(hub.state, decision)
 }
 
 // Is the first in the sequence committed?
 pub fn settles(hub: Hub) -> bool
-    requires { InOrder hub }
     ensures { result ≡ first_committed (view hub).sequence }
 {
     hub_settle::settle::settles(hub.state)
@@ -329,8 +329,7 @@ pub fn settles(hub: Hub) -> bool
 
 // The committed routines at the front settle.
 pub fn settle(hub: Hub) -> Hub
-    requires { InOrder hub }
-    ensures { (Valid result) × (view result ≡ settle (view hub)) × (OnlySettle hub.state result.state) }
+    ensures { (Valid result) × (view result ≡ settle (view hub)) × (OnlySettle hub.state.rows result.state.rows) }
 {
     let state = hub_settle::settle::settle(hub.state);
     Hub { state }

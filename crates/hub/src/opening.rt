@@ -7,7 +7,7 @@ ghost use Rattle.hub.specs.Valid.{Valid};
 
 use crate::Hub;
 use hub_sequence::order;
-use hub_state::{HubState, RESTARTS, STEPS};
+use hub_state::{HubState, RESTARTS, STEPS, ValidState};
 use rules_routine::Refusal;
 use rules_routine::limits::{MAX_DEVICES, MAX_SEQUENCE};
 
@@ -28,7 +28,7 @@ pub fn new_hub(devices: u8, pass_limit: u8, first_id: u32) -> Hub
     ensures { (Valid result) × (view result ≡ new_hub devices pass_limit first_id) }
 {
     let links = order::empty();
-    let state = HubState {
+    let rows = HubState {
         devices,
         pass_limit,
         next_id: first_id as u64,
@@ -48,5 +48,7 @@ pub fn new_hub(devices: u8, pass_limit: u8, first_id: u32) -> Hub
         up: [true; MAX_DEVICES],
         mark: [0; MAX_DEVICES],
     };
-    Hub { state }
+    Hub {
+        state: ValidState { rows },
+    }
 }

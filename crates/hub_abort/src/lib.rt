@@ -10,12 +10,11 @@ ghost use Rattle.rules.specs.Progress.{in_flight_on};
 ghost use Rattle.hub_sequence.specs.Links.{Stands};
 ghost use Rattle.hub_answers.specs.View.{put_backs_of};
 ghost use Rattle.hub_state.specs.View.{settings_of, flags_of, member_at, state_of, there};
-ghost use Rattle.hub_state.specs.Valid.{StateOk};
 ghost use Rattle.hub_state.specs.Contract.{put_backs_left};
 ghost use Rattle.hub_abort.specs.PutBacks.{down_if, is_back_by, put_backs_from, TablesAre};
 
 use hub_answers::{PutBack, PutBacks};
-use hub_state::{HubState, Unanswered, readers};
+use hub_state::{Unanswered, ValidState, readers};
 use rules_routine::limits::MAX_DEVICES;
 
 // The tables that tell which devices are put back: up; with a command in flight of those left, and of the one that left; and due before
@@ -60,17 +59,17 @@ fn put_backs(devices: u8, tables: Tables) -> PutBacks
 }
 
 // The devices with a command of this routine in flight: one at most.
-fn own_flights(state: HubState, at: usize) -> [bool; MAX_DEVICES]
-    requires { (StateOk state) × (Stands state.links at) }
-    ensures { flags_of result ≡ (λ d. in_flight_on d (member_at state at)) }
+fn own_flights(state: ValidState, at: usize) -> [bool; MAX_DEVICES]
+    requires { Stands state.rows.links at }
+    ensures { flags_of result ≡ (λ d. in_flight_on d (member_at state.rows at)) }
 {
     let mut own = [false; MAX_DEVICES];
-    let stage = state.stage;
+    let stage = state.rows.stage;
     let open = readers::unanswered_at(state, &stage, at);
     let Unanswered::InFlight(k) = open else {
         return own;
     };
-    let device = state.device;
+    let device = state.rows.device;
     let d = device[k] as usize;
     own[d] = true;
     own
@@ -78,15 +77,15 @@ fn own_flights(state: HubState, at: usize) -> [bool; MAX_DEVICES]
 
 // The tables of an abort of the routine in a slot, while a device fails, if one does. They are read off the rows as they are: the routine's
 // commands are left out.
-fn tables_of(state: HubState, at: usize, down: Option<u8>) -> Tables
-    requires { (StateOk state) × (Stands state.links at) }
-    ensures { TablesAre state at down result }
+fn tables_of(state: ValidState, at: usize, down: Option<u8>) -> Tables
+    requires { Stands state.rows.links at }
+    ensures { TablesAre state.rows at down result }
 {
     let before = hub_due::due_settings(state);
     let after = hub_due::due_settings_without(state, Some(at));
     let others = hub_due::in_flight_without(state, at);
     let own = own_flights(state, at);
-    let mut up = state.up;
+    let mut up = state.rows.up;
     if let Some(device) = down {
         if (device as usize) < MAX_DEVICES {
             up[device as usize] = false;
@@ -102,10 +101,10 @@ fn tables_of(state: HubState, at: usize, down: Option<u8>) -> Tables
 }
 
 // What the abort of the routine in a slot puts back, while a device fails, if one does.
-pub fn put_backs_of(state: HubState, at: usize, down: Option<u8>) -> PutBacks
-    requires { (StateOk state) × (Stands state.links at) }
-    ensures { put_backs_of result ≡ put_backs_left (down_if (state_of state) down) (there state at) }
+pub fn put_backs_of(state: ValidState, at: usize, down: Option<u8>) -> PutBacks
+    requires { Stands state.rows.links at }
+    ensures { put_backs_of result ≡ put_backs_left (down_if (state_of state.rows) down) (there state.rows at) }
 {
     let tables = tables_of(state, at, down);
-    put_backs(state.devices, tables)
+    put_backs(state.rows.devices, tables)
 }

@@ -18,7 +18,7 @@ ghost use Rattle.hub_apply.specs.Stages.{FirstUnanswered, SkipsLeft};
 
 use fill::CommandRows;
 use hub_sequence::order;
-use hub_state::{DONE, HubState, IN_FLIGHT, NO_RESTART, SKIPPED, STEPS, Staged, TO_DO};
+use hub_state::{DONE, HubState, IN_FLIGHT, NO_RESTART, SKIPPED, STEPS, Staged, TO_DO, ValidState};
 use rules_routine::Routine;
 use rules_routine::limits::{MAX_COMMANDS, MAX_DEVICES};
 
@@ -37,28 +37,28 @@ fn first_unanswered<'a>(stage: &'a [u8; STEPS], from: usize, end: usize) -> usiz
 
 // The first command that is not answered comes to a stage, and its device to the routine's mark if that begins it. (All rows are named:
 // with `..state` here, and only here, a busy line takes a sixth more instructions.)
-pub fn with_stage(state: HubState, change: Staged) -> HubState
-    requires { (StateOk state) × (StageOk state change) }
-    ensures { (StateOk result) × (state_of result ≡ staged state change) × (InPlace state result) }
+pub fn with_stage(state: ValidState, change: Staged) -> ValidState
+    requires { StageOk state.rows change }
+    ensures { (StateOk result.rows) × (state_of result.rows ≡ staged state.rows change) × (InPlace state.rows result.rows) }
 {
-    let devices = state.devices;
-    let pass_limit = state.pass_limit;
-    let next_id = state.next_id;
-    let links = state.links;
-    let ids = state.ids;
-    let passed = state.passed;
-    let committed = state.committed;
-    let counts = state.counts;
-    let device = state.device;
-    let tag = state.tag;
-    let setting = state.setting;
-    let restarts = state.restarts;
-    let settled = state.settled_at;
-    let up = state.up;
-    let mut stage = state.stage;
-    let mut due_then = state.due_then;
-    let mut answered = state.answered;
-    let mut mark = state.mark;
+    let devices = state.rows.devices;
+    let pass_limit = state.rows.pass_limit;
+    let next_id = state.rows.next_id;
+    let links = state.rows.links;
+    let ids = state.rows.ids;
+    let passed = state.rows.passed;
+    let committed = state.rows.committed;
+    let counts = state.rows.counts;
+    let device = state.rows.device;
+    let tag = state.rows.tag;
+    let setting = state.rows.setting;
+    let restarts = state.rows.restarts;
+    let settled = state.rows.settled_at;
+    let up = state.rows.up;
+    let mut stage = state.rows.stage;
+    let mut due_then = state.rows.due_then;
+    let mut answered = state.rows.answered;
+    let mut mark = state.rows.mark;
     let at = change.at;
     let from = at * MAX_COMMANDS;
     let end = from + (counts[at] as usize);
@@ -74,25 +74,27 @@ pub fn with_stage(state: HubState, change: Staged) -> HubState
         let d = change.device as usize;
         mark[d] = change.id;
     }
-    HubState {
-        devices,
-        pass_limit,
-        next_id,
-        links,
-        ids,
-        passed,
-        committed,
-        counts,
-        answered,
-        due_then,
-        device,
-        tag,
-        setting,
-        stage,
-        restarts,
-        settled_at: settled,
-        up,
-        mark,
+    ValidState {
+        rows: HubState {
+            devices,
+            pass_limit,
+            next_id,
+            links,
+            ids,
+            passed,
+            committed,
+            counts,
+            answered,
+            due_then,
+            device,
+            tag,
+            setting,
+            stage,
+            restarts,
+            settled_at: settled,
+            up,
+            mark,
+        },
     }
 }
 
@@ -119,56 +121,64 @@ fn skip_left<'a>(
 }
 
 // An event of a device: the commands of the routine in a slot that are left on it are skipped (document 02, item 3).
-pub fn with_skips(state: HubState, at: usize, wanted: u8) -> HubState
-    requires { (StateOk state) × (Stands state.links at) }
-    ensures { (StateOk result) × (state_of result ≡ skip_rest wanted (state_of state) (there state at)) × (InPlace state result) }
+pub fn with_skips(state: ValidState, at: usize, wanted: u8) -> ValidState
+    requires { Stands state.rows.links at }
+    ensures { (StateOk result.rows) × (state_of result.rows ≡ skip_rest wanted (state_of state.rows) (there state.rows at))
+        × (InPlace state.rows result.rows) }
 {
-    let counts = state.counts;
-    let device = state.device;
-    let mut answered = state.answered;
+    let counts = state.rows.counts;
+    let device = state.rows.device;
+    let mut answered = state.rows.answered;
     let from = at * MAX_COMMANDS;
     let end = from + (counts[at] as usize);
     let open = from + (answered[at] as usize);
-    let stage = skip_left(state.stage, &device, from, end, wanted);
+    let stage = skip_left(state.rows.stage, &device, from, end, wanted);
     let next = first_unanswered(&stage, open, end);
     answered[at] = (next - from) as u8;
-    HubState {
-        answered,
-        stage,
-        ..state
+    ValidState {
+        rows: HubState {
+            answered,
+            stage,
+            ..state.rows
+        },
     }
 }
 
 // "No command left: committed."
-pub fn with_commit(state: HubState, at: usize) -> HubState
-    requires { (StateOk state) × (Stands state.links at) }
-    ensures { (StateOk result) × (state_of result ≡ committed_at state at) × (InPlace state result) }
+pub fn with_commit(state: ValidState, at: usize) -> ValidState
+    requires { Stands state.rows.links at }
+    ensures { (StateOk result.rows) × (state_of result.rows ≡ committed_at state.rows at) × (InPlace state.rows result.rows) }
 {
-    let mut committed = state.committed;
+    let mut committed = state.rows.committed;
     committed[at] = true;
-    HubState { committed, ..state }
+    ValidState {
+        rows: HubState {
+            committed,
+            ..state.rows
+        },
+    }
 }
 
 // "Place the routine directly after the latest": in a free slot, behind the slot `after`.
-pub fn with_routine(state: HubState, after: u8, routine: Routine) -> HubState
-    requires { (StateOk state) × (JoinOk state (commands_of routine) after) }
-    ensures { Places state (commands_of routine) after result }
+pub fn with_routine(state: ValidState, after: u8, routine: Routine) -> ValidState
+    requires { JoinOk state.rows (commands_of routine) after }
+    ensures { Places state.rows (commands_of routine) after result.rows }
 {
-    let next_id = state.next_id;
-    let links_before = state.links;
+    let next_id = state.rows.next_id;
+    let links_before = state.rows.links;
     let joined = order::join(links_before, after);
     let links = joined.links;
     let slot = joined.slot as usize;
-    let mut ids = state.ids;
-    let mut committed = state.committed;
-    let mut counts = state.counts;
-    let mut answered = state.answered;
-    let old_passed = state.passed;
-    let old_device = state.device;
-    let old_tag = state.tag;
-    let old_setting = state.setting;
-    let old_stage = state.stage;
-    let old_restarts = state.restarts;
+    let mut ids = state.rows.ids;
+    let mut committed = state.rows.committed;
+    let mut counts = state.rows.counts;
+    let mut answered = state.rows.answered;
+    let old_passed = state.rows.passed;
+    let old_device = state.rows.device;
+    let old_tag = state.rows.tag;
+    let old_setting = state.rows.setting;
+    let old_stage = state.rows.stage;
+    let old_restarts = state.rows.restarts;
     let passed = fill::passed_behind(old_passed, links, committed, slot);
     ids[slot] = next_id as u32;
     committed[slot] = false;
@@ -185,19 +195,21 @@ pub fn with_routine(state: HubState, after: u8, routine: Routine) -> HubState
     let setting = filled.setting;
     let stage = fill::filled(old_stage, slot * MAX_COMMANDS, MAX_COMMANDS, TO_DO);
     let restarts = fill::filled(old_restarts, slot * MAX_DEVICES, MAX_DEVICES, NO_RESTART);
-    HubState {
-        next_id: next_id + 1,
-        links,
-        ids,
-        passed,
-        committed,
-        counts,
-        answered,
-        device,
-        tag,
-        setting,
-        stage,
-        restarts,
-        ..state
+    ValidState {
+        rows: HubState {
+            next_id: next_id + 1,
+            links,
+            ids,
+            passed,
+            committed,
+            counts,
+            answered,
+            device,
+            tag,
+            setting,
+            stage,
+            restarts,
+            ..state.rows
+        },
     }
 }

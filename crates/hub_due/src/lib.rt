@@ -9,10 +9,9 @@ ghost use Rattle.rules.specs.Progress.{in_flight_on};
 ghost use Rattle.rules.specs.Due.{after_members, due};
 ghost use Rattle.rules.specs.Attach.{settle_restarts};
 ghost use Rattle.hub_state.specs.View.{settings_of, flags_of, restarts_at, state_of, members_of};
-ghost use Rattle.hub_state.specs.Valid.{StateOk};
 ghost use Rattle.hub_due.specs.Contract.{AfterDone, BehindLastDone, DevicesFit, due_without, members_without};
 
-use hub_state::{DONE, HubState, IN_FLIGHT, NO_RESTART, RESTARTS, STEPS};
+use hub_state::{DONE, IN_FLIGHT, NO_RESTART, RESTARTS, STEPS, ValidState};
 use rules_routine::limits::{MAX_COMMANDS, MAX_DEVICES, MAX_SEQUENCE};
 
 // The last done command on a device among these; the first place if there is none.
@@ -36,21 +35,21 @@ fn behind_last_done<'a>(
 
 // What one device is due.
 pub fn due_on<'a>(
-    state: HubState,
+    state: ValidState,
     device: &'a [u8; STEPS],
     stage: &'a [u8; STEPS],
     setting: &'a [i16; STEPS],
     wanted: u8,
     settled: i16,
 ) -> i16
-    requires { (StateOk state) × (device.now ≡ state.device) × (stage.now ≡ state.stage)
-        × (setting.now ≡ state.setting) }
-    ensures { result ≡ after_members wanted (members_of state) settled }
+    requires { (device.now ≡ state.rows.device) × (stage.now ≡ state.rows.stage)
+        × (setting.now ≡ state.rows.setting) }
+    ensures { result ≡ after_members wanted (members_of state.rows) settled }
 {
-    let links = state.links;
+    let links = state.rows.links;
     let ahead = links.ahead;
-    let answered = state.answered;
-    let restarts = state.restarts;
+    let answered = state.rows.answered;
+    let restarts = state.rows.restarts;
     let d = wanted as usize;
     let mut i = links.last as usize;
     while i < MAX_SEQUENCE {
@@ -117,20 +116,19 @@ pub fn after_restarts<'a>(
 
 // What all devices are due, in one pass. The commands of the routine in the slot `but`, if there is one, do not count; the events attached
 // to it do.
-pub fn due_settings_without(state: HubState, but: Option<usize>) -> [i16; MAX_DEVICES]
-    requires { StateOk state }
-    ensures { settings_of result ≡ due_without state but }
+pub fn due_settings_without(state: ValidState, but: Option<usize>) -> [i16; MAX_DEVICES]
+    ensures { settings_of result ≡ due_without state.rows but }
 {
     // The pass compares numbers alone: that one is no slot's.
     let left_out = but.unwrap_or(MAX_SEQUENCE);
-    let links = state.links;
+    let links = state.rows.links;
     let behind = links.behind;
-    let answered = state.answered;
-    let device = state.device;
-    let stage = state.stage;
-    let setting = state.setting;
-    let restarts = state.restarts;
-    let mut table = state.settled_at;
+    let answered = state.rows.answered;
+    let device = state.rows.device;
+    let stage = state.rows.stage;
+    let setting = state.rows.setting;
+    let restarts = state.rows.restarts;
+    let mut table = state.rows.settled_at;
     let mut i = links.first as usize;
     while i < MAX_SEQUENCE {
         if i != left_out {
@@ -147,24 +145,22 @@ pub fn due_settings_without(state: HubState, but: Option<usize>) -> [i16; MAX_DE
 }
 
 // What all devices are due.
-pub fn due_settings(state: HubState) -> [i16; MAX_DEVICES]
-    requires { StateOk state }
-    ensures { settings_of result ≡ due (state_of state) }
+pub fn due_settings(state: ValidState) -> [i16; MAX_DEVICES]
+    ensures { settings_of result ≡ due (state_of state.rows) }
 {
     due_settings_without(state, None)
 }
 
 // The devices with a command in flight of a routine that is not in the slot `but`.
-pub fn in_flight_without(state: HubState, but: usize) -> [bool; MAX_DEVICES]
-    requires { StateOk state }
-    ensures { flags_of result ≡ (λ d. any_of (in_flight_on d) (members_without state but)) }
+pub fn in_flight_without(state: ValidState, but: usize) -> [bool; MAX_DEVICES]
+    ensures { flags_of result ≡ (λ d. any_of (in_flight_on d) (members_without state.rows but)) }
 {
-    let links = state.links;
+    let links = state.rows.links;
     let behind = links.behind;
-    let counts = state.counts;
-    let answered = state.answered;
-    let device = state.device;
-    let stage = state.stage;
+    let counts = state.rows.counts;
+    let answered = state.rows.answered;
+    let device = state.rows.device;
+    let stage = state.rows.stage;
     let mut busy = [false; MAX_DEVICES];
     let mut i = links.first as usize;
     while i < MAX_SEQUENCE {
@@ -182,21 +178,21 @@ pub fn in_flight_without(state: HubState, but: usize) -> [bool; MAX_DEVICES]
 
 // The due setting of a device. One that the hub does not have stands as at the opening.
 pub fn due_setting<'a>(
-    state: HubState,
+    state: ValidState,
     device: &'a [u8; STEPS],
     stage: &'a [u8; STEPS],
     setting: &'a [i16; STEPS],
     wanted: u8,
 ) -> i16
-    requires { (StateOk state) × (device.now ≡ state.device) × (stage.now ≡ state.stage)
-        × (setting.now ≡ state.setting) }
-    ensures { result ≡ due (state_of state) wanted }
+    requires { (device.now ≡ state.rows.device) × (stage.now ≡ state.rows.stage)
+        × (setting.now ≡ state.rows.setting) }
+    ensures { result ≡ due (state_of state.rows) wanted }
 {
     let at = wanted as usize;
     if MAX_DEVICES <= at {
         return due_on(state, device, stage, setting, wanted, 0);
     }
-    let table = state.settled_at;
+    let table = state.rows.settled_at;
     let settled = table[at];
     due_on(state, device, stage, setting, wanted, settled)
 }

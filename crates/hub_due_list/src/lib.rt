@@ -4,18 +4,16 @@
 ghost use Rattle.std.specs.Prelude.{◌≡◌, length};
 ghost use Rattle.rules.specs.AllDue.{list_check, list_after};
 ghost use Rattle.hub_state.specs.View.{state_of};
-ghost use Rattle.hub_state.specs.Valid.{StateOk};
 
-use hub_state::HubState;
+use hub_state::ValidState;
 use rules_routine::Refusal;
 
 // What all devices are due, into a lent list. "A list shorter than N gets 21 and is unchanged."
-pub fn put_settings(state: HubState, list: &mut [i16]) -> Result<(), Refusal>
-    requires { StateOk state }
-    ensures answers { result ≡ list_check (state_of state) (length list.old) }
-    ensures leaves { list.new ≡ list_after (state_of state) list.old }
+pub fn put_settings(state: ValidState, list: &mut [i16]) -> Result<(), Refusal>
+    ensures answers { result ≡ list_check (state_of state.rows) (length list.old) }
+    ensures leaves { list.new ≡ list_after (state_of state.rows) list.old }
 {
-    let count = state.devices as usize;
+    let count = state.rows.devices as usize;
     if list.len() < count {
         return Err(Refusal::NoRoom);
     }

@@ -15,7 +15,7 @@ ghost use Rattle.hub_abort.specs.PutBacks.{down_if};
 ghost use Rattle.hub_events.specs.Contract.{IsHalfway};
 
 use hub_answers::{Answer, PutBacks};
-use hub_state::{Change, Decision, HubState, decisions, readers};
+use hub_state::{Change, Decision, ValidState, decisions, readers};
 use rules_routine::Refusal;
 
 // The routine that is halfway with an event's device, by its slot, if there is one; its id, if it aborts; and the device's mark after that.
@@ -28,11 +28,11 @@ pub struct Affected {
 
 // "A running routine that has begun D and not finished it": with a must left on D it aborts, else it loses what is left on D (document 02,
 // item 3).
-fn halfway(state: HubState, device: u8) -> Affected
-    requires { (StateOk state) × (device < max_devices) }
-    ensures { IsHalfway state device result }
+fn halfway(state: ValidState, device: u8) -> Affected
+    requires { device < max_devices }
+    ensures { IsHalfway state.rows device result }
 {
-    let marks = state.mark;
+    let marks = state.rows.mark;
     let d = device as usize;
     let mark = marks[d];
     let slot = hub_search::halfway(state, device);
@@ -50,7 +50,7 @@ fn halfway(state: HubState, device: u8) -> Affected
             mark,
         };
     }
-    let ids = state.ids;
+    let ids = state.rows.ids;
     let id = ids[at];
     let first = Some(id);
     if mark != id {
@@ -65,14 +65,13 @@ fn halfway(state: HubState, device: u8) -> Affected
 }
 
 // "Failure: 14, 15."
-pub fn decide_failure(state: HubState, device: u8) -> Decision
-    requires { StateOk state }
-    ensures { Decides state [] result (failure_of (state_of state) device) }
+pub fn decide_failure(state: ValidState, device: u8) -> Decision
+    ensures { Decides state.rows [] result (failure_of (state_of state.rows) device) }
 {
-    if state.devices <= device {
+    if state.rows.devices <= device {
         return decisions::refused(Refusal::EventDevice);
     }
-    if !readers::is_up(state, device) {
+    if !readers::is_up(state.rows, device) {
         return decisions::refused(Refusal::FailureOfDown);
     }
     let half = halfway(state, device);
@@ -86,14 +85,13 @@ pub fn decide_failure(state: HubState, device: u8) -> Decision
 }
 
 // "Restart: 14, 16, 17."
-pub fn decide_restart(state: HubState, device: u8, setting: i16) -> Decision
-    requires { StateOk state }
-    ensures { Decides state [] result (restart_of (state_of state) device setting) }
+pub fn decide_restart(state: ValidState, device: u8, setting: i16) -> Decision
+    ensures { Decides state.rows [] result (restart_of (state_of state.rows) device setting) }
 {
-    if state.devices <= device {
+    if state.rows.devices <= device {
         return decisions::refused(Refusal::EventDevice);
     }
-    if readers::is_up(state, device) {
+    if readers::is_up(state.rows, device) {
         return decisions::refused(Refusal::RestartOfUp);
     }
     if !rules_routine::in_range(setting) {
@@ -110,9 +108,14 @@ pub fn decide_restart(state: HubState, device: u8, setting: i16) -> Decision
 }
 
 // What the abort that comes first puts back, if there is one, while a device fails, if one does.
-pub fn put_backs_if(state: HubState, slot: Option<usize>, device: u8, down: Option<u8>) -> PutBacks
-    requires { (StateOk state) × (StandsIfAny state slot) }
-    ensures { put_backs_of result ≡ put_backs_stopped device (down_if (state_of state) down) (found_at state slot) }
+pub fn put_backs_if(
+    state: ValidState,
+    slot: Option<usize>,
+    device: u8,
+    down: Option<u8>,
+) -> PutBacks
+    requires { StandsIfAny state.rows slot }
+    ensures { put_backs_of result ≡ put_backs_stopped device (down_if (state_of state.rows) down) (found_at state.rows slot) }
 {
     if let Some(at) = slot {
         if hub_search::must_left(state, at, device) {
@@ -123,23 +126,25 @@ pub fn put_backs_if(state: HubState, slot: Option<usize>, device: u8, down: Opti
 }
 
 // A device becomes up or down.
-fn with_up(state: HubState, device: u8, is_up: bool) -> HubState
-    requires { (StateOk state) × (device < max_devices) }
-    ensures { (StateOk result) × (state_of result ≡ with_up (state_of state) (put (state_of state).up device is_up)) × (result.links ≡ state.links)
-        × (there result ≡ there state) }
+fn with_up(state: ValidState, device: u8, is_up: bool) -> ValidState
+    requires { device < max_devices }
+    ensures { (StateOk result.rows) × (state_of result.rows ≡ with_up (state_of state.rows) (put (state_of state.rows).up device is_up))
+        × (result.rows.links ≡ state.rows.links)
+        × (there result.rows ≡ there state.rows) }
 {
     let at = device as usize;
     let mut changed = state;
-    changed.up[at] = is_up;
+    changed.rows.up[at] = is_up;
     changed
 }
 
 // "On a failure D first becomes down." Then the abort, or the skips. (That both events have this in their own text, and not in a function
 // called by both, keeps two states off the stack.)
-pub fn with_failure(state: HubState, device: u8, slot: Option<usize>) -> HubState
-    requires { (StateOk state) × (device < max_devices) × (StandsIfAny state slot) }
-    ensures { (StateOk result) × (state_of result ≡ stopped_by device (down_with (state_of state) device) (found_at state slot))
-        × (OnlyLeave state result) }
+pub fn with_failure(state: ValidState, device: u8, slot: Option<usize>) -> ValidState
+    requires { (device < max_devices) × (StandsIfAny state.rows slot) }
+    ensures { (StateOk result.rows)
+        × (state_of result.rows ≡ stopped_by device (down_with (state_of state.rows) device) (found_at state.rows slot))
+        × (OnlyLeave state.rows result.rows) }
 {
     let mut next = with_up(state, device, false);
     if let Some(at) = slot {
@@ -153,10 +158,11 @@ pub fn with_failure(state: HubState, device: u8, slot: Option<usize>) -> HubStat
 }
 
 // The abort, or the skips; the event is attached to D's mark; "On a restart D then becomes up at the setting it reports."
-pub fn with_restart(state: HubState, device: u8, setting: i16, slot: Option<usize>) -> HubState
-    requires { (StateOk state) × (device < max_devices) × (is_restart setting ≡ true) × (StandsIfAny state slot) }
-    ensures { (StateOk result) × (state_of result ≡ up_with (stopped_by device (state_of state) (found_at state slot)) device setting)
-        × (OnlyLeave state result) }
+pub fn with_restart(state: ValidState, device: u8, setting: i16, slot: Option<usize>) -> ValidState
+    requires { (device < max_devices) × (is_restart setting ≡ true) × (StandsIfAny state.rows slot) }
+    ensures { (StateOk result.rows)
+        × (state_of result.rows ≡ up_with (stopped_by device (state_of state.rows) (found_at state.rows slot)) device setting)
+        × (OnlyLeave state.rows result.rows) }
 {
     let mut next = state;
     if let Some(at) = slot {
@@ -166,7 +172,7 @@ pub fn with_restart(state: HubState, device: u8, setting: i16, slot: Option<usiz
             next = hub_apply::with_skips(next, at, device);
         }
     }
-    let marks = next.mark;
+    let marks = next.rows.mark;
     let d = device as usize;
     let with_it = hub_settle::attach::attach(next, marks[d], device, setting);
     with_up(with_it, device, true)

@@ -14,6 +14,7 @@ use Rattle.hub_state.specs.View.{steps_at, member_at, members_of, state_of}
 use Rattle.hub_state.specs.Valid.{StateOk}
 use Rattle.hub_state.specs.Unmoved.{Unmoved}
 use Rattle.hub_state.specs.declared.HubState.{HubState}
+use Rattle.hub_state.specs.declared.valid.ValidState.{ValidState}
 use Rattle.hub_state.proofs.UnmovedLaws.{in_place, itself_in_place}
 use Rattle.hub_limit.specs.Contract.{Limits}
 
@@ -64,11 +65,11 @@ limited-unmoved h k r u = record { same_slot = u.same_slot; same_routine = u.sam
 
 module _ (h : HubState) (k : ℕ) (verdict : Verdict) (made : verdict ≡ new_limit_check h.devices k) where
   -- it is in force
-  pub limits_fine : (next : HubState) → StateOk next → state_of next ≡ settle (with_pass_limit (state_of h) k) → Unmoved h next →
+  pub limits_fine : (next : ValidState) → state_of next.rows ≡ settle (with_pass_limit (state_of h) k) → Unmoved h next.rows →
       verdict ≡ Ok tt → Limits h k (Ok next)
   unfolding state_of
-  limits_fine next v e p a = record {
-    valid = v;
+  limits_fine next e p a = record {
+    valid = next.ok;
     unmoved = p;
     gives = ap (λ (s : State). record { state = s; answers = limited k ∷ [] }) e ∙ sym (limit_passes (state_of h) k (sym made ∙ a));
   }

@@ -9,7 +9,7 @@ ghost use Rattle.hub_state.specs.Valid.{StateOk};
 ghost use Rattle.hub_state.specs.Unmoved.{Unmoved};
 ghost use Rattle.hub_limit.specs.Contract.{Limits};
 
-use hub_state::HubState;
+use hub_state::ValidState;
 use rules_routine::Refusal;
 use rules_routine::limits::{HIGHEST_PASS_LIMIT, MAX_DEVICES};
 
@@ -31,20 +31,19 @@ pub fn check(devices: u8, pass_limit: u8) -> Result<(), Refusal>
 
 // "Every routine keeps its count": K alone changes. Then, as "After each call", what is committed at the front settles; after calls from an
 // opening that is nothing.
-fn with_limit(state: HubState, pass_limit: u8) -> HubState
-    requires { StateOk state }
-    ensures { (StateOk result) × (state_of result ≡ settle (with_pass_limit (state_of state) pass_limit)) × (Unmoved state result) }
+fn with_limit(state: ValidState, pass_limit: u8) -> ValidState
+    ensures { (StateOk result.rows) × (state_of result.rows ≡ settle (with_pass_limit (state_of state.rows) pass_limit))
+        × (Unmoved state.rows result.rows) }
 {
     let mut changed = state;
-    changed.pass_limit = pass_limit;
+    changed.rows.pass_limit = pass_limit;
     hub_settle::settle::settle(changed)
 }
 
 // The call: the state with the new K, or why it is turned down.
-pub fn set_limit(state: HubState, pass_limit: u8) -> Result<HubState, Refusal>
-    requires { StateOk state }
-    ensures { Limits state pass_limit result }
+pub fn set_limit(state: ValidState, pass_limit: u8) -> Result<ValidState, Refusal>
+    ensures { Limits state.rows pass_limit result }
 {
-    check(state.devices, pass_limit)?;
+    check(state.rows.devices, pass_limit)?;
     Ok(with_limit(state, pass_limit))
 }

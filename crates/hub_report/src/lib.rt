@@ -9,14 +9,13 @@ ghost use Rattle.rules.specs.Report.{back_if_changed, skip_report, report_of};
 ghost use Rattle.hub_sequence.specs.Links.{Stands};
 ghost use Rattle.hub_answers.specs.View.{one_of};
 ghost use Rattle.hub_state.specs.View.{member_at, state_of, there};
-ghost use Rattle.hub_state.specs.Valid.{StateOk};
 ghost use Rattle.hub_state.specs.Unanswered.{command_at, NextInFlight};
 ghost use Rattle.hub_state.specs.Contract.{Decides};
 ghost use Rattle.hub_report.specs.Contract.{answered_by, flight_at};
 
 use hub_answers::{Answer, PutBack};
 use hub_state::{
-    Change, DONE, Decision, HubState, SKIPPED, Staged, Unanswered, decisions, readers,
+    Change, DONE, Decision, SKIPPED, Staged, Unanswered, ValidState, decisions, readers,
 };
 use rules_routine::Refusal;
 use rules_routine::reports::{CODE_DONE, CODE_FAILED};
@@ -51,14 +50,15 @@ fn back_if_changed(device: u8, due: i16, before: i16) -> Option<PutBack>
 }
 
 // "a best-effort is skipped". No due setting changes by that: the command was not done.
-fn skip(state: HubState, at: usize, k: usize, id: u32) -> Decision
-    requires { (StateOk state) × (Stands state.links at) × (NextInFlight state at k) × (id ≡ (member_at state at).id) }
-    ensures { Decides state [] result (settling (skip_report (state_of state) (there state at) (flight_at state at k))) }
+fn skip(state: ValidState, at: usize, k: usize, id: u32) -> Decision
+    requires { (Stands state.rows.links at) × (NextInFlight state.rows at k) × (id ≡ (member_at state.rows at).id) }
+    ensures { Decides state.rows [] result
+        (settling (skip_report (state_of state.rows) (there state.rows at) (flight_at state.rows at k))) }
 {
-    let device = state.device;
+    let device = state.rows.device;
     let wanted = device[k];
     let d = wanted as usize;
-    let dues = state.due_then;
+    let dues = state.rows.due_then;
     let before = dues[at];
     let table = hub_due::due_settings(state);
     let due = table[d];
@@ -73,12 +73,13 @@ fn skip(state: HubState, at: usize, k: usize, id: u32) -> Decision
 }
 
 // "Code 1, failed: a must aborts R, a best-effort is skipped"
-fn failed(state: HubState, at: usize, k: usize, id: u32) -> Decision
-    requires { (StateOk state) × (Stands state.links at) × (NextInFlight state at k) × (id ≡ (member_at state at).id) }
-    ensures { Decides state [] result (if is_must (command_at state k) then settling (abort (state_of state) (there state at))
-        else settling (skip_report (state_of state) (there state at) (flight_at state at k))) }
+fn failed(state: ValidState, at: usize, k: usize, id: u32) -> Decision
+    requires { (Stands state.rows.links at) × (NextInFlight state.rows at k) × (id ≡ (member_at state.rows at).id) }
+    ensures { Decides state.rows [] result
+        (if is_must (command_at state.rows k) then settling (abort (state_of state.rows) (there state.rows at))
+        else settling (skip_report (state_of state.rows) (there state.rows at) (flight_at state.rows at k))) }
 {
-    let tags = state.tag;
+    let tags = state.rows.tag;
     if tags[k] == MUST {
         return decisions::plain(Answer::Aborted(id), Change::Abort(at));
     }
@@ -86,14 +87,13 @@ fn failed(state: HubState, at: usize, k: usize, id: u32) -> Decision
 }
 
 // What a report comes to. "Report: 10, 12, 13."
-pub fn decide(state: HubState, id: u32, code: u8) -> Decision
-    requires { StateOk state }
-    ensures { Decides state [] result (report_of (state_of state) id code) }
+pub fn decide(state: ValidState, id: u32, code: u8) -> Decision
+    ensures { Decides state.rows [] result (report_of (state_of state.rows) id code) }
 {
     let Some(at) = hub_search::running(state, id) else {
         return decisions::refused(Refusal::NotRunning);
     };
-    let stage = state.stage;
+    let stage = state.rows.stage;
     let open = readers::unanswered_at(state, &stage, at);
     let Unanswered::InFlight(k) = open else {
         return decisions::refused(Refusal::NothingInFlight);

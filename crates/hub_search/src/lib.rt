@@ -11,11 +11,11 @@ ghost use Rattle.rules.specs.Turn.{first_holding};
 ghost use Rattle.rules.specs.Events.{is_halfway, must_left};
 ghost use Rattle.hub_sequence.specs.Links.{Stands};
 ghost use Rattle.hub_state.specs.View.{member_at, there};
-ghost use Rattle.hub_state.specs.Valid.{StateOk, CommandsOk};
+ghost use Rattle.hub_state.specs.Valid.{CommandsOk};
 ghost use Rattle.hub_search.specs.Contract.{has_id, Finds, any_on, any_staged, counting_tag, any_must, marks_for, Latest};
 
 use hub_sequence::NONE;
-use hub_state::{DONE, HubState, IN_FLIGHT, SKIPPED, STEPS, TO_DO};
+use hub_state::{DONE, IN_FLIGHT, SKIPPED, STEPS, TO_DO, ValidState};
 use rules_routine::Routine;
 use rules_routine::limits::{MAX_COMMANDS, MAX_DEVICES, MAX_SEQUENCE};
 use rules_routine::tags::{CONDITION, MUST};
@@ -24,14 +24,13 @@ use rules_routine::tags::{CONDITION, MUST};
 const HIGHEST_STAGE: u8 = 255;
 
 // The running routine with this id.
-pub fn running(state: HubState, id: u32) -> Option<usize>
-    requires { StateOk state }
-    ensures { Finds state (runs id) result }
+pub fn running(state: ValidState, id: u32) -> Option<usize>
+    ensures { Finds state.rows (runs id) result }
 {
-    let links = state.links;
+    let links = state.rows.links;
     let behind = links.behind;
-    let ids = state.ids;
-    let committed = state.committed;
+    let ids = state.rows.ids;
+    let committed = state.rows.committed;
     let mut i = links.first as usize;
     while i < MAX_SEQUENCE {
         if ids[i] == id && !committed[i] {
@@ -43,13 +42,12 @@ pub fn running(state: HubState, id: u32) -> Option<usize>
 }
 
 // The routine with this id.
-pub fn with_id(state: HubState, id: u32) -> Option<usize>
-    requires { StateOk state }
-    ensures { Finds state (has_id id) result }
+pub fn with_id(state: ValidState, id: u32) -> Option<usize>
+    ensures { Finds state.rows (has_id id) result }
 {
-    let links = state.links;
+    let links = state.rows.links;
     let behind = links.behind;
-    let ids = state.ids;
+    let ids = state.rows.ids;
     let mut i = links.first as usize;
     while i < MAX_SEQUENCE {
         if ids[i] == id {
@@ -64,22 +62,22 @@ pub fn with_id(state: HubState, id: u32) -> Option<usize>
 // that is left gives a cause to wait: for a command those answered from the first on are passed over. A condition waits for a done one, too
 // (document 02, item 4).
 pub fn first_holder<'a>(
-    state: HubState,
+    state: ValidState,
     device: &'a [u8; STEPS],
     stage: &'a [u8; STEPS],
     at: usize,
     wanted: u8,
     condition: bool,
 ) -> Option<u32>
-    requires { (StateOk state) × (Stands state.links at) × (device.now ≡ state.device) × (stage.now ≡ state.stage) }
-    ensures { result ≡ first_holding wanted condition (there state at).ahead }
+    requires { (Stands state.rows.links at) × (device.now ≡ state.rows.device) × (stage.now ≡ state.rows.stage) }
+    ensures { result ≡ first_holding wanted condition (there state.rows at).ahead }
 {
-    let links = state.links;
+    let links = state.rows.links;
     let behind = links.behind;
-    let ids = state.ids;
-    let committed = state.committed;
-    let counts = state.counts;
-    let answered = state.answered;
+    let ids = state.rows.ids;
+    let committed = state.rows.committed;
+    let counts = state.rows.counts;
+    let answered = state.rows.answered;
     let bound = if condition { SKIPPED } else { DONE };
     let mut holder = None;
     let mut i = links.first as usize;
@@ -123,32 +121,31 @@ fn is_staged<'a>(
 
 // Begun (document 01, The steps): a command on the device was sent or skipped.
 pub fn has_begun<'a>(
-    state: HubState,
+    state: ValidState,
     device: &'a [u8; STEPS],
     stage: &'a [u8; STEPS],
     at: usize,
     wanted: u8,
 ) -> bool
-    requires { (StateOk state) × (Stands state.links at) × (device.now ≡ state.device) × (stage.now ≡ state.stage) }
-    ensures { result ≡ begun wanted (member_at state at) }
+    requires { (Stands state.rows.links at) × (device.now ≡ state.rows.device) × (stage.now ≡ state.rows.stage) }
+    ensures { result ≡ begun wanted (member_at state.rows at) }
 {
-    let counts = state.counts;
+    let counts = state.rows.counts;
     let from = at * MAX_COMMANDS;
     let end = from + (counts[at] as usize);
     is_staged(device, stage, from, end, wanted, IN_FLIGHT, HIGHEST_STAGE)
 }
 
 // "A running routine that has begun D and not finished it"
-pub fn halfway(state: HubState, wanted: u8) -> Option<usize>
-    requires { StateOk state }
-    ensures { Finds state (is_halfway wanted) result }
+pub fn halfway(state: ValidState, wanted: u8) -> Option<usize>
+    ensures { Finds state.rows (is_halfway wanted) result }
 {
-    let links = state.links;
+    let links = state.rows.links;
     let behind = links.behind;
-    let committed = state.committed;
-    let counts = state.counts;
-    let device = state.device;
-    let stage = state.stage;
+    let committed = state.rows.committed;
+    let counts = state.rows.counts;
+    let device = state.rows.device;
+    let stage = state.rows.stage;
     let mut i = links.first as usize;
     while i < MAX_SEQUENCE {
         if !committed[i] {
@@ -198,14 +195,14 @@ fn any_must<'a>(
 }
 
 // Is a must of the routine in a slot left on the device?
-pub fn must_left(state: HubState, at: usize, wanted: u8) -> bool
-    requires { (StateOk state) × (Stands state.links at) }
-    ensures { result ≡ must_left wanted (member_at state at) }
+pub fn must_left(state: ValidState, at: usize, wanted: u8) -> bool
+    requires { Stands state.rows.links at }
+    ensures { result ≡ must_left wanted (member_at state.rows at) }
 {
-    let counts = state.counts;
-    let device = state.device;
-    let tag = state.tag;
-    let stage = state.stage;
+    let counts = state.rows.counts;
+    let device = state.rows.device;
+    let tag = state.rows.tag;
+    let stage = state.rows.stage;
     let from = at * MAX_COMMANDS;
     let end = from + (counts[at] as usize);
     any_must(&device, &tag, &stage, from, end, wanted)
@@ -241,19 +238,19 @@ fn has_id<'a>(ids: &'a [u32; MAX_COMMANDS], count: usize, id: u32) -> bool
 }
 
 // "directly after the latest, in the sequence, of": the slot of the last that it must follow; NONE for the settled part.
-pub fn latest(state: HubState, routine: Routine) -> u8
-    requires { (StateOk state) × (routine.count ≤ max_commands) × CommandsOk (commands_of routine) }
-    ensures { Latest state (commands_of routine) result }
+pub fn latest(state: ValidState, routine: Routine) -> u8
+    requires { (routine.count ≤ max_commands) × CommandsOk (commands_of routine) }
+    ensures { Latest state.rows (commands_of routine) result }
 {
-    let marks = state.mark;
+    let marks = state.rows.mark;
     let wanted = marks_of(&marks, routine);
     let count = routine.count;
-    let limit = state.pass_limit;
-    let links = state.links;
+    let limit = state.rows.pass_limit;
+    let links = state.rows.links;
     let ahead = links.ahead;
-    let ids = state.ids;
-    let passed = state.passed;
-    let committed = state.committed;
+    let ids = state.rows.ids;
+    let passed = state.rows.passed;
+    let committed = state.rows.committed;
     let mut i = links.last;
     while (i as usize) < MAX_SEQUENCE {
         let x = i as usize;

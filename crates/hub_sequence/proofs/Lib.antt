@@ -7,3 +7,4 @@ pub mod EmptyLaws
 pub mod JoinLaws
 pub mod LeaveLaws
 pub mod StayLaws
+pub mod Props

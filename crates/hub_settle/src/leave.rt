@@ -2,12 +2,11 @@
 ghost use Rattle.std.specs.Prelude.{◌≡◌, ◌<◌};
 ghost use Rattle.rules_routine.specs.Limits.{max_sequence};
 ghost use Rattle.hub_sequence.specs.Links.{Stands};
-ghost use Rattle.hub_state.specs.Valid.{StateOk};
 ghost use Rattle.hub_settle.specs.Contract.{LeavesHub, MovesRestarts};
 
 use crate::moved_marks;
 use hub_sequence::order;
-use hub_state::{HubState, NO_RESTART, RESTARTS};
+use hub_state::{HubState, NO_RESTART, RESTARTS, ValidState};
 use rules_routine::limits::{MAX_DEVICES, MAX_SEQUENCE};
 
 // The restarts of one slot go behind those of another.
@@ -28,14 +27,14 @@ fn moved_restarts(row: [i16; RESTARTS], from: usize, to: usize) -> [i16; RESTART
 }
 
 // "R leaves the sequence. Marks that were R become the routine before it in the sequence, or 0; events attached to R move there"
-pub fn leave(state: HubState, at: usize) -> HubState
-    requires { (StateOk state) × (Stands state.links at) }
-    ensures { LeavesHub state at result }
+pub fn leave(state: ValidState, at: usize) -> ValidState
+    requires { Stands state.rows.links at }
+    ensures { LeavesHub state.rows at result.rows }
 {
-    let ids = state.ids;
-    let mut settled_at = state.settled_at;
-    let mut restarts = state.restarts;
-    let ahead = state.links.ahead;
+    let ids = state.rows.ids;
+    let mut settled_at = state.rows.settled_at;
+    let mut restarts = state.rows.restarts;
+    let ahead = state.rows.links.ahead;
     let before = ahead[at] as usize;
     let mut to: u32 = 0;
     if before < MAX_SEQUENCE {
@@ -46,13 +45,15 @@ pub fn leave(state: HubState, at: usize) -> HubState
         let after = hub_due::after_restarts(settled_at, &restarts, at);
         settled_at = after;
     }
-    let mark = moved_marks(state.mark, ids[at], to);
-    let links = order::leave(state.links, at as u8);
-    HubState {
-        links,
-        restarts,
-        settled_at,
-        mark,
-        ..state
+    let mark = moved_marks(state.rows.mark, ids[at], to);
+    let links = order::leave(state.rows.links, at as u8);
+    ValidState {
+        rows: HubState {
+            links,
+            restarts,
+            settled_at,
+            mark,
+            ..state.rows
+        },
     }
 }

@@ -2,43 +2,40 @@
 // document 01, "Settling".
 ghost use Rattle.std.specs.Prelude.{◌≡◌};
 ghost use Rattle.hub_state.specs.View.{state_of, first_committed};
-ghost use Rattle.hub_state.specs.Valid.{StateOk};
 ghost use Rattle.hub_settle.specs.Contract.{SettlesHub};
 
 use crate::moved_marks;
 use hub_sequence::order;
-use hub_state::HubState;
+use hub_state::{HubState, ValidState};
 use rules_routine::limits::{MAX_COMMANDS, MAX_SEQUENCE};
 
 // Is the first in the sequence committed?
-pub fn settles(state: HubState) -> bool
-    requires { StateOk state }
-    ensures { result ≡ first_committed (state_of state).sequence }
+pub fn settles(state: ValidState) -> bool
+    ensures { result ≡ first_committed (state_of state.rows).sequence }
 {
-    let links = state.links;
+    let links = state.rows.links;
     let first = links.first as usize;
     if first < MAX_SEQUENCE {
-        let committed = state.committed;
+        let committed = state.rows.committed;
         return committed[first];
     }
     false
 }
 
 // The committed routines at the front settle.
-pub fn settle(state: HubState) -> HubState
-    requires { StateOk state }
-    ensures { SettlesHub state result }
+pub fn settle(state: ValidState) -> ValidState
+    ensures { SettlesHub state.rows result.rows }
 {
-    let ids = state.ids;
-    let committed = state.committed;
-    let answered = state.answered;
-    let device = state.device;
-    let setting = state.setting;
-    let stage = state.stage;
-    let restarts = state.restarts;
-    let mut links = state.links;
-    let mut settled = state.settled_at;
-    let mut mark = state.mark;
+    let ids = state.rows.ids;
+    let committed = state.rows.committed;
+    let answered = state.rows.answered;
+    let device = state.rows.device;
+    let setting = state.rows.setting;
+    let stage = state.rows.stage;
+    let restarts = state.rows.restarts;
+    let mut links = state.rows.links;
+    let mut settled = state.rows.settled_at;
+    let mut mark = state.rows.mark;
     let mut i = links.first as usize;
     while i < MAX_SEQUENCE {
         if !committed[i] {
@@ -55,10 +52,12 @@ pub fn settle(state: HubState) -> HubState
         links = left;
         i = links.first as usize;
     }
-    HubState {
-        links,
-        settled_at: settled,
-        mark,
-        ..state
+    ValidState {
+        rows: HubState {
+            links,
+            settled_at: settled,
+            mark,
+            ..state.rows
+        },
     }
 }

@@ -4,3 +4,4 @@ pub mod Contract
 pub mod Unmoved
 pub mod Unanswered
 pub mod Examples
+pub mod Props

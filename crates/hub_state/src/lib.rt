@@ -5,10 +5,12 @@
 
 pub mod decisions;
 pub mod readers;
+pub mod valid;
 
 use hub_answers::{Answer, PutBack};
 use hub_sequence::Links;
 use rules_routine::limits::{MAX_COMMANDS, MAX_DEVICES, MAX_SEQUENCE};
+pub use valid::ValidState;
 
 // The commands of a slot stand in their rows from `slot * MAX_COMMANDS` on, its restarts from `slot * MAX_DEVICES` on.
 pub const STEPS: usize = MAX_SEQUENCE * MAX_COMMANDS;

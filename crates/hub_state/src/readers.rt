@@ -3,10 +3,9 @@ ghost use Rattle.std.specs.Prelude.{◌≡◌};
 ghost use Rattle.rules.specs.Sequence.{last_id_or};
 ghost use Rattle.hub_sequence.specs.Links.{Stands};
 ghost use Rattle.hub_state.specs.View.{state_of, there};
-ghost use Rattle.hub_state.specs.Valid.{StateOk};
 ghost use Rattle.hub_state.specs.Unanswered.{UnansweredIs};
 
-use crate::{HubState, IN_FLIGHT, STEPS, Unanswered};
+use crate::{HubState, IN_FLIGHT, STEPS, Unanswered, ValidState};
 use rules_routine::limits::{MAX_COMMANDS, MAX_SEQUENCE};
 
 // Is a device up? One that the hub does not have stands as at the opening.
@@ -18,15 +17,15 @@ pub fn is_up(state: HubState, device: u8) -> bool
 }
 
 // The id of the routine before the one in a slot; 0, the settled part, if there is none.
-pub fn id_ahead(state: HubState, at: usize) -> u32
-    requires { (StateOk state) × (Stands state.links at) }
-    ensures { result ≡ last_id_or 0 (there state at).ahead }
+pub fn id_ahead(state: ValidState, at: usize) -> u32
+    requires { Stands state.rows.links at }
+    ensures { result ≡ last_id_or 0 (there state.rows at).ahead }
 {
-    let links = state.links;
+    let links = state.rows.links;
     let ahead = links.ahead;
     let before = ahead[at] as usize;
     if before < MAX_SEQUENCE {
-        let ids = state.ids;
+        let ids = state.rows.ids;
         return ids[before];
     }
     0
@@ -34,12 +33,12 @@ pub fn id_ahead(state: HubState, at: usize) -> u32
 
 // The first command that is not answered: the one in flight, or the next. The row of stages is lent, so that it is taken out of the state
 // once a call.
-pub fn unanswered_at<'a>(state: HubState, stage: &'a [u8; STEPS], at: usize) -> Unanswered
-    requires { (StateOk state) × (Stands state.links at) × (stage.now ≡ state.stage) }
-    ensures { UnansweredIs state at result }
+pub fn unanswered_at<'a>(state: ValidState, stage: &'a [u8; STEPS], at: usize) -> Unanswered
+    requires { (Stands state.rows.links at) × (stage.now ≡ state.rows.stage) }
+    ensures { UnansweredIs state.rows at result }
 {
-    let counts = state.counts;
-    let answered = state.answered;
+    let counts = state.rows.counts;
+    let answered = state.rows.answered;
     if counts[at] <= answered[at] {
         return Unanswered::Nothing;
     }

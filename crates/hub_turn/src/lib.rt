@@ -8,15 +8,14 @@ ghost use Rattle.rules.specs.Turn.{proceed_up, proceed, turn_of, turn_next};
 ghost use Rattle.rules.specs.Progress.{begun as has_begun, next};
 ghost use Rattle.hub_sequence.specs.Links.{Stands};
 ghost use Rattle.hub_state.specs.View.{steps_at, state_of, there, member_at};
-ghost use Rattle.hub_state.specs.Valid.{StateOk};
 ghost use Rattle.hub_state.specs.Unanswered.{command_at, NextToDo};
 ghost use Rattle.hub_state.specs.Contract.{Decides};
 ghost use Rattle.hub_turn.specs.Contract.{LentFrom, skipped_at};
 
 use hub_answers::{Answer, Sent};
 use hub_state::{
-    Change, DONE, Decision, HELD, HubState, IN_FLIGHT, NOT_HELD, SKIPPED, STEPS, Staged,
-    Unanswered, decisions, readers,
+    Change, DONE, Decision, HELD, IN_FLIGHT, NOT_HELD, SKIPPED, STEPS, Staged, Unanswered,
+    ValidState, decisions, readers,
 };
 use rules_routine::limits::MAX_COMMANDS;
 use rules_routine::tags::{CONDITION, MUST};
@@ -67,19 +66,19 @@ fn is_skipped<'a>(tag: &'a [u8; STEPS], stage: &'a [u8; STEPS], from: usize, k: 
 // The next command, its device being up: a condition is taken or not held, by the due setting. "Otherwise the command is sent and is in
 // flight": it keeps its device's due setting of now.
 fn go_on_up<'a>(
-    state: HubState,
+    state: ValidState,
     rows: Lent<'a>,
     at: usize,
     k: usize,
     id: u32,
     begun: bool,
 ) -> Decision
-    requires { (StateOk state) × (Stands state.links at) × (NextToDo state at k) × (id ≡ (member_at state at).id)
-        × (LentFrom state rows) × (begun ≡ has_begun (command_at state k).device (member_at state at)) }
-    ensures { Decides state [] result (proceed_up (state_of state) (there state at) (command_at state k)) }
+    requires { (Stands state.rows.links at) × (NextToDo state.rows at k) × (id ≡ (member_at state.rows at).id)
+        × (LentFrom state.rows rows) × (begun ≡ has_begun (command_at state.rows k).device (member_at state.rows at)) }
+    ensures { Decides state.rows [] result (proceed_up (state_of state.rows) (there state.rows at) (command_at state.rows k)) }
 {
     let wanted = rows.device[k];
-    let settings = state.setting;
+    let settings = state.rows.setting;
     let setting = settings[k];
     let due = hub_due::due_setting(state, rows.device, rows.stage, &settings, wanted);
     if rows.tag[k] != CONDITION {
@@ -102,16 +101,16 @@ fn go_on_up<'a>(
 
 // The command after a condition that did not hold is skipped. Else: "If D is down, a must aborts R and a best-effort is skipped"; of a
 // condition "the following command decides".
-fn go_on<'a>(state: HubState, rows: Lent<'a>, at: usize, k: usize, id: u32) -> Decision
-    requires { (StateOk state) × (Stands state.links at) × (NextToDo state at k) × (id ≡ (member_at state at).id)
-        × (LentFrom state rows) }
-    ensures { Decides state [] result (proceed (state_of state) (there state at) (command_at state k)) }
+fn go_on<'a>(state: ValidState, rows: Lent<'a>, at: usize, k: usize, id: u32) -> Decision
+    requires { (Stands state.rows.links at) × (NextToDo state.rows at k) × (id ≡ (member_at state.rows at).id)
+        × (LentFrom state.rows rows) }
+    ensures { Decides state.rows [] result (proceed (state_of state.rows) (there state.rows at) (command_at state.rows k)) }
 {
     let begun = hub_search::has_begun(state, rows.device, rows.stage, at, rows.device[k]);
     let mut skips = is_skipped(rows.tag, rows.stage, at * MAX_COMMANDS, k);
     if !skips {
-        if !readers::is_up(state, rows.device[k]) {
-            let counts = state.counts;
+        if !readers::is_up(state.rows, rows.device[k]) {
+            let counts = state.rows.counts;
             let end = at * MAX_COMMANDS + (counts[at] as usize);
             if hub_search::counting_tag(rows.tag, k, end) == MUST {
                 return decisions::plain(Answer::Aborted(id), Change::Abort(at));
@@ -127,10 +126,10 @@ fn go_on<'a>(state: HubState, rows: Lent<'a>, at: usize, k: usize, id: u32) -> D
 }
 
 // The next command: "the answer is wait, with the first such id in the sequence, and no change", or it goes on.
-fn next_turn<'a>(state: HubState, rows: Lent<'a>, at: usize, k: usize, id: u32) -> Decision
-    requires { (StateOk state) × (Stands state.links at) × (NextToDo state at k) × (id ≡ (member_at state at).id)
-        × (LentFrom state rows) }
-    ensures { Decides state [] result (turn_next (state_of state) (there state at) (next (steps_at state at))) }
+fn next_turn<'a>(state: ValidState, rows: Lent<'a>, at: usize, k: usize, id: u32) -> Decision
+    requires { (Stands state.rows.links at) × (NextToDo state.rows at k) × (id ≡ (member_at state.rows at).id)
+        × (LentFrom state.rows rows) }
+    ensures { Decides state.rows [] result (turn_next (state_of state.rows) (there state.rows at) (next (steps_at state.rows at))) }
 {
     let condition = rows.tag[k] == CONDITION;
     match hub_search::first_holder(
@@ -147,21 +146,20 @@ fn next_turn<'a>(state: HubState, rows: Lent<'a>, at: usize, k: usize, id: u32) 
 }
 
 // What a turn comes to. "Turn: 10, 11."
-pub fn decide(state: HubState, id: u32) -> Decision
-    requires { StateOk state }
-    ensures { Decides state [] result (turn_of (state_of state) id) }
+pub fn decide(state: ValidState, id: u32) -> Decision
+    ensures { Decides state.rows [] result (turn_of (state_of state.rows) id) }
 {
     let Some(at) = hub_search::running(state, id) else {
         return decisions::refused(Refusal::NotRunning);
     };
-    let stage = state.stage;
-    let tag = state.tag;
+    let stage = state.rows.stage;
+    let tag = state.rows.tag;
     let open = readers::unanswered_at(state, &stage, at);
     match open {
         Unanswered::Nothing => decisions::plain(Answer::Committed(id), Change::Commit(at)),
         Unanswered::InFlight(_) => decisions::refused(Refusal::TurnInFlight),
         Unanswered::ToDo(k) => {
-            let device = state.device;
+            let device = state.rows.device;
             let rows = Lent {
                 device: &device,
                 tag: &tag,

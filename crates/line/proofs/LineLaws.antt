@@ -126,7 +126,8 @@ pub line-unread : (h : Hub) (q : Said) → heard_of (read_as q) (view h).devices
 unfolding step hub_in
 line-unread h (opening n k first) e = let z : ◌≡◌ {A = ℕ} 0 1 = cc in absurd (omega arith)
 line-unread h (calling c) e =
-    by_test (λ (t : Bool). heard_if t c ≡ Unread → prints_call (hub_if t h) (as_call c) ≡ prints_unread (hub_if t h)) (eqb (view h).devices 0)
+    by_test (λ (t : Bool). heard_if t c ≡ Unread → prints_call (hub_if t h) (as_call c) ≡ prints_unread (hub_if t h))
+    (eqb (view h).devices 0)
     (λ _ _. refl)
     (λ _ f. let z : ◌≡◌ {A = ℕ} 0 1 = cc in absurd (omega arith))
     e
@@ -215,9 +216,9 @@ none_joins (Failure d) n = refl
 none_joins (Restarted d v) n = refl
 
 -- which call it is
-pub as-call : (h : Hub) {d : Decision} {c x : Call} → c ≡ x → Decides h.state (commands_in x) d (result_of (view h) (call_in x)) →
-    Decides h.state (commands_in c) d (result_of (view h) (call_in c))
-as-call h {d} {c} {x} e w = subst (λ (y : Call). Decides h.state (commands_in y) d (result_of (view h) (call_in y))) (sym e) w
+pub as-call : (h : Hub) {d : Decision} {c x : Call} → c ≡ x → Decides h.state.rows (commands_in x) d (result_of (view h) (call_in x)) →
+    Decides h.state.rows (commands_in c) d (result_of (view h) (call_in c))
+as-call h {d} {c} {x} e w = subst (λ (y : Call). Decides h.state.rows (commands_in y) d (result_of (view h) (call_in y))) (sym e) w
 
 -- ---- one line done: its text, and the hub that it leaves
 
@@ -272,7 +273,7 @@ keeps_limit (Failure d) = tt
 keeps_limit (Restarted d v) = tt
 
 -- what was decided on the hub, for those who ask
-pub decided_on : (h : Hub) (c : Call) {d : Decision} → Decides h.state (commands_in c) d (result_of (view h) (call_in c)) →
+pub decided_on : (h : Hub) (c : Call) {d : Decision} → Decides h.state.rows (commands_in c) d (result_of (view h) (call_in c)) →
     DecidedOn h (commands_in c) d
 decided_on h c k = record { call = call_in c; no_limit = keeps_limit c; decides = k }
 
@@ -281,8 +282,8 @@ pub carries_nothing : (h : Hub) (cs : List Command) {c : Change} → Valid h →
 carries_nothing h cs v e =
     record {
       in_order = v.in_order;
-      gives = ap (λ (y : Change). applied_to h.state cs y) (sym e);
-      moves_nobody = itself_moves h.state v.in_order;
+      gives = ap (λ (y : Change). applied_to h.state.rows cs y) (sym e);
+      moves_nobody = itself_moves h.state.rows v.in_order;
       same_hub = λ _. refl;
     }
 
@@ -296,10 +297,10 @@ is_change (Fail d x) = true
 is_change (Restart d v x) = true
 
 pub carries : (h : Hub) (cs : List Command) {c : Change} (x : Change) {next : Hub} → c ≡ x → is_change x ≡ true →
-    (InOrder next) × (view next ≡ applied_to h.state cs x) × (MovesNobody h.state next.state) → Carries h cs c next
+    (InOrder next) × (view next ≡ applied_to h.state.rows cs x) × (MovesNobody h.state.rows next.state.rows) → Carries h cs c next
 carries h cs x e t k = record {
   in_order = k.0;
-  gives = k.1 ∙ ap (λ (y : Change). applied_to h.state cs y) (sym e);
+  gives = k.1 ∙ ap (λ (y : Change). applied_to h.state.rows cs y) (sym e);
   moves_nobody = k.2;
   same_hub = λ z. t≠f (sym t ∙ ap is_change (sym e ∙ z));
 }
@@ -318,10 +319,10 @@ settled_unless (Fail d x) r n = refl
 settled_unless (Restart d v x) r n = refl
 
 module _ (h : Hub) (q : Said) (call : Call) (e : heard_of (read_as q) (view h).devices ≡ Calling call) (d : Decision)
-    (w : Decides h.state (commands_in call) d (result_of (view h) (call_in call))) (made : Hub)
+    (w : Decides h.state.rows (commands_in call) d (result_of (view h) (call_in call))) (made : Hub)
     (m : Carries h (commands_in call) d.change made) where
   abbrev told : List Answer
-  told = told_by h.state d
+  told = told_by h.state.rows d
 
   does_call : (next : Hub) → Valid next → record { state = view next; answers = told } ≡ result_of (view h) (call_in call) →
       Does h q next (answers_text told)
@@ -363,5 +364,5 @@ module _ (h : Hub) (q : Said) (call : Call) (e : heard_of (read_as q) (view h).d
       does_call made (subst Valid (sym (m.same_hub still)) valid)
       (ap (λ (s : State). record { state = s; answers = told }) m.gives
       ∙ sym (ap (λ (c : Change). settled_unless_nothing c
-      (record { state = applied_to h.state (commands_in call) d.change; answers = told })) still)
+      (record { state = applied_to h.state.rows (commands_in call) d.change; answers = told })) still)
       ∙ w.gives)

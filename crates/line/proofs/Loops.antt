@@ -247,7 +247,7 @@ unfolding lines_from device_lines
 lines_same s t d zero h = refl
 lines_same s t d (suc n) h = λ i. h d (omega arith) i ++ lines_same s t (suc d) n (λ k e. h k (omega arith)) i
 
-pub devices_are : (h : Hub) → (view h).devices ≡ h.state.devices
+pub devices_are : (h : Hub) → (view h).devices ≡ h.state.rows.devices
 unfolding state_of
 devices_are h = refl
 

@@ -35,7 +35,7 @@ pub fn heard(line: Line, devices: u8) -> Line
 // What the call that a line makes comes to.
 pub fn decided(hub: Hub, call: Call) -> Decision
     requires { Valid hub }
-    ensures { Decides hub.state (commands_in call) result (result_of (view hub) (call_in call)) }
+    ensures { Decides hub.state.rows (commands_in call) result (result_of (view hub) (call_in call)) }
 {
     match call {
         Call::Submit(routine) => hub::decide_submit(hub, routine),
@@ -99,7 +99,7 @@ fn aborts(decision: Decision) -> bool
 // The answers of a call.
 pub fn put_answers(text: &mut [u8], hub: Hub, decision: Decision) -> usize
     requires { (Valid hub) × (WasDecidedOn hub decision) × (max_text ≤ length text.old) }
-    ensures { PutShort max_text text.old text.new 0 result (answers_text (told_by hub.state decision)) }
+    ensures { PutShort max_text text.old text.new 0 result (answers_text (told_by hub.state.rows decision)) }
 {
     let first = decision.first;
     let answer = decision.answer;

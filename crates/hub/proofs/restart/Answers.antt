@@ -15,15 +15,20 @@ use Rattle.hub.proofs.restart.Goals as goal
 
 -- what is decided, of the setting as it was handed over
 decided : (c : After-decide_restart-decision) →
-    let a = c.args in Decides a.hub.state [] c.decide_restart-decision.result (restart_of (view a.hub) a.device a.setting)
+    let a = c.args in Decides a.hub.state.rows [] c.decide_restart-decision.result (restart_of (view a.hub) a.device a.setting)
 decided c =
     let a = c.args in
     let e : to_z w16 (of_z w16 a.setting) ≡ a.setting = search rules in
-    subst (λ (z : ℤ). Decides a.hub.state [] c.decide_restart-decision.result (restart_of (view a.hub) a.device z)) e
+    subst (λ (z : ℤ). Decides a.hub.state.rows [] c.decide_restart-decision.result (restart_of (view a.hub) a.device z)) e
     c.decide_restart-decision.ensures
 
 pub carried_out-requires : goal.carried_out-requires
-carried_out-requires c = (c.requires, decided_none (restart _ _) _ tt c.empty-routine.ensures (decided (goal.at.carried_out-requires c).After-decide_restart-decision))
+carried_out-requires c = (
+  c.requires,
+  decided_none (restart _ _) _ tt c.empty-routine.ensures
+      (decided (goal.at.carried_out-requires c).After-decide_restart-decision),
+)
 
 pub returns : goal.returns
-returns c = gives_none c.empty-routine.result c.empty-routine.ensures (decided (goal.at.returns c).After-decide_restart-decision) c.carried_out.ensures
+returns c = gives_none c.empty-routine.result c.empty-routine.ensures
+    (decided (goal.at.returns c).After-decide_restart-decision) c.carried_out.ensures

@@ -5,4 +5,4 @@ use Rattle.hub.proofs.with_routine.Goals as goal
 pub returns : goal.returns
 returns c = let w = c.with_routine-state.ensures in
     let place = (decided_ok c.requires.1).place in
-    (w.valid, w.gives, place_moves c.args.hub.state c.with_routine-state.result c.requires.0.in_order place w)
+    (w.valid, w.gives, place_moves c.args.hub.state.rows c.with_routine-state.result.rows c.requires.0.in_order place w)

@@ -21,7 +21,7 @@ use Rattle.hub_abort.proofs.tables_of.Goals.{Start}
 use Rattle.hub_abort.proofs.tables_of.Goals as goal
 
 -- the length of the row of devices that are up
-long : (c : Start) → length c.args.state.up ≡ max_devices
+long : (c : Start) → length c.args.state.rows.up ≡ max_devices
 long c = search (rules, length_mapped)
 
 -- which device fails, said in two ways
@@ -44,19 +44,19 @@ tables_by h x down t v s u o w b a = record {
 
 pub returns-then-device-lt-MAX_DEVICES : goal.returns-then-device-lt-MAX_DEVICES
 returns-then-device-lt-MAX_DEVICES c = let a = c.args in
-    tables_by a.state a.at a.down _ c.requires.0 c.requires.1
-    (up-fails a.state _ c.if-device-lt-MAX_DEVICES.true (long (goal.at.returns-then-device-lt-MAX_DEVICES c).Start)
-    ∙ failing a.state (sym c.in-Some.is))
+    tables_by a.state.rows a.at a.down _ c.args.state.ok c.requires
+    (up-fails a.state.rows _ c.if-device-lt-MAX_DEVICES.true (long (goal.at.returns-then-device-lt-MAX_DEVICES c).Start)
+    ∙ failing a.state.rows (sym c.in-Some.is))
     c.in_flight_without-others.ensures c.own_flights-own.ensures c.due_settings-before.ensures c.due_settings_without-after.ensures
 
 pub returns-else-device-lt-MAX_DEVICES : goal.returns-else-device-lt-MAX_DEVICES
 returns-else-device-lt-MAX_DEVICES c = let a = c.args in
-    tables_by a.state a.at a.down _ c.requires.0 c.requires.1
-    (up_stays a.state _ c.if-device-lt-MAX_DEVICES.false ∙ failing a.state (sym c.in-Some.is))
+    tables_by a.state.rows a.at a.down _ c.args.state.ok c.requires
+    (up_stays a.state.rows _ c.if-device-lt-MAX_DEVICES.false ∙ failing a.state.rows (sym c.in-Some.is))
     c.in_flight_without-others.ensures c.own_flights-own.ensures c.due_settings-before.ensures c.due_settings_without-after.ensures
 
 pub returns-in_default : goal.returns-in_default
 unfolding state_of
 returns-in_default c = let a = c.args in
-    tables_by a.state a.at a.down _ c.requires.0 c.requires.1 (failing a.state (sym c.in_default.is))
+    tables_by a.state.rows a.at a.down _ c.args.state.ok c.requires (failing a.state.rows (sym c.in_default.is))
     c.in_flight_without-others.ensures c.own_flights-own.ensures c.due_settings-before.ensures c.due_settings_without-after.ensures

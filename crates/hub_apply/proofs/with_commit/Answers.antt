@@ -8,8 +8,11 @@ use Rattle.hub_apply.proofs.StageLaws.{commit_applied}
 use Rattle.hub_apply.proofs.with_commit.Goals.{Start}
 use Rattle.hub_apply.proofs.with_commit.Goals as goal
 
-long : (c : Start) → length c.args.state.committed ≡ max_sequence
+long : (c : Start) → length c.args.state.rows.committed ≡ max_sequence
 long c = search (rules, length_mapped)
 
+pub invariant_of-result : goal.invariant_of-result
+invariant_of-result c = record { ok = (commit_applied _ _ c.args.state.ok c.requires (long (goal.at.invariant_of-result c).Start)).0 }
+
 pub returns : goal.returns
-returns c = commit_applied _ _ c.requires.0 c.requires.1 (long (goal.at.returns c).Start)
+returns c = commit_applied _ _ c.args.state.ok c.requires (long (goal.at.returns c).Start)

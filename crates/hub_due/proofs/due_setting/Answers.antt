@@ -15,17 +15,18 @@ use Rattle.hub_due.proofs.due_setting.Goals.{Start}
 use Rattle.hub_due.proofs.due_setting.Goals as goal
 
 -- the row of settings
-long : (c : Start) → length c.args.state.settled_at ≡ max_devices
+long : (c : Start) → length c.args.state.rows.settled_at ≡ max_devices
 long c = search (rules, length_mapped)
 
 pub returns-then-at-ge-MAX_DEVICES : goal.returns-then-at-ge-MAX_DEVICES
 returns-then-at-ge-MAX_DEVICES c = let v = c.due_on.result in
     let e : to_z w16 (of_z w16 v) ≡ v = search rules in
-    e ∙ c.due_on.ensures ∙ due-past _ c.requires.0 _ (omega (arith, long (goal.at.returns-then-at-ge-MAX_DEVICES c).Start, c.if-at-ge-MAX_DEVICES.true))
+    e ∙ c.due_on.ensures
+    ∙ due-past _ c.args.state.ok _ (omega (arith, long (goal.at.returns-then-at-ge-MAX_DEVICES c).Start, c.if-at-ge-MAX_DEVICES.true))
 
 pub returns : goal.returns
 returns c = let v = c.due_on-2.result in
     let e : to_z w16 (of_z w16 v) ≡ v = search rules in
-    let u = settings_of c.args.state.settled_at c.args.wanted in
+    let u = settings_of c.args.state.rows.settled_at c.args.wanted in
     let f : to_z w16 (of_z w16 u) ≡ u = search rules in
-    e ∙ c.due_on-2.ensures ∙ ap (λ (z : ℤ). after_members c.args.wanted (members_of c.args.state) z) f ∙ due-is _ c.requires.0 _
+    e ∙ c.due_on-2.ensures ∙ ap (λ (z : ℤ). after_members c.args.wanted (members_of c.args.state.rows) z) f ∙ due-is _ c.args.state.ok _

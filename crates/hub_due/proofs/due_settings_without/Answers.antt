@@ -17,23 +17,28 @@ use Rattle.hub_due.proofs.due_settings_without.Goals as goal
 
 -- the slot that the walk has come to is taken
 stands : (c : In-loop-i) →
-    Stands c.args.state.links
+    Stands c.args.state.rows.links
     c.loop-i.i
 stands c = let v = c.loop-i.invariant in walk_here v.0 v.1 c.loop-i-test.true
 
 -- where its answered commands end
 ends : (c : In-loop-i) →
     c.loop-i.i * max_commands + get_or
-    c.args.state.answered
+    c.args.state.rows.answered
     c.loop-i.i 0
     ≤ max_sequence * max_commands
-ends c = answered_end c.args.state _ c.requires (stands c)
+ends c = answered_end c.args.state.rows _ c.args.state.ok (stands c)
 
 pub loop-i-init : goal.loop-i-init
-loop-i-init c = (walks-behind _ c.requires.links_ok, within_self _, due_yet _ _ _ _ _ _ _ _ _)
+loop-i-init c = (walks-behind _ c.args.state.ok.links_ok, within_self _, due_yet _ _ _ _ _ _ _ _ _)
 
 pub after_done-done-requires : goal.after_done-done-requires
-after_done-done-requires c = (omega arith, ends (goal.at.after_done-done-requires c).In-loop-i, answered-devices c.args.state _ c.requires (stands (goal.at.after_done-done-requires c).In-loop-i))
+after_done-done-requires c = (
+  omega arith,
+  ends (goal.at.after_done-done-requires c).In-loop-i,
+  answered-devices c.args.state.rows _ c.args.state.ok
+      (stands (goal.at.after_done-done-requires c).In-loop-i),
+)
 
 pub loop-i-smaller : goal.loop-i-smaller
 loop-i-smaller c = walks_less c.loop-i.invariant.0 c.loop-i-test.true
@@ -52,4 +57,4 @@ loop-i-preserved c = let h = c.loop-i-test.true in
 
 pub returns : goal.returns
 returns c = let v = c.loop-i.invariant in
-    fun_ext (λ d. due_end v.0 v.2 c.loop-i-test.false d ∙ due_but _ c.requires d _ _ c.unwrap_or-left_out.ensures)
+    fun_ext (λ d. due_end v.0 v.2 c.loop-i-test.false d ∙ due_but _ c.args.state.ok d _ _ c.unwrap_or-left_out.ensures)

@@ -27,20 +27,20 @@ entries table d (u ∷ l) (suc n) e h =
 
 pub returns-then-list-count : goal.returns-then-list-count
 unfolding state_of
-returns-then-list-count c = let p = list-refused (state_of c.args.state) c.args.list.now c.if-list-count.true in record { answers = p.0; leaves = p.1 }
+returns-then-list-count c = let p = list-refused (state_of c.args.state.rows) c.args.list.now c.if-list-count.true in record { answers = p.0; leaves = p.1 }
 
 pub returns : goal.returns
 unfolding state_of list_after all_due
-returns c = let n = c.args.state.devices in
+returns c = let n = c.args.state.rows.devices in
     let table = c.due_settings-table.result in
     let list = c.args.list.now in
     let long : length table ≡ max_devices = search (rules, length_mapped) in
     record {
-      answers = list-accepted (state_of c.args.state) list c.if-list-count.false;
+      answers = list-accepted (state_of c.args.state.rows) list c.if-list-count.false;
       leaves = rw (le-ltb (length list) n c.if-list-count.false)
           (ap (λ (l : List ℤ). l ++ drop n list)
           (c.copy_from_slice.ensures.after
           ∙ entries table 0 table n (λ k. let e : 0 + k ≡ k = omega arith in ap (settings_of table) e)
-          (omega (arith, long, c.requires.devices_fit))
+          (omega (arith, long, c.args.state.ok.devices_fit))
           ∙ ap (λ (f : ℕ → ℤ). settings_from f 0 n) c.due_settings-table.ensures));
     }

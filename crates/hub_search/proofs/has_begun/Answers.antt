@@ -11,9 +11,9 @@ use Rattle.hub_search.proofs.has_begun.Goals.{Start}
 use Rattle.hub_search.proofs.has_begun.Goals as goal
 
 -- a stage has 8 bits
-stages-fit : (c : Start) (j : ℕ) → get_or c.args.state.stage j 0 ≤ highest_stage
-stages-fit c j = let f : Fits w8 (get_or c.args.state.stage j 0) = search rules in omega (arith, f.fits)
+stages-fit : (c : Start) (j : ℕ) → get_or c.args.state.rows.stage j 0 ≤ highest_stage
+stages-fit c j = let f : Fits w8 (get_or c.args.state.rows.stage j 0) = search rules in omega (arith, f.fits)
 
 pub returns : goal.returns
-returns c = let p = c.requires in
-    begun-is _ p.0 _ p.1 _ _ _ p.2 p.3 (stages-fit (goal.at.returns c).Start) c.is_staged.ensures
+returns c = begun-is _ c.args.state.ok _ c.requires.0 _ _ _ c.requires.1 c.requires.2
+    (stages-fit (goal.at.returns c).Start) c.is_staged.ensures

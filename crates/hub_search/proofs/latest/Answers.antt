@@ -10,17 +10,17 @@ use Rattle.hub_search.proofs.latest.Goals.{else-not-committed-x-via-then-not-com
 use Rattle.hub_search.proofs.latest.Goals as goal
 
 pub loop-i-init : goal.loop-i-init
-loop-i-init c = seeks_start _ _ _ (walks-ahead _ c.requires.0.links_ok)
+loop-i-init c = seeks_start _ _ _ (walks-ahead _ c.args.state.ok.links_ok)
 
 pub returns-then-limit-passed : goal.returns-then-limit-passed
-returns-then-limit-passed c = let p = c.requires in
-    latest_passed _ p.0 _ _ _ (length-commands_of _) c.marks_of-wanted.ensures c.loop-i.invariant c.loop-i-test.true
+returns-then-limit-passed c =
+    latest_passed _ c.args.state.ok _ _ _ (length-commands_of _) c.marks_of-wanted.ensures c.loop-i.invariant c.loop-i-test.true
     c.if-not-committed-x.true-raw
     (omega (arith, c.if-limit-passed.true))
 
 pub returns-then-has_id : goal.returns-then-has_id
-returns-then-has_id c = let p = c.requires in
-    latest_marked _ p.0 _ _ _ (length-commands_of _) c.marks_of-wanted.ensures c.loop-i.invariant c.loop-i-test.true
+returns-then-has_id c =
+    latest_marked _ c.args.state.ok _ _ _ (length-commands_of _) c.marks_of-wanted.ensures c.loop-i.invariant c.loop-i-test.true
     (sym c.has_id.ensures ∙ c.if-has_id.true)
 
 pub loop-i-smaller : goal.loop-i-smaller
@@ -35,5 +35,4 @@ loop-i-preserved c = let o = sym c.has_id.ensures ∙ c.if-has_id.false in
     ])
 
 pub returns : goal.returns
-returns c = let p = c.requires in
-    latest_none _ p.0 _ _ _ (length-commands_of _) c.marks_of-wanted.ensures c.loop-i.invariant c.loop-i-test.false
+returns c = latest_none _ c.args.state.ok _ _ _ (length-commands_of _) c.marks_of-wanted.ensures c.loop-i.invariant c.loop-i-test.false

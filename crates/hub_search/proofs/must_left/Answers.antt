@@ -3,4 +3,4 @@ use Rattle.hub_search.proofs.SearchLaws.{must-is}
 use Rattle.hub_search.proofs.must_left.Goals as goal
 
 pub returns : goal.returns
-returns c = let p = c.requires in must-is _ p.0 _ p.1 _ c.any_must.ensures
+returns c = must-is _ c.args.state.ok _ c.requires _ c.any_must.ensures

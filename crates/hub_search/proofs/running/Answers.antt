@@ -6,10 +6,10 @@ use Rattle.hub_search.proofs.running.Goals.{else-ids-i-via-else-ids-i, else-ids-
 use Rattle.hub_search.proofs.running.Goals as goal
 
 pub loop-i-init : goal.loop-i-init
-loop-i-init c = seeks_start _ _ _ (walks-behind _ c.requires.links_ok)
+loop-i-init c = seeks_start _ _ _ (walks-behind _ c.args.state.ok.links_ok)
 
 pub returns-then-not-committed-i : goal.returns-then-not-committed-i
-returns-then-not-committed-i c = running_at _ c.requires _ c.loop-i.invariant c.loop-i-test.true
+returns-then-not-committed-i c = running_at _ c.args.state.ok _ c.loop-i.invariant c.loop-i-test.true
     c.if-ids-i.true
     c.if-not-committed-i.true-raw
 
@@ -18,7 +18,10 @@ loop-i-smaller c = seeks_less c.loop-i.invariant c.loop-i-test.true
 
 pub loop-i-preserved : goal.loop-i-preserved
 loop-i-preserved c = seeks_on c.loop-i.invariant c.loop-i-test.true
-    (elim c.else-ids-i.branch [ else-ids-i-via-then-ids-i+else-not-committed-i w ↦ runs-committed _ _ _ _ w.if-not-committed-i.false-raw | else-ids-i-via-else-ids-i w ↦ runs_other _ _ _ _ w.if-ids-i.false ])
+    (elim c.else-ids-i.branch [
+      | else-ids-i-via-then-ids-i+else-not-committed-i w ↦ runs-committed _ _ _ _ w.if-not-committed-i.false-raw
+      | else-ids-i-via-else-ids-i w ↦ runs_other _ _ _ _ w.if-ids-i.false
+    ])
 
 pub returns : goal.returns
-returns c = running_nowhere _ c.requires _ c.loop-i.invariant c.loop-i-test.false
+returns c = running_nowhere _ c.args.state.ok _ c.loop-i.invariant c.loop-i-test.false

@@ -4,4 +4,4 @@ use Rattle.hub_submit.proofs.SubmitLaws.{submit-turned-down}
 use Rattle.hub_submit.proofs.decide.Goals as goal
 
 pub returns-in-Err : goal.returns-in-Err
-returns-in-Err c = submit-turned-down c.args.state _ _ _ (sym c.check.ensures ∙ c.in-Err.is) c.refused.ensures
+returns-in-Err c = submit-turned-down c.args.state.rows _ _ _ (sym c.check.ensures ∙ c.in-Err.is) c.refused.ensures

@@ -18,42 +18,49 @@ use Rattle.hub_settle.proofs.attach.attach.Goals.{In-Some, Start}
 use Rattle.hub_settle.proofs.attach.attach.Goals as goal
 
 -- the lengths of the rows
-long : (c : Start) → (length c.args.state.settled_at ≡ max_devices)
-    × (length c.args.state.restarts ≡ max_sequence * max_devices)
+long : (c : Start) → (length c.args.state.rows.settled_at ≡ max_devices)
+    × (length c.args.state.rows.restarts ≡ max_sequence * max_devices)
 long c = (search (rules, length_mapped), search (rules, length_mapped))
+
+pub invariant_of-changed : goal.invariant_of-changed
+invariant_of-changed c = record { ok = valid_tables c.args.state.rows _ _ _ _ c.args.state.ok }
 
 pub returns-then-id-eq0 : goal.returns-then-id-eq0
 returns-then-id-eq0 c = let a = c.args in
     let z : to_z w16 (of_z w16 a.setting) ≡ a.setting = search rules in
     let l = (long (goal.at.returns-then-id-eq0 c).Start).0 in
-    let d = c.requires.1 in (
-      valid_tables a.state _ _ _ _ c.requires.0,
+    let d = c.requires.0 in (
+      valid_tables a.state.rows _ _ _ _ c.args.state.ok,
       rw z
-          (attach-settled a.state a.id _ _ c.if-id-eq0.true
-          (settles-one a.state.settled_at a.device a.setting (omega arith))),
-      tables_in_place a.state _ _ _ _,
+          (attach-settled a.state.rows a.id _ _ c.if-id-eq0.true
+          (settles-one a.state.rows.settled_at a.device a.setting (omega arith))),
+      tables_in_place a.state.rows _ _ _ _,
     )
 
 pub returns-in_default : goal.returns-in_default
-returns-in_default c = let f : Finds c.args.state (has_id c.args.id) None =
-    subst (Finds c.args.state (has_id c.args.id)) c.in_default.is c.with_id.ensures in
-    (c.requires.0, attach_nowhere c.args.state c.args.id _ c.if-id-eq0.false f, itself_in_place c.args.state)
+returns-in_default c = let f : Finds c.args.state.rows (has_id c.args.id) None =
+    subst (Finds c.args.state.rows (has_id c.args.id)) c.in_default.is c.with_id.ensures in
+    (c.args.state.ok, attach_nowhere c.args.state.rows c.args.id _ c.if-id-eq0.false f, itself_in_place c.args.state.rows)
 
-found : (c : In-Some) → Finds c.args.state (has_id c.args.id) (Some c.in-Some.to)
+found : (c : In-Some) → Finds c.args.state.rows (has_id c.args.id) (Some c.in-Some.to)
 found c =
-    subst (Finds c.args.state (has_id c.args.id)) c.in-Some.is c.with_id.ensures
+    subst (Finds c.args.state.rows (has_id c.args.id)) c.in-Some.is c.with_id.ensures
 
 -- its slot
 slot : (c : In-Some) → c.in-Some.to < max_sequence
-slot c = stands-slot _ _ c.requires.0.links_ok (found c).place_ok
+slot c = stands-slot _ _ c.args.state.ok.links_ok (found c).place_ok
+
+pub invariant_of-changed-2 : goal.invariant_of-changed-2
+invariant_of-changed-2 c = record { ok = valid_tables c.args.state.rows _ _ _ _ c.args.state.ok }
 
 pub returns : goal.returns
 returns c = let a = c.args in
     let z : to_z w16 (of_z w16 a.setting) ≡ a.setting = search rules in (
-      valid_tables a.state _ _ _ _ c.requires.0,
+      valid_tables a.state.rows _ _ _ _ c.args.state.ok,
       rw z
-          (attach-at a.state a.id _ _ _
-          (attaches_one a.state.restarts _ a.device a.setting (long (goal.at.returns c).Start).1 (slot (goal.at.returns c).In-Some) c.requires.1 c.requires.2) c.if-id-eq0.false
-          c.requires.0 (found (goal.at.returns c).In-Some)),
-      tables_in_place a.state _ _ _ _,
+          (attach-at a.state.rows a.id _ _ _
+          (attaches_one a.state.rows.restarts _ a.device a.setting (long (goal.at.returns c).Start).1
+          (slot (goal.at.returns c).In-Some) c.requires.0 c.requires.1) c.if-id-eq0.false
+          c.args.state.ok (found (goal.at.returns c).In-Some)),
+      tables_in_place a.state.rows _ _ _ _,
     )

@@ -6,7 +6,7 @@ use Rattle.hub_settle.proofs.settle.settle.Given as goal
 
 abbrev pub invariant-loop-i : goal.invariant-loop-i
 invariant-loop-i l =
-    Settling l.fn.state (tables_in l.fn.state l.links l.restarts l.settled l.fn.state.up l.mark) l.i
+    Settling l.fn.state.rows (tables_in l.fn.state.rows l.links l.restarts l.settled l.fn.state.rows.up l.mark) l.i
 
 abbrev pub decreases-loop-i : goal.decreases-loop-i
 decreases-loop-i l = l.links.taken

@@ -12,8 +12,8 @@ put_aborts-requires c = let d = c.args.decision in (
 
 pub returns-then-aborts : goal.returns-then-aborts
 returns-then-aborts c = let a = c.args in
-    put_left a.hub.state a.decision c.put_backs-backs.result c.put_backs-backs.ensures.1 c.put_aborts.ensures
+    put_left a.hub.state.rows a.decision c.put_backs-backs.result c.put_backs-backs.ensures.1 c.put_aborts.ensures
 
 pub returns : goal.returns
-returns c = put-told c.args.hub.state c.args.decision c.requires.1.1.decides.well_told (sym c.aborts.ensures ∙ c.if-aborts.false)
+returns c = put-told c.args.hub.state.rows c.args.decision c.requires.1.1.decides.well_told (sym c.aborts.ensures ∙ c.if-aborts.false)
     c.put_answer.ensures

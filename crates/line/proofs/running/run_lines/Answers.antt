@@ -65,10 +65,10 @@ heard c =
 record Comes (h : Hub) (q : Said) (call : Call) (d : Decision) : Type 0 where
   calls : heard_of (read_as q) (view h).devices ≡ Calling call
   valid : Valid h
-  decides : Decides h.state (commands_in call) d (result_of (view h) (call_in call))
+  decides : Decides h.state.rows (commands_in call) d (result_of (view h) (call_in call))
 
 comes : {h : Hub} {q : Said} {line : Line} (x : Heard h q line) (call : Call) → line ≡ Calling call →
-    {d : Decision} → Decides h.state (commands_in call) d (result_of (view h) (call_in call)) → Comes h q call d
+    {d : Decision} → Decides h.state.rows (commands_in call) d (result_of (view h) (call_in call)) → Comes h q call d
 comes x call e w = record { calls = x.hears ∙ e; valid = x.valid; decides = w }
 
 -- it was decided on the hub, and its change can be made
@@ -93,7 +93,8 @@ made c h =
       | in-Nothing v ↦ carries_as v.now-is (carries_nothing _ _ h v.in-Nothing.is)
       | in-Stage v ↦ carries_as v.now-is (carries _ _ (Stage _) v.in-Stage.is refl v.with_stage-now.ensures)
       | in-Commit v ↦ carries_as v.now-is (carries _ _ (Commit _) v.in-Commit.is refl v.with_commit-now.ensures)
-      | in-Join v ↦ carries_as v.now-is (carries _ _ (Join _) v.in-Join.is refl (rw c.routine_in-routine.ensures at v.with_routine-now.ensures))
+      | in-Join v ↦ carries_as v.now-is
+          (carries _ _ (Join _) v.in-Join.is refl (rw c.routine_in-routine.ensures at v.with_routine-now.ensures))
       | in-Abort v ↦ carries_as v.now-is (carries _ _ (Abort _) v.in-Abort.is refl v.with_abort-now.ensures)
       | in-Fail v ↦ carries_as v.now-is (carries _ _ (Fail _ _) v.in-Fail.is refl v.with_failure-now.ensures)
       | in-Restart v ↦
@@ -127,7 +128,8 @@ line-prints c x room =
             | in-Nothing v ↦ carries_as v.now-is (carries_nothing _ _ x.valid v.in-Nothing.is)
             | in-Stage v ↦ carries_as v.now-is (carries _ _ (Stage _) v.in-Stage.is refl v.with_stage-now.ensures)
             | in-Commit v ↦ carries_as v.now-is (carries _ _ (Commit _) v.in-Commit.is refl v.with_commit-now.ensures)
-            | in-Join v ↦ carries_as v.now-is (carries _ _ (Join _) v.in-Join.is refl (rw w.routine_in-routine.ensures at v.with_routine-now.ensures))
+            | in-Join v ↦ carries_as v.now-is
+                (carries _ _ (Join _) v.in-Join.is refl (rw w.routine_in-routine.ensures at v.with_routine-now.ensures))
             | in-Abort v ↦ carries_as v.now-is (carries _ _ (Abort _) v.in-Abort.is refl v.with_abort-now.ensures)
             | in-Fail v ↦ carries_as v.now-is (carries _ _ (Fail _ _) v.in-Fail.is refl v.with_failure-now.ensures)
             | in-Restart v ↦
@@ -145,7 +147,8 @@ line-prints c x room =
             | in-Nothing v ↦ carries_as v.now-is (carries_nothing _ _ x.valid v.in-Nothing.is)
             | in-Stage v ↦ carries_as v.now-is (carries _ _ (Stage _) v.in-Stage.is refl v.with_stage-now.ensures)
             | in-Commit v ↦ carries_as v.now-is (carries _ _ (Commit _) v.in-Commit.is refl v.with_commit-now.ensures)
-            | in-Join v ↦ carries_as v.now-is (carries _ _ (Join _) v.in-Join.is refl (rw w.routine_in-routine.ensures at v.with_routine-now.ensures))
+            | in-Join v ↦ carries_as v.now-is
+                (carries _ _ (Join _) v.in-Join.is refl (rw w.routine_in-routine.ensures at v.with_routine-now.ensures))
             | in-Abort v ↦ carries_as v.now-is (carries _ _ (Abort _) v.in-Abort.is refl v.with_abort-now.ensures)
             | in-Fail v ↦ carries_as v.now-is (carries _ _ (Fail _ _) v.in-Fail.is refl v.with_failure-now.ensures)
             | in-Restart v ↦
@@ -189,8 +192,12 @@ pub slice_bounds-put_answers-end : goal.slice_bounds-put_answers-end
 slice_bounds-put_answers-end c = sym c.loop-from.invariant.0
 
 pub put_answers-printed-requires : goal.put_answers-printed-requires
-put_answers-printed-requires c = let x = heard (goal.at.put_answers-printed-requires c).After-next_line-next in
-    (x.valid, (_, decided_now (came (goal.at.put_answers-printed-requires c).After-decided-decision x)), omega (arith, c.loop-from.invariant.0))
+put_answers-printed-requires c = let x = heard (goal.at.put_answers-printed-requires c).After-next_line-next in (
+  x.valid,
+  (_, decided_now (came (goal.at.put_answers-printed-requires c).After-decided-decision x)),
+  omega
+      (arith, c.loop-from.invariant.0),
+)
 
 pub with_stage-now-requires : goal.with_stage-now-requires
 with_stage-now-requires c = let x = heard (goal.at.with_stage-now-requires c).After-next_line-next in
@@ -222,12 +229,6 @@ with_restart-now-requires c = let x = heard (goal.at.with_restart-now-requires c
     let e = r.is ∙ ap (λ (z : ℤ). Restart r.device z r.slot) (sym held) in
     (x.valid, (_, change_is (came (goal.at.with_restart-now-requires c).After-decided-decision x) (Restart _ _ _) e))
 
-pub settles-requires : goal.settles-requires
-settles-requires c = (made (goal.at.settles-requires c).Joined-change c.loop-from.invariant.1.valid).in_order
-
-pub settle-now-requires : goal.settle-now-requires
-settle-now-requires c = (made (goal.at.settle-now-requires c).Joined-change c.loop-from.invariant.1.valid).in_order
-
 pub slice_bounds-put_unread-end : goal.slice_bounds-put_unread-end
 slice_bounds-put_unread-end c = sym c.loop-from.invariant.0
 
@@ -235,13 +236,20 @@ pub put_unread-printed-requires : goal.put_unread-printed-requires
 put_unread-printed-requires c = omega (arith, c.loop-from.invariant.0)
 
 pub slice_bounds-text-end : goal.slice_bounds-text-end
-slice_bounds-text-end c = printed_fits (line-prints (goal.at.slice_bounds-text-end c).Joined-said (heard (goal.at.slice_bounds-text-end c).After-next_line-next) c.loop-from.invariant.0)
+slice_bounds-text-end c =
+    printed_fits (line-prints (goal.at.slice_bounds-text-end c).Joined-said
+    (heard (goal.at.slice_bounds-text-end c).After-next_line-next) c.loop-from.invariant.0)
 
 pub slice_bounds-put_text-end : goal.slice_bounds-put_text-end
-slice_bounds-put_text-end c = sym (printed_long (line-prints (goal.at.slice_bounds-put_text-end c).Joined-said (heard (goal.at.slice_bounds-put_text-end c).After-next_line-next) c.loop-from.invariant.0))
+slice_bounds-put_text-end c =
+    sym (printed_long
+    (line-prints (goal.at.slice_bounds-put_text-end c).Joined-said
+    (heard (goal.at.slice_bounds-put_text-end c).After-next_line-next) c.loop-from.invariant.0))
 
 pub put_text-at-requires : goal.put_text-at-requires
-put_text-at-requires c = let p = line-prints (goal.at.put_text-at-requires c).Joined-said (heard (goal.at.put_text-at-requires c).After-next_line-next) c.loop-from.invariant.0 in
+put_text-at-requires c = let p =
+    line-prints (goal.at.put_text-at-requires c).Joined-said
+    (heard (goal.at.put_text-at-requires c).After-next_line-next) c.loop-from.invariant.0 in
     omega (arith, printed_long p, p.short, c.if-room-at.false, c.requires)
 
 pub overflow_add-from : goal.overflow_add-from
@@ -252,11 +260,13 @@ pub loop-from-smaller : goal.loop-from-smaller
 loop-from-smaller c = omega (arith, c.next_line-next.ensures.ends, c.loop-from-test.true)
 
 pub loop-from-preserved : goal.loop-from-preserved
-loop-from-preserved c = let p = line-prints (goal.at.loop-from-preserved c).Joined-said (heard (goal.at.loop-from-preserved c).After-next_line-next) c.loop-from.invariant.0 in (
-  p.long,
-  ran_more c.next_line-next.result.end c.loop-from.invariant.1 c.loop-from-test.true c.if-room-at.false c.next_line-next.ensures.ends
-      (goes p c.put_text-at.ensures),
-)
+loop-from-preserved c = let p =
+    line-prints (goal.at.loop-from-preserved c).Joined-said
+    (heard (goal.at.loop-from-preserved c).After-next_line-next) c.loop-from.invariant.0 in (
+      p.long,
+      ran_more c.next_line-next.result.end c.loop-from.invariant.1 c.loop-from-test.true c.if-room-at.false c.next_line-next.ensures.ends
+          (goes p c.put_text-at.ensures),
+    )
 
 pub shape_of-out : goal.shape_of-out
 shape_of-out c = ran_length c.loop-from.invariant.1
