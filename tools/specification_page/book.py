@@ -30,7 +30,8 @@ class Book:
                 self.load_code(crate, module)
         for crate in self.crates:
             for file in self.listed(crate, "specs", ".antt"):
-                self.load(crate, "specs", file)
+                if file != "Props":  # lemmas that code cites: a fact has one proof at most
+                    self.load(crate, "specs", file)
 
     def listed(self, crate, folder, ending):
         path = os.path.join(self.root, "crates", crate, folder)
