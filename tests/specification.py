@@ -109,11 +109,17 @@ class Page(HTMLParser):
 # ---- what definitions and code say
 
 
+def says_one_proof(text):
+    """Whether all that a file declares are lemmas that a fact has one proof at most: they are cited by types, and not on the page."""
+    found = declarations(text)
+    return bool(found) and all(one["mark"] == "theorem" and re.search(r"→ IsProp \([^()]*\)$", signature(one)) for one in found)
+
+
 def spec_files(root):
     for crate in sorted(os.listdir(os.path.join(root, "crates"))):
         folder = os.path.join(root, "crates", crate, "specs")
         for name in sorted(os.listdir(folder)) if os.path.isdir(folder) else []:
-            if name.endswith(".antt") and name not in ("Lib.antt", "Props.antt"):  # in Props are lemmas, which code cites
+            if name.endswith(".antt") and name != "Lib.antt" and not says_one_proof(read(root, f"crates/{crate}/specs/{name}")):
                 yield crate, name[:-5]
 
 
@@ -497,6 +503,12 @@ def must_fail(root, scratch):
     status, said = made(tree, out)
     assert status == 1 and "World" in said, f"without World.antt the tool ends with {status} and says {said}"
     os.rename(os.path.join(tree, "World"), os.path.join(tree, "crates/rules/specs/World.antt"))
+    lemmas = "crates/hub_state/specs/Props.antt"
+    before = read(tree, lemmas)
+    restore(tree, lemmas, before + "\nabbrev pub extra : ℕ\nextra = 7\n")
+    status, said = made(tree, out)
+    assert status == 1 and "IsProp" in said, f"a definition beside the lemmas of {lemmas}: the tool ends with {status} and says {said}"
+    restore(tree, lemmas, before)
     extra = "-- A file in no list. Assumes nothing.\nuse Rattle.std.specs.Prelude.{ℕ}\n\nabbrev pub extra : ℕ\nextra = 7\n"
     restore(tree, "crates/rules/specs/Extra.antt", extra)
     status, said = made(tree, out)
@@ -584,7 +596,7 @@ def main():
     print(f"{counted}: all there, all linked")
     shown = must_show(ROOT, text) + must_be_seen(ROOT, text)
     must_fail(ROOT, scratch)
-    print(f"{len(EDITS) + 1} changed trees are refused, a new file is picked up, {shown} faults of pages and papers are seen")
+    print(f"{len(EDITS) + 2} changed trees are refused, a new file is picked up, {shown} faults of pages and papers are seen")
     return 0
 
 

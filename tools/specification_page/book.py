@@ -15,6 +15,19 @@ class Missing(Exception):
     pass
 
 
+def only_props(text):
+    """Whether a file has nothing but lemmas that a fact has one proof at most, which types cite: no definition, and nothing to read."""
+    lemmas = set()
+    for line in text.split("\n"):
+        if line and not line[0].isspace() and not line.startswith(("--", "use ")):
+            signature = re.match(r"(?:pub )?(\S+) : .*→ IsProp \([^()]*\)$", line)
+            if signature:
+                lemmas.add(signature.group(1))
+            elif line.split()[0] not in lemmas:
+                return False
+    return bool(lemmas)
+
+
 class Book:
     def __init__(self, root):
         self.root = root
@@ -30,7 +43,7 @@ class Book:
                 self.load_code(crate, module)
         for crate in self.crates:
             for file in self.listed(crate, "specs", ".antt"):
-                if file != "Props":  # lemmas that code cites: a fact has one proof at most
+                if not only_props(self.text(f"crates/{crate}/specs/{file}.antt")):
                     self.load(crate, "specs", file)
 
     def listed(self, crate, folder, ending):

@@ -1,5 +1,5 @@
 -- Answers by value read as answers of the rules. For each case of each enum it is set out here which answer of document 01 it is, and with
--- which values. (For `Refusal` that is `refusal_of` of crate `rules_routine`: for each cause of the table its case, number and index.)
+-- which values. (For `Refusal` that is `number_of` and `index_of` of crate `rules_routine`: for each cause its number and index.)
 -- Assumes nothing.
 use Rattle.std.specs.Prelude.{Bool, true, false, List, [], ◌∷◌, ◌++◌, map, ◌≤◌, take, Option, ℕ, None, Some}
 use Rattle.rules_routine.specs.Limits.{max_devices}

@@ -13,7 +13,7 @@ use Rattle.line_read.specs.View.{read_as}
 use Rattle.line_print.specs.Put.{max_text, Put}
 use Rattle.hub.specs.Valid.{Valid}
 use Rattle.hub.specs.declared.Hub.{Hub}
-use Rattle.line.specs.View.{hub_in, heard_of}
+use Rattle.line.specs.View.{hub_in}
 use Rattle.line.specs.declared.lines.NextLine.{NextLine}
 use Rattle.line.specs.declared.running.Lines.{Lines}
 
@@ -72,10 +72,10 @@ pub record Measures (text input : List ℕ) (room long : ℕ) : Type 0 where
 
 -- ---- one line
 
--- The line that begins at a place: where it ends, and what of it a hub of so many devices hears.
-pub record ReadsNext (input : List ℕ) (from devices : ℕ) (r : NextLine) : Type 0 where
+-- The line that begins at a place: where it ends, and what it says.
+pub record ReadsNext (input : List ℕ) (from : ℕ) (r : NextLine) : Type 0 where
   pub ends : r.end ≡ from + reach line_end (drop from input)
-  pub hears : r.said ≡ heard_of (read_as (read_line (take (r.end - from) (drop from input)))) devices
+  pub says : r.said ≡ read_as (read_line (take (r.end - from) (drop from input)))
 
 -- Does a routine abort by this call: before its answer, or by the call itself?
 abbrev pub is_abort : Option ℕ → Answer → Bool

@@ -1,5 +1,5 @@
 // What a line does, and what the device lines tell at the end.
-ghost use Rattle.std.specs.Prelude.{◌≡◌, ◌<◌, ◌≤◌, length};
+ghost use Rattle.std.specs.Prelude.{◌≡◌, true, ◌<◌, ◌≤◌, length};
 ghost use Rattle.rules_routine.specs.Limits.{max_devices};
 ghost use Rattle.rules_routine.specs.Routine.{commands_of};
 ghost use Rattle.rules.specs.Calls.{result_of};
@@ -11,7 +11,7 @@ ghost use Rattle.line_print.specs.Texts.{devices_text};
 ghost use Rattle.hub.specs.View.{view};
 ghost use Rattle.hub.specs.Valid.{Valid};
 ghost use Rattle.hub.specs.Decided.{WasDecidedOn};
-ghost use Rattle.line.specs.View.{hub_in, heard_of, call_in, commands_in};
+ghost use Rattle.line.specs.View.{hub_in, call_in, commands_in};
 ghost use Rattle.line.specs.Contract.{ReadsNext, is_abort};
 
 use hub::Hub;
@@ -21,16 +21,6 @@ use line_print::Devices;
 use line_read::{Call, Line};
 use rules_routine::Routine;
 use rules_routine::limits::MAX_DEVICES;
-
-// A call before an accepted `O` is not read: there is no hub, that is, one of no devices.
-pub fn heard(line: Line, devices: u8) -> Line
-    ensures { result ≡ heard_of line devices }
-{
-    match line {
-        Line::Calling(_) if devices == 0 => Line::Unread,
-        _ => line,
-    }
-}
 
 // What the call that a line makes comes to.
 pub fn decided(hub: Hub, call: Call) -> Decision
@@ -72,7 +62,7 @@ pub fn devices_of(hub: Hub) -> Devices
     Devices { count, up, due }
 }
 
-// A line: what of it is heard, and where it ends.
+// A line: what it says, and where it ends.
 #[derive(Clone, Copy)]
 pub struct NextLine {
     pub said: Line,
@@ -80,12 +70,12 @@ pub struct NextLine {
 }
 
 // The line that begins at a place.
-pub fn next_line(input: &[u8], from: usize, devices: u8) -> NextLine
+pub fn next_line(input: &[u8], from: usize) -> NextLine
     requires { from < length input.now }
-    ensures { ReadsNext input.now from devices result }
+    ensures { ReadsNext input.now from result }
 {
     let end = line_read::line_end(input, from);
-    let said = heard(line_read::read_line(&input[from..end]), devices);
+    let said = line_read::read_line(&input[from..end]);
     NextLine { said, end }
 }
 
@@ -93,7 +83,23 @@ pub fn next_line(input: &[u8], from: usize, devices: u8) -> NextLine
 fn aborts(decision: Decision) -> bool
     ensures { result ≡ is_abort decision.first decision.answer }
 {
-    decision.first.is_some() || matches!(decision.answer, Answer::Aborted(_))
+    if decision.first.is_some() {
+        return true;
+    }
+    let Answer::Aborted(_) = decision.answer else {
+        return false;
+    };
+    true
+}
+
+// The answers of a call by which a routine aborts. (In a function of their own: so no other call makes room for what is put back.)
+fn put_aborts(text: &mut [u8], hub: Hub, decision: Decision) -> usize
+    requires { (Valid hub) × (WasDecidedOn hub decision) × (max_text ≤ length text.old)
+        × (is_abort decision.first decision.answer ≡ true) }
+    ensures { PutShort max_text text.old text.new 0 result (answers_text (told_by hub.state.rows decision)) }
+{
+    let backs = hub::put_backs(hub, decision);
+    line_print::put_aborts(text, 0, decision.first, decision.answer, backs)
 }
 
 // The answers of a call.
@@ -101,12 +107,8 @@ pub fn put_answers(text: &mut [u8], hub: Hub, decision: Decision) -> usize
     requires { (Valid hub) × (WasDecidedOn hub decision) × (max_text ≤ length text.old) }
     ensures { PutShort max_text text.old text.new 0 result (answers_text (told_by hub.state.rows decision)) }
 {
-    let first = decision.first;
-    let answer = decision.answer;
     if aborts(decision) {
-        let backs = hub::put_backs(hub, decision);
-        return line_print::put_aborts(text, 0, first, answer, backs);
+        return put_aborts(text, hub, decision);
     }
-    let back = decision.back;
-    line_print::put_answer(text, 0, answer, back)
+    line_print::put_answer(text, 0, decision.answer, decision.back)
 }

@@ -26,8 +26,9 @@ pub struct Lines {
 }
 
 // Lines in turn, until what they print goes past the room. A line's text is put together in a buffer of its own, in which everything fits,
-// and then copied. A call decides on the hub as it is, its answers are put, and the arms of the match make the next hub: so it is changed
-// in its place and not copied.
+// and then copied. A call before an accepted `O` is not read: there is no hub, that is, one of no devices. A call decides on the hub as it
+// is, its answers are put, and the arms of the match make the next hub: so it is changed in its place and not copied. (The match takes the
+// line as it was read, and the routine out of the call only where it joins: a line is large by it, and is not to be copied on the way.)
 pub fn run_lines(hub: Hub, input: &[u8], out: &mut [u8], room: usize) -> Lines
     requires { (Valid hub) × (room < 2 ^ 63) }
     ensures { RunsLines hub input.now room out.old out.new result }
@@ -40,7 +41,7 @@ pub fn run_lines(hub: Hub, input: &[u8], out: &mut [u8], room: usize) -> Lines
         if room < at {
             return Lines { hub: now, at };
         }
-        let next = lines::next_line(input, from, hub::device_count(now));
+        let next = lines::next_line(input, from);
         let said = next.said;
         let mut printed = 0;
         match said {
@@ -52,8 +53,7 @@ pub fn run_lines(hub: Hub, input: &[u8], out: &mut [u8], room: usize) -> Lines
                     now = opened.hub;
                 }
             }
-            Line::Calling(call) => {
-                let routine = lines::routine_in(call);
+            Line::Calling(call) if 0 < hub::device_count(now) => {
                 let decision = lines::decided(now, call);
                 let answer = decision.answer;
                 let change = decision.change;
@@ -62,7 +62,10 @@ pub fn run_lines(hub: Hub, input: &[u8], out: &mut [u8], room: usize) -> Lines
                     Change::Nothing => {}
                     Change::Stage(staged) => now = hub::with_stage(now, staged),
                     Change::Commit(slot) => now = hub::with_commit(now, slot),
-                    Change::Join(after) => now = hub::with_routine(now, after, routine),
+                    Change::Join(after) => {
+                        let routine = lines::routine_in(call);
+                        now = hub::with_routine(now, after, routine);
+                    }
                     Change::Abort(slot) => now = hub::with_abort(now, slot),
                     Change::Fail(device, slot) => now = hub::with_failure(now, device, slot),
                     Change::Restart(device, setting, slot) => now = hub::with_restart(
@@ -73,7 +76,7 @@ pub fn run_lines(hub: Hub, input: &[u8], out: &mut [u8], room: usize) -> Lines
                     now = hub::settle(now);
                 }
             }
-            Line::Unread => printed = line_print::put_unread(&mut text, 0),
+            _ => printed = line_print::put_unread(&mut text, 0),
         }
         at = line_print::put_text(out, at, &text[..printed]);
         from = next.end + 1;

@@ -89,14 +89,14 @@ pub fn put_aborts(
     requires { (at + max_text ≤ length out.old) × (PutBacksOk backs) × (PutBacksOnce first answer (put_backs_of backs)) }
     ensures { PutShort max_text out.old out.new at result (answers_text (answers_of first answer backs)) }
 {
-    if let Some(id) = first {
-        let behind = put_abort(out, at, id, backs);
-        return put_answer(out, behind, answer, None);
-    }
-    match answer {
-        Answer::Aborted(id) => put_abort(out, at, id, backs),
-        _ => put_answer(out, at, answer, None),
-    }
+    let Some(id) = first else {
+        let Answer::Aborted(own) = answer else {
+            return put_answer(out, at, answer, None);
+        };
+        return put_abort(out, at, own, backs);
+    };
+    let behind = put_abort(out, at, id, backs);
+    put_answer(out, behind, answer, None)
 }
 
 // "one line a device, with its due setting if it is up"

@@ -22,7 +22,8 @@ use Rattle.rules_routine.specs.Limits.{lowest_setting, highest_setting, max_comm
 use Rattle.rules_routine.specs.Range.{in_range}
 use Rattle.rules_routine.specs.Refusals.{number_of, index_of, refuse◌when◌, ◌and_then◌, numbered, indexed, Verdict}
 use Rattle.rules_routine.specs.Routine.{condition_tag, highest_tag, command_check, stands_alone, commands_check, routine_check}
-use Rattle.rules_routine.specs.Causes.{NoneOf, FirstIn, Exactly, itself, NumbersDiffer, OutOfRange, command_no, command_causes}
+use Rattle.rules_routine.specs.Causes.{NoneOf, FirstIn, Exactly, RefusedAs, ByNumber, itself, NumbersDiffer, OutOfRange, command_no}
+use Rattle.rules_routine.specs.Causes.{command_causes}
 use Rattle.rules_routine.specs.Causes.{routine_causes}
 use Rattle.rules_routine.specs.Causes.{ExactRoutine}
 use Rattle.rules_routine.specs.Causes.{RoutineCause, count_is_out, device_is_out, setting_is_out, tag_is_out, condition_is_last}
@@ -347,11 +348,27 @@ told_is (ConditionAlone i) = refl
 pub numbers_differ : NumbersDiffer
 numbers_differ c d e f = sym (told_is c) ∙ (λ i. told (e i) (f i)) ∙ told_is d
 
+-- what is exact is exact by number and index
+pub by_number : {T : Type 0} {Holds : T → Type 0} {cause_of : T → Refusal} {tests : List T} {RefusedWith : Refusal → Type 0}
+    {IsAccepted : Type 0} → Exactly Holds cause_of tests RefusedWith IsAccepted → ByNumber Holds cause_of tests RefusedWith
+by_number {cause_of = cause_of} x n index = (
+  λ r. let f = (x.refused_exactly r.refusal).0 r.refused in
+      (f.0, f.1, ap number_of f.2 ∙ r.number, ap index_of f.2 ∙ r.with_index),
+  λ f. record {
+    refusal = cause_of f.0;
+    refused = (x.refused_exactly (cause_of f.0)).1 (f.0, f.1, refl);
+    number = f.2;
+    with_index = f.3;
+  },
+)
+
 -- So, where the tests are the causes themselves: a call is refused with a cause's number and index exactly if that cause is the first
 -- that holds.
 pub under_its_cause : {Holds : Refusal → Type 0} {causes : List Refusal} {RefusedWith : Refusal → Type 0} {IsAccepted : Type 0} →
-    Exactly Holds itself causes RefusedWith IsAccepted → (cause : Refusal) → RefusedWith cause ↔ FirstIn Holds causes cause
+    Exactly Holds itself causes RefusedWith IsAccepted → (cause : Refusal) →
+    RefusedAs RefusedWith (number_of cause) (index_of cause) ↔ FirstIn Holds causes cause
 under_its_cause {Holds = Holds} {causes = causes} x cause = (
-  λ r. let f = (x.refused_exactly cause).0 r in subst (FirstIn Holds causes) f.2 f.1,
-  λ f. (x.refused_exactly cause).1 (cause, f, refl),
+  λ r. let f = (by_number x (number_of cause) (index_of cause)).0 r in
+      subst (FirstIn Holds causes) (numbers_differ f.0 cause f.2 f.3) f.1,
+  λ f. (by_number x (number_of cause) (index_of cause)).1 (cause, f, refl, refl),
 )

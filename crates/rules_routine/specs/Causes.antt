@@ -3,7 +3,7 @@
 -- `rules`, those of writing a book in `specs/WritingCauses.antt` of crate `book_layout`, those of reading one in `specs/Claims.antt` there.
 -- Assumes nothing.
 use Rattle.rules_routine.specs.declared.refusals.Refusal.TheVariants.{CommandCount, DeviceNotBelow, SettingOutOfRange, TagOutOfRange, ConditionAlone}
-use Rattle.std.specs.Prelude.{◌≡◌, ◌⊎◌, ◌↔◌, List, [], ◌∷◌, ◌++◌, ℕ, zero, suc, ◌<◌, ◌≤◌, ℤ, ◌<ℤ◌, length, get_or, Ok, Err}
+use Rattle.std.specs.Prelude.{◌≡◌, ◌⊎◌, ◌↔◌, List, [], ◌∷◌, ◌++◌, ℕ, zero, suc, ◌<◌, ◌≤◌, ℤ, ◌<ℤ◌, length, get_or, Option, Ok, Err}
 use Rattle.rules_routine.specs.Refusals.{number_of, index_of}
 use Rattle.rules_routine.specs.Limits.{lowest_setting, highest_setting, max_commands}
 use Rattle.rules_routine.specs.Routine.{highest_tag, condition_tag, zero_command, routine_check}
@@ -32,6 +32,21 @@ pub record Exactly {T : Type 0} (Holds : T → Type 0) (cause_of : T → Refusal
     (RefusedWith : Refusal → Type 0) (IsAccepted : Type 0) : Type 0 where
   pub refused_exactly : (r : Refusal) → RefusedWith r ↔ ((t : T) × FirstIn Holds tests t × (cause_of t ≡ r))
   pub accepted_exactly : IsAccepted ↔ NoneOf Holds tests
+
+-- A call is refused with a number of the table, and with the index that comes with it, if one does.
+pub record RefusedAs (RefusedWith : Refusal → Type 0) (n : ℕ) (index : Option ℕ) : Type 0 where
+  pub refusal : Refusal
+  pub refused : RefusedWith refusal
+  pub number : number_of refusal ≡ n
+  pub with_index : index_of refusal ≡ index
+
+-- `Exactly`, told by number and index: a call is refused with a number and an index exactly if they are the table's of the first cause that
+-- holds. The theorem is `by_number` (proofs/Exact.antt).
+abbrev pub ByNumber : {T : Type 0} → (T → Type 0) → (T → Refusal) → List T → (Refusal → Type 0) → Type 0
+ByNumber {T = T} Holds cause_of tests RefusedWith =
+    (n : ℕ) (index : Option ℕ) →
+    RefusedAs RefusedWith n index ↔
+    ((t : T) × FirstIn Holds tests t × (number_of (cause_of t) ≡ n) × (index_of (cause_of t) ≡ index))
 
 -- The cause of a test, where the tests are the causes themselves.
 abbrev pub itself : Refusal → Refusal

@@ -65,7 +65,9 @@ index_of (ConditionAlone i) = Some i
 abbrev pub is_of : ℕ → Refusal → Bool
 is_of n cause = eqb n (number_of cause)
 
--- The table read from the left: the cause that has a number, and the one that has a number and an index. (Examples tell refusals so.)
+-- The table read from the left: the cause that has a number, and the one that has a number and an index. (Examples tell refusals so.) Each
+-- row is tested against the table; a number that no row has, or none of that kind, gives a refusal of the other kind, so that no example
+-- holds with it: `numbered` one with an index, `indexed` one without.
 abbrev pub numbered : ℕ → Refusal
 numbered n =
     if is_of n DevicesOutOfRange then DevicesOutOfRange
@@ -84,7 +86,8 @@ numbered n =
     else if is_of n RestartSetting then RestartSetting
     else if is_of n BookCutShort then BookCutShort
     else if is_of n BookMisplaced then BookMisplaced
-    else NoRoom
+    else if is_of n NoRoom then NoRoom
+    else ConditionAlone n
 
 abbrev pub indexed : ℕ → ℕ → Refusal
 indexed n i =
@@ -92,7 +95,8 @@ indexed n i =
     else if is_of n (SettingOutOfRange i) then SettingOutOfRange i
     else if is_of n (TagOutOfRange i) then TagOutOfRange i
     else if is_of n (BookLength i) then BookLength i
-    else ConditionAlone i
+    else if is_of n (ConditionAlone i) then ConditionAlone i
+    else NoRoom
 
 -- What a check says of a call.
 abbrev pub Verdict : Type 0

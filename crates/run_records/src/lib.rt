@@ -1,27 +1,30 @@
 // Records of test vectors: two bytes of length, low first, and then so many bytes; within a record, parts of the same form.
 #![tactic(auto)]
 
-ghost use Rattle.std.specs.Prelude.{◌≡◌, ◌≤◌, ◌<◌, ◌+◌, length};
+ghost use Rattle.std.specs.Prelude.{◌≡◌, ◌≤◌, ◌<◌, ◌+◌, length, get_or};
+ghost use Rattle.run_records.specs.Parts.{number_in, part_of, behind_part};
 
 use std::io;
 use std::io::Read;
 
 // The byte at a place, 0 past the end.
 pub fn byte_at(bytes: &[u8], at: usize) -> usize
-    ensures { result < 256 }
+    ensures { (result < 256) × (result ≡ get_or bytes.now at 0) }
 {
     usize::from(bytes.get(at).copied().unwrap_or(0))
 }
 
 // The number of two bytes at a place.
 pub fn number_at(bytes: &[u8], at: usize) -> usize
-    ensures { result < 65536 }
+    ensures { (result < 65536) × (result ≡ number_in bytes.now at) }
 {
     byte_at(bytes, at) + 256 * byte_at(bytes, at.saturating_add(1))
 }
 
 // The part behind the length that stands first, cut off where the slice ends; and what is behind the part.
 pub fn part(bytes: &[u8]) -> (&[u8], &[u8])
+    ensures first { result.0.now ≡ part_of bytes.now }
+    ensures rest { result.1.now ≡ behind_part bytes.now }
     ensures inside { length result.0.now + length result.1.now ≤ length bytes.now }
     ensures further { 0 < length bytes.now → length result.1.now < length bytes.now }
 {

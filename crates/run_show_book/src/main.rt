@@ -17,9 +17,10 @@ fn book_buffer() -> [u8; FIRST_BYTES]
 
 fn main(rt: HostRuntime) {
     let mut buffer = book_buffer();
-    let Ok(n) = run_streams::read_full(&rt, b"show_book", &mut buffer) else {
+    let (n, read) = run_streams::read_full(&rt, b"show_book", &mut buffer);
+    if read.is_err() {
         return;
-    };
+    }
     if run_book_print::print_book(&rt, &buffer[..n]).is_err() {
         run_streams::say_not_written(&rt, b"show_book");
     }

@@ -36,19 +36,23 @@ pub fn read_behind(
     got
 }
 
-// Reads until the buffer is full or the input ends: how many bytes.
-pub fn read_full(rt: &(impl Input + Eprint), program: &[u8], input: &mut [u8]) -> io::Result<usize>
-    ensures { IfOk result (λ count. count ≤ length input.old) }
+// Reads until the buffer is full or the input ends: how many bytes, also where it cannot be read on, and whether it could be read.
+pub fn read_full(
+    rt: &(impl Input + Eprint),
+    program: &[u8],
+    input: &mut [u8],
+) -> (usize, io::Result<()>)
+    ensures { result.0 ≤ length input.old }
 {
     let mut filled = 0;
     while filled < input.len() {
-        let count = read_behind(rt, program, input, filled)?;
-        if count == 0 {
-            return Ok(filled);
+        match read_behind(rt, program, input, filled) {
+            Ok(0) => return (filled, Ok(())),
+            Ok(count) => filled += count,
+            Err(error) => return (filled, Err(error)),
         }
-        filled += count;
     }
-    Ok(filled)
+    (filled, Ok(()))
 }
 
 // Writes a text.

@@ -1,13 +1,16 @@
 -- `line::running::run_lines` meets its contract. The loop's invariant: the lines up to a place are done, and what is left gives the rest.
 -- Assumes nothing.
 use mathlib.Core.Path.{◌≡◌, refl, sym, ap, subst, ◌∙◌}
+use mathlib.Core.Bool.{Bool}
 use mathlib.Core.List.{List}
-use Prim.Native.Nat.{ℕ, ◌-◌}
+use Prim.Native.Nat.{ℕ, ◌-◌, ◌<◌}
 use native.Mathlib.Omega.{arith}
+use borrow.Author.Tests.{ne_eqb}
 use mir.Syntax.{w16}
 use mir.Val.{to_z, of_z}
 use lib.IntN.{ℤ}
 use lib.ListN.{length, take, drop}
+use Rattle.std.specs.Prelude.{if◌then◌else◌}
 use Rattle.rules_routine.specs.declared.Command.{Command}
 use Rattle.rules.specs.Calls.{result_of}
 use Rattle.hub_state.specs.Contract.{Decides}
@@ -17,7 +20,7 @@ use Rattle.hub_state.specs.declared.Decision.{Decision}
 use Rattle.line_rules.specs.Reading.{Line as Said, read_line}
 use Rattle.line_read.specs.View.{read_as}
 use Rattle.line_read.specs.declared.Line.{Line}
-use Rattle.line_read.specs.declared.Line.TheVariants.{Calling}
+use Rattle.line_read.specs.declared.Line.TheVariants.{Open, Calling, Unread}
 use Rattle.line_read.specs.declared.Call.{Call}
 use Rattle.line_print.specs.Put.{max_text}
 use Rattle.hub.specs.View.{view}
@@ -32,11 +35,12 @@ use Rattle.line.proofs.Loops.{Prints, prints, printed_fits, printed_long, goes}
 use Rattle.line.proofs.Loops.{ran_none, ran_more, ran_length, ran_past, ran_all, end_within}
 use borrow.Author.Rules.{rules}
 use Rattle.line.proofs.running.run_lines.Goals.{After-next_line-next, After-decided-decision, Joined-change, Joined-said}
-use Rattle.line.proofs.running.run_lines.Goals.{in-Open+then-is_ok, in-Open+else-is_ok, in-Unread}
+use Rattle.line.proofs.running.run_lines.Goals.{in-Open+then-is_ok, in-Open+else-is_ok, in_default, in_default-via-in_default}
 use Rattle.line.proofs.running.run_lines.Goals.{in-Calling+then-not-changes_nothing+then-settles, in-Calling+else-not-changes_nothing}
 use Rattle.line.proofs.running.run_lines.Goals.{in-Nothing, in-Stage, in-Commit, in-Join, in-Abort, in-Fail, in-Restart}
 use Rattle.line.proofs.running.run_lines.Goals.{else-not-changes_nothing-via-then-not-changes_nothing+else-settles}
 use Rattle.line.proofs.running.run_lines.Goals.{else-not-changes_nothing-via-else-not-changes_nothing}
+use Rattle.line.proofs.running.run_lines.Goals.{in_default-via-in-Calling+else-device_count-gt0}
 use Rattle.line.proofs.running.run_lines.Goals as goal
 
 -- ---- the line
@@ -45,19 +49,46 @@ use Rattle.line.proofs.running.run_lines.Goals as goal
 abbrev says : List ℕ → ℕ → ℕ → Said
 says input from end = read_line (take (end - from) (drop from input))
 
--- what is known of it: what of it is heard, and that the hub is as it may be
+-- what is known of it: how it is read, and that the hub is as it may be
 record Heard (h : Hub) (q : Said) (line : Line) : Type 0 where
-  hears : heard_of (read_as q) (view h).devices ≡ line
+  reads : read_as q ≡ line
   valid : Valid h
 
 heard : (c : After-next_line-next) →
     Heard c.loop-from.now (says c.args.input.now c.loop-from.from c.next_line-next.result.end) c.next_line-next.result.said
-heard c =
-    let q = says c.args.input.now c.loop-from.from c.next_line-next.result.end in
-    record {
-      hears = sym (c.next_line-next.ensures.hears ∙ ap (λ (n : ℕ). heard_of (read_as q) n) c.device_count.ensures);
-      valid = c.loop-from.invariant.1.valid;
-    }
+heard c = record {
+  reads = sym c.next_line-next.ensures.says;
+  valid = c.loop-from.invariant.1.valid;
+}
+
+-- an opening is heard
+opening_heard : {h : Hub} {q : Said} {line : Line} {n k first : ℕ} → Heard h q line → line ≡ Open n k first →
+    heard_of (read_as q) (view h).devices ≡ Open n k first
+opening_heard {h} x e = ap (λ (l : Line). heard_of l (view h).devices) (x.reads ∙ e)
+
+-- a call is heard by a hub that has devices
+call_heard : {h : Hub} {q : Said} {line : Line} {call : Call} {n : ℕ} → Heard h q line → line ≡ Calling call → n ≡ (view h).devices → 0 < n →
+    heard_of (read_as q) (view h).devices ≡ Calling call
+call_heard {h} {call = call} x e counted some =
+    ap (λ (l : Line). heard_of l (view h).devices) (x.reads ∙ e)
+    ∙ ap (λ (t : Bool). if t then Unread else Calling call) (ne_eqb (view h).devices 0 (λ z. absurd (omega arith)))
+
+-- and by no hub of no devices
+call_unheard : {h : Hub} {q : Said} {line : Line} {call : Call} → Heard h q line → line ≡ Calling call → (view h).devices ≡ 0 →
+    heard_of (read_as q) (view h).devices ≡ Unread
+call_unheard {h} {call = call} x e none =
+    ap (λ (l : Line). heard_of l (view h).devices) (x.reads ∙ e) ∙ ap (λ (n : ℕ). heard_of (Calling call) n) none
+
+-- nor is anything else
+neither : (line : Line) (devices : ℕ) → ((n k first : ℕ) → line ≡ Open n k first → ⊥) → ((call : Call) → line ≡ Calling call → ⊥) →
+    heard_of line devices ≡ Unread
+neither (Open n k first) devices o c = absurd (o n k first refl)
+neither (Calling call) devices o c = absurd (c call refl)
+neither Unread devices o c = refl
+
+unread_heard : {h : Hub} {q : Said} {line : Line} → Heard h q line → ((n k first : ℕ) → line ≡ Open n k first → ⊥) →
+    ((call : Call) → line ≡ Calling call → ⊥) → heard_of (read_as q) (view h).devices ≡ Unread
+unread_heard {h} {line = line} x o c = ap (λ (l : Line). heard_of l (view h).devices) x.reads ∙ neither line (view h).devices o c
 
 -- ---- a call
 
@@ -67,9 +98,9 @@ record Comes (h : Hub) (q : Said) (call : Call) (d : Decision) : Type 0 where
   valid : Valid h
   decides : Decides h.state.rows (commands_in call) d (result_of (view h) (call_in call))
 
-comes : {h : Hub} {q : Said} {line : Line} (x : Heard h q line) (call : Call) → line ≡ Calling call →
-    {d : Decision} → Decides h.state.rows (commands_in call) d (result_of (view h) (call_in call)) → Comes h q call d
-comes x call e w = record { calls = x.hears ∙ e; valid = x.valid; decides = w }
+comes : {h : Hub} {q : Said} {line : Line} {n : ℕ} → Heard h q line → (call : Call) → line ≡ Calling call → n ≡ (view h).devices →
+    0 < n → {d : Decision} → Decides h.state.rows (commands_in call) d (result_of (view h) (call_in call)) → Comes h q call d
+comes x call e counted some w = record { calls = call_heard x e counted some; valid = x.valid; decides = w }
 
 -- it was decided on the hub, and its change can be made
 decided_now : {h : Hub} {q : Said} {call : Call} {d : Decision} → Comes h q call d →
@@ -83,7 +114,7 @@ change_is x c e = record { decision = _; made = decided_now x; change_is = e }
 came : (c : After-decided-decision) →
     Heard c.loop-from.now (says c.args.input.now c.loop-from.from c.next_line-next.result.end) c.next_line-next.result.said →
     Comes c.loop-from.now (says c.args.input.now c.loop-from.from c.next_line-next.result.end) c.in-Calling.call c.decided-decision.result
-came c x = comes x _ c.in-Calling.is c.decided-decision.ensures
+came c x = comes x _ c.in-Calling.is c.device_count.ensures c.if-device_count-gt0.true c.decided-decision.ensures
 
 -- and is made
 made : (c : Joined-change) → Valid c.loop-from.now →
@@ -94,7 +125,7 @@ made c h =
       | in-Stage v ↦ carries_as v.now-is (carries _ _ (Stage _) v.in-Stage.is refl v.with_stage-now.ensures)
       | in-Commit v ↦ carries_as v.now-is (carries _ _ (Commit _) v.in-Commit.is refl v.with_commit-now.ensures)
       | in-Join v ↦ carries_as v.now-is
-          (carries _ _ (Join _) v.in-Join.is refl (rw c.routine_in-routine.ensures at v.with_routine-now.ensures))
+          (carries _ _ (Join _) v.in-Join.is refl (rw v.routine_in-routine.ensures at v.with_routine-now.ensures))
       | in-Abort v ↦ carries_as v.now-is (carries _ _ (Abort _) v.in-Abort.is refl v.with_abort-now.ensures)
       | in-Fail v ↦ carries_as v.now-is (carries _ _ (Fail _ _) v.in-Fail.is refl v.with_failure-now.ensures)
       | in-Restart v ↦
@@ -113,23 +144,23 @@ line-prints c x room =
     elim c.match-said.branch [
       | in-Open+then-is_ok w ↦
           prints
-          (does_open _ _ _ _ _ (x.hears ∙ w.in-Open.is) w.check_opening-verdict.result w.check_opening-verdict.ensures w.open-opened.result
-          w.open-opened.ensures (sym w.is_ok.ensures.value ∙ w.if-is_ok.true))
+          (does_open _ _ _ _ _ (opening_heard x w.in-Open.is) w.check_opening-verdict.result w.check_opening-verdict.ensures
+          w.open-opened.result w.open-opened.ensures (sym w.is_ok.ensures.value ∙ w.if-is_ok.true))
           w.put_opening-printed.ensures room w.now-is w.text-is w.printed-is
       | in-Open+else-is_ok w ↦
           prints
-          (does_not_open _ _ _ _ _ (x.hears ∙ w.in-Open.is) w.check_opening-verdict.result w.check_opening-verdict.ensures x.valid
+          (does_not_open _ _ _ _ _ (opening_heard x w.in-Open.is) w.check_opening-verdict.result w.check_opening-verdict.ensures x.valid
           (sym w.is_ok.ensures.value ∙ w.if-is_ok.false))
           w.put_opening-printed.ensures room w.now-is w.text-is w.printed-is
       | in-Calling+then-not-changes_nothing+then-settles w ↦
-          let y = comes x _ w.in-Calling.is w.decided-decision.ensures in
+          let y = comes x _ w.in-Calling.is w.device_count.ensures w.if-device_count-gt0.true w.decided-decision.ensures in
           let m : Carries c.loop-from.now (commands_in w.in-Calling.call) w.decided-decision.result.change w.match-change.now =
           elim w.match-change.branch [
             | in-Nothing v ↦ carries_as v.now-is (carries_nothing _ _ x.valid v.in-Nothing.is)
             | in-Stage v ↦ carries_as v.now-is (carries _ _ (Stage _) v.in-Stage.is refl v.with_stage-now.ensures)
             | in-Commit v ↦ carries_as v.now-is (carries _ _ (Commit _) v.in-Commit.is refl v.with_commit-now.ensures)
             | in-Join v ↦ carries_as v.now-is
-                (carries _ _ (Join _) v.in-Join.is refl (rw w.routine_in-routine.ensures at v.with_routine-now.ensures))
+                (carries _ _ (Join _) v.in-Join.is refl (rw v.routine_in-routine.ensures at v.with_routine-now.ensures))
             | in-Abort v ↦ carries_as v.now-is (carries _ _ (Abort _) v.in-Abort.is refl v.with_abort-now.ensures)
             | in-Fail v ↦ carries_as v.now-is (carries _ _ (Fail _ _) v.in-Fail.is refl v.with_failure-now.ensures)
             | in-Restart v ↦
@@ -141,14 +172,14 @@ line-prints c x room =
           (w.settle-now.ensures.0, w.settle-now.ensures.1))
           w.put_answers-printed.ensures room w.now-is w.text-is w.printed-is
       | in-Calling+else-not-changes_nothing w ↦
-          let y = comes x _ w.in-Calling.is w.decided-decision.ensures in
+          let y = comes x _ w.in-Calling.is w.device_count.ensures w.if-device_count-gt0.true w.decided-decision.ensures in
           let m : Carries c.loop-from.now (commands_in w.in-Calling.call) w.decided-decision.result.change w.match-change.now =
           elim w.match-change.branch [
             | in-Nothing v ↦ carries_as v.now-is (carries_nothing _ _ x.valid v.in-Nothing.is)
             | in-Stage v ↦ carries_as v.now-is (carries _ _ (Stage _) v.in-Stage.is refl v.with_stage-now.ensures)
             | in-Commit v ↦ carries_as v.now-is (carries _ _ (Commit _) v.in-Commit.is refl v.with_commit-now.ensures)
             | in-Join v ↦ carries_as v.now-is
-                (carries _ _ (Join _) v.in-Join.is refl (rw w.routine_in-routine.ensures at v.with_routine-now.ensures))
+                (carries _ _ (Join _) v.in-Join.is refl (rw v.routine_in-routine.ensures at v.with_routine-now.ensures))
             | in-Abort v ↦ carries_as v.now-is (carries _ _ (Abort _) v.in-Abort.is refl v.with_abort-now.ensures)
             | in-Fail v ↦ carries_as v.now-is (carries _ _ (Fail _ _) v.in-Fail.is refl v.with_failure-now.ensures)
             | in-Restart v ↦
@@ -164,8 +195,15 @@ line-prints c x room =
                 does_same _ _ _ y.calls _ y.decides _ m x.valid (sym w.changes_nothing.ensures ∙ v.if-not-changes_nothing.false)
           ])
           w.put_answers-printed.ensures room w.now-is w.text-is w.printed-is
-      | in-Unread w ↦
-          prints (does_unread _ _ x.valid (x.hears ∙ w.in-Unread.is)) w.put_unread-printed.ensures room w.now-is w.text-is w.printed-is
+      | in_default w ↦
+          let e : heard_of (read_as (says c.args.input.now c.loop-from.from c.next_line-next.result.end)) (view c.loop-from.now).devices
+          ≡ Unread =
+          elim w.in_default.branch [
+            | in_default-via-in-Calling+else-device_count-gt0 v ↦
+                call_unheard x v.in-Calling.is (omega (arith, v.device_count.ensures, v.if-device_count-gt0.false))
+            | in_default-via-in_default v ↦ unread_heard x v.in_default.not-Open v.in_default.not-Calling
+          ] in
+          prints (does_unread _ _ x.valid e) w.put_unread-printed.ensures room w.now-is w.text-is w.printed-is
     ]
 
 -- ---- the goals
