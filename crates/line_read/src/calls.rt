@@ -108,15 +108,15 @@ fn submit_line(line: &[u8]) -> Option<Line>
 }
 
 // The lines that hold no routine.
-fn plain_line(line: &[u8], letter: u8) -> Option<Line>
+fn plain_line(line: &[u8], letter: u8) -> Line
     requires { letter ≢ letter_of "S" }
-    ensures { unwrap_or result Line.Unread ≡ read_as (line_with (letter ∷ []) (words_from line.now behind_letter)) }
+    ensures { result ≡ read_as (line_with (letter ∷ []) (words_from line.now behind_letter)) }
 {
     match letter {
-        OPEN => open_line(line),
-        FAIL => fail_line(line),
-        RESTART => restart_line(line),
-        _ => id_line(line, letter),
+        OPEN => open_line(line).unwrap_or(Line::Unread),
+        FAIL => fail_line(line).unwrap_or(Line::Unread),
+        RESTART => restart_line(line).unwrap_or(Line::Unread),
+        _ => id_line(line, letter).unwrap_or(Line::Unread),
     }
 }
 
@@ -134,5 +134,5 @@ pub fn by_letter(line: &[u8]) -> Option<Line>
     if letter == SUBMIT {
         return submit_line(line);
     }
-    plain_line(line, letter)
+    Some(plain_line(line, letter))
 }
