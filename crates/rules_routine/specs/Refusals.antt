@@ -1,6 +1,7 @@
 -- The table of document 01, "When a call is turned down", with the numbers of document 02. A refusal is its cause: the enum `Refusal` of
 -- the code has a case for each row. Assumes nothing.
 use Rattle.std.specs.Prelude.{Bool, ℕ, eqb, Option, None, Some, Result, Ok, Err, if◌then◌else◌}
+use Rattle.rules_routine.specs.Limits.{max_commands}
 use Rattle.rules_routine.specs.declared.refusals.Refusal.{Refusal}
 use Rattle.rules_routine.specs.declared.refusals.Refusal.TheVariants.{DevicesOutOfRange, PassLimitOutOfRange, FirstIdZero, CommandCount}
 use Rattle.rules_routine.specs.declared.refusals.Refusal.TheVariants.{DeviceNotBelow, SettingOutOfRange, TagOutOfRange, SequenceFull}
@@ -66,8 +67,8 @@ abbrev pub is_of : ℕ → Refusal → Bool
 is_of n cause = eqb n (number_of cause)
 
 -- The table read from the left: the cause that has a number, and the one that has a number and an index. (Examples tell refusals so.) Each
--- row is tested against the table; a number that no row has, or none of that kind, gives a refusal of the other kind, so that no example
--- holds with it: `numbered` one with an index, `indexed` one without.
+-- row is tested against the table; a number that no row has, or none of that kind, gives 22 at an index that no routine has, so that no
+-- example holds with it.
 abbrev pub numbered : ℕ → Refusal
 numbered n =
     if is_of n DevicesOutOfRange then DevicesOutOfRange
@@ -87,7 +88,7 @@ numbered n =
     else if is_of n BookCutShort then BookCutShort
     else if is_of n BookMisplaced then BookMisplaced
     else if is_of n NoRoom then NoRoom
-    else ConditionAlone n
+    else ConditionAlone max_commands
 
 abbrev pub indexed : ℕ → ℕ → Refusal
 indexed n i =
@@ -96,7 +97,7 @@ indexed n i =
     else if is_of n (TagOutOfRange i) then TagOutOfRange i
     else if is_of n (BookLength i) then BookLength i
     else if is_of n (ConditionAlone i) then ConditionAlone i
-    else NoRoom
+    else ConditionAlone max_commands
 
 -- What a check says of a call.
 abbrev pub Verdict : Type 0
