@@ -362,13 +362,20 @@ by_number {cause_of = cause_of} x n index = (
   },
 )
 
--- So, where the tests are the causes themselves: a call is refused with a cause's number and index exactly if that cause is the first
--- that holds.
+-- So, where the tests are the causes themselves: a call is refused with a cause exactly if that cause is the first that holds; and likewise
+-- with the cause's number and index.
 pub under_its_cause : {Holds : Refusal → Type 0} {causes : List Refusal} {RefusedWith : Refusal → Type 0} {IsAccepted : Type 0} →
     Exactly Holds itself causes RefusedWith IsAccepted → (cause : Refusal) →
-    RefusedAs RefusedWith (number_of cause) (index_of cause) ↔ FirstIn Holds causes cause
+    (RefusedWith cause ↔ FirstIn Holds causes cause)
+    × (RefusedAs RefusedWith (number_of cause) (index_of cause) ↔ FirstIn Holds causes cause)
 under_its_cause {Holds = Holds} {causes = causes} x cause = (
-  λ r. let f = (by_number x (number_of cause) (index_of cause)).0 r in
-      subst (FirstIn Holds causes) (numbers_differ f.0 cause f.2 f.3) f.1,
-  λ f. (by_number x (number_of cause) (index_of cause)).1 (cause, f, refl, refl),
+  (
+    λ r. let f = (x.refused_exactly cause).0 r in subst (FirstIn Holds causes) f.2 f.1,
+    λ f. (x.refused_exactly cause).1 (cause, f, refl),
+  ),
+  (
+    λ r. let f = (by_number x (number_of cause) (index_of cause)).0 r in
+        subst (FirstIn Holds causes) (numbers_differ f.0 cause f.2 f.3) f.1,
+    λ f. (by_number x (number_of cause) (index_of cause)).1 (cause, f, refl, refl),
+  ),
 )
